@@ -1,0 +1,34 @@
+// The program: hands the real streams to the top call and ends with its status.
+#![tactic(auto)]
+
+use cip_io::{StdSink, StdSource, push_all};
+use cip_run::{run, status};
+use std::io::ErrorKind;
+use std::process::ExitCode;
+use std::rt::Env;
+use std::{env, io};
+
+// The words behind the program's name.
+fn words<R: Env + AllocGlobal>(rt: &R) -> io::Result<Vec<String>> {
+    let mut words = Vec::new(rt.alloc());
+    for word in env::args(rt)?.skip(1) {
+        words.push(word)?;
+    }
+    Ok(words)
+}
+
+fn main(rt: HostRuntime) -> ExitCode {
+    let mut source = StdSource::new(rt.stdin());
+    let mut sink = StdSink::new(rt.stdout());
+    let mut diag = StdSink::new(rt.stderr());
+    let words = match words(&rt) {
+        Ok(words) => words,
+        Err(error) if error.kind() == ErrorKind::OutOfMemory => {
+            let _ = push_all(&mut diag, status::line(status::OUT_OF_MEMORY));
+            return ExitCode::from(status::OUT_OF_MEMORY);
+        }
+        // Words that aren't text are refused like any others; no list is shorter than the empty one.
+        Err(_) => Vec::new(rt.alloc()),
+    };
+    ExitCode::from(run(rt.alloc(), &words, &mut source, &mut sink, &mut diag))
+}

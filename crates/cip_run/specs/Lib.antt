@@ -1,0 +1,15 @@
+pub mod Around
+pub mod Built
+pub mod Columns
+pub mod Due
+pub mod Gather
+pub mod Geometry
+pub mod Item
+pub mod Label
+pub mod Lines
+pub mod Molfile
+pub mod Numbers
+pub mod Plane
+pub mod Ranking
+pub mod Runs
+pub mod Worked

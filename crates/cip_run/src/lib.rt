@@ -1,0 +1,25 @@
+//! The top call: reads a record, labels its centre and writes the record with its item.
+#![tactic(auto)]
+
+mod annotating;
+mod around;
+mod built;
+mod columns;
+mod gather;
+mod geometry;
+mod item;
+mod label;
+mod lines;
+mod molecule;
+mod molfile;
+mod numbers;
+mod plane;
+mod ranking;
+pub mod status;
+#[cfg(test)]
+mod tests;
+mod top_call;
+mod worked;
+
+pub use top_call::run;
+pub use worked::worked_records_are_given;
