@@ -1,3 +1,4 @@
 pub mod Bounds
 pub mod Four
+pub mod Texts
 pub mod Words

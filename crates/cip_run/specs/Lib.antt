@@ -6,6 +6,7 @@ pub mod Gather
 pub mod Geometry
 pub mod Item
 pub mod Label
+pub mod Laws
 pub mod Lines
 pub mod Molfile
 pub mod Numbers

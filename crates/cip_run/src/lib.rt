@@ -9,6 +9,7 @@ mod gather;
 mod geometry;
 mod item;
 mod label;
+mod laws;
 mod lines;
 mod molecule;
 mod molfile;
@@ -19,7 +20,6 @@ pub mod status;
 #[cfg(test)]
 mod tests;
 mod top_call;
-mod worked;
 
+pub use laws::{records_come_back, worked_records_are_given};
 pub use top_call::run;
-pub use worked::worked_records_are_given;

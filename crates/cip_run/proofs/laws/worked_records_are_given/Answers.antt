@@ -5,7 +5,7 @@ use Rattle.cip_run.specs.Numbers.{integer_of, decimal4_of, number_in}
 use Rattle.cip_run.specs.Molfile.{atom_of, bond_of, molecule_of}
 use Rattle.cip_run.specs.Label.{descriptor_of}
 use Rattle.cip_run.specs.Due.{annotated}
-use Rattle.cip_run.proofs.worked.worked_records_are_given.Goals as goal
+use Rattle.cip_run.proofs.laws.worked_records_are_given.Goals as goal
 
 pub returns : goal.returns
 unfolding annotated lines_of molecule_of atom_of bond_of integer_of decimal4_of number_in descriptor_of digits
