@@ -5,6 +5,7 @@ use Rattle.std.specs.Prelude.{◌==◌, nat_le}
 use Rattle.std.specs.List.{list_any}
 use Rattle.cip_run.specs.declared.molecule.Descriptor.{Descriptor}
 use Rattle.cip_run.specs.declared.molecule.Molecule.{Molecule}
+use Rattle.cip_run.specs.declared.molfile.TheConstants.{TERMINATOR}
 use Rattle.cip_run.specs.Lines.{lines_of, line_at}
 use Rattle.cip_run.specs.Molfile.{◌>>=◌, molecule_of}
 use Rattle.cip_run.specs.Label.{descriptor_of}
@@ -29,9 +30,9 @@ by_molecule : (bytes last text : List ℕ) (molecule : Option Molecule) → mole
 by_molecule bytes last text None is = absurd (cc)
 by_molecule bytes last text (Some m) is = by_letter bytes last text (descriptor_of m) is
 
-by_returns : (bytes text : List ℕ) (returns : Bool) → cond returns None (molecule_of (lines_of bytes) >>= (λ m. descriptor_of m >>= (λ l. Some (with_item bytes (line_at (lines_of bytes) 14) (value_line 1 l 1))))) ≡ Some text → HasItem bytes text
+by_returns : (bytes text : List ℕ) (returns : Bool) → cond returns None (molecule_of (lines_of bytes) >>= (λ m. descriptor_of m >>= (λ l. Some (with_item bytes (line_at (lines_of bytes) TERMINATOR) (value_line 1 l 1))))) ≡ Some text → HasItem bytes text
 by_returns bytes text true is = absurd (cc)
-by_returns bytes text false is = by_molecule bytes (line_at (lines_of bytes) 14) text (molecule_of (lines_of bytes)) is
+by_returns bytes text false is = by_molecule bytes (line_at (lines_of bytes) TERMINATOR) text (molecule_of (lines_of bytes)) is
 
 annotated_has : (bytes text : List ℕ) → annotated bytes ≡ Some text → HasItem bytes text
 unfolding annotated

@@ -5,6 +5,7 @@ use Rattle.cip_run.specs.declared.molecule.Bond.{Bond}
 use Rattle.cip_run.specs.declared.molecule.Mark.{Mark}
 use Rattle.cip_run.specs.declared.molecule.Mark.TheVariants.{Plain, Up, Down}
 use Rattle.cip_run.specs.declared.molecule.Molecule.{Molecule}
+use Rattle.cip_run.specs.declared.molecule.TheConstants.{CARBON}
 use Rattle.cip_run.specs.Around.{has_clash}
 use Rattle.cip_run.specs.Geometry.{ligands, directions}
 use Rattle.cip_run.specs.Ranking.{atomic_number, atomic_numbers}
@@ -33,7 +34,7 @@ is_star bonds =
 -- where no two ligands are drawn in one direction and none upon the carbon
 abbrev pub is_built : Molecule → Bool
 is_built m =
-    (atomic_number m.atoms 0 == 6)
+    (atomic_number m.atoms 0 == CARBON)
     && are_different (atomic_number m.atoms 0 ∷ atomic_numbers m.atoms)
     && is_star m.bonds
     && not (has_clash (directions m.atoms))

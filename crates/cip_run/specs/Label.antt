@@ -1,4 +1,4 @@
--- The descriptor of a centre. IUPAC 2013, P-91.2.1: R is clockwise, S counterclockwise, seen from the side opposite the lowest ligand.
+-- The descriptor of a centre. IUPAC 2013, P-91: R is clockwise, S counterclockwise, seen from the side opposite the lowest ligand.
 use Rattle.std.specs.Prelude.{None, if◌then◌else◌}
 use Rattle.std.specs.declared.option.Option.{Option}
 use Rattle.std.specs.Option.{option_map}

@@ -12,6 +12,7 @@ use Rattle.cip_run.specs.declared.molecule.Bond.{Bond}
 use Rattle.cip_run.specs.declared.molecule.Mark.{Mark}
 use Rattle.cip_run.specs.declared.molecule.Mark.TheVariants.{Plain, Up, Down}
 use Rattle.cip_run.specs.declared.molecule.Molecule.{Molecule}
+use Rattle.cip_run.specs.declared.molfile.TheConstants.{TERMINATOR}
 
 -- what follows is tried only if nothing before it is missing
 infixl 10 ◌>>=◌
@@ -41,7 +42,7 @@ is_framed lines =
     (length lines == 16)
     && is_header (line_at lines 0) && is_header (line_at lines 1) && is_header (line_at lines 2)
     && is_counts (line_at lines 3)
-    && is_molecule_end (line_at lines 13) && is_terminator (line_at lines 14)
+    && is_molecule_end (line_at lines 13) && is_terminator (line_at lines TERMINATOR)
     && (length (line_at lines 15) == 0)
 
 -- an atom line

@@ -6,7 +6,7 @@ ghost use Rattle.cip_run.specs.Due.{annotated};
 use crate::item::{put_item, value_of_centre};
 use crate::label::descriptor;
 use crate::lines::{line, lines};
-use crate::molfile::molecule;
+use crate::molfile::{TERMINATOR, molecule};
 use std::alloc::{AllocError, Global};
 
 /// The record with its item, or none where it isn't of the kind that is labelled so far.
@@ -25,5 +25,6 @@ pub fn annotated_record(alloc: Global, bytes: &[u8]) -> Result<Option<Vec<u8>>, 
         return Ok(None);
     };
     let value = value_of_centre(alloc, 1, descriptor, 1)?;
-    Ok(Some(put_item(alloc, bytes, line(&lines, 14), &value)?))
+    let last = line(&lines, TERMINATOR);
+    Ok(Some(put_item(alloc, bytes, last, &value)?))
 }

@@ -7,7 +7,7 @@ ghost use Rattle.cip_run.specs.Built.{are_different, is_wedge, bonds_to, is_star
 
 use crate::around::has_clash;
 use crate::geometry::directions_from_centre;
-use crate::molecule::{Bond, Mark, Molecule};
+use crate::molecule::{Bond, CARBON, Mark, Molecule};
 use crate::ranking::atomic_numbers_of_ligands;
 
 /// Whether a molecule is a carbon with four ligands of different elements, one of them marked.
@@ -17,7 +17,7 @@ pub fn is_built(molecule: &Molecule) -> bool
 {
     let centre = molecule.atoms[0].z;
     let [first, second, third, fourth] = atomic_numbers_of_ligands(&molecule.atoms);
-    centre == 6
+    centre == CARBON
         && are_different(&[centre, first, second, third, fourth])
         && is_star(&molecule.bonds)
         && !has_clash(&directions_from_centre(&molecule.atoms))

@@ -1,6 +1,9 @@
 // A carbon and its four ligands, as they are drawn.
 use crate::plane::Vec2;
 
+/// The atomic number of carbon.
+pub const CARBON: u8 = 6;
+
 /// What the drawing says of a bond: its far end comes out of the plane, or goes behind it.
 #[derive(Clone, Copy, PartialEq, Eq)]
 pub enum Mark {

@@ -10,6 +10,9 @@ use crate::molecule::{Atom, Bond, Mark, Molecule};
 use crate::numbers::{decimal4, number};
 use crate::plane::Vec2;
 
+/// Where the line that ends the record stands, counted from 0.
+pub const TERMINATOR: usize = 14;
+
 /// The molecule that these lines describe, or none where they aren't of the form that is read so far.
 #[tactic(auto, unfolding(crate::specs::Molfile::molecule_of))]
 pub fn molecule(lines: &[&[u8]]) -> Option<Molecule>
@@ -34,7 +37,7 @@ fn is_framed(lines: &[&[u8]]) -> bool
         && is_header(line(lines, 2))
         && is_counts(line(lines, 3))
         && is_molecule_end(line(lines, 13))
-        && is_terminator(line(lines, 14))
+        && is_terminator(line(lines, TERMINATOR))
         && line(lines, 15).is_empty()
 }
 
