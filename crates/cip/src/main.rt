@@ -27,7 +27,7 @@ fn main(rt: HostRuntime) -> ExitCode {
             let _ = push_all(&mut diag, status::line(status::OUT_OF_MEMORY));
             return ExitCode::from(status::OUT_OF_MEMORY);
         }
-        // Words that aren't text are refused like any others; no list is shorter than the empty one.
+        // Words that aren't text are refused, as an empty list of words is.
         Err(_) => Vec::new(rt.alloc()),
     };
     ExitCode::from(run(rt.alloc(), &words, &mut source, &mut sink, &mut diag))

@@ -7,8 +7,9 @@ use Rattle.cip_run.specs.declared.molecule.Mark.TheVariants.{Plain, Up, Down}
 use Rattle.cip_run.specs.declared.molecule.Molecule.{Molecule}
 use Rattle.cip_run.specs.declared.molecule.TheConstants.{CARBON}
 use Rattle.cip_run.specs.Around.{has_clash}
-use Rattle.cip_run.specs.Geometry.{ligands, directions}
-use Rattle.cip_run.specs.Ranking.{atomic_number, atomic_numbers}
+use Rattle.cip_run.specs.Molecule.{ligands, atomic_number}
+use Rattle.cip_run.specs.Geometry.{directions}
+use Rattle.cip_run.specs.Ranking.{atomic_numbers}
 
 abbrev pub are_different : List ℕ → Bool
 are_different [] = true

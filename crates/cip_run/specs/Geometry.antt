@@ -1,5 +1,5 @@
 -- The geometry of a centre that is drawn in the plane. CTfile Formats, the meaning of wedges; how votes are counted is own.
-use Rattle.std.specs.Prelude.{ℕ, List, [], ◌∷◌, ◌%◌, ◌-ℤ◌, ◌==◌, map, slice_index_or, Some, None, if◌then◌else◌}
+use Rattle.std.specs.Prelude.{ℕ, List, [], ◌∷◌, ◌%◌, ◌-ℤ◌, ◌==◌, map, Some, None, if◌then◌else◌}
 use Rattle.std.specs.declared.option.Option.{Option}
 use Rattle.std.specs.Option.{option_or, option_map}
 use Rattle.cip_run.specs.declared.plane.Vec2.{Vec2}
@@ -10,17 +10,8 @@ use Rattle.cip_run.specs.declared.molecule.Mark.TheVariants.{Plain, Up, Down}
 use Rattle.cip_run.specs.declared.molecule.Molecule.{Molecule}
 use Rattle.cip_run.specs.declared.molecule.Sense.{Sense}
 use Rattle.cip_run.specs.declared.molecule.Sense.TheVariants.{Plus, Minus}
-use Rattle.cip_run.specs.Around.{inversions, nowhere, places}
-
--- the centre is the first atom, and these are its ligands by ascending number
-abbrev pub ligands : List ℕ
-ligands = 1 ∷ 2 ∷ 3 ∷ 4 ∷ []
-
-abbrev pub no_atom : Atom
-no_atom = record { z = 0; at = nowhere }
-
-abbrev pub point : List Atom → ℕ → Vec2
-point atoms n = (slice_index_or atoms n no_atom).at
+use Rattle.cip_run.specs.Around.{inversions, places}
+use Rattle.cip_run.specs.Molecule.{ligands, point}
 
 -- from one point to another
 abbrev pub step : Vec2 → Vec2 → Vec2
@@ -53,6 +44,7 @@ vote place Plain = None
 vote place Up = Some (turned place Plus)
 vote place Down = Some (turned place Minus)
 
+-- the vote of the first mark; a molecule that is labelled so far has one mark alone
 abbrev pub first_vote : List ℕ → List Mark → Option Sense
 first_vote [] ms = None
 first_vote (p ∷ ps) [] = None

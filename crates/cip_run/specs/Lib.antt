@@ -8,6 +8,7 @@ pub mod Item
 pub mod Label
 pub mod Laws
 pub mod Lines
+pub mod Molecule
 pub mod Molfile
 pub mod Numbers
 pub mod Plane

@@ -1,12 +1,11 @@
 -- A molfile of version V2000 with five atoms and four single bonds, line after line. CTfile Formats, the connection table.
-use Rattle.std.specs.Prelude.{◌≤◌, unsigned_abs, ℕ, zero, ℤ, pos, List, [], ◌∷◌, ◌-◌, ◌==◌, Bool, true, false, not, ◌&&◌, Some, None, codes, length, if◌then◌else◌}
+use Rattle.std.specs.Prelude.{ℕ, zero, ℤ, pos, List, [], ◌∷◌, ◌-◌, ◌==◌, Bool, true, false, not, ◌&&◌, Some, None, codes, length, if◌then◌else◌}
 use Rattle.std.specs.declared.option.Option.{Option}
 use Rattle.std.specs.Option.{is_some}
 use Rattle.std.specs.Str.{bytes_eq}
 use Rattle.cip_run.specs.Columns.{field}
 use Rattle.cip_run.specs.Lines.{line_at, is_molecule_end, is_terminator}
 use Rattle.cip_run.specs.Numbers.{decimal4_of, number_in}
-use Rattle.cip_run.specs.declared.plane.Vec2.{Vec2}
 use Rattle.cip_run.specs.declared.molecule.Atom.{Atom}
 use Rattle.cip_run.specs.declared.molecule.Bond.{Bond}
 use Rattle.cip_run.specs.declared.molecule.Mark.{Mark}
@@ -69,14 +68,6 @@ is_nought field = is_some (number_in 0 field)
 -- mass difference, charge code and valence mark are 0
 abbrev pub is_neutral : List ℕ → Bool
 is_neutral line = is_nought (field 35 36 line) && is_nought (field 37 39 line) && is_nought (field 49 51 line)
-
--- a place that coordinate fields can name: at most 50,000.0000 ångström in size
-pub record IsPlace (place : Vec2) : Type 0 where
-  pub x : unsigned_abs place.x ≤ 500000000
-  pub y : unsigned_abs place.y ≤ 500000000
-
-abbrev pub IsNear : Atom → Type 0
-IsNear atom = IsPlace atom.at
 
 unfoldable pub atom_of : List ℕ → Option Atom
 atom_of line = do

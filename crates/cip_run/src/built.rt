@@ -1,8 +1,7 @@
 // Which molecules are labelled so far.
 ghost use Rattle.std.specs.Prelude.{◌≡◌, ◌==◌, ◌∷◌, All, count_by};
 ghost use Rattle.std.specs.List.{list_all};
-ghost use Rattle.cip_run.specs.Molfile.{IsNear};
-ghost use Rattle.cip_run.specs.Geometry.{ligands};
+ghost use Rattle.cip_run.specs.Molecule.{IsNear, ligands};
 ghost use Rattle.cip_run.specs.Built.{are_different, is_wedge, bonds_to, is_star, is_built};
 
 use crate::around::has_clash;

@@ -2,8 +2,8 @@
 ghost use Rattle.std.specs.Prelude.{◌≡◌, ◌≤◌, ◌<◌, ◌-ℤ◌, All, unsigned_abs};
 ghost use Rattle.cip_run.specs.Plane.{IsSmall};
 ghost use Rattle.cip_run.specs.Around.{places};
-ghost use Rattle.cip_run.specs.Molfile.{IsPlace, IsNear};
-ghost use Rattle.cip_run.specs.Geometry.{point, step, directions, mark_to, marks, turned, vote, first_vote, sense_of};
+ghost use Rattle.cip_run.specs.Molecule.{IsPlace, IsNear, point};
+ghost use Rattle.cip_run.specs.Geometry.{step, directions, mark_to, marks, turned, vote, first_vote, sense_of};
 
 use crate::around::{count_inversions, place_of};
 use crate::molecule::{Atom, Bond, Mark, Molecule, Sense};

@@ -1,6 +1,6 @@
 // The descriptor of a centre.
 ghost use Rattle.std.specs.Prelude.{◌≡◌, All};
-ghost use Rattle.cip_run.specs.Molfile.{IsNear};
+ghost use Rattle.cip_run.specs.Molecule.{IsNear};
 ghost use Rattle.cip_run.specs.Label.{letter_of, descriptor_of};
 
 use crate::around::count_inversions;

@@ -2,7 +2,8 @@
 ghost use Rattle.std.specs.Prelude.{◌≡◌, All, IfSome};
 ghost use Rattle.cip_run.specs.Lines.{texts};
 ghost use Rattle.cip_run.specs.Numbers.{decimal4_of, number_in};
-ghost use Rattle.cip_run.specs.Molfile.{is_header, is_counts, is_framed, atomic_number_of, is_level, is_nought, is_neutral, atom_of, place_of, mark_of, is_single, bond_of, atoms_of, bonds_of, molecule_of, IsNear};
+ghost use Rattle.cip_run.specs.Molfile.{is_header, is_counts, is_framed, atomic_number_of, is_level, is_nought, is_neutral, atom_of, place_of, mark_of, is_single, bond_of, atoms_of, bonds_of, molecule_of};
+ghost use Rattle.cip_run.specs.Molecule.{IsNear};
 
 use crate::columns::columns;
 use crate::lines::{is_molecule_end, is_terminator, line};
