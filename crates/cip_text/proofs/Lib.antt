@@ -1,0 +1,4 @@
+pub mod Contents
+pub mod Ends
+pub mod Firsts
+pub mod Standing

@@ -1,0 +1,6 @@
+pub mod Columns
+pub mod Kinds
+pub mod Laws
+pub mod Lines
+pub mod Numbers
+pub mod Places
