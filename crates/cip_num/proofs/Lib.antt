@@ -1,0 +1,15 @@
+pub mod Clashes
+pub mod Coincidence
+pub mod Counting
+pub mod CrossProducts
+pub mod Neighbours
+pub mod OneOrder
+pub mod Permutations
+pub mod Places
+pub mod Placing
+pub mod Quarters
+pub mod Ring
+pub mod Rotation
+pub mod SignsOfProducts
+pub mod StrictOrder
+pub mod Turns
