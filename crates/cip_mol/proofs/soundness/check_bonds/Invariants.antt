@@ -1,0 +1,11 @@
+use Rattle.std.proofs.Common.{◌≡◌, ◌<◌, ℕ, None, take, get_or}
+use Rattle.cip_mol.specs.declared.molecule.Bond.{Bond}
+use Rattle.cip_mol.specs.Bonds.{cause_of}
+use Rattle.cip_mol.specs.Tables.{IsTable}
+use Rattle.cip_mol.proofs.soundness.check_bonds.Given as goal
+
+abbrev pub invariant-loop-place : goal.invariant-loop-place
+invariant-loop-place l = record {
+  table : IsTable l.atoms (take l.place l.bonds) l.table;
+  before : (k : ℕ) → k < l.place → (d : Bond) → cause_of l.atoms (take k l.bonds) (get_or l.bonds k d) ≡ None;
+}

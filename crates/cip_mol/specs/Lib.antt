@@ -1,0 +1,6 @@
+pub mod Bonds
+pub mod Drawing
+pub mod Letters
+pub mod Neighbours
+pub mod Ranges
+pub mod Tables

@@ -1,0 +1,14 @@
+//! Molecules as they are drawn: atoms and bonds, and which bonds a molecule may have.
+#![tactic(auto)]
+
+mod descriptor;
+mod faults;
+mod molecule;
+mod neighbours;
+mod soundness;
+#[cfg(test)]
+mod tests;
+
+pub use descriptor::{Descriptor, Sense};
+pub use faults::{BondCause, MolFault};
+pub use molecule::{Atom, Bond, Mark, Molecule};
