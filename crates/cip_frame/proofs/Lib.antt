@@ -1,0 +1,8 @@
+pub mod Ahead
+pub mod Bools
+pub mod Cutting
+pub mod Holding
+pub mod Joining
+pub mod Limits
+pub mod PieceLines
+pub mod Pieces

@@ -1,0 +1,5 @@
+pub mod Following
+pub mod Framing
+pub mod Laws
+pub mod Records
+pub mod Taking
