@@ -1,0 +1,14 @@
+pub mod Closed
+pub mod Ended
+pub mod Halves
+pub mod Headings
+pub mod ItemLines
+pub mod Joining
+pub mod LastBytes
+pub mod LineEnds
+pub mod Made
+pub mod Numbered
+pub mod PutAgain
+pub mod TakenOut
+pub mod Taking
+pub mod Walking

@@ -1,0 +1,7 @@
+use Rattle.std.proofs.Common.{◌≡◌, ◌++◌, drop}
+use Rattle.std.specs.List.{flat_map}
+use Rattle.cip_item.proofs.putting.put_values.Given as goal
+
+abbrev pub invariant-loop-place : goal.invariant-loop-place
+invariant-loop-place l =
+    l.text.items ++ flat_map (λ value. value ++ l.end) (drop l.place l.values) ≡ l.initial.text.items ++ flat_map (λ value. value ++ l.end) l.values

@@ -1,0 +1,88 @@
+// Where the items of a record stand.
+ghost use Rattle.std.specs.Prelude.{◌≡◌, ◌≤◌, ◌<◌, ◌+◌, ◌-◌, ◌^◌, ◌++◌, ◌∷◌, [], List, ℕ, length, IfOk, OnOk};
+ghost use Rattle.cip_item.specs.Items.{items_of};
+ghost use Rattle.cip_item.specs.Splitting.{items_with, closed_before, begun};
+
+use crate::body::{first_part, split_body_line};
+use crate::part::Part;
+use cip_list::Listing;
+use cip_text::without_end;
+use std::alloc::{AllocError, Global};
+
+/// An item by the numbers of its first line and of the line behind its last one, counted from 0.
+#[derive(Clone, Copy)]
+pub struct Item {
+    pub first: u32,
+    pub past: u32,
+    pub label: bool,
+}
+
+/// The items of a record, in order.
+pub type Items = Listing<Item>;
+
+// The items that are closed, what the lines so far left open, where the open item began, and how many lines there were.
+#[derive(Drop)]
+pub(crate) struct Splitter {
+    pub(crate) items: Items,
+    pub(crate) part: Part,
+    pub(crate) first: u32,
+    pub(crate) number: u32,
+}
+
+/// The items of a record, label items and others, in order.
+pub fn split_items(alloc: Global, bytes: &[u8]) -> Result<Items, AllocError>
+    requires { length bytes.now < 2 ^ 32 }
+    ensures { IfOk result (λ items. items ≡ items_of bytes.now) }
+{
+    let mut splitter = Splitter {
+        items: Listing::new(alloc),
+        part: first_part(bytes),
+        first: 0,
+        number: 0,
+    };
+    let mut rest = bytes;
+    while let Some((line, behind)) = split_body_line(rest) {
+        take_line(&mut splitter, without_end(line))?;
+        rest = behind;
+    }
+    close_before(&mut splitter, Part::Between)?;
+    Ok(splitter.items)
+}
+
+fn take_line(splitter: &mut Splitter, content: &[u8]) -> Result<(), AllocError>
+    requires room { splitter.old.number < 2 ^ 32 - 1 }
+    requires begun { begun splitter.old ≤ splitter.old.number }
+    ensures items { OnOk result ((contents : List (List ℕ)) → items_with splitter.new contents ≡ items_with splitter.old (content.now ∷ contents)) }
+    ensures number { OnOk result (splitter.new.number ≡ splitter.old.number + 1) }
+    ensures begun { OnOk result (begun splitter.new ≤ splitter.new.number) }
+{
+    if splitter.part.begins_item(content) {
+        let part = splitter.part.of_line(content);
+        close_before(splitter, Part::Between)?;
+        splitter.part = part;
+        splitter.first = splitter.number;
+        splitter.number += 1;
+        return Ok(());
+    }
+    let next = splitter.part.behind(content);
+    splitter.number += 1;
+    close_before(splitter, next)?;
+    splitter.part = next;
+    Ok(())
+}
+
+// Closes the open item, if there is one, where the next line finds no item open.
+fn close_before(splitter: &mut Splitter, next: Part) -> Result<(), AllocError>
+    requires { begun splitter.old < 2 ^ 32 }
+    ensures { OnOk result (splitter.new ≡ record splitter.old { items = splitter.old.items ++ closed_before splitter.old next }) }
+{
+    if splitter.part.is_item() && !next.is_item() {
+        let item = Item {
+            first: splitter.first,
+            past: splitter.number,
+            label: splitter.part.is_label_item(),
+        };
+        splitter.items.push(item)?;
+    }
+    Ok(())
+}

@@ -1,0 +1,26 @@
+// What holds of a label item that is put in or taken out.
+ghost use Rattle.cip_item.specs.Laws.{ItemsAreTakenOut, ItemsArePutAgain, OnlyLabelItemsGo, BodiesStay};
+
+/// Taking out an item that was put in leaves the record as it was, but for the line ends that the item needed.
+#[tactic(auto, using(crate::proofs::TakenOut::items_are_taken_out))]
+pub fn items_are_taken_out()
+    ensures { ItemsAreTakenOut }
+{}
+
+/// Labelling a labelled record again, with the same values, changes no byte.
+#[tactic(auto, using(crate::proofs::PutAgain::items_are_put_again))]
+pub fn items_are_put_again()
+    ensures { ItemsArePutAgain }
+{}
+
+/// What is taken out are the lines of label items, and every other line stays in its place in the order.
+#[tactic(auto, using(crate::proofs::Numbered::only_label_items_go))]
+pub fn only_label_items_go()
+    ensures { OnlyLabelItemsGo }
+{}
+
+/// A record is its body with its closing behind it, and with an item put in it begins with its body.
+#[tactic(auto, using(crate::proofs::Halves::bodies_stay))]
+pub fn bodies_stay()
+    ensures { BodiesStay }
+{}

@@ -1,0 +1,66 @@
+// The parts of a record.
+ghost use Rattle.std.specs.Prelude.{◌≡◌};
+ghost use Rattle.cip_item.specs.Parts.{part_of, part_behind, is_label_item};
+ghost use Rattle.cip_item.specs.Items.{begins_item};
+ghost use Rattle.cip_item.specs.Splitting.{is_item};
+
+use crate::kinds::{is_heading, is_label_heading, is_molecule_end};
+use cip_text::is_blank;
+
+// What a line belongs to, or what the lines before it left open.
+#[derive(Clone, Copy)]
+pub(crate) enum Part {
+    Molecule,
+    Between,
+    OtherItem,
+    LabelItem,
+}
+
+impl Part {
+    // What a line with this content belongs to, where this part is open.
+    pub(crate) fn of_line(self, content: &[u8]) -> Part
+        ensures { result ≡ part_of self content.now }
+    {
+        match self {
+            Part::Molecule => Part::Molecule,
+            Part::LabelItem => Part::LabelItem,
+            _ if is_label_heading(content) => Part::LabelItem,
+            Part::Between if is_heading(content) => Part::OtherItem,
+            open => open,
+        }
+    }
+
+    // What a line of this part leaves open.
+    pub(crate) fn behind(self, content: &[u8]) -> Part
+        ensures { result ≡ part_behind self content.now }
+    {
+        match self {
+            Part::Molecule if is_molecule_end(content) => Part::Between,
+            Part::OtherItem | Part::LabelItem if is_blank(content) => Part::Between,
+            part => part,
+        }
+    }
+
+    // Whether a line with this content begins an item, where this part is open.
+    pub(crate) fn begins_item(self, content: &[u8]) -> bool
+        ensures { result ≡ begins_item self content.now }
+    {
+        match self {
+            Part::Molecule => false,
+            Part::Between => is_label_heading(content) || is_heading(content),
+            Part::OtherItem | Part::LabelItem => is_label_heading(content),
+        }
+    }
+
+    pub(crate) fn is_item(self) -> bool
+        ensures { result ≡ is_item self }
+    {
+        matches!(self, Part::OtherItem | Part::LabelItem)
+    }
+
+    pub(crate) fn is_label_item(self) -> bool
+        ensures { result ≡ is_label_item self }
+    {
+        matches!(self, Part::LabelItem)
+    }
+}

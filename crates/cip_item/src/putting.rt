@@ -1,0 +1,148 @@
+// A record with a label item put in.
+ghost use Rattle.std.specs.Prelude.{◌≡◌, ◌-◌, ◌^◌, ◌++◌, false, min, IfOk, OnOk};
+ghost use Rattle.std.specs.List.{flat_map};
+ghost use Rattle.cip_item.specs.Parts.{body_contents};
+ghost use Rattle.cip_item.specs.Putting.{has_returns, line_end_for, missing_end, needs_gap, gap, heading, item, with_item};
+ghost use Rattle.cip_item.specs.Room.{room_of};
+
+use crate::body::{split_body, split_body_line};
+use crate::kinds::is_molecule_end;
+use cip_list::Listing;
+use cip_text::{Bytes, is_blank, without_end};
+use std::alloc::{AllocError, Global};
+
+/// Texts in order, as the values of an item.
+pub type Texts = Listing<Bytes>;
+
+// The end of the last line, the heading with its end, and the empty lines before and behind the item: each end is CRLF
+// at most.
+const ITEM_ROOM: usize = 2 + (14 + 2) + 2 + 2;
+
+/// Puts a label item into a record, with a line for each value: before the terminator line, or at the end where there is
+/// none.
+pub fn with_item(alloc: Global, bytes: &[u8], values: &Texts) -> Result<Vec<u8>, AllocError>
+    ensures { IfOk result (λ text. text.items ≡ with_item bytes.now values.now) }
+{
+    let (body, closing) = split_body(bytes);
+    let end = line_end_for(bytes);
+    let room = room_for(values).saturating_add(ITEM_ROOM);
+    let mut text = Vec::with_capacity(alloc, bytes.len().saturating_add(room))?;
+    text.extend_from_slice(body)?;
+    text.extend_from_slice(missing_end(end, body))?;
+    text.extend_from_slice(gap(end, bytes))?;
+    put_item(&mut text, end, values)?;
+    text.extend_from_slice(closing)?;
+    Ok(text)
+}
+
+fn room_for(values: &Texts) -> usize
+    ensures { result ≡ min (2 ^ 64 - 1) (room_of values.now) }
+{
+    let mut room: usize = 0;
+    for place in 0..values.len() {
+        let line = values.get(place).as_slice().len().saturating_add(2);
+        room = room.saturating_add(line);
+    }
+    room
+}
+
+#[tactic(auto, using(crate::proofs::Joining::five_joined))]
+fn put_item(text: &mut Vec<u8>, end: &[u8], values: &Texts) -> Result<(), AllocError>
+    ensures { OnOk result (text.new.items ≡ text.old.items ++ item end.now values.now) }
+{
+    text.extend_from_slice(heading())?;
+    text.extend_from_slice(end)?;
+    put_values(text, end, values)?;
+    text.extend_from_slice(end)?;
+    Ok(())
+}
+
+#[tactic(auto, unfolding(crate::specs::Putting::heading))]
+fn heading() -> &'static [u8]
+    ensures { result.now ≡ heading }
+{
+    b"> <CIP_LABELS>".as_slice()
+}
+
+// One line for each value.
+fn put_values(text: &mut Vec<u8>, end: &[u8], values: &Texts) -> Result<(), AllocError>
+    ensures { OnOk result (text.new.items ≡ text.old.items ++ flat_map (λ value. value ++ end.now) values.now) }
+{
+    for place in 0..values.len() {
+        put_line(text, values.get(place).as_slice(), end)?;
+    }
+    Ok(())
+}
+
+#[tactic(auto, using(crate::proofs::Joining::two_joined))]
+fn put_line(text: &mut Vec<u8>, content: &[u8], end: &[u8]) -> Result<(), AllocError>
+    ensures { OnOk result (text.new.items ≡ text.old.items ++ (content.now ++ end.now)) }
+{
+    text.extend_from_slice(content)?;
+    text.extend_from_slice(end)?;
+    Ok(())
+}
+
+// The line end of a record, by its first LF.
+fn line_end_for(bytes: &[u8]) -> &'static [u8]
+    ensures { result.now ≡ line_end_for bytes.now }
+{
+    if has_returns(bytes) {
+        b"\r\n".as_slice()
+    } else {
+        b"\n".as_slice()
+    }
+}
+
+fn has_returns(bytes: &[u8]) -> bool
+    ensures { result ≡ has_returns false bytes.now }
+{
+    let mut behind_return = false;
+    for byte in bytes {
+        if *byte == b'\n' {
+            return behind_return;
+        }
+        behind_return = *byte == b'\r';
+    }
+    behind_return
+}
+
+// What the last line of a body lacks.
+fn missing_end<'a>(end: &'a [u8], body: &[u8]) -> &'a [u8]
+    ensures { result.now ≡ missing_end end.now body.now }
+{
+    match body {
+        [] | [.., b'\n'] => b"".as_slice(),
+        [.., b'\r'] => b"\r\n".as_slice(),
+        _ => end,
+    }
+}
+
+// An empty line before the item, where it would otherwise go on from another one.
+fn gap<'a>(end: &'a [u8], bytes: &[u8]) -> &'a [u8]
+    ensures { result.now ≡ gap end.now bytes.now }
+{
+    if needs_gap(bytes) {
+        end
+    } else {
+        b"".as_slice()
+    }
+}
+
+fn needs_gap(bytes: &[u8]) -> bool
+    ensures { result ≡ needs_gap false false (body_contents bytes.now) }
+{
+    let mut ended = false;
+    let mut filled = false;
+    let mut rest = bytes;
+    while let Some((line, behind)) = split_body_line(rest) {
+        let content = without_end(line);
+        if ended {
+            filled = !is_blank(content);
+        } else {
+            ended = is_molecule_end(content);
+        }
+        rest = behind;
+    }
+    filled
+}
