@@ -1,4 +1,11 @@
+pub mod Answered
+pub mod Growing
 pub mod Bounds
+pub mod Ending
 pub mod Four
+pub mod LimitPlaces
+pub mod Progressing
 pub mod Texts
+pub mod Turning
+pub mod Waiting
 pub mod Words

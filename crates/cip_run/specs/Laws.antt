@@ -1,16 +1,14 @@
 -- What the text that is due is, in plain words. Own.
-use Rattle.std.specs.Prelude.{◌≡◌, ℕ, List, ◌++◌, Some}
-use Rattle.cip_run.specs.Item.{item}
-use Rattle.cip_run.specs.Due.{due}
+use Rattle.std.specs.Prelude.{◌≡◌, ℕ, List, [], ◌∷◌, Some}
+use Rattle.cip_item.specs.Parts.{without_label_items}
+use Rattle.cip_item.specs.Putting.{with_item}
+use Rattle.cip_run.specs.Due.{annotated}
 
--- a text is these bytes with an item put in at some place
+-- a text is a record without its label items, with a new one put in
 pub record HasItem (bytes text : List ℕ) : Type 0 where
-  pub before : List ℕ
   pub value : List ℕ
-  pub behind : List ℕ
-  pub parts : bytes ≡ before ++ behind
-  pub joined : text ≡ before ++ (item value ++ behind)
+  pub put : text ≡ with_item (without_label_items bytes) (value ∷ [])
 
--- whatever text is due for an input, the input comes back in it byte for byte
+-- whatever text a record is answered with, the record comes back in it
 abbrev pub RecordsComeBack : Type 0
-RecordsComeBack = (most : ℕ) (bytes text : List ℕ) → due most bytes ≡ Some text → HasItem bytes text
+RecordsComeBack = (bytes text : List ℕ) → annotated bytes ≡ Some text → HasItem bytes text

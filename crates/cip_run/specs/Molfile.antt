@@ -1,17 +1,17 @@
--- A molfile of version V2000 with five atoms and four single bonds, line after line. CTfile Formats, the connection table.
-use Rattle.std.specs.Prelude.{ℕ, zero, ℤ, pos, List, [], ◌∷◌, ◌-◌, ◌==◌, Bool, true, false, not, ◌&&◌, Some, None, codes, length, if◌then◌else◌}
+-- A molfile of version V2000 with five atoms and four single bonds, line after line, up to its `M  END`. CTfile Formats,
+-- the connection table.
+use Rattle.std.specs.Prelude.{ℕ, zero, ℤ, pos, List, [], ◌∷◌, ◌-◌, ◌==◌, Bool, true, false, not, nat_le, ◌&&◌, Some, None, codes, length, if◌then◌else◌}
 use Rattle.std.specs.declared.option.Option.{Option}
 use Rattle.std.specs.Option.{is_some}
 use Rattle.std.specs.Str.{bytes_eq}
-use Rattle.cip_run.specs.Columns.{field}
-use Rattle.cip_run.specs.Lines.{line_at, is_molecule_end, is_terminator}
-use Rattle.cip_run.specs.Numbers.{decimal4_of, number_in}
-use Rattle.cip_run.specs.declared.molecule.Atom.{Atom}
-use Rattle.cip_run.specs.declared.molecule.Bond.{Bond}
-use Rattle.cip_run.specs.declared.molecule.Mark.{Mark}
-use Rattle.cip_run.specs.declared.molecule.Mark.TheVariants.{Plain, Up, Down}
-use Rattle.cip_run.specs.declared.molecule.Molecule.{Molecule}
-use Rattle.cip_run.specs.declared.molfile.TheConstants.{TERMINATOR}
+use Rattle.cip_text.specs.Columns.{field}
+use Rattle.cip_run.specs.Contents.{line_at, is_molecule_end}
+use Rattle.cip_run.specs.Fields.{coordinate_in, number_in}
+use Rattle.cip_mol.specs.declared.molecule.Atom.{Atom}
+use Rattle.cip_mol.specs.declared.molecule.Bond.{Bond}
+use Rattle.cip_mol.specs.declared.molecule.Mark.{Mark}
+use Rattle.cip_mol.specs.declared.molecule.Mark.TheVariants.{Plain, Up, Down}
+use Rattle.cip_run.specs.declared.molecule.Drawn.{Drawn}
 
 -- what follows is tried only if nothing before it is missing
 infixl 10 ◌>>=◌
@@ -26,7 +26,7 @@ is_number n None = false
 -- the frame of the lines
 
 abbrev pub is_header : List ℕ → Bool
-is_header line = not (is_molecule_end line) && not (is_terminator line)
+is_header line = not (is_molecule_end line)
 
 -- the counts line: five atoms, four bonds, and the version
 abbrev pub is_counts : List ℕ → Bool
@@ -35,14 +35,13 @@ is_counts line =
     && is_number 4 (number_in 999 (field 4 6 line))
     && bytes_eq (field 34 39 line) (codes "V2000")
 
--- fifteen lines with their line ends: three header lines, the counts line, nine lines of atoms and bonds, and the two ends
+-- three header lines, the counts line, nine lines of atoms and bonds, and the end of the molecule; other lines may follow
 abbrev pub is_framed : List (List ℕ) → Bool
 is_framed lines =
-    (length lines == 16)
+    nat_le 14 (length lines)
     && is_header (line_at lines 0) && is_header (line_at lines 1) && is_header (line_at lines 2)
     && is_counts (line_at lines 3)
-    && is_molecule_end (line_at lines 13) && is_terminator (line_at lines TERMINATOR)
-    && (length (line_at lines 15) == 0)
+    && is_molecule_end (line_at lines 13)
 
 -- an atom line
 
@@ -71,10 +70,11 @@ is_neutral line = is_nought (field 35 36 line) && is_nought (field 37 39 line) &
 
 unfoldable pub atom_of : List ℕ → Option Atom
 atom_of line = do
-  x ← decimal4_of (field 1 10 line)
-  y ← decimal4_of (field 11 20 line)
+  x ← coordinate_in (field 1 10 line)
+  y ← coordinate_in (field 11 20 line)
   z ← atomic_number_of (field 32 34 line)
-  if is_level (decimal4_of (field 21 30 line)) && is_neutral line then Some (record { z = z; at = record { x = x; y = y } }) else None
+  if is_level (coordinate_in (field 21 30 line)) && is_neutral line
+      then Some (record { z = z; isotope = 0; charge = pos 0; radical = 0; valence_mark = 0; at = record { x = x; y = y; z = pos 0 } }) else None
 
 -- a bond line
 
@@ -101,7 +101,7 @@ bond_of line = do
   b ← place_of second
   stereo ← number_in 6 (field 10 12 line)
   mark ← mark_of stereo
-  if is_single (number_in 3 (field 7 9 line)) then Some (record { a = a; b = b; mark = mark }) else None
+  if is_single (number_in 3 (field 7 9 line)) then Some (record { a = a; b = b; order = 1; mark = mark }) else None
 
 -- the molecule
 
@@ -123,7 +123,7 @@ bonds_of lines = do
   Some (first ∷ second ∷ third ∷ fourth ∷ [])
 
 -- the molecule of these lines, or none where they aren't of the form that is read so far
-unfoldable pub molecule_of : List (List ℕ) → Option Molecule
+unfoldable pub molecule_of : List (List ℕ) → Option Drawn
 molecule_of lines = if is_framed lines then (do
   atoms ← atoms_of lines
   bonds ← bonds_of lines

@@ -1,25 +1,16 @@
 -- What a run leaves behind, status by status. Own.
-use Rattle.std.specs.Prelude.{◌==◌, ◌≡◌, ◌⊎◌, ℕ, List, [], ◌∷◌, ◌++◌, map, codes, IfSome, Some, None, String, string_bytes, if◌then◌else◌}
+use Rattle.std.specs.Prelude.{◌==◌, ◌≡◌, ◌⊎◌, ℕ, List, [], ◌∷◌, ◌++◌, map, codes, String, string_bytes, if◌then◌else◌}
 use Rattle.std.specs.declared.option.Option.{Option}
 use Rattle.std.specs.declared.alloc.Global.{Global}
 use Rattle.std.specs.Io.KnownBytes.{Appends}
 use Rattle.cip_io.specs.Faults.{Rose}
 use Rattle.cip_io.specs.Growth.{AppendsPrefix}
-use Rattle.cip_run.specs.Lines.{line_feed}
-use Rattle.cip_run.specs.Due.{due}
-use Rattle.cip_run.specs.declared.status.TheConstants.{DONE, WORDS_REFUSED, READ_FAULT, WRITE_FAULT, OUT_OF_MEMORY, NOT_BUILT}
+use Rattle.cip_text.specs.Lines.{line_feed}
+use Rattle.cip_run.specs.declared.status.TheConstants.{DONE, WORDS_REFUSED, READ_FAULT, WRITE_FAULT, OUT_OF_MEMORY, LIMIT, NOT_BUILT}
 
 -- the words are `annotate` alone
 abbrev pub IsAnnotate : List (String Global) → Type 0
 IsAnnotate words = map string_bytes words ≡ codes "annotate" ∷ []
-
--- a text is due for what the source had left, where it tells, and P holds of this text
-abbrev pub IsDue : ℕ → Option (List ℕ) → (List ℕ → Type 0) → Type 0
-IsDue most left P = IfSome left (λ bytes. (text : List ℕ) × (due most bytes ≡ Some text) × P text)
-
--- no text is due for what the source had left, where it tells
-abbrev pub IsNotBuilt : ℕ → Option (List ℕ) → Type 0
-IsNotBuilt most left = IfSome left (λ bytes. due most bytes ≡ None)
 
 -- the diagnostic line of a status; empty where there is none
 abbrev pub line_of : ℕ → List ℕ
@@ -28,6 +19,7 @@ line_of status =
     else if status == READ_FAULT then codes "cip: read fault" ++ line_feed ∷ []
     else if status == WRITE_FAULT then codes "cip: write fault" ++ line_feed ∷ []
     else if status == OUT_OF_MEMORY then codes "cip: out of memory" ++ line_feed ∷ []
+    else if status == LIMIT then codes "cip: limit" ++ line_feed ∷ []
     else if status == NOT_BUILT then codes "cip: not built" ++ line_feed ∷ []
     else []
 
@@ -38,4 +30,4 @@ pub record Says (old new : Option (List ℕ)) (before now : ℕ) (line : List �
 
 -- the statuses that a run ends with
 abbrev pub IsStatus : ℕ → Type 0
-IsStatus status = (status ≡ DONE) ⊎ ((status ≡ WORDS_REFUSED) ⊎ ((status ≡ READ_FAULT) ⊎ ((status ≡ WRITE_FAULT) ⊎ ((status ≡ OUT_OF_MEMORY) ⊎ (status ≡ NOT_BUILT)))))
+IsStatus status = (status ≡ DONE) ⊎ ((status ≡ WORDS_REFUSED) ⊎ ((status ≡ READ_FAULT) ⊎ ((status ≡ WRITE_FAULT) ⊎ ((status ≡ OUT_OF_MEMORY) ⊎ ((status ≡ LIMIT) ⊎ (status ≡ NOT_BUILT))))))

@@ -1,25 +1,22 @@
 // Which molecules are labelled so far.
-ghost use Rattle.std.specs.Prelude.{◌≡◌, ◌==◌, ◌∷◌, All, count_by};
+ghost use Rattle.std.specs.Prelude.{◌≡◌, ◌==◌, count_by};
 ghost use Rattle.std.specs.List.{list_all};
-ghost use Rattle.cip_run.specs.Molecule.{IsNear, ligands};
-ghost use Rattle.cip_run.specs.Built.{are_different, is_wedge, bonds_to, is_star, is_built};
+ghost use Rattle.cip_run.specs.declared.molecule.TheConstants.{CENTRE};
+ghost use Rattle.cip_run.specs.Built.{ligands, are_different, is_wedge, bonds_to, is_star, is_built};
 
-use crate::around::has_clash;
-use crate::geometry::directions_from_centre;
-use crate::molecule::{Bond, CARBON, Mark, Molecule};
-use crate::ranking::atomic_numbers_of_ligands;
+use crate::molecule::{CARBON, CENTRE, Drawn, LIGANDS};
+use crate::ranking::atomic_numbers;
+use cip_mol::{Bond, Mark};
 
 /// Whether a molecule is a carbon with four ligands of different elements, one of them marked.
-pub fn is_built(molecule: &Molecule) -> bool
-    requires { All IsNear molecule.now.atoms }
-    ensures { result ≡ is_built molecule.now }
+pub fn is_built(drawn: &Drawn) -> bool
+    ensures { result ≡ is_built drawn.now }
 {
-    let centre = molecule.atoms[0].z;
-    let [first, second, third, fourth] = atomic_numbers_of_ligands(&molecule.atoms);
+    let centre = drawn.atoms[CENTRE as usize].z;
+    let [first, second, third, fourth] = atomic_numbers(&drawn.atoms, &LIGANDS);
     centre == CARBON
         && are_different(&[centre, first, second, third, fourth])
-        && is_star(&molecule.bonds)
-        && !has_clash(&directions_from_centre(&molecule.atoms))
+        && is_star(&drawn.bonds)
 }
 
 fn are_different(numbers: &[u8]) -> bool
@@ -40,9 +37,9 @@ fn is_star(bonds: &[Bond; 4]) -> bool
 }
 
 fn begin_at_centre(bonds: &[Bond]) -> bool
-    ensures { result ≡ list_all (λ bond. bond.a == 0) bonds.now }
+    ensures { result ≡ list_all (λ bond. bond.a == CENTRE) bonds.now }
 {
-    bonds.iter().all(|bond| bond.a == 0)
+    bonds.iter().all(|bond| bond.a == CENTRE)
 }
 
 fn reach_each_ligand(bonds: &[Bond]) -> bool

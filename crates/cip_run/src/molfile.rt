@@ -1,51 +1,47 @@
-// A molfile of version V2000 with five atoms and four bonds, line after line.
+// A molfile of version V2000 with five atoms and four bonds, line after line, up to its `M  END`.
 ghost use Rattle.std.specs.Prelude.{◌≡◌, All, IfSome};
-ghost use Rattle.cip_run.specs.Lines.{texts};
-ghost use Rattle.cip_run.specs.Numbers.{decimal4_of, number_in};
+ghost use Rattle.cip_run.specs.Contents.{texts};
+ghost use Rattle.cip_run.specs.Fields.{coordinate_in, number_in};
 ghost use Rattle.cip_run.specs.Molfile.{is_header, is_counts, is_framed, atomic_number_of, is_level, is_nought, is_neutral, atom_of, place_of, mark_of, is_single, bond_of, atoms_of, bonds_of, molecule_of};
 ghost use Rattle.cip_run.specs.Molecule.{IsNear};
 
-use crate::columns::columns;
-use crate::lines::{is_molecule_end, is_terminator, line};
-use crate::molecule::{Atom, Bond, Mark, Molecule};
-use crate::numbers::{decimal4, number};
-use crate::plane::Vec2;
-
-/// Where the line that ends the record stands, counted from 0.
-pub const TERMINATOR: usize = 14;
+use crate::contents::{is_molecule_end, line};
+use crate::fields::{coordinate, number};
+use crate::molecule::Drawn;
+use cip_mol::{Atom, Bond, Mark};
+use cip_num::Vec3;
+use cip_text::columns;
 
 /// The molecule that these lines describe, or none where they aren't of the form that is read so far.
 #[tactic(auto, unfolding(crate::specs::Molfile::molecule_of))]
-pub fn molecule(lines: &[&[u8]]) -> Option<Molecule>
+pub fn molecule(lines: &[&[u8]]) -> Option<Drawn>
     ensures value { result ≡ molecule_of (texts lines.now) }
-    ensures near { IfSome result (λ molecule. All IsNear molecule.atoms) }
+    ensures near { IfSome result (λ drawn. All IsNear drawn.atoms) }
 {
     if !is_framed(lines) {
         return None;
     }
     let atoms = atoms(lines)?;
     let bonds = bonds(lines)?;
-    Some(Molecule { atoms, bonds })
+    Some(Drawn { atoms, bonds })
 }
 
-// Three header lines, a counts line, nine lines for atoms and bonds, and the two ends.
+// Three header lines, a counts line, nine lines for atoms and bonds, and the end of the molecule.
 fn is_framed(lines: &[&[u8]]) -> bool
     ensures { result ≡ is_framed (texts lines.now) }
 {
-    lines.len() == 16
+    lines.len() >= 14
         && is_header(line(lines, 0))
         && is_header(line(lines, 1))
         && is_header(line(lines, 2))
         && is_counts(line(lines, 3))
         && is_molecule_end(line(lines, 13))
-        && is_terminator(line(lines, TERMINATOR))
-        && line(lines, 15).is_empty()
 }
 
 fn is_header(line: &[u8]) -> bool
     ensures { result ≡ is_header line.now }
 {
-    !is_molecule_end(line) && !is_terminator(line)
+    !is_molecule_end(line)
 }
 
 // Whether a counts line announces five atoms and four bonds.
@@ -85,13 +81,17 @@ fn atom(line: &[u8]) -> Option<Atom>
     ensures value { result ≡ atom_of line.now }
     ensures near { IfSome result IsNear }
 {
-    let x = decimal4(columns(line, 1, 10))?;
-    let y = decimal4(columns(line, 11, 20))?;
+    let x = coordinate(columns(line, 1, 10))?;
+    let y = coordinate(columns(line, 11, 20))?;
     let z = atomic_number(columns(line, 32, 34))?;
     if is_level(columns(line, 21, 30)) && is_neutral(line) {
         Some(Atom {
             z,
-            at: Vec2 { x, y },
+            isotope: 0,
+            charge: 0,
+            radical: 0,
+            valence_mark: 0,
+            at: Vec3 { x, y, z: 0 },
         })
     } else {
         None
@@ -99,9 +99,9 @@ fn atom(line: &[u8]) -> Option<Atom>
 }
 
 fn is_level(depth: &[u8]) -> bool
-    ensures { result ≡ is_level (decimal4_of depth.now) }
+    ensures { result ≡ is_level (coordinate_in depth.now) }
 {
-    matches!(decimal4(depth), Some(0))
+    matches!(coordinate(depth), Some(0))
 }
 
 // Whether mass difference, charge code and valence mark are 0.
@@ -147,7 +147,12 @@ fn bond(line: &[u8]) -> Option<Bond>
     let b = place(number(5, columns(line, 4, 6))?)?;
     let mark = mark(number(6, columns(line, 10, 12))?)?;
     if is_single(columns(line, 7, 9)) {
-        Some(Bond { a, b, mark })
+        Some(Bond {
+            a,
+            b,
+            order: 1,
+            mark,
+        })
     } else {
         None
     }

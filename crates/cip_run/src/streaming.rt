@@ -1,0 +1,45 @@
+// Answering a whole stream.
+ghost use Rattle.std.specs.Prelude.{◌≡◌, ◌≤◌, ◌+◌, IfSome, IsErrOf};
+ghost use Rattle.cip_io.specs.Faults.{Rose};
+ghost use Rattle.cip_run.specs.Endings.{EndsAs, AnswersTaken};
+ghost use Rattle.cip_run.specs.Reading.{TakesAtMost};
+
+use crate::answering::{answer_tail, answer_waiting};
+use crate::limits::Limits;
+use crate::reading::{Turn, feed_next, new_piece};
+use crate::stop::Stop;
+use cip_frame::Framer;
+use cip_io::{Sink, Source};
+use std::alloc::Global;
+
+/// Reads the source to its end, or to the first byte past a limit, and writes each record with its item
+/// as it becomes whole.
+pub fn answer_stream<S: Source, K: Sink>(
+    alloc: Global,
+    limits: Limits,
+    source: &mut S,
+    sink: &mut K,
+) -> Result<(), Stop>
+    ensures ended { IfSome (S.left source.old) (EndsAs limits result (K.taken sink.old) (K.taken sink.new)) }
+    ensures read_fault { IsErrOf result Stop.ReadFault → AnswersTaken limits (S.left source.old) (S.left source.new) (K.taken sink.old) (K.taken sink.new) }
+    ensures bounded { TakesAtMost (limits.input + 1) (S.left source.old) (S.left source.new) }
+    ensures source_fault { IsErrOf result Stop.ReadFault → Rose (S.faults source.old) (S.faults source.new) }
+    ensures sink_fault { IsErrOf result Stop.WriteFault → Rose (K.faults sink.old) (K.faults sink.new) }
+{
+    let mut piece = new_piece(alloc)?;
+    let mut framer = Framer::new(alloc, limits.record);
+    let mut room = limits.input;
+    loop {
+        match feed_next(source, &mut piece, &mut framer, room)? {
+            Turn::Piece(count) => {
+                answer_waiting(alloc, &mut framer, sink)?;
+                room -= count;
+            }
+            Turn::End => return answer_tail(alloc, &framer.finish(), sink),
+            Turn::Limit => {
+                answer_waiting(alloc, &mut framer, sink)?;
+                return Err(Stop::Limit);
+            }
+        }
+    }
+}
