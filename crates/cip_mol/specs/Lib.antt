@@ -1,4 +1,5 @@
 pub mod Bonds
+pub mod Causes
 pub mod Drawing
 pub mod Letters
 pub mod Neighbours

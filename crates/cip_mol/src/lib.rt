@@ -5,6 +5,9 @@ mod descriptor;
 mod faults;
 mod molecule;
 mod neighbours;
+mod outcome;
+mod refusal;
+mod site;
 mod soundness;
 #[cfg(test)]
 mod tests;
@@ -12,3 +15,6 @@ mod tests;
 pub use descriptor::{Descriptor, Sense};
 pub use faults::{BondCause, MolFault};
 pub use molecule::{Atom, Bond, Mark, Molecule};
+pub use outcome::{Label, Outcome, Places, Rule};
+pub use refusal::{ReadCause, ReadFault, ReadRefusal};
+pub use site::{Cause, Geometry, Ligand, Ligands, Site, Unit};
