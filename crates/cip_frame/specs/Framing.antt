@@ -3,6 +3,8 @@ use Rattle.std.specs.Prelude.{◌≡◌, ℕ, List, ◌++◌, Bool, true, false,
 use Rattle.std.specs.declared.option.Option.{Option}
 use Rattle.std.specs.List.{list_all, take_while}
 use Rattle.cip_frame.specs.declared.fault.FrameFault.{FrameFault}
+use Rattle.cip_frame.specs.declared.record.Tail.{Tail}
+use Rattle.cip_frame.specs.declared.record.Tail.TheVariants.{Nothing, Blank, Last}
 use Rattle.cip_frame.specs.Records.{Cut, cut_of}
 
 -- the whole records that wait, the bytes of the open one, the limit of a record, and why no more is taken
@@ -14,6 +16,12 @@ pub record Framing : Type 0 where
 
 abbrev pub fits : ℕ → List ℕ → Bool
 fits limit bytes = nat_le (length bytes) limit
+
+-- what follows the last closed record isn't longer than the limit
+abbrev pub is_within : ℕ → Tail → Bool
+is_within limit Nothing = true
+is_within limit (Blank bytes) = fits limit bytes
+is_within limit (Last last) = fits limit last.bytes
 
 -- no closed record and no rest is longer than the limit
 abbrev pub all_fit : ℕ → Cut → Bool

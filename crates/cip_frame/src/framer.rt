@@ -3,7 +3,7 @@ ghost use Rattle.std.specs.Prelude.{◌≡◌, ◌≤◌, ◌<◌, ◌+◌, ◌+
 ghost use Rattle.std.specs.List.{take_while};
 ghost use Rattle.cip_text.specs.Lines.{line_feed, has_last};
 ghost use Rattle.cip_frame.specs.Records.{cut_of, is_blank_text, is_closing, open_line, tail_of};
-ghost use Rattle.cip_frame.specs.Framing.{Holds, Passed, IsFrontOf, fits};
+ghost use Rattle.cip_frame.specs.Framing.{Holds, Passed, IsFrontOf, fits, is_within};
 ghost use Rattle.cip_frame.specs.Following.{cut_behind};
 ghost use Rattle.cip_frame.specs.Taking.{is_line, TakesLine, TakesPiece, IsTooLong};
 
@@ -27,7 +27,7 @@ pub struct Framer {
 }
 
 impl Model for Framer {
-    ghost use Rattle.std.specs.Prelude.{◌≡◌, ◌≤◌, drop, length};
+    ghost use Rattle.std.specs.Prelude.{◌≡◌, ◌≤◌, All, drop, length};
     ghost use Rattle.cip_frame.specs.Records.{open_line};
     ghost use Rattle.cip_frame.specs.Framing.{Framing};
 
@@ -37,7 +37,8 @@ impl Model for Framer {
 
     ghost invariant = { λ framer. (framer.line ≤ length framer.open_bytes.items)
         × (drop framer.line framer.open_bytes.items ≡ open_line framer.open_bytes.items)
-        × (length framer.open_bytes.items ≤ framer.limit) };
+        × (length framer.open_bytes.items ≤ framer.limit)
+        × All (λ bytes. length bytes ≤ framer.limit) framer.waiting.items };
 }
 
 impl Framer {
@@ -83,6 +84,7 @@ impl Framer {
         ensures none { result ≡ None ↔ (self.old.waiting ≡ []) }
         ensures unchanged { result ≡ None → (self.new ≡ self.old) }
         ensures limit { self.new.limit ≡ self.old.limit }
+        ensures small { IfSome result (λ r. length r.bytes ≤ self.old.limit) }
 
         // What was handed out goes on by this record.
         ensures handed { (given : List (List ℕ)) (fed : List ℕ) → Holds given fed self.old → IfSome result (λ r. Holds (given ++ r.bytes ∷ []) fed self.new) }
@@ -104,6 +106,7 @@ impl Framer {
     pub fn finish(self) -> Tail
         requires { self.fault ≡ None }
         ensures tail { result ≡ tail_of self.open_bytes }
+        ensures small { is_within self.limit result ≡ true }
         ensures rest { (given : List (List ℕ)) (fed : List ℕ) → Holds given fed self → result ≡ tail_of (cut_of fed).rest }
     {
         if self.open_bytes.is_empty() {

@@ -6,7 +6,8 @@ use Rattle.std.proofs.lemmas.Grind.{common_steps}
 use Rattle.cip_text.specs.Lines.{lines_of, content_of}
 use Rattle.cip_text.specs.Kinds.{is_terminator}
 use Rattle.cip_text.specs.Laws.{has_line_feed, is_ended, are_ended}
-use Rattle.cip_item.specs.Parts.{body_lines, closing_lines}
+use Rattle.cip_text.specs.Bodies.{body_lines}
+use Rattle.cip_item.specs.Parts.{closing_lines}
 use Rattle.cip_item.specs.Putting.{lf, crlf}
 
 -- a line with its end is the first line of every text that it begins

@@ -6,7 +6,8 @@ use Rattle.cip_text.specs.Lines.{lines_of, content_of}
 use Rattle.cip_text.specs.Kinds.{is_terminator}
 use Rattle.cip_text.proofs.Firsts.{lines_join}
 use Rattle.cip_item.specs.Laws.{BodiesStay}
-use Rattle.cip_item.specs.Parts.{body, body_lines, closing, closing_lines}
+use Rattle.cip_text.specs.Bodies.{body_lines}
+use Rattle.cip_item.specs.Parts.{body, closing, closing_lines}
 
 -- from the terminator line on all is closing
 pub closing_itself : (bytes line behind : List ℕ) → lines_of bytes ≡ line ∷ lines_of behind → is_terminator (content_of line) ≡ true → closing bytes ≡ bytes

@@ -6,7 +6,8 @@ use Rattle.std.proofs.lemmas.List.{map-append}
 use Rattle.cip_text.specs.Lines.{content_of}
 use Rattle.cip_text.specs.Kinds.{is_blank, is_terminator}
 use Rattle.cip_text.specs.Laws.{has_line_feed, is_ended}
-use Rattle.cip_item.specs.Kinds.{is_label_heading, is_molecule_end}
+use Rattle.cip_text.specs.Kinds.{is_molecule_end}
+use Rattle.cip_item.specs.Kinds.{is_label_heading}
 use Rattle.cip_item.specs.Parts.{part_of, next_part, kept_lines}
 use Rattle.cip_item.specs.Putting.{heading, item, is_value}
 use Rattle.cip_item.specs.declared.part.Part.{Part}

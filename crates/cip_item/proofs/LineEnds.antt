@@ -5,7 +5,8 @@ use Rattle.std.proofs.lemmas.Bool.{and_parts, or_parts}
 use Rattle.cip_text.specs.Lines.{content_of, has_last}
 use Rattle.cip_text.specs.Kinds.{is_terminator}
 use Rattle.cip_text.specs.Laws.{has_line_feed, is_ended, are_ended}
-use Rattle.cip_item.specs.Parts.{body_lines, closing_lines}
+use Rattle.cip_text.specs.Bodies.{body_lines}
+use Rattle.cip_item.specs.Parts.{closing_lines}
 use Rattle.cip_item.specs.Putting.{crlf, has_returns, missing_end}
 use Rattle.cip_item.proofs.Closed.{closed, none_missing, crlf_missing, end_missing}
 use Rattle.cip_item.proofs.Ended.{end_as, last_open, return_no_feed}

@@ -6,7 +6,8 @@ use Rattle.cip_text.specs.Lines.{lines_of, content_of}
 use Rattle.cip_text.specs.Kinds.{is_terminator}
 use Rattle.cip_text.specs.Laws.{is_ended}
 use Rattle.cip_text.proofs.Ends as texts
-use Rattle.cip_item.specs.Parts.{body_lines, closing_lines, closing}
+use Rattle.cip_text.specs.Bodies.{body_lines}
+use Rattle.cip_item.specs.Parts.{closing_lines, closing}
 use Rattle.cip_item.proofs.Ended.{lines_ended, own_lines, closing_ended}
 use Rattle.cip_item.proofs.ItemLines.{no_terminators}
 

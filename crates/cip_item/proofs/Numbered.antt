@@ -4,8 +4,10 @@ use Rattle.std.specs.List.{concat, list_any}
 use Rattle.std.proofs.lemmas.Bool.{le-leb, le-ltb, lt-leb, lt-ltb}
 use Rattle.cip_text.specs.Kinds.{is_blank}
 use Rattle.cip_text.specs.Lines.{lines_of, content_of}
-use Rattle.cip_item.specs.Kinds.{is_heading, is_label_heading, is_molecule_end}
-use Rattle.cip_item.specs.Parts.{part_of, next_part, first_part, is_label_item, kept_lines, body_lines, body_contents, closing}
+use Rattle.cip_text.specs.Kinds.{is_molecule_end}
+use Rattle.cip_item.specs.Kinds.{is_heading, is_label_heading}
+use Rattle.cip_text.specs.Bodies.{body_lines, body_contents}
+use Rattle.cip_item.specs.Parts.{part_of, next_part, first_part, is_label_item, kept_lines, closing}
 use Rattle.cip_item.specs.Items.{begins_item, end_of_item, items_from, items_of}
 use Rattle.cip_item.specs.Laws.{is_in_label_item, lines_left, OnlyLabelItemsGo}
 use Rattle.cip_item.specs.declared.part.Part.{Part}

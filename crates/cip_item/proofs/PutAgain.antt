@@ -7,8 +7,9 @@ use Rattle.cip_text.specs.Lines.{lines_of, content_of}
 use Rattle.cip_text.specs.Kinds.{is_blank}
 use Rattle.cip_text.specs.Laws.{is_ended}
 use Rattle.cip_text.proofs.Ends as texts
-use Rattle.cip_item.specs.Kinds.{is_molecule_end}
-use Rattle.cip_item.specs.Parts.{body, body_lines, body_contents, closing}
+use Rattle.cip_text.specs.Kinds.{is_molecule_end}
+use Rattle.cip_text.specs.Bodies.{body_lines, body_contents}
+use Rattle.cip_item.specs.Parts.{body, closing}
 use Rattle.cip_item.specs.Putting.{line_end_for, has_returns, missing_end, needs_gap, gap, item, with_item, prepared}
 use Rattle.cip_item.specs.Laws.{ItemsArePutAgain}
 use Rattle.cip_item.proofs.Closed.{none_missing, missing_behind}

@@ -7,8 +7,9 @@ use Rattle.cip_text.specs.Lines.{lines_of, content_of}
 use Rattle.cip_text.specs.Kinds.{is_terminator}
 use Rattle.cip_text.specs.Laws.{is_ended, are_ended}
 use Rattle.cip_text.proofs.Ends as texts
-use Rattle.cip_item.specs.Kinds.{is_molecule_end}
-use Rattle.cip_item.specs.Parts.{next_part, first_part, body, body_lines, body_contents, closing, kept_lines, without_label_items, has_label_part, has_label_item}
+use Rattle.cip_text.specs.Kinds.{is_molecule_end}
+use Rattle.cip_text.specs.Bodies.{body_lines, body_contents}
+use Rattle.cip_item.specs.Parts.{next_part, first_part, body, closing, kept_lines, without_label_items, has_label_part, has_label_item}
 use Rattle.cip_item.specs.Putting.{line_end_for, has_returns, missing_end, needs_gap, gap, item, with_item, prepared, is_value}
 use Rattle.cip_item.specs.Laws.{ItemsAreTakenOut}
 use Rattle.cip_item.specs.declared.part.Part.{Part}

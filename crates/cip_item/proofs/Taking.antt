@@ -2,7 +2,8 @@
 use Rattle.std.proofs.Common.{◌≡◌, ◌+◌, ◌++◌, ℕ, List, [], ◌∷◌, Bool, true, false, ◌||◌, refl, arith, append_assoc, append-nil}
 use Rattle.std.proofs.lemmas.Bool.{or_parts}
 use Rattle.cip_text.specs.Kinds.{is_blank}
-use Rattle.cip_item.specs.Kinds.{is_heading, is_label_heading, is_molecule_end}
+use Rattle.cip_text.specs.Kinds.{is_molecule_end}
+use Rattle.cip_item.specs.Kinds.{is_heading, is_label_heading}
 use Rattle.cip_item.specs.Parts.{part_of, part_behind}
 use Rattle.cip_item.specs.Items.{begins_item, end_of_item, items_from}
 use Rattle.cip_item.specs.Splitting.{items_with, closed_before}

@@ -4,7 +4,8 @@ use Rattle.std.specs.List.{list_any}
 use Rattle.std.proofs.lemmas.Bool.{or_parts}
 use Rattle.cip_text.specs.Lines.{content_of}
 use Rattle.cip_text.specs.Kinds.{is_blank}
-use Rattle.cip_item.specs.Kinds.{is_heading, is_label_heading, is_molecule_end}
+use Rattle.cip_text.specs.Kinds.{is_molecule_end}
+use Rattle.cip_item.specs.Kinds.{is_heading, is_label_heading}
 use Rattle.cip_item.specs.Parts.{part_of, part_behind, next_part, first_part, is_label_item, kept_lines, has_label_part}
 use Rattle.cip_item.specs.declared.part.Part.{Part}
 use Rattle.cip_item.specs.declared.part.Part.TheVariants.{Molecule, Between, OtherItem, LabelItem}

@@ -2,7 +2,8 @@
 use Rattle.std.specs.Prelude.{ℕ, List, [], ◌∷◌, ◌+◌, Bool, false, ◌||◌, if◌then◌else◌}
 use Rattle.cip_text.specs.Kinds.{is_blank}
 use Rattle.cip_item.specs.Kinds.{is_heading, is_label_heading}
-use Rattle.cip_item.specs.Parts.{part_of, next_part, first_part, body_contents}
+use Rattle.cip_text.specs.Bodies.{body_contents}
+use Rattle.cip_item.specs.Parts.{part_of, next_part, first_part}
 use Rattle.cip_item.specs.declared.part.Part.{Part}
 use Rattle.cip_item.specs.declared.part.Part.TheVariants.{Molecule, Between, OtherItem, LabelItem}
 use Rattle.cip_item.specs.declared.items.Item.{Item}

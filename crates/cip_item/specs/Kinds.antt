@@ -3,11 +3,6 @@ use Rattle.std.specs.Prelude.{ℕ, List, [], ◌∷◌, Bool, false, ◌==◌, �
 use Rattle.std.specs.declared.option.Option.{Option}
 use Rattle.std.specs.List.{list_any}
 use Rattle.std.specs.Str.{bytes_eq}
-use Rattle.cip_text.specs.Columns.{without_spaces_behind}
-
--- `M  END`, and spaces at most behind it
-abbrev pub is_molecule_end : List ℕ → Bool
-is_molecule_end content = bytes_eq (without_spaces_behind content) (codes "M  END")
 
 abbrev pub begins_heading : List ℕ → Bool
 begins_heading content = nat_lt 0 (length content) && slice_index content 0 == 62

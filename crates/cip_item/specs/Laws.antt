@@ -3,7 +3,8 @@ use Rattle.std.specs.Prelude.{◌≡◌, ◌++◌, ℕ, List, [], ◌∷◌, ◌
 use Rattle.std.specs.List.{concat, list_all, list_any}
 use Rattle.cip_text.specs.Lines.{lines_of}
 use Rattle.cip_item.specs.Items.{items_of}
-use Rattle.cip_item.specs.Parts.{body, body_lines, closing, without_label_items, has_label_item}
+use Rattle.cip_text.specs.Bodies.{body_lines}
+use Rattle.cip_item.specs.Parts.{body, closing, without_label_items, has_label_item}
 use Rattle.cip_item.specs.Putting.{with_item, prepared, is_value}
 use Rattle.cip_item.specs.declared.items.Item.{Item}
 

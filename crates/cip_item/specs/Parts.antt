@@ -2,16 +2,14 @@
 use Rattle.std.specs.Prelude.{ℕ, List, [], ◌∷◌, ◌++◌, Bool, true, false, ◌||◌, map, if◌then◌else◌}
 use Rattle.std.specs.List.{concat, list_any}
 use Rattle.cip_text.specs.Lines.{lines_of, content_of}
+use Rattle.cip_text.specs.Bodies.{body_lines, body_contents}
 use Rattle.cip_text.specs.Kinds.{is_blank, is_terminator}
-use Rattle.cip_item.specs.Kinds.{is_molecule_end, is_heading, is_label_heading}
+use Rattle.cip_text.specs.Kinds.{is_molecule_end}
+use Rattle.cip_item.specs.Kinds.{is_heading, is_label_heading}
 use Rattle.cip_item.specs.declared.part.Part.{Part}
 use Rattle.cip_item.specs.declared.part.Part.TheVariants.{Molecule, Between, OtherItem, LabelItem}
 
--- the lines before the terminator line
-
-abbrev pub body_lines : List (List ℕ) → List (List ℕ)
-body_lines [] = []
-body_lines (line ∷ lines) = if is_terminator (content_of line) then [] else line ∷ body_lines lines
+-- the lines before the terminator line, joined, and the rest
 
 -- the terminator line, and what follows it
 abbrev pub closing_lines : List (List ℕ) → List (List ℕ)
@@ -23,9 +21,6 @@ body bytes = concat (body_lines (lines_of bytes))
 
 abbrev pub closing : List ℕ → List ℕ
 closing bytes = concat (closing_lines (lines_of bytes))
-
-abbrev pub body_contents : List ℕ → List (List ℕ)
-body_contents bytes = map content_of (body_lines (lines_of bytes))
 
 -- the part that a line belongs to, by what the lines before it left open
 

@@ -4,8 +4,9 @@ use Rattle.std.specs.Prelude.{ℕ, List, [], ◌∷◌, ◌++◌, Bool, true, fa
 use Rattle.std.specs.List.{flat_map, list_any}
 use Rattle.cip_text.specs.Lines.{line_feed, carriage_return, has_last}
 use Rattle.cip_text.specs.Kinds.{is_blank, is_terminator}
-use Rattle.cip_item.specs.Kinds.{is_molecule_end}
-use Rattle.cip_item.specs.Parts.{body, closing, body_contents}
+use Rattle.cip_text.specs.Kinds.{is_molecule_end}
+use Rattle.cip_text.specs.Bodies.{body_contents}
+use Rattle.cip_item.specs.Parts.{body, closing}
 
 -- the line ends of the item
 

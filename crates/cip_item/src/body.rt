@@ -1,13 +1,13 @@
 // The lines of a record before its terminator line.
-ghost use Rattle.std.specs.Prelude.{◌≡◌, ◌≤◌, ◌<◌, ◌∷◌, [], length, IfSome, None};
+ghost use Rattle.std.specs.Prelude.{◌≡◌, ◌≤◌, ◌<◌, ◌+◌, ◌∷◌, [], length, IfSome, None};
 ghost use Rattle.std.specs.List.{list_any};
 ghost use Rattle.cip_text.specs.Lines.{lines_of};
-ghost use Rattle.cip_item.specs.Kinds.{is_molecule_end};
-ghost use Rattle.cip_item.specs.Parts.{body, body_lines, body_contents, closing, first_part};
+ghost use Rattle.cip_text.specs.Kinds.{is_molecule_end};
+ghost use Rattle.cip_text.specs.Bodies.{body_lines, body_contents};
+ghost use Rattle.cip_item.specs.Parts.{body, closing, first_part};
 
-use crate::kinds::is_molecule_end;
 use crate::part::Part;
-use cip_text::{is_terminator, split_line, without_end};
+use cip_text::{is_molecule_end, is_terminator, split_line, without_end};
 
 // The first line with its end, and what follows it. None at the terminator line, and for the empty record.
 #[tactic(auto, using(crate::proofs::Halves::closing_itself))]
@@ -17,6 +17,7 @@ pub(crate) fn split_body_line(bytes: &[u8]) -> Option<(&[u8], &[u8])>
     ensures line { IfSome result (λ parts. body_lines (lines_of bytes.now) ≡ parts.0.now ∷ body_lines (lines_of parts.1.now)) }
     ensures closing { IfSome result (λ parts. closing bytes.now ≡ closing parts.1.now) }
     ensures some { IfSome result (λ parts. length parts.1.now < length bytes.now) }
+    ensures whole { IfSome result (λ parts. length parts.0.now + length parts.1.now ≡ length bytes.now) }
 {
     match split_line(bytes) {
         Some((line, _)) if is_terminator(without_end(line)) => None,

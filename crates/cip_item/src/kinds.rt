@@ -1,16 +1,7 @@
 // What a line of a record is for.
 ghost use Rattle.std.specs.Prelude.{◌≡◌, position, take};
 ghost use Rattle.std.specs.Str.{bytes_eq};
-ghost use Rattle.cip_item.specs.Kinds.{is_molecule_end, is_opening, begins_heading, is_heading, label_name, holds_label_name, is_label_heading};
-
-use cip_text::without_spaces_behind;
-
-// Whether a line's content ends the molecule.
-pub(crate) fn is_molecule_end(content: &[u8]) -> bool
-    ensures { result ≡ is_molecule_end content.now }
-{
-    without_spaces_behind(content) == b"M  END".as_slice()
-}
+ghost use Rattle.cip_item.specs.Kinds.{is_opening, begins_heading, is_heading, label_name, holds_label_name, is_label_heading};
 
 // Whether a line's content is the heading of a data item.
 pub(crate) fn is_heading(content: &[u8]) -> bool

@@ -1,5 +1,5 @@
 // A record without its label items.
-ghost use Rattle.std.specs.Prelude.{◌≡◌, IfOk};
+ghost use Rattle.std.specs.Prelude.{◌≡◌, ◌≤◌, IfOk, length};
 ghost use Rattle.cip_item.specs.Parts.{without_label_items};
 
 use crate::body::{first_part, split_body_line};
@@ -8,7 +8,8 @@ use std::alloc::{AllocError, Global};
 
 /// Leaves the lines of label items out. Every other line stays, and so does what follows the terminator line.
 pub fn without_label_items(alloc: Global, bytes: &[u8]) -> Result<Vec<u8>, AllocError>
-    ensures { IfOk result (λ text. text.items ≡ without_label_items bytes.now) }
+    ensures value { IfOk result (λ text. text.items ≡ without_label_items bytes.now) }
+    ensures few { IfOk result (λ text. length text.items ≤ length bytes.now) }
 {
     let mut text = Vec::with_capacity(alloc, bytes.len())?;
     let mut part = first_part(bytes);

@@ -4,8 +4,8 @@ ghost use Rattle.cip_item.specs.Parts.{part_of, part_behind, is_label_item};
 ghost use Rattle.cip_item.specs.Items.{begins_item};
 ghost use Rattle.cip_item.specs.Splitting.{is_item};
 
-use crate::kinds::{is_heading, is_label_heading, is_molecule_end};
-use cip_text::is_blank;
+use crate::kinds::{is_heading, is_label_heading};
+use cip_text::{is_blank, is_molecule_end};
 
 // What a line belongs to, or what the lines before it left open.
 #[derive(Clone, Copy)]

@@ -1,14 +1,13 @@
 // A record with a label item put in.
 ghost use Rattle.std.specs.Prelude.{◌≡◌, ◌-◌, ◌^◌, ◌++◌, false, min, IfOk, OnOk};
 ghost use Rattle.std.specs.List.{flat_map};
-ghost use Rattle.cip_item.specs.Parts.{body_contents};
+ghost use Rattle.cip_text.specs.Bodies.{body_contents};
 ghost use Rattle.cip_item.specs.Putting.{has_returns, line_end_for, missing_end, needs_gap, gap, heading, item, with_item};
 ghost use Rattle.cip_item.specs.Room.{room_of};
 
 use crate::body::{split_body, split_body_line};
-use crate::kinds::is_molecule_end;
 use cip_list::Listing;
-use cip_text::{Bytes, is_blank, without_end};
+use cip_text::{Bytes, is_blank, is_molecule_end, without_end};
 use std::alloc::{AllocError, Global};
 
 /// Texts in order, as the values of an item.

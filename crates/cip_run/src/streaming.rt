@@ -1,5 +1,5 @@
 // Answering a whole stream.
-ghost use Rattle.std.specs.Prelude.{◌≡◌, ◌≤◌, ◌+◌, IfSome, IsErrOf};
+ghost use Rattle.std.specs.Prelude.{◌≡◌, ◌≤◌, ◌<◌, ◌+◌, ◌^◌, IfSome, IsErrOf};
 ghost use Rattle.cip_io.specs.Faults.{Rose};
 ghost use Rattle.cip_run.specs.Endings.{EndsAs, AnswersTaken};
 ghost use Rattle.cip_run.specs.Reading.{TakesAtMost};
@@ -13,13 +13,14 @@ use cip_io::{Sink, Source};
 use std::alloc::Global;
 
 /// Reads the source to its end, or to the first byte past a limit, and writes each record with its item
-/// as it becomes whole.
+/// as it becomes whole. Says whether a record is flagged.
 pub fn answer_stream<S: Source, K: Sink>(
     alloc: Global,
     limits: Limits,
     source: &mut S,
     sink: &mut K,
-) -> Result<(), Stop>
+) -> Result<bool, Stop>
+    requires { limits.record < 2 ^ 31 }
     ensures ended { IfSome (S.left source.old) (EndsAs limits result (K.taken sink.old) (K.taken sink.new)) }
     ensures read_fault { IsErrOf result Stop.ReadFault → AnswersTaken limits (S.left source.old) (S.left source.new) (K.taken sink.old) (K.taken sink.new) }
     ensures bounded { TakesAtMost (limits.input + 1) (S.left source.old) (S.left source.new) }
@@ -29,13 +30,17 @@ pub fn answer_stream<S: Source, K: Sink>(
     let mut piece = new_piece(alloc)?;
     let mut framer = Framer::new(alloc, limits.record);
     let mut room = limits.input;
+    let mut flagged = false;
     loop {
         match feed_next(source, &mut piece, &mut framer, room)? {
             Turn::Piece(count) => {
-                answer_waiting(alloc, &mut framer, sink)?;
+                flagged |= answer_waiting(alloc, &mut framer, sink)?;
                 room -= count;
             }
-            Turn::End => return answer_tail(alloc, &framer.finish(), sink),
+            Turn::End => {
+                flagged |= answer_tail(alloc, &framer.finish(), sink)?;
+                return Ok(flagged);
+            }
             Turn::Limit => {
                 answer_waiting(alloc, &mut framer, sink)?;
                 return Err(Stop::Limit);

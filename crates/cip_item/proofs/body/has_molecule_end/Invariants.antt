@@ -1,7 +1,7 @@
 use Rattle.std.proofs.Common.{◌≡◌, length}
 use Rattle.std.specs.List.{list_any}
-use Rattle.cip_item.specs.Kinds.{is_molecule_end}
-use Rattle.cip_item.specs.Parts.{body_contents}
+use Rattle.cip_text.specs.Kinds.{is_molecule_end}
+use Rattle.cip_text.specs.Bodies.{body_contents}
 use Rattle.cip_item.proofs.body.has_molecule_end.Given as goal
 
 abbrev pub invariant-loop-line : goal.invariant-loop-line

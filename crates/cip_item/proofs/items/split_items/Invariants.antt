@@ -1,5 +1,5 @@
 use Rattle.std.proofs.Common.{◌≡◌, ◌≤◌, ◌+◌, length}
-use Rattle.cip_item.specs.Parts.{body_contents}
+use Rattle.cip_text.specs.Bodies.{body_contents}
 use Rattle.cip_item.specs.Items.{items_of}
 use Rattle.cip_item.specs.Splitting.{items_with, begun}
 use Rattle.cip_item.proofs.items.split_items.Given as goal

@@ -1,5 +1,5 @@
 use Rattle.std.proofs.Common.{◌≡◌, length, false}
-use Rattle.cip_item.specs.Parts.{body_contents}
+use Rattle.cip_text.specs.Bodies.{body_contents}
 use Rattle.cip_item.specs.Putting.{needs_gap}
 use Rattle.cip_item.proofs.putting.needs_gap.Given as goal
 

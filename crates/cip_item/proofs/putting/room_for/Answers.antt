@@ -1,7 +1,7 @@
 use Rattle.std.proofs.Common.{◌≡◌, ◌<◌, ◌+◌, ◌-◌, ◌^◌, ℕ, ap, ◌∙◌, arith, drop, length, min, refl}
 use Rattle.std.proofs.lemmas.List.{at_drop_all}
 use Rattle.cip_item.specs.Room.{room_of}
-use Rattle.cip_item.proofs.Joining.{rest_at}
+use Rattle.cip_list.proofs.Rests.{rest_at}
 use Rattle.cip_item.proofs.putting.room_for.Goals as goal
 
 one_more : (room line others all next : ℕ) → min (2 ^ 64 - 1) (room + (line + others)) ≡ min (2 ^ 64 - 1) all → next ≡ min (room + min line (2 ^ 64 - 1)) (2 ^ 64 - 1) →

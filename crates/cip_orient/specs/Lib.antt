@@ -1,0 +1,2 @@
+pub mod DrawnNumbers
+pub mod PairSigns

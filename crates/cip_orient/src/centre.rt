@@ -1,0 +1,47 @@
+// What a drawing shows of a centre.
+ghost use Rattle.std.specs.Prelude.{◌≡◌, ◌≤◌, All, length};
+ghost use Rattle.cip_mol.specs.Geometry.{centre_geometry};
+ghost use Rattle.cip_mol.specs.Ranges.{IsPlace};
+ghost use Rattle.cip_mol.specs.Sites.{IsCentre};
+ghost use Rattle.cip_mol.specs.SpatialCentres.{in_space};
+
+use crate::drawing::{flat_steps, is_spatial, point, points, step};
+use crate::drawn::drawn_of;
+use crate::flat_centre::show_in_plane;
+use crate::marks::{has_either, marks_to};
+use crate::pairs::shown_by;
+use cip_mol::{Cause, Geometry, Ligands, Molecule};
+use cip_num::{Vec3, volume};
+
+/// What is shown of a centre with these ligands.
+pub(crate) fn show_centre(molecule: &Molecule, at: u32, ligands: &Ligands) -> Geometry
+    requires { IsCentre (length molecule.now.atoms) at ligands.now }
+    ensures { result ≡ centre_geometry molecule.now at ligands.now }
+{
+    let (atoms, bonds) = (molecule.atoms(), molecule.bonds());
+    if has_either(at, bonds) {
+        return Geometry::Unknown(Cause::Either);
+    }
+    let drawn = drawn_of(atoms.len(), ligands.as_slice());
+    if is_spatial(atoms) {
+        let points = points(atoms, &drawn.numbers);
+        return show_in_space(point(atoms, at), &points[..drawn.count]);
+    }
+    let directions = flat_steps(atoms, at, &drawn.numbers);
+    let marks = marks_to(at, bonds, &drawn.numbers);
+    show_in_plane(&directions, &marks, drawn.count)
+}
+
+fn show_in_space(centre: Vec3, points: &[Vec3]) -> Geometry
+    requires centre { IsPlace centre }
+    requires points { All IsPlace points.now }
+    requires three { 3 ≤ length points.now }
+    ensures { result ≡ in_space centre points.now }
+{
+    let from = if points.len() > 3 { points[3] } else { centre };
+    shown_by(volume(
+        step(from, points[0]),
+        step(from, points[1]),
+        step(from, points[2]),
+    ))
+}

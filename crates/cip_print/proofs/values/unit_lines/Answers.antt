@@ -1,0 +1,13 @@
+use Rattle.std.proofs.Common.{◌≡◌, ◌+◌, ◌++◌, ◌∷◌, [], List, ℕ, ap, sym, arith, drop, refl, append_assoc, append-nil, length}
+use Rattle.std.proofs.lemmas.List.{at_drop_all}
+use Rattle.std.specs.List.{filter_map}
+use Rattle.cip_list.proofs.Rests.{rest_at}
+use Rattle.cip_print.specs.Values.{unit_line}
+use Rattle.cip_print.proofs.Lines.{one_more}
+use Rattle.cip_print.proofs.values.unit_lines.Goals as goal
+
+pub loop-place-preserved : goal.loop-place-preserved
+loop-place-preserved c = record {
+  so_far = one_more c.args.units.now c.loop-place.place c.get.result.now c.loop-place.values c.push_line.new.values c.get.ensures c.in_ok-push_line.ensures.added c.loop-place.invariant.so_far;
+  few = omega (arith, c.in_ok-push_line.ensures.few, c.loop-place.invariant.few);
+}

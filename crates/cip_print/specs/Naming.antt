@@ -1,0 +1,25 @@
+-- How units are named. Own.
+use Rattle.std.specs.Prelude.{ℕ, List, ◌++◌, ◌+◌, codes, decimal, min, max}
+use Rattle.cip_mol.specs.declared.site.Site.{Site}
+use Rattle.cip_mol.specs.declared.site.Site.TheVariants as sites
+use Rattle.cip_print.specs.declared.naming.UnitName.{UnitName}
+use Rattle.cip_print.specs.declared.naming.UnitName.TheVariants.{Centre, Bond, Axis}
+
+-- an atom counted from 1
+abbrev pub number : ℕ → List ℕ
+number atom = decimal (atom + 1)
+
+-- two atoms, the lower one first
+abbrev pub pair : ℕ → ℕ → List ℕ
+pair a b = number (min a b) ++ (codes "-" ++ number (max a b))
+
+abbrev pub name_text : UnitName → List ℕ
+name_text (Centre at) = codes "a" ++ number at
+name_text (Bond a b) = codes "b" ++ pair a b
+name_text (Axis a b) = codes "x" ++ pair a b
+
+-- the name of a unit
+abbrev pub unit_name : Site → List ℕ
+unit_name (sites.Centre at ligands) = name_text (Centre at)
+unit_name (sites.Bond a b first second) = name_text (Bond a b)
+unit_name (sites.Axis a middle b first second) = name_text (Axis a b)

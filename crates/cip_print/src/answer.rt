@@ -1,0 +1,23 @@
+// What is found of a record.
+
+use cip_list::Listing;
+use cip_mol::{Outcome, ReadFault, Site};
+
+/// A stereogenic unit of a record, with what is found of it. Ligands from the number `drawn` on are implicit hydrogens.
+#[derive(Drop)]
+pub struct UnitAnswer {
+    pub site: Site,
+    pub drawn: u32,
+    pub outcome: Outcome,
+}
+
+/// Units in their order: centres, then bonds, then axes.
+pub type UnitAnswers = Listing<UnitAnswer>;
+
+/// The answer to a record: its units, why it is refused, or that it isn't of the kind that is labelled so far.
+#[derive(Drop)]
+pub enum Answer {
+    Labelled(UnitAnswers),
+    Refused(ReadFault),
+    NotBuilt,
+}

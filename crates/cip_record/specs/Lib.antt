@@ -1,0 +1,6 @@
+pub mod Answers
+pub mod Carriers
+pub mod Ligands
+pub mod Ranking
+pub mod Surroundings
+pub mod Worked

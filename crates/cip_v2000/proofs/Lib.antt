@@ -1,0 +1,4 @@
+pub mod InOrder
+pub mod PropertyBlock
+pub mod Rows
+pub mod Settling

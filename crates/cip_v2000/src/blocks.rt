@@ -1,0 +1,166 @@
+// The blocks of a molfile.
+ghost use Rattle.std.specs.Prelude.{◌≡◌, ◌≤◌, ◌<◌, ◌+◌, ◌^◌, ◌-◌, [], All, length, IfOk};
+ghost use Rattle.cip_text.specs.Slices.{texts};
+ghost use Rattle.cip_mol.specs.Ranges.{IsBond};
+ghost use Rattle.cip_mol.specs.declared.refusal.ReadCause.TheVariants.{Short};
+ghost use Rattle.cip_v2000.specs.AtomLine.{atom_of, IsAtomLine};
+ghost use Rattle.cip_v2000.specs.BondLine.{bond_of, IsFree};
+ghost use Rattle.cip_v2000.specs.CountsLine.{counts_of};
+ghost use Rattle.cip_v2000.specs.Grammar.{atom_row, bond_row, pairs_behind};
+ghost use Rattle.cip_v2000.specs.Reading.{numbered, read_at, in_turn, Gives};
+ghost use Rattle.cip_v2000.specs.Statements.{IsPair};
+
+use crate::atoms::{AtomLine, atom_in};
+use crate::bonds::bond_in;
+use crate::counts::{CountsLine, counts_in};
+use crate::properties::push_stated;
+use crate::statements::Pair;
+use cip_mol::{Bond, BondList, ReadCause, ReadFault, ReadRefusal};
+use cip_text::is_molecule_end;
+use std::alloc::Global;
+
+/// Reads the counts line.
+#[tactic(auto, unfolding(crate::specs::Reading::read_at))]
+pub fn counts_line(lines: &[&[u8]]) -> Result<CountsLine, ReadFault>
+    requires { length lines.now < 2 ^ 32 - 1 }
+    ensures value { result ≡ read_at (texts lines.now) 3 counts_of }
+    ensures range { IfOk result (λ counts. (counts.atoms ≤ 999) × (counts.bonds ≤ 999)) }
+    ensures there { IfOk result (λ _. 4 ≤ length lines.now) }
+{
+    match lines.get(3) {
+        None => Err(short(lines)),
+        Some(line) => numbered(4, counts_in(line)),
+    }
+}
+
+/// Reads the atom lines, so many.
+pub fn atom_block(alloc: Global, lines: &[&[u8]], count: u32) -> Result<Vec<AtomLine>, ReadRefusal>
+    requires few { length lines.now < 2 ^ 32 - 1 }
+    requires there { 4 ≤ length lines.now }
+    requires count { count ≤ 999 }
+    ensures value { Gives (λ atoms. atoms.items) result (in_turn (atom_row (texts lines.now)) [] count 0) }
+    ensures range { IfOk result (λ atoms. All IsAtomLine atoms.items) }
+    ensures counted { IfOk result (λ atoms. length atoms.items ≡ count) }
+    ensures there { IfOk result (λ _. 4 + count ≤ length lines.now) }
+{
+    let mut atoms = Vec::new(alloc);
+    for row in 0..count as usize {
+        let atom = atom_line(lines, 4 + row)?;
+        atoms.push(atom)?;
+    }
+    Ok(atoms)
+}
+
+/// Reads the bond lines, so many, behind the lines of so many atoms.
+pub fn bond_block(
+    alloc: Global,
+    lines: &[&[u8]],
+    atoms: u32,
+    count: u32,
+) -> Result<BondList, ReadRefusal>
+    requires few { length lines.now < 2 ^ 32 - 1 }
+    requires atoms { atoms ≤ 999 }
+    requires count { count ≤ 999 }
+    requires there { 4 + atoms ≤ length lines.now }
+    ensures value { Gives (λ list. list.bonds) result (in_turn (bond_row (texts lines.now) atoms) [] count 0) }
+    ensures among { IfOk result (λ list. list.atoms ≡ atoms) }
+    ensures range { IfOk result (λ list. All IsBond list.bonds) }
+    ensures counted { IfOk result (λ list. length list.bonds ≡ count) }
+    ensures there { IfOk result (λ _. 4 + atoms + count ≤ length lines.now) }
+{
+    let first = 4 + atoms as usize;
+    let mut bonds = BondList::new(alloc, atoms as usize)?;
+    for row in 0..count as usize {
+        let bond = bond_line(lines, first + row, atoms, &bonds)?;
+        bonds.push(bond)?;
+    }
+    Ok(bonds)
+}
+
+/// Reads the property lines behind so many lines, up to `M  END`.
+pub fn property_block(
+    alloc: Global,
+    lines: &[&[u8]],
+    atoms: u32,
+    before: usize,
+) -> Result<Vec<Pair>, ReadRefusal>
+    requires few { length lines.now < 2 ^ 32 - 1 }
+    requires atoms { atoms ≤ 999 }
+    requires before { before ≤ length lines.now }
+    ensures value { Gives (λ pairs. pairs.items) result (pairs_behind atoms before (texts lines.now)) }
+    ensures range { IfOk result (λ pairs. All IsPair pairs.items) }
+{
+    let mut pairs = Vec::new(alloc);
+    let mut place = before;
+    while place < lines.len() {
+        let line = lines[place];
+        if is_molecule_end(line) {
+            return Ok(pairs);
+        }
+        let fault = ReadFault {
+            line: place as u32 + 1,
+            cause: ReadCause::Property,
+        };
+        push_stated(alloc, &mut pairs, fault, atoms, line)?;
+        place += 1;
+    }
+    Err(ReadRefusal::Fault(short(lines)))
+}
+
+#[tactic(auto, unfolding(crate::specs::Reading::read_at))]
+fn atom_line(lines: &[&[u8]], place: usize) -> Result<AtomLine, ReadFault>
+    requires { length lines.now < 2 ^ 32 - 1 }
+    ensures value { result ≡ read_at (texts lines.now) place atom_of }
+    ensures range { IfOk result IsAtomLine }
+    ensures there { IfOk result (λ _. place < length lines.now) }
+{
+    match lines.get(place) {
+        None => Err(short(lines)),
+        Some(line) => numbered(place as u32 + 1, atom_in(line)),
+    }
+}
+
+#[tactic(auto, unfolding(crate::specs::Reading::read_at))]
+fn bond_line(
+    lines: &[&[u8]],
+    place: usize,
+    atoms: u32,
+    before: &BondList,
+) -> Result<Bond, ReadFault>
+    requires few { length lines.now < 2 ^ 32 - 1 }
+    requires atoms { atoms ≤ 999 }
+    requires among { before.now.atoms ≡ atoms }
+    ensures value { result ≡ read_at (texts lines.now) place (bond_of atoms before.now.bonds) }
+    ensures range { IfOk result IsBond }
+    ensures free { IfOk result (IsFree before.now) }
+    ensures there { IfOk result (λ _. place < length lines.now) }
+{
+    match lines.get(place) {
+        None => Err(short(lines)),
+        Some(line) => numbered(place as u32 + 1, bond_in(atoms, before, line)),
+    }
+}
+
+// What was read of a line, with the line's number in its fault.
+fn numbered<T: Drop>(number: u32, read: Result<T, ReadCause>) -> Result<T, ReadFault>
+    ensures { result ≡ numbered number read }
+{
+    match read {
+        Ok(row) => Ok(row),
+        Err(cause) => Err(ReadFault {
+            line: number,
+            cause,
+        }),
+    }
+}
+
+// The fault of a line that is due and missing.
+fn short(lines: &[&[u8]]) -> ReadFault
+    requires { length lines.now < 2 ^ 32 - 1 }
+    ensures { result ≡ record { line = length lines.now + 1; cause = Short } }
+{
+    ReadFault {
+        line: lines.len() as u32 + 1,
+        cause: ReadCause::Short,
+    }
+}

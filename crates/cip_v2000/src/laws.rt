@@ -1,0 +1,20 @@
+// What the grammar keeps.
+ghost use Rattle.cip_v2000.specs.Grammar.{molecule_of};
+ghost use Rattle.cip_v2000.specs.LastStatements.{AtomsAreSettled};
+ghost use Rattle.cip_v2000.specs.Laws.{IsDecidedInOrder};
+ghost use Rattle.cip_v2000.specs.Worked.{AreRead};
+
+/// The lines of a molfile decide in order: what follows the line that decides changes nothing.
+pub fn lines_decide_in_order()
+    ensures { IsDecidedInOrder molecule_of }
+{}
+
+/// What property lines state last of an atom holds, and they drop what the atom block says of its kind.
+pub fn last_statements_hold()
+    ensures { AtomsAreSettled }
+{}
+
+/// Worked records are read and refused as they were worked by hand.
+pub fn worked_records_are_read()
+    ensures { AreRead }
+{}

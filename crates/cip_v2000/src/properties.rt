@@ -1,0 +1,146 @@
+// Property lines.
+ghost use Rattle.std.specs.Prelude.{◌≡◌, ◌≤◌, [], All, length, IfOk, IfSome, OnOk};
+ghost use Rattle.cip_text.specs.Slices.{texts};
+ghost use Rattle.cip_v2000.specs.PropertyLines.{words_of, property_of, statement_of, pair_of, pair_at, pair_row, pairs_of, pairs_with};
+ghost use Rattle.cip_v2000.specs.Reading.{Gives};
+ghost use Rattle.cip_v2000.specs.Statements.{IsStatement, IsPair};
+
+use crate::fields::{number, place_named, signed};
+use crate::statements::{Pair, Statement};
+use cip_mol::{ReadFault, ReadRefusal};
+use std::alloc::{AllocError, Global};
+
+/// What a property line states.
+#[derive(Clone, Copy)]
+pub enum Property {
+    Charges,
+    Radicals,
+    Isotopes,
+}
+
+/// Reads a property line, and puts its pairs behind those before them.
+#[tactic(auto, unfolding(crate::specs::PropertyLines::pairs_with))]
+pub fn push_stated(
+    alloc: Global,
+    pairs: &mut Vec<Pair>,
+    fault: ReadFault,
+    atoms: u32,
+    line: &[u8],
+) -> Result<(), ReadRefusal>
+    requires few { atoms ≤ 999 }
+    requires range { All IsPair pairs.old.items }
+    ensures range { OnOk result (All IsPair pairs.new.items) }
+    ensures value { Gives (λ _. pairs.new.items) result (pairs_with fault atoms pairs.old.items line.now) }
+{
+    let Some(property) = property_in(line) else {
+        return Ok(());
+    };
+    let words = words(alloc, &line[6..])?;
+    let [count, words @ ..] = words.as_slice() else {
+        return Err(ReadRefusal::Fault(fault));
+    };
+    let last = place_named(8, count).ok_or(fault)?;
+    push_pairs(pairs, fault, property, atoms, last + 1, words)
+}
+
+fn property_in(line: &[u8]) -> Option<Property>
+    ensures value { result ≡ property_of line.now }
+    ensures long { IfSome result (λ _. 6 ≤ length line.now) }
+{
+    if line.len() < 6 {
+        return None;
+    }
+    let columns = &line[..6];
+    if columns == b"M  CHG".as_slice() {
+        Some(Property::Charges)
+    } else if columns == b"M  RAD".as_slice() {
+        Some(Property::Radicals)
+    } else if columns == b"M  ISO".as_slice() {
+        Some(Property::Isotopes)
+    } else {
+        None
+    }
+}
+
+// What stands between spaces.
+#[tactic(auto, unfolding(crate::specs::PropertyLines::words_of))]
+fn words(alloc: Global, text: &[u8]) -> Result<Vec<&[u8]>, AllocError>
+    ensures { IfOk result (λ words. texts words.items ≡ words_of text.now) }
+{
+    text.split(|byte| *byte == b' ')
+        .filter(|word| !word.is_empty())
+        .collect(alloc)
+}
+
+// Reads so many pairs, and puts them behind those before them.
+fn push_pairs(
+    pairs: &mut Vec<Pair>,
+    fault: ReadFault,
+    property: Property,
+    atoms: u32,
+    count: u32,
+    words: &[&[u8]],
+) -> Result<(), ReadRefusal>
+    requires few { atoms ≤ 999 }
+    requires count { count ≤ 8 }
+    requires range { All IsPair pairs.old.items }
+    ensures range { OnOk result (All IsPair pairs.new.items) }
+    ensures value { Gives (λ _. pairs.new.items) result (pairs_of fault property atoms pairs.old.items count (texts words.now)) }
+{
+    for row in 0..count as usize {
+        let pair = pair_row(fault, property, atoms, words, row)?;
+        pairs.push(pair)?;
+    }
+    Ok(())
+}
+
+// The pair of a row, from 0.
+fn pair_row(
+    fault: ReadFault,
+    property: Property,
+    atoms: u32,
+    words: &[&[u8]],
+    row: usize,
+) -> Result<Pair, ReadFault>
+    requires few { atoms ≤ 999 }
+    requires row { row ≤ 8 }
+    ensures value { result ≡ pair_row fault property atoms (texts words.now) [] row }
+    ensures range { IfOk result IsPair }
+{
+    pair_at(property, atoms, words, 2 * row).ok_or(fault)
+}
+
+// The pair of two words, from this place on.
+#[tactic(auto, unfolding(crate::specs::PropertyLines::pair_at))]
+fn pair_at(property: Property, atoms: u32, words: &[&[u8]], place: usize) -> Option<Pair>
+    requires few { atoms ≤ 999 }
+    requires place { place ≤ 1000 }
+    ensures value { result ≡ pair_at property atoms (texts words.now) place }
+    ensures range { IfSome result IsPair }
+{
+    let atom = words.get(place)?;
+    let value = words.get(place + 1)?;
+    pair_in(property, atoms, atom, value)
+}
+
+#[tactic(auto, unfolding(crate::specs::PropertyLines::pair_of))]
+fn pair_in(property: Property, atoms: u32, atom: &[u8], value: &[u8]) -> Option<Pair>
+    requires { atoms ≤ 999 }
+    ensures value { result ≡ pair_of property atoms atom.now value.now }
+    ensures range { IfSome result IsPair }
+{
+    let atom = place_named(atoms, atom)?;
+    let states = statement_in(property, value)?;
+    Some(Pair { atom, states })
+}
+
+fn statement_in(property: Property, word: &[u8]) -> Option<Statement>
+    ensures value { result ≡ statement_of property word.now }
+    ensures range { IfSome result IsStatement }
+{
+    match property {
+        Property::Charges => Some(Statement::Charge(signed(15, 15, word)?)),
+        Property::Radicals => Some(Statement::Radical(number(3, word)? as u8)),
+        Property::Isotopes => Some(Statement::Isotope(number(400, word)? as u16)),
+    }
+}
