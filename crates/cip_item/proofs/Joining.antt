@@ -1,5 +1,5 @@
 -- Texts that are put one behind the other.
-use Rattle.std.proofs.Common.{◌≡◌, ◌++◌, ◌+◌, ◌∷◌, ℕ, List, Some, append_assoc, drop, slice_get, refl}
+use Rattle.std.proofs.Common.{◌≡◌, ◌++◌, ◌+◌, ℕ, List, Some, append_assoc, drop, slice_get, refl}
 use Rattle.std.specs.List.{flat_map}
 use Rattle.cip_list.proofs.Rests.{rest_at}
 

@@ -1,5 +1,5 @@
 -- The parts of a record, line by line. CTfile Formats, SDfile data items; the label items are own.
-use Rattle.std.specs.Prelude.{ℕ, List, [], ◌∷◌, ◌++◌, Bool, true, false, ◌||◌, map, if◌then◌else◌}
+use Rattle.std.specs.Prelude.{ℕ, List, [], ◌∷◌, ◌++◌, Bool, true, false, ◌||◌, if◌then◌else◌}
 use Rattle.std.specs.List.{concat, list_any}
 use Rattle.cip_text.specs.Lines.{lines_of, content_of}
 use Rattle.cip_text.specs.Bodies.{body_lines, body_contents}

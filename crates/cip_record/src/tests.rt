@@ -26,7 +26,7 @@ M  END
 const LAST: &[u8] = b"$$$$
 ";
 
-// The same molecule with hydrogen not drawn, and chlorine between the others.
+// The same molecule with chlorine in front, between the others, and hydrogen not drawn.
 const FAN: &[u8] = b"bromochlorofluoromethane
 
 
@@ -42,7 +42,7 @@ M  END
 $$$$
 ";
 
-// Two carbons with a bond of this line.
+// Ethane, its hydrogens not drawn.
 const PAIR: &[u8] = b"ethane
 
 
@@ -91,6 +91,7 @@ M  END
 $$$$
 ";
 
+// The same molecule in the extended format, with fluorine in front.
 const EXTENDED: &[u8] = b"bromochlorofluoromethane
 
 
@@ -228,80 +229,44 @@ fn drawn_centres_have_labels_by_their_drawing(rt: HostRuntime) -> Result<(), Fai
 fn refusals_name_the_line_and_the_cause(rt: HostRuntime) -> Result<(), Fail> {
     let alloc = rt.alloc();
     let halomethane = joined(alloc, &[ATOMS, BONDS, LAST])?;
-    // what is changed, from which line on, how many lines, and into what; the value line
-    let cases: [(&[u8], usize, usize, &[u8], &[u8]); 12] = [
+    // a line, what it is changed into, and the value line
+    let cases: [(usize, &[u8], &[u8]); 8] = [
         (
-            &halomethane,
             4,
-            1,
             b"  5  4  0  0  0  0  0  0  0  0999 V4000\n",
             b"refused 4 Version|",
         ),
         (
-            &halomethane,
             6,
-            1,
             b"    0.0000    1.0000    0.0000 Q   0  0  0  0  0  0  0  0  0  0  0  0\n",
             b"refused 6 Symbol|",
         ),
         (
-            &halomethane,
             7,
-            1,
             b"50000.0001    0.0000    0.0000 Cl  0  0  0  0  0  0  0  0  0  0  0  0\n",
             b"refused 7 Coordinate|",
         ),
         (
-            &halomethane,
             7,
-            1,
             b"    1.0000    0.0000    0.0000 Cl  0  8  0  0  0  0  0  0  0  0  0  0\n",
             b"refused 7 AtomField|",
         ),
-        (
-            &halomethane,
-            12,
-            1,
-            b"  1  6  1  1\n",
-            b"refused 12 BondEnd|",
-        ),
-        (
-            &halomethane,
-            12,
-            1,
-            b"  1  1  1  1\n",
-            b"refused 12 BondLoop|",
-        ),
-        (
-            &halomethane,
-            12,
-            1,
-            b"  2  1  1  1\n",
-            b"refused 12 BondDoubled|",
-        ),
-        (
-            &halomethane,
-            12,
-            1,
-            b"  1  4  1  3\n",
-            b"refused 12 BondMark|",
-        ),
-        (
-            &halomethane,
-            14,
-            0,
-            b"M  CHG  1   6   1\n",
-            b"refused 14 Property|",
-        ),
-        (&halomethane, 14, 1, b"", b"refused 14 Short|"),
-        (PAIR, 7, 1, b"  1  2  4  0\n", b"refused 7 BondType|"),
-        // cut short
-        (ATOMS, 1, 0, b"", b"refused 10 Short|"),
+        (12, b"  1  6  1  1\n", b"refused 12 BondEnd|"),
+        (12, b"  1  1  1  1\n", b"refused 12 BondLoop|"),
+        (12, b"  2  1  1  1\n", b"refused 12 BondDoubled|"),
+        (12, b"  1  4  1  3\n", b"refused 12 BondMark|"),
     ];
-    for (record, first, count, text, line) in cases {
-        let record = changed(alloc, record, first, count, text)?;
-        assert!(rt; gives(alloc, &record, NODES, line)?);
+    for (line, text, refusal) in cases {
+        let record = changed(alloc, &halomethane, line, 1, text)?;
+        assert!(rt; gives(alloc, &record, NODES, refusal)?);
     }
+    let charged = changed(alloc, &halomethane, 14, 0, b"M  CHG  1   6   1\n")?;
+    let unended = changed(alloc, &halomethane, 14, 1, b"")?;
+    let fourfold = changed(alloc, PAIR, 7, 1, b"  1  2  4  0\n")?;
+    assert!(rt; gives(alloc, &charged, NODES, b"refused 14 Property|")?);
+    assert!(rt; gives(alloc, &unended, NODES, b"refused 14 Short|")?);
+    assert!(rt; gives(alloc, &fourfold, NODES, b"refused 7 BondType|")?);
+    assert!(rt; gives(alloc, ATOMS, NODES, b"refused 10 Short|")?);
     Ok(())
 }
 
@@ -331,7 +296,7 @@ x
 ";
 
 #[test]
-fn hydrogens_bounds_and_old_items_are_seen_to(rt: HostRuntime) -> Result<(), Fail> {
+fn hydrogens_count_but_lone_pairs_and_old_items_do_not(rt: HostRuntime) -> Result<(), Fail> {
     let alloc = rt.alloc();
     let halomethane = joined(alloc, &[ATOMS, BONDS, LAST])?;
     let annotated = joined(alloc, &[ATOMS, BONDS, ITEM, OTHER, ITEM, LAST])?;

@@ -1,8 +1,4 @@
-use Rattle.std.proofs.Common.{◌≡◌, ◌+◌, ◌++◌, ◌∷◌, [], List, ℕ, ap, sym, arith, drop, refl, append_assoc, append-nil, length}
-use Rattle.std.proofs.lemmas.List.{at_drop_all}
-use Rattle.std.specs.List.{filter_map}
-use Rattle.cip_list.proofs.Rests.{rest_at}
-use Rattle.cip_print.specs.Values.{unit_line}
+use Rattle.std.proofs.Common.{arith}
 use Rattle.cip_print.proofs.Lines.{one_more}
 use Rattle.cip_print.proofs.values.unit_lines.Goals as goal
 

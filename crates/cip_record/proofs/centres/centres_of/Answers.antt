@@ -1,4 +1,4 @@
-use Rattle.std.proofs.Common.{◌≡◌, ◌≤◌, ◌+◌, ◌-◌, ◌*◌, ◌∙◌, [], ap, sym, arith, length, subst}
+use Rattle.std.proofs.Common.{◌∙◌, [], ap, arith, length}
 use Rattle.cip_record.specs.Answers.{units_from}
 use Rattle.cip_record.proofs.Units.{refused_at, one_more, all_read}
 use Rattle.cip_record.proofs.centres.centres_of.Goals as goal

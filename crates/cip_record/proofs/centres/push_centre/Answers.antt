@@ -1,4 +1,4 @@
-use Rattle.std.proofs.Common.{◌≡◌, ◌<◌, ◌∙◌, sym, arith, length, ap, Some, rules}
+use Rattle.std.proofs.Common.{◌∙◌, sym, arith, ap, Some}
 use Rattle.cip_record.proofs.Units.{unknown_centre, known_centre}
 use Rattle.cip_record.proofs.centres.push_centre.Goals as goal
 

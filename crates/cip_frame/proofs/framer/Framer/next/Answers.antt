@@ -4,6 +4,9 @@ use Rattle.cip_frame.proofs.framer.Framer.next.Goals as goal
 
 pub invariant_of-self-2 : goal.invariant_of-self-2
 invariant_of-self-2 c = (
-    c.self.invariant.0, c.self.invariant.1, c.self.invariant.2,
-    All-tail (λ bytes. length bytes ≤ c.self.inside.limit) c.in_ok-bytes.bytes c.pop_front.new.self.items
-    (subst (All (λ bytes. length bytes ≤ c.self.inside.limit)) c.in_ok-bytes.ensures.items c.self.invariant.3))
+  c.self.invariant.0,
+  c.self.invariant.1,
+  c.self.invariant.2,
+  All-tail (λ bytes. length bytes ≤ c.self.inside.limit) c.in_ok-bytes.bytes c.pop_front.new.self.items
+      (subst (All (λ bytes. length bytes ≤ c.self.inside.limit)) c.in_ok-bytes.ensures.items c.self.invariant.3),
+)
