@@ -12,4 +12,4 @@ mod surroundings;
 mod tests;
 
 pub use answering::{is_flagged, label_record, label_without_items};
-pub use laws::worked_records_are_answered;
+pub use laws::{worked_records_are_answered, worked_records_have_whole_answers};
