@@ -40,7 +40,7 @@ whole_answer rules nodes bytes = of_molecule rules nodes (molecule_of (body_cont
 abbrev pub values_by_definition : List ℕ → List (List ℕ)
 values_by_definition bytes = values_of (whole_answer Wording2013 100000 bytes)
 
--- worked records have the value lines that were worked by hand
+-- worked examples have their expected value lines
 pub record HaveWholeAnswers : Type 0 where
   -- Rule 1a: in one sphere after the other, by a mean atomic number, against a lone pair; two oxygens tie
   pub glyceraldehyde : values_by_definition records.glyceraldehyde ≡ codes "a1 S 1a 2" ∷ []

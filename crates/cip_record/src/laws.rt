@@ -7,7 +7,7 @@ pub fn worked_records_are_answered()
     ensures { AreAnswered }
 {}
 
-/// From their bytes to their value lines, all definitions together give worked records what was worked by hand. Labelling
+/// From their bytes to their value lines, all definitions together give worked examples what is expected. Labelling
 /// doesn't reach so far yet.
 pub fn worked_records_have_whole_answers()
     ensures { HaveWholeAnswers }
