@@ -1,3 +1,1 @@
-pub mod Fours
-pub mod Filling
-pub mod Shown
+pub mod BondsAtAtoms

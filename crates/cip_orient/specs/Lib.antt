@@ -1,2 +1,2 @@
-pub mod DrawnNumbers
+pub mod DrawnEnds
 pub mod PairSigns

@@ -8,9 +8,11 @@ use crate::drawn::drawn_of;
 use crate::marks::{has_either, is_crossed};
 use crate::pairs::{PairSign, show_pairs};
 use cip_mol::{Cause, Geometry, Ligands, Molecule};
+use std::alloc::Global;
 
 /// What is shown of a bond between `a` and `b` with these ligands at its ends.
 pub(crate) fn show_bond(
+    alloc: Global,
     molecule: &Molecule,
     a: u32,
     b: u32,
@@ -21,19 +23,13 @@ pub(crate) fn show_bond(
     requires b { IsEnd (length molecule.now.atoms) b second.now }
     ensures { result ≡ bond_geometry molecule.now a b first.now second.now }
 {
-    let (atoms, bonds) = (molecule.atoms(), molecule.bonds());
-    if has_either(a, bonds) || has_either(b, bonds) || is_crossed(a, b, bonds) {
+    if has_either(molecule, a) || has_either(molecule, b) || is_crossed(molecule, a, b) {
         return Geometry::Unknown(Cause::Either);
     }
-    let first = drawn_of(atoms.len(), first.as_slice());
-    let second = drawn_of(atoms.len(), second.as_slice());
-    let between = step_between(atoms, a, b);
-    let firsts = steps(atoms, a, &first.numbers);
-    let seconds = steps(atoms, b, &second.numbers);
-    show_pairs(
-        PairSign::Sides,
-        between,
-        &firsts[..first.count],
-        &seconds[..second.count],
-    )
+    let first = drawn_of(alloc, molecule, first);
+    let second = drawn_of(alloc, molecule, second);
+    let bond = step_between(molecule, a, b);
+    let firsts = steps(alloc, molecule, a, &first);
+    let seconds = steps(alloc, molecule, b, &second);
+    show_pairs(PairSign::Sides, bond, firsts.as_slice(), seconds.as_slice())
 }

@@ -5,31 +5,36 @@ ghost use Rattle.cip_mol.specs.Ranges.{IsPlace};
 ghost use Rattle.cip_mol.specs.Sites.{IsCentre};
 ghost use Rattle.cip_mol.specs.SpatialCentres.{in_space};
 
-use crate::drawing::{flat_steps, is_spatial, point, points, step};
+use crate::drawing::{flat_steps, point, points, step};
 use crate::drawn::drawn_of;
 use crate::flat_centre::show_in_plane;
 use crate::marks::{has_either, marks_to};
 use crate::pairs::shown_by;
 use cip_mol::{Cause, Geometry, Ligands, Molecule};
 use cip_num::{Vec3, volume};
+use std::alloc::Global;
 
 /// What is shown of a centre with these ligands.
-pub(crate) fn show_centre(molecule: &Molecule, at: u32, ligands: &Ligands) -> Geometry
+pub(crate) fn show_centre(
+    alloc: Global,
+    molecule: &Molecule,
+    at: u32,
+    ligands: &Ligands,
+) -> Geometry
     requires { IsCentre (length molecule.now.atoms) at ligands.now }
     ensures { result ≡ centre_geometry molecule.now at ligands.now }
 {
-    let (atoms, bonds) = (molecule.atoms(), molecule.bonds());
-    if has_either(at, bonds) {
+    if has_either(molecule, at) {
         return Geometry::Unknown(Cause::Either);
     }
-    let drawn = drawn_of(atoms.len(), ligands.as_slice());
-    if is_spatial(atoms) {
-        let points = points(atoms, &drawn.numbers);
-        return show_in_space(point(atoms, at), &points[..drawn.count]);
+    let drawn = drawn_of(alloc, molecule, ligands);
+    if molecule.is_spatial() {
+        let points = points(alloc, molecule, &drawn);
+        return show_in_space(point(molecule, at), points.as_slice());
     }
-    let directions = flat_steps(atoms, at, &drawn.numbers);
-    let marks = marks_to(at, bonds, &drawn.numbers);
-    show_in_plane(&directions, &marks, drawn.count)
+    let directions = flat_steps(alloc, molecule, at, &drawn);
+    let marks = marks_to(alloc, molecule, at, &drawn);
+    show_in_plane(alloc, directions.as_slice(), marks.as_slice())
 }
 
 fn show_in_space(centre: Vec3, points: &[Vec3]) -> Geometry

@@ -2,44 +2,37 @@
 ghost use Rattle.std.specs.Prelude.{◌≡◌, ◌≤◌, ◌<◌, ◌-ℤ◌, All, length, map, unsigned_abs};
 ghost use Rattle.cip_num.specs.Plane.{IsSmall};
 ghost use Rattle.cip_num.specs.Space.{IsSmall3};
-ghost use Rattle.cip_mol.specs.Points.{is_spatial, flat_step, flat_steps, point, step, steps};
-ghost use Rattle.cip_mol.specs.Ranges.{IsAtom, IsPlace};
+ghost use Rattle.cip_mol.specs.Points.{flat_step, flat_steps, point, step, steps};
+ghost use Rattle.cip_mol.specs.Ranges.{IsPlace};
 
-use cip_mol::Atom;
+use cip_mol::{AtMostFour, Molecule};
 use cip_num::{Vec2, Vec3};
-
-/// Whether the molecule is drawn in three dimensions.
-pub(crate) fn is_spatial(atoms: &[Atom]) -> bool
-    ensures { result ≡ is_spatial atoms.now }
-{
-    atoms.iter().any(|atom| atom.at.z != 0)
-}
+use std::alloc::Global;
 
 /// Where an atom is drawn.
-pub(crate) fn point(atoms: &[Atom], atom: u32) -> Vec3
-    requires range { All IsAtom atoms.now }
-    requires within { atom < length atoms.now }
-    ensures value { result ≡ point atoms.now atom }
+pub(crate) fn point(molecule: &Molecule, atom: u32) -> Vec3
+    requires { atom < length molecule.now.atoms }
+    ensures value { result ≡ point molecule.now.atoms atom }
     ensures place { IsPlace result }
 {
-    atoms[atom as usize].at
+    molecule.atoms()[atom as usize].at
 }
 
-/// Where four atoms are drawn.
-#[tactic(auto, using(crate::proofs::Fours::four_each))]
-pub(crate) fn points(atoms: &[Atom], numbers: &[u32]) -> [Vec3; 4]
-    requires range { All IsAtom atoms.now }
-    requires four { length numbers.now ≡ 4 }
-    requires within { All (λ number. number < length atoms.now) numbers.now }
-    ensures value { result ≡ map (point atoms.now) numbers.now }
+/// Where atoms are drawn.
+pub(crate) fn points(
+    alloc: Global,
+    molecule: &Molecule,
+    numbers: &AtMostFour<u32>,
+) -> AtMostFour<Vec3>
+    requires { All (λ number. number < length molecule.now.atoms) numbers.now }
+    ensures value { result ≡ map (point molecule.now.atoms) numbers.now }
     ensures places { All IsPlace result }
 {
-    [
-        point(atoms, numbers[0]),
-        point(atoms, numbers[1]),
-        point(atoms, numbers[2]),
-        point(atoms, numbers[3]),
-    ]
+    let mut points = AtMostFour::new(alloc);
+    for number in numbers.as_slice() {
+        points.push(point(molecule, *number));
+    }
+    points
 }
 
 /// The step from one point to another.
@@ -57,60 +50,60 @@ pub(crate) fn step(from: Vec3, to: Vec3) -> Vec3
 }
 
 /// The step from one atom to another.
-pub(crate) fn step_between(atoms: &[Atom], from: u32, to: u32) -> Vec3
-    requires range { All IsAtom atoms.now }
-    requires from { from < length atoms.now }
-    requires to { to < length atoms.now }
-    ensures value { result ≡ step (point atoms.now from) (point atoms.now to) }
+pub(crate) fn step_between(molecule: &Molecule, from: u32, to: u32) -> Vec3
+    requires from { from < length molecule.now.atoms }
+    requires to { to < length molecule.now.atoms }
+    ensures value { result ≡ step (point molecule.now.atoms from) (point molecule.now.atoms to) }
     ensures small { IsSmall3 result }
 {
-    step(point(atoms, from), point(atoms, to))
+    step(point(molecule, from), point(molecule, to))
 }
 
-/// The steps from an atom to four others.
-#[tactic(auto, using(crate::proofs::Fours::four_each))]
-pub(crate) fn steps(atoms: &[Atom], from: u32, numbers: &[u32]) -> [Vec3; 4]
-    requires range { All IsAtom atoms.now }
-    requires from { from < length atoms.now }
-    requires four { length numbers.now ≡ 4 }
-    requires within { All (λ number. number < length atoms.now) numbers.now }
-    ensures value { result ≡ steps atoms.now from numbers.now }
+/// The steps from an atom to others.
+pub(crate) fn steps(
+    alloc: Global,
+    molecule: &Molecule,
+    from: u32,
+    numbers: &AtMostFour<u32>,
+) -> AtMostFour<Vec3>
+    requires from { from < length molecule.now.atoms }
+    requires within { All (λ number. number < length molecule.now.atoms) numbers.now }
+    ensures value { result ≡ steps molecule.now.atoms from numbers.now }
     ensures small { All IsSmall3 result }
 {
-    [
-        step_between(atoms, from, numbers[0]),
-        step_between(atoms, from, numbers[1]),
-        step_between(atoms, from, numbers[2]),
-        step_between(atoms, from, numbers[3]),
-    ]
+    let mut steps = AtMostFour::new(alloc);
+    for number in numbers.as_slice() {
+        steps.push(step_between(molecule, from, *number));
+    }
+    steps
 }
 
-/// The same in the plane.
-#[tactic(auto, using(crate::proofs::Fours::four_each))]
-pub(crate) fn flat_steps(atoms: &[Atom], from: u32, numbers: &[u32]) -> [Vec2; 4]
-    requires range { All IsAtom atoms.now }
-    requires from { from < length atoms.now }
-    requires four { length numbers.now ≡ 4 }
-    requires within { All (λ number. number < length atoms.now) numbers.now }
-    ensures value { result ≡ flat_steps atoms.now from numbers.now }
+/// The steps from an atom to others in the plane.
+pub(crate) fn flat_steps(
+    alloc: Global,
+    molecule: &Molecule,
+    from: u32,
+    numbers: &AtMostFour<u32>,
+) -> AtMostFour<Vec2>
+    requires from { from < length molecule.now.atoms }
+    requires within { All (λ number. number < length molecule.now.atoms) numbers.now }
+    ensures value { result ≡ flat_steps molecule.now.atoms from numbers.now }
     ensures small { All IsSmall result }
 {
-    [
-        flat_step_between(atoms, from, numbers[0]),
-        flat_step_between(atoms, from, numbers[1]),
-        flat_step_between(atoms, from, numbers[2]),
-        flat_step_between(atoms, from, numbers[3]),
-    ]
+    let mut steps = AtMostFour::new(alloc);
+    for number in numbers.as_slice() {
+        steps.push(flat_step_between(molecule, from, *number));
+    }
+    steps
 }
 
-fn flat_step_between(atoms: &[Atom], from: u32, to: u32) -> Vec2
-    requires range { All IsAtom atoms.now }
-    requires from { from < length atoms.now }
-    requires to { to < length atoms.now }
-    ensures value { result ≡ flat_step (point atoms.now from) (point atoms.now to) }
+fn flat_step_between(molecule: &Molecule, from: u32, to: u32) -> Vec2
+    requires from { from < length molecule.now.atoms }
+    requires to { to < length molecule.now.atoms }
+    ensures value { result ≡ flat_step (point molecule.now.atoms from) (point molecule.now.atoms to) }
     ensures small { IsSmall result }
 {
-    let (from, to) = (point(atoms, from), point(atoms, to));
+    let (from, to) = (point(molecule, from), point(molecule, to));
     Vec2 {
         x: difference(to.x, from.x),
         y: difference(to.y, from.y),

@@ -1,63 +1,59 @@
 // Centres drawn in the plane.
-ghost use Rattle.std.specs.Prelude.{◌≡◌, ◌≤◌, ◌<◌, All, length, map, take};
-ghost use Rattle.cip_num.specs.Around.{place};
+ghost use Rattle.std.specs.Prelude.{◌≡◌, ◌≤◌, ◌<◌, All, length};
+ghost use Rattle.cip_num.specs.Around.{places};
 ghost use Rattle.cip_num.specs.Plane.{IsSmall};
-ghost use Rattle.cip_mol.specs.FlatCentres.{by_votes, common, has_minus, has_plus, in_plane, inversions, is_left, is_marked_inside, is_reentrant, lies_between, turned, turned_by_place};
+ghost use Rattle.cip_mol.specs.FlatCentres.{by_votes, common, has_minus, has_plus, in_plane, inversions, is_left, is_marked_inside, is_reentrant, lies_between, turned, turned_by_place, votes};
 ghost use Rattle.cip_mol.specs.Senses.{sense_of};
 
 use crate::marks::opposite;
-use cip_mol::{Cause, Geometry, Sense};
+use cip_mol::{AtMostFour, Cause, Geometry, Sense};
 use cip_num::{Sign, Vec2, has_clash, place_of, side};
+use std::alloc::Global;
 
-/// What three or four ligands show, by their directions and marks: the first `count` of four.
-pub(crate) fn show_in_plane(directions: &[Vec2], marks: &[Sign], count: usize) -> Geometry
+/// What three or four ligands show, by their directions and marks.
+pub(crate) fn show_in_plane(alloc: Global, directions: &[Vec2], marks: &[Sign]) -> Geometry
     requires small { All IsSmall directions.now }
-    requires directions { length directions.now ≡ 4 }
-    requires marks { length marks.now ≡ 4 }
-    requires few { count ≤ 4 }
-    requires some { 0 < count }
-    ensures { result ≡ in_plane (take count directions.now) (take count marks.now) }
+    requires few { length directions.now ≤ 4 }
+    requires some { 0 < length directions.now }
+    requires marks { length marks.now ≡ length directions.now }
+    ensures { result ≡ in_plane directions.now marks.now }
 {
-    let drawn = &directions[..count];
-    if has_clash(drawn) {
+    if has_clash(directions) {
         return Geometry::Unknown(Cause::Coincident);
     }
-    let places = places(drawn, directions);
-    let reentrant = count == 3 && is_reentrant(directions, marks);
-    if count == 4 {
-        return show_by_votes(reentrant, &places, &turned_by_place(&places, marks));
+    let places = places(alloc, directions);
+    let reentrant = is_reentrant(directions, marks);
+    if directions.len() == 4 {
+        let votes = turned_by_place(alloc, places.as_slice(), marks);
+        return show_by_votes(reentrant, places.as_slice(), votes.as_slice());
     }
-    show_by_votes(reentrant, &places[..count], &marks[..count])
+    show_by_votes(reentrant, places.as_slice(), marks)
 }
 
-// The places of four directions in the counterclockwise order of those that are drawn.
-#[tactic(auto, using(crate::proofs::Fours::four_each))]
-fn places(drawn: &[Vec2], directions: &[Vec2]) -> [usize; 4]
-    requires some { 0 < length drawn.now }
-    requires drawn { All IsSmall drawn.now }
-    requires four { length directions.now ≡ 4 }
+// The places of directions in their counterclockwise order.
+fn places(alloc: Global, directions: &[Vec2]) -> AtMostFour<usize>
+    requires few { length directions.now ≤ 4 }
     requires small { All IsSmall directions.now }
-    ensures { result ≡ map (place drawn.now) directions.now }
+    ensures { result ≡ places directions.now }
 {
-    [
-        place_of(drawn, directions[0]),
-        place_of(drawn, directions[1]),
-        place_of(drawn, directions[2]),
-        place_of(drawn, directions[3]),
-    ]
+    let mut places = AtMostFour::new(alloc);
+    for direction in directions {
+        places.push(place_of(directions, *direction));
+    }
+    places
 }
 
-fn turned_by_place(places: &[usize], marks: &[Sign]) -> [Sign; 4]
-    requires places { length places.now ≡ 4 }
-    requires marks { length marks.now ≡ 4 }
+// Each sign turned as often as its place says.
+fn turned_by_place(alloc: Global, places: &[usize], marks: &[Sign]) -> AtMostFour<Sign>
+    requires few { length places.now ≤ 4 }
+    requires marks { length marks.now ≡ length places.now }
     ensures { result ≡ turned_by_place places.now marks.now }
 {
-    [
-        turned(places[0], marks[0]),
-        turned(places[1], marks[1]),
-        turned(places[2], marks[2]),
-        turned(places[3], marks[3]),
-    ]
+    let mut votes = AtMostFour::new(alloc);
+    for (number, place) in places.iter().enumerate() {
+        votes.push(turned(*place, marks[number]));
+    }
+    votes
 }
 
 fn turned(times: usize, sign: Sign) -> Sign
@@ -131,15 +127,14 @@ fn inversions(places: &[usize]) -> usize
 
 // Whether one of three ligands is marked and lies between the other two.
 fn is_reentrant(directions: &[Vec2], marks: &[Sign]) -> bool
-    requires directions { 3 ≤ length directions.now }
-    requires marks { 3 ≤ length marks.now }
+    requires marks { length marks.now ≡ length directions.now }
     requires small { All IsSmall directions.now }
-    ensures { result ≡ is_reentrant (take 3 directions.now) (take 3 marks.now) }
+    ensures { result ≡ is_reentrant directions.now marks.now }
 {
-    let (first, second, third) = (directions[0], directions[1], directions[2]);
-    is_marked_inside(marks[0], first, second, third)
-        || is_marked_inside(marks[1], second, first, third)
-        || is_marked_inside(marks[2], third, first, second)
+    directions.len() == 3
+        && (is_marked_inside(marks[0], directions[0], directions[1], directions[2])
+            || is_marked_inside(marks[1], directions[1], directions[0], directions[2])
+            || is_marked_inside(marks[2], directions[2], directions[0], directions[1]))
 }
 
 fn is_marked_inside(mark: Sign, inner: Vec2, one: Vec2, other: Vec2) -> bool

@@ -1,21 +1,35 @@
-// Marks of bonds as seen from an atom.
-ghost use Rattle.std.specs.Prelude.{◌≡◌, length, map};
-ghost use Rattle.std.specs.List.{list_any};
+// Marks of bonds as seen from an atom: they are looked for among the bonds of the atom alone.
+ghost use Rattle.std.specs.Prelude.{◌≡◌, ◌<◌, length, map};
 ghost use Rattle.cip_num.specs.Signs.{opposite};
 ghost use Rattle.cip_mol.specs.Marks.{has_either, has_mark, is_crossed, is_narrow_at, mark_sign, mark_to};
 
-use cip_mol::{Bond, Mark};
+use cip_mol::{AtMostFour, Bond, Mark, Molecule};
 use cip_num::Sign;
+use std::alloc::Global;
 
 /// Whether a single bond marked as undecided has its narrow end at an atom.
-pub(crate) fn has_either(atom: u32, bonds: &[Bond]) -> bool
+pub(crate) fn has_either(molecule: &Molecule, atom: u32) -> bool
+    requires { atom < length molecule.now.atoms }
+    ensures { result ≡ has_either atom molecule.now.bonds }
+{
+    is_either_among(atom, molecule.bonds_at(atom))
+}
+
+fn is_either_among(atom: u32, bonds: &[Bond]) -> bool
     ensures { result ≡ has_either atom bonds.now }
 {
     bonds.iter().any(|bond| is_narrow_at(atom, bond) && bond.mark == Mark::Either)
 }
 
 /// Whether the bond between two atoms is itself marked as undecided.
-pub(crate) fn is_crossed(a: u32, b: u32, bonds: &[Bond]) -> bool
+pub(crate) fn is_crossed(molecule: &Molecule, a: u32, b: u32) -> bool
+    requires { a < length molecule.now.atoms }
+    ensures { result ≡ is_crossed a b molecule.now.bonds }
+{
+    is_crossed_among(a, b, molecule.bonds_at(a))
+}
+
+fn is_crossed_among(a: u32, b: u32, bonds: &[Bond]) -> bool
     ensures { result ≡ is_crossed a b bonds.now }
 {
     bonds.iter().any(|bond| {
@@ -23,18 +37,28 @@ pub(crate) fn is_crossed(a: u32, b: u32, bonds: &[Bond]) -> bool
     })
 }
 
-/// The marks to four neighbours: up Plus, down Minus.
-#[tactic(auto, using(crate::proofs::Fours::four_each))]
-pub(crate) fn marks_to(atom: u32, bonds: &[Bond], neighbours: &[u32]) -> [Sign; 4]
-    requires { length neighbours.now ≡ 4 }
-    ensures { result ≡ map (mark_to atom bonds.now) neighbours.now }
+/// The marks to neighbours of an atom: up Plus, down Minus.
+pub(crate) fn marks_to(
+    alloc: Global,
+    molecule: &Molecule,
+    atom: u32,
+    neighbours: &AtMostFour<u32>,
+) -> AtMostFour<Sign>
+    requires { atom < length molecule.now.atoms }
+    ensures { result ≡ map (mark_to atom molecule.now.bonds) neighbours.now }
 {
-    [
-        mark_to(atom, bonds, neighbours[0]),
-        mark_to(atom, bonds, neighbours[1]),
-        mark_to(atom, bonds, neighbours[2]),
-        mark_to(atom, bonds, neighbours[3]),
-    ]
+    let mut marks = AtMostFour::new(alloc);
+    for neighbour in neighbours.as_slice() {
+        marks.push(mark_between(molecule, atom, *neighbour));
+    }
+    marks
+}
+
+fn mark_between(molecule: &Molecule, atom: u32, neighbour: u32) -> Sign
+    requires { atom < length molecule.now.atoms }
+    ensures { result ≡ mark_to atom molecule.now.bonds neighbour }
+{
+    mark_to(atom, molecule.bonds_at(atom), neighbour)
 }
 
 fn mark_to(atom: u32, bonds: &[Bond], neighbour: u32) -> Sign

@@ -97,7 +97,8 @@ fn keeps_for_a_first(sign: PairSign, between: Vec3, firsts: &[Vec3], seconds: &[
     requires between { IsSmall3 between }
     requires firsts { All IsSmall3 firsts.now }
     requires seconds { All IsSmall3 seconds.now }
-    ensures { result ≡ list_any (λ first. are_two_alike (λ second. pair_sign sign between first second) seconds.now) firsts.now }
+    ensures { result ≡ list_any (λ first. are_two_alike (λ second. pair_sign sign between first second) seconds.now)
+        firsts.now }
 {
     firsts.iter().any(|first| has_two_seconds_alike(sign, between, *first, seconds))
 }
@@ -106,7 +107,8 @@ fn keeps_for_a_second(sign: PairSign, between: Vec3, firsts: &[Vec3], seconds: &
     requires between { IsSmall3 between }
     requires firsts { All IsSmall3 firsts.now }
     requires seconds { All IsSmall3 seconds.now }
-    ensures { result ≡ list_any (λ second. are_two_alike (λ first. pair_sign sign between first second) firsts.now) seconds.now }
+    ensures { result ≡ list_any (λ second. are_two_alike (λ first. pair_sign sign between first second) firsts.now)
+        seconds.now }
 {
     seconds.iter().any(|second| has_two_firsts_alike(sign, between, firsts, *second))
 }

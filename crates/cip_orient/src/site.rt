@@ -10,25 +10,25 @@ use cip_mol::{Geometry, Molecule, Site};
 use std::alloc::Global;
 
 /// The sense of a unit, or the first cause that holds why the drawing shows none. CTfile Formats, the meaning of marks.
-/// It takes no memory, and passes over the bonds a few times.
-pub fn orient(_alloc: Global, molecule: &Molecule, site: &Site) -> Geometry
+/// It takes no memory, and looks at the bonds of the unit's atoms alone.
+pub fn orient(alloc: Global, molecule: &Molecule, site: &Site) -> Geometry
     requires { IsSite (length molecule.now.atoms) site.now }
     ensures { result ≡ geometry_of molecule.now site.now }
 {
     match site {
-        Site::Centre { at, ligands } => show_centre(molecule, *at, ligands),
+        Site::Centre { at, ligands } => show_centre(alloc, molecule, *at, ligands),
         Site::Bond {
             a,
             b,
             first,
             second,
-        } => show_bond(molecule, *a, *b, first, second),
+        } => show_bond(alloc, molecule, *a, *b, first, second),
         Site::Axis {
             a,
             b,
             first,
             second,
             ..
-        } => show_axis(molecule, *a, *b, first, second),
+        } => show_axis(alloc, molecule, *a, *b, first, second),
     }
 }

@@ -1,7 +1,7 @@
-ghost use Rattle.std.specs.Prelude.{◌<◌, ◌≤◌, All, IfOk, IsTrue, length};
+ghost use Rattle.std.specs.Prelude.{◌<◌, ◌≤◌, All, IfOk, IfSome, IsTrue, length};
 ghost use Rattle.cip_mol.specs.DrawnLigands.{drawn};
 ghost use Rattle.cip_mol.specs.Ranges.{IsAtom, IsBond, IsPlace};
-ghost use Rattle.cip_mol.specs.Sites.{IsCentre, IsEnd};
+ghost use Rattle.cip_mol.specs.Sites.{IsSite};
 
 use crate::drawn::drawn_of;
 use crate::orient;
@@ -101,11 +101,66 @@ fn ligands(alloc: Global, numbers: &[u32]) -> Ligands {
     ligands
 }
 
-fn has_drawn(molecule: &Molecule, at: u32, ligands: &Ligands, count: usize) -> bool
-    ensures { IsTrue result → (at < length molecule.now.atoms) × (count ≤ length (drawn (length molecule.now.atoms) ligands.now)) }
+fn has_drawn(alloc: Global, molecule: &Molecule, at: u32, ligands: &Ligands, count: u32) -> bool
+    ensures { IsTrue result → (at < length molecule.now.atoms)
+        × (count ≤ length (drawn (length molecule.now.atoms) ligands.now)) }
 {
-    let atoms = molecule.atoms().len();
-    (at as usize) < atoms && drawn_of(atoms, ligands.as_slice()).count >= count
+    (at as usize) < molecule.atoms().len() && drawn_of(alloc, molecule, ligands).len() >= count
+}
+
+// A centre at the first atom, a bond between the first two, or an axis from the first to the third.
+#[derive(Clone, Copy)]
+enum Kind {
+    Centre,
+    Bond,
+    Axis,
+}
+
+#[derive(Drop)]
+struct Case {
+    name: &'static str,
+    kind: Kind,
+    points: &'static [Point],
+    lines: &'static [Line],
+    firsts: &'static [u32],
+    seconds: &'static [u32],
+    wanted: &'static str,
+}
+
+fn site(alloc: Global, molecule: &Molecule, case: &Case) -> Option<Site>
+    ensures { IfSome result (IsSite (length molecule.now.atoms)) }
+{
+    let (first, second) = (ligands(alloc, case.firsts), ligands(alloc, case.seconds));
+    let (a, middle, b) = match case.kind {
+        Kind::Centre | Kind::Bond => (0, 1, 1),
+        Kind::Axis => (0, 1, 2),
+    };
+    let most = if let Kind::Centre = case.kind { 3 } else { 1 };
+    if !has_drawn(alloc, molecule, a, &first, most) {
+        return None;
+    }
+    if let Kind::Centre = case.kind {
+        let (at, ligands) = (a, first);
+        return Some(Site::Centre { at, ligands });
+    }
+    if !has_drawn(alloc, molecule, b, &second, 1) {
+        return None;
+    }
+    if let Kind::Bond = case.kind {
+        return Some(Site::Bond {
+            a,
+            b,
+            first,
+            second,
+        });
+    }
+    Some(Site::Axis {
+        a,
+        middle,
+        b,
+        first,
+        second,
+    })
 }
 
 fn name_of(geometry: Geometry) -> &'static str {
@@ -120,74 +175,18 @@ fn name_of(geometry: Geometry) -> &'static str {
     }
 }
 
-// What is shown of the centre at the first atom, with these ligands.
-fn centre(
-    alloc: Global,
-    points: &[Point],
-    lines: &[Line],
-    numbers: &[u32],
-) -> Result<&'static str, AllocError> {
-    let Some(molecule) = molecule(alloc, points, lines)? else {
+fn shown(alloc: Global, case: &Case) -> Result<&'static str, AllocError> {
+    let Some(molecule) = molecule(alloc, case.points, case.lines)? else {
         return Ok("no molecule");
     };
-    let ligands = ligands(alloc, numbers);
-    if !has_drawn(&molecule, 0, &ligands, 3) {
-        return Ok("no centre");
-    }
-    let site = Site::Centre { at: 0, ligands };
-    Ok(name_of(orient(alloc, &molecule, &site)))
-}
-
-// What is shown of the bond between the first two atoms, with these ligands at its ends.
-fn double_bond(
-    alloc: Global,
-    points: &[Point],
-    lines: &[Line],
-    firsts: &[u32],
-    seconds: &[u32],
-) -> Result<&'static str, AllocError> {
-    let Some(molecule) = molecule(alloc, points, lines)? else {
-        return Ok("no molecule");
-    };
-    let (first, second) = (ligands(alloc, firsts), ligands(alloc, seconds));
-    if !has_drawn(&molecule, 0, &first, 1) || !has_drawn(&molecule, 1, &second, 1) {
-        return Ok("no bond");
-    }
-    let (a, b) = (0, 1);
-    let site = Site::Bond {
-        a,
-        b,
-        first,
-        second,
+    let Some(site) = site(alloc, &molecule, case) else {
+        return Ok("no site");
     };
     Ok(name_of(orient(alloc, &molecule, &site)))
 }
 
-// What is shown of the axis from the first atom to the third, with these ligands at its ends.
-fn axis(
-    alloc: Global,
-    points: &[Point],
-    lines: &[Line],
-    firsts: &[u32],
-    seconds: &[u32],
-) -> Result<&'static str, AllocError> {
-    let Some(molecule) = molecule(alloc, points, lines)? else {
-        return Ok("no molecule");
-    };
-    let (first, second) = (ligands(alloc, firsts), ligands(alloc, seconds));
-    if !has_drawn(&molecule, 0, &first, 1) || !has_drawn(&molecule, 2, &second, 1) {
-        return Ok("no axis");
-    }
-    let (a, middle, b) = (0, 1, 2);
-    let site = Site::Axis {
-        a,
-        middle,
-        b,
-        first,
-        second,
-    };
-    Ok(name_of(orient(alloc, &molecule, &site)))
-}
+// As far from the origin as an atom may be.
+const MOST: i64 = 500_000_000;
 
 const FAN: &[Point] = &[
     (0, 0, 0),
@@ -206,35 +205,20 @@ const CROSS: &[Point] = &[
     (-10_000, 0, 0),
 ];
 
+const ON_THE_CENTRE: &[Point] = &[
+    (0, 0, 0),
+    (0, 0, 0),
+    (10_000, 0, 0),
+    (0, -10_000, 0),
+    (-10_000, 0, 0),
+];
+
 const HALOMETHANE: &[Point] = &[
     (0, 0, 0),
     (10_000, 10_000, 10_000),
     (10_000, -10_000, -10_000),
     (-10_000, 10_000, -10_000),
     (-10_000, -10_000, 10_000),
-];
-
-const CIS: &[Point] = &[
-    (-5_000, 0, 0),
-    (5_000, 0, 0),
-    (-10_000, 8_660, 0),
-    (10_000, 8_660, 0),
-];
-
-const TRANS: &[Point] = &[
-    (-5_000, 0, 0),
-    (5_000, 0, 0),
-    (-10_000, 8_660, 0),
-    (10_000, -8_660, 0),
-];
-
-const TWISTED: &[Point] = &[
-    (0, 0, 0),
-    (10_000, 0, 0),
-    (-10_000, 10_000, 0),
-    (-10_000, -10_000, 50_000),
-    (20_000, 10_000, 10_000),
-    (20_000, -30_000, 10_000),
 ];
 
 const ALLENE: &[Point] = &[
@@ -245,184 +229,307 @@ const ALLENE: &[Point] = &[
     (15_000, 8_660, 0),
 ];
 
-#[test]
-fn worked_units_have_their_sense_or_cause(rt: HostRuntime) -> Result<(), Fail> {
-    let alloc = rt.alloc();
-    let three = &[1, 2, 3];
-    let inner = &[(0, 1, b'-'), (0, 2, b'^'), (0, 3, b'-')];
-    let outer = &[(0, 1, b'^'), (0, 2, b'-'), (0, 3, b'-')];
-    assert_eq!(rt; centre(alloc, FAN, inner, three)?, "Reentrant");
-    assert_eq!(rt; centre(alloc, FAN, outer, three)?, "Plus");
-    assert_eq!(rt; centre(alloc, TEE, inner, three)?, "Plus");
-    let four = &[1, 2, 3, 4];
-    let plain = &[(0, 1, b'-'), (0, 2, b'-'), (0, 3, b'-'), (0, 4, b'-')];
-    let up = &[(0, 1, b'-'), (0, 2, b'-'), (0, 3, b'^'), (0, 4, b'-')];
-    let down = &[(0, 1, b'-'), (0, 2, b'-'), (0, 3, b'v'), (0, 4, b'-')];
-    let both = &[(0, 1, b'-'), (0, 2, b'^'), (0, 3, b'^'), (0, 4, b'-')];
-    assert_eq!(rt; centre(alloc, CROSS, up, four)?, "Minus");
-    assert_eq!(rt; centre(alloc, CROSS, down, four)?, "Plus");
-    assert_eq!(rt; centre(alloc, CROSS, both, four)?, "Contradictory");
-    assert_eq!(rt; centre(alloc, CROSS, plain, four)?, "NoMark");
-    assert_eq!(rt; centre(alloc, HALOMETHANE, plain, four)?, "Plus");
-    let butene = &[(0, 1, b'='), (2, 0, b'-'), (1, 3, b'-')];
-    let crossed = &[(0, 1, b'x'), (2, 0, b'-'), (1, 3, b'-')];
-    assert_eq!(rt; double_bond(alloc, CIS, butene, &[2, 7], &[3, 8])?, "Plus");
-    assert_eq!(rt;
-        double_bond(alloc, TRANS, butene, &[2, 7], &[3, 8])?,
-        "Minus"
-    );
-    assert_eq!(rt;
-        double_bond(alloc, CIS, crossed, &[2, 7], &[3, 8])?,
-        "Either"
-    );
-    let bonds = &[
-        (0, 1, b'='),
-        (0, 2, b'-'),
-        (0, 3, b'-'),
-        (1, 4, b'-'),
-        (1, 5, b'-'),
-    ];
-    assert_eq!(rt;
-        double_bond(alloc, TWISTED, bonds, &[2, 3], &[4, 5])?,
-        "Contradictory"
-    );
-    let allene = &[(0, 1, b'='), (1, 2, b'='), (0, 3, b'^'), (2, 4, b'-')];
-    let image = &[(0, 1, b'='), (1, 2, b'='), (0, 3, b'v'), (2, 4, b'-')];
-    assert_eq!(rt; axis(alloc, ALLENE, allene, &[3, 7], &[4, 8])?, "Minus");
-    assert_eq!(rt; axis(alloc, ALLENE, image, &[3, 7], &[4, 8])?, "Plus");
-    Ok(())
-}
+const FORK: &[Point] = &[
+    (-10_000, 0, 0),
+    (0, 0, 0),
+    (10_000, 0, 0),
+    (-10_000, 10_000, 0),
+    (10_000, 10_000, 0),
+    (10_000, -10_000, 0),
+];
+
+const FIRST_UP: &[Line] = &[(0, 1, b'^'), (0, 2, b'-'), (0, 3, b'-')];
+
+const PLAIN: &[Line] = &[(0, 1, b'-'), (0, 2, b'-'), (0, 3, b'-'), (0, 4, b'-')];
 
 #[test]
-fn near_and_far_directions_are_told_apart(rt: HostRuntime) -> Result<(), Fail> {
-    let alloc = rt.alloc();
-    let three = &[1, 2, 3];
-    let first_up = &[(0, 1, b'^'), (0, 2, b'-'), (0, 3, b'-')];
-    let left = &[(0, 0, 0), (10_000, 0, 0), (10_000, 1, 0), (-10_000, 0, 0)];
-    let right = &[(0, 0, 0), (10_000, 0, 0), (10_000, -1, 0), (-10_000, 0, 0)];
-    let alike = &[(0, 0, 0), (10_000, 0, 0), (20_000, 0, 0), (-10_000, 0, 0)];
-    let zero = &[(0, 0, 0), (10_000, 0, 0), (0, 0, 0), (-10_000, 0, 0)];
-    assert_eq!(rt; centre(alloc, left, first_up, three)?, "Plus");
-    assert_eq!(rt; centre(alloc, right, first_up, three)?, "Minus");
-    assert_eq!(rt; centre(alloc, alike, first_up, three)?, "Coincident");
-    assert_eq!(rt; centre(alloc, zero, first_up, three)?, "Coincident");
-    let most = 500_000_000;
-    let corner = (-most, -most, 0);
-    let wide = &[
-        corner,
-        (most, most - 1, 0),
-        (most, most, 0),
-        (-most, most, 0),
+fn near_far_and_marked_drawings_show_their_sense_or_first_cause(
+    rt: HostRuntime,
+) -> Result<(), Fail> {
+    let cases: [Case; 25] = [
+        Case {
+            name: "a little to the left",
+            kind: Kind::Centre,
+            points: &[(0, 0, 0), (10000, 0, 0), (10000, 1, 0), (-10000, 0, 0)],
+            lines: FIRST_UP,
+            firsts: &[1, 2, 3],
+            seconds: &[],
+            wanted: "Plus",
+        },
+        Case {
+            name: "a little to the right",
+            kind: Kind::Centre,
+            points: &[(0, 0, 0), (10000, 0, 0), (10000, -1, 0), (-10000, 0, 0)],
+            lines: FIRST_UP,
+            firsts: &[1, 2, 3],
+            seconds: &[],
+            wanted: "Minus",
+        },
+        Case {
+            name: "one direction, two lengths",
+            kind: Kind::Centre,
+            points: &[(0, 0, 0), (10000, 0, 0), (20000, 0, 0), (-10000, 0, 0)],
+            lines: FIRST_UP,
+            firsts: &[1, 2, 3],
+            seconds: &[],
+            wanted: "Coincident",
+        },
+        Case {
+            name: "a ligand on the centre",
+            kind: Kind::Centre,
+            points: &[(0, 0, 0), (10000, 0, 0), (0, 0, 0), (-10000, 0, 0)],
+            lines: FIRST_UP,
+            firsts: &[1, 2, 3],
+            seconds: &[],
+            wanted: "Coincident",
+        },
+        Case {
+            name: "from corner to corner",
+            kind: Kind::Centre,
+            points: &[
+                (-MOST, -MOST, 0),
+                (MOST, MOST - 1, 0),
+                (MOST, MOST, 0),
+                (-MOST, MOST, 0),
+            ],
+            lines: FIRST_UP,
+            firsts: &[1, 2, 3],
+            seconds: &[],
+            wanted: "Plus",
+        },
+        Case {
+            name: "from corner to corner, inner",
+            kind: Kind::Centre,
+            points: &[
+                (-MOST, -MOST, 0),
+                (MOST, MOST, 0),
+                (MOST, MOST - 1, 0),
+                (-MOST, MOST, 0),
+            ],
+            lines: FIRST_UP,
+            firsts: &[1, 2, 3],
+            seconds: &[],
+            wanted: "Reentrant",
+        },
+        Case {
+            name: "the widest corner",
+            kind: Kind::Centre,
+            points: &[
+                (0, 0, 0),
+                (MOST, -MOST, -MOST),
+                (-MOST, MOST, -MOST),
+                (-MOST, -MOST, MOST),
+                (-MOST, -MOST, -MOST),
+            ],
+            lines: PLAIN,
+            firsts: &[1, 2, 3, 4],
+            seconds: &[],
+            wanted: "Plus",
+        },
+        Case {
+            name: "the widest corner, mirrored",
+            kind: Kind::Centre,
+            points: &[
+                (0, 0, 0),
+                (-MOST, MOST, -MOST),
+                (MOST, -MOST, -MOST),
+                (-MOST, -MOST, MOST),
+                (-MOST, -MOST, -MOST),
+            ],
+            lines: PLAIN,
+            firsts: &[1, 2, 3, 4],
+            seconds: &[],
+            wanted: "Minus",
+        },
+        Case {
+            name: "three in space",
+            kind: Kind::Centre,
+            points: &[
+                (-MOST, -MOST, -MOST),
+                (MOST, -MOST, -MOST),
+                (-MOST, MOST, -MOST),
+                (-MOST, -MOST, MOST),
+            ],
+            lines: FIRST_UP,
+            firsts: &[1, 2, 3],
+            seconds: &[],
+            wanted: "Plus",
+        },
+        Case {
+            name: "flat in space",
+            kind: Kind::Centre,
+            points: &[
+                (-MOST, -MOST, -MOST),
+                (MOST, -MOST, -MOST),
+                (-MOST, MOST, -MOST),
+                (MOST, MOST, -MOST),
+            ],
+            lines: FIRST_UP,
+            firsts: &[1, 2, 3],
+            seconds: &[],
+            wanted: "Coincident",
+        },
+        Case {
+            name: "a ligand on the line of the bond",
+            kind: Kind::Bond,
+            points: &[
+                (-5000, 0, 0),
+                (5000, 0, 0),
+                (-10000, 0, 0),
+                (10000, 8660, 0),
+            ],
+            lines: &[(0, 1, b'='), (0, 2, b'-'), (1, 3, b'-')],
+            firsts: &[2],
+            seconds: &[3],
+            wanted: "Coincident",
+        },
+        Case {
+            name: "the wide end",
+            kind: Kind::Centre,
+            points: TEE,
+            lines: &[(0, 1, b'-'), (2, 0, b'^'), (0, 3, b'-')],
+            firsts: &[1, 2, 3],
+            seconds: &[],
+            wanted: "NoMark",
+        },
+        Case {
+            name: "marks that agree",
+            kind: Kind::Centre,
+            points: CROSS,
+            lines: &[(0, 1, b'-'), (0, 2, b'v'), (0, 3, b'^'), (0, 4, b'-')],
+            firsts: &[1, 2, 3, 4],
+            seconds: &[],
+            wanted: "Minus",
+        },
+        Case {
+            name: "either before space",
+            kind: Kind::Centre,
+            points: HALOMETHANE,
+            lines: &[(0, 1, b'~'), (0, 2, b'^'), (0, 3, b'^'), (0, 4, b'-')],
+            firsts: &[1, 2, 3, 4],
+            seconds: &[],
+            wanted: "Either",
+        },
+        Case {
+            name: "either at the far end",
+            kind: Kind::Centre,
+            points: HALOMETHANE,
+            lines: &[(1, 0, b'~'), (0, 2, b'-'), (0, 3, b'-'), (0, 4, b'-')],
+            firsts: &[1, 2, 3, 4],
+            seconds: &[],
+            wanted: "Plus",
+        },
+        Case {
+            name: "either before coincident",
+            kind: Kind::Centre,
+            points: ON_THE_CENTRE,
+            lines: &[(0, 1, b'~'), (0, 2, b'^'), (0, 3, b'^'), (0, 4, b'-')],
+            firsts: &[1, 2, 3, 4],
+            seconds: &[],
+            wanted: "Either",
+        },
+        Case {
+            name: "coincident before contradictory",
+            kind: Kind::Centre,
+            points: ON_THE_CENTRE,
+            lines: &[(0, 1, b'-'), (0, 2, b'^'), (0, 3, b'^'), (0, 4, b'-')],
+            firsts: &[1, 2, 3, 4],
+            seconds: &[],
+            wanted: "Coincident",
+        },
+        Case {
+            name: "contradictory before reentrant",
+            kind: Kind::Centre,
+            points: FAN,
+            lines: &[(0, 1, b'v'), (0, 2, b'^'), (0, 3, b'-')],
+            firsts: &[1, 2, 3],
+            seconds: &[],
+            wanted: "Contradictory",
+        },
+        Case {
+            name: "an axis marked at both ends",
+            kind: Kind::Axis,
+            points: ALLENE,
+            lines: &[(0, 1, b'='), (1, 2, b'='), (0, 3, b'^'), (2, 4, b'v')],
+            firsts: &[3, 7],
+            seconds: &[4, 8],
+            wanted: "Contradictory",
+        },
+        Case {
+            name: "an axis with a crossed bond",
+            kind: Kind::Axis,
+            points: ALLENE,
+            lines: &[(0, 1, b'x'), (1, 2, b'='), (0, 3, b'^'), (2, 4, b'-')],
+            firsts: &[3, 7],
+            seconds: &[4, 8],
+            wanted: "Minus",
+        },
+        Case {
+            name: "an axis without a mark",
+            kind: Kind::Axis,
+            points: ALLENE,
+            lines: &[(0, 1, b'='), (1, 2, b'='), (0, 3, b'-'), (2, 4, b'-')],
+            firsts: &[3, 7],
+            seconds: &[4, 8],
+            wanted: "NoMark",
+        },
+        Case {
+            name: "an axis drawn as either",
+            kind: Kind::Axis,
+            points: ALLENE,
+            lines: &[(0, 1, b'='), (1, 2, b'='), (0, 3, b'^'), (2, 4, b'~')],
+            firsts: &[3, 7],
+            seconds: &[4, 8],
+            wanted: "Either",
+        },
+        Case {
+            name: "a fork with its second ligand up",
+            kind: Kind::Axis,
+            points: FORK,
+            lines: &[
+                (0, 1, b'='),
+                (1, 2, b'='),
+                (0, 3, b'-'),
+                (2, 4, b'-'),
+                (2, 5, b'^'),
+            ],
+            firsts: &[3, 7],
+            seconds: &[4, 5],
+            wanted: "Minus",
+        },
+        Case {
+            name: "a fork from the other ligand",
+            kind: Kind::Axis,
+            points: FORK,
+            lines: &[
+                (0, 1, b'='),
+                (1, 2, b'='),
+                (0, 3, b'-'),
+                (2, 4, b'-'),
+                (2, 5, b'^'),
+            ],
+            firsts: &[3, 7],
+            seconds: &[5, 4],
+            wanted: "Plus",
+        },
+        Case {
+            name: "a fork with both up",
+            kind: Kind::Axis,
+            points: FORK,
+            lines: &[
+                (0, 1, b'='),
+                (1, 2, b'='),
+                (0, 3, b'-'),
+                (2, 4, b'^'),
+                (2, 5, b'^'),
+            ],
+            firsts: &[3, 7],
+            seconds: &[4, 5],
+            wanted: "Contradictory",
+        },
     ];
-    let turned = &[
-        corner,
-        (most, most, 0),
-        (most, most - 1, 0),
-        (-most, most, 0),
-    ];
-    assert_eq!(rt; centre(alloc, wide, first_up, three)?, "Plus");
-    assert_eq!(rt; centre(alloc, turned, first_up, three)?, "Reentrant");
-    let plain = &[(0, 1, b'-'), (0, 2, b'-'), (0, 3, b'-'), (0, 4, b'-')];
-    let (x, y, z) = (
-        (most, -most, -most),
-        (-most, most, -most),
-        (-most, -most, most),
-    );
-    let origin = (-most, -most, -most);
-    assert_eq!(rt;
-        centre(alloc, &[(0, 0, 0), x, y, z, origin], plain, &[1, 2, 3, 4])?,
-        "Plus"
-    );
-    assert_eq!(rt;
-        centre(alloc, &[(0, 0, 0), y, x, z, origin], plain, &[1, 2, 3, 4])?,
-        "Minus"
-    );
-    assert_eq!(rt; centre(alloc, &[origin, x, y, z], first_up, three)?, "Plus");
-    assert_eq!(rt;
-        centre(alloc, &[origin, x, y, (most, most, -most)], first_up, three)?,
-        "Coincident"
-    );
-    let bond = &[(0, 1, b'='), (0, 2, b'-'), (1, 3, b'-')];
-    let flat = &[
-        (-5_000, 0, 0),
-        (5_000, 0, 0),
-        (-10_000, 0, 0),
-        (10_000, 8_660, 0),
-    ];
-    assert_eq!(rt; double_bond(alloc, flat, bond, &[2], &[3])?, "Coincident");
-    Ok(())
-}
-
-#[test]
-fn marks_count_at_the_narrow_end_and_the_first_cause_is_told(rt: HostRuntime) -> Result<(), Fail> {
-    let alloc = rt.alloc();
-    let (three, four) = (&[1, 2, 3], &[1, 2, 3, 4]);
-    let wide = &[(0, 1, b'-'), (2, 0, b'^'), (0, 3, b'-')];
-    assert_eq!(rt; centre(alloc, TEE, wide, three)?, "NoMark");
-    let agreeing = &[(0, 1, b'-'), (0, 2, b'v'), (0, 3, b'^'), (0, 4, b'-')];
-    assert_eq!(rt; centre(alloc, CROSS, agreeing, four)?, "Minus");
-    let either = &[(0, 1, b'~'), (0, 2, b'^'), (0, 3, b'^'), (0, 4, b'-')];
-    let far_either = &[(1, 0, b'~'), (0, 2, b'-'), (0, 3, b'-'), (0, 4, b'-')];
-    assert_eq!(rt; centre(alloc, HALOMETHANE, either, four)?, "Either");
-    assert_eq!(rt; centre(alloc, HALOMETHANE, far_either, four)?, "Plus");
-    let zero = &[
-        (0, 0, 0),
-        (0, 0, 0),
-        (10_000, 0, 0),
-        (0, -10_000, 0),
-        (-10_000, 0, 0),
-    ];
-    let both = &[(0, 1, b'-'), (0, 2, b'^'), (0, 3, b'^'), (0, 4, b'-')];
-    assert_eq!(rt; centre(alloc, zero, either, four)?, "Either");
-    assert_eq!(rt; centre(alloc, zero, both, four)?, "Coincident");
-    let differing = &[(0, 1, b'v'), (0, 2, b'^'), (0, 3, b'-')];
-    assert_eq!(rt; centre(alloc, FAN, differing, three)?, "Contradictory");
-    Ok(())
-}
-
-#[test]
-fn an_axis_shows_its_sense_by_marks_at_one_end(rt: HostRuntime) -> Result<(), Fail> {
-    let alloc = rt.alloc();
-    let (first, second) = (&[3, 7], &[4, 8]);
-    let marked = &[(0, 1, b'='), (1, 2, b'='), (0, 3, b'^'), (2, 4, b'v')];
-    let crossed = &[(0, 1, b'x'), (1, 2, b'='), (0, 3, b'^'), (2, 4, b'-')];
-    let plain = &[(0, 1, b'='), (1, 2, b'='), (0, 3, b'-'), (2, 4, b'-')];
-    let undecided = &[(0, 1, b'='), (1, 2, b'='), (0, 3, b'^'), (2, 4, b'~')];
-    assert_eq!(rt;
-        axis(alloc, ALLENE, marked, first, second)?,
-        "Contradictory"
-    );
-    assert_eq!(rt; axis(alloc, ALLENE, crossed, first, second)?, "Minus");
-    assert_eq!(rt; axis(alloc, ALLENE, plain, first, second)?, "NoMark");
-    assert_eq!(rt; axis(alloc, ALLENE, undecided, first, second)?, "Either");
-    let (left, right) = (-10_000, 10_000);
-    let fork = &[
-        (left, 0, 0),
-        (0, 0, 0),
-        (right, 0, 0),
-        (left, right, 0),
-        (right, right, 0),
-        (right, left, 0),
-    ];
-    let second_up = &[
-        (0, 1, b'='),
-        (1, 2, b'='),
-        (0, 3, b'-'),
-        (2, 4, b'-'),
-        (2, 5, b'^'),
-    ];
-    let same_up = &[
-        (0, 1, b'='),
-        (1, 2, b'='),
-        (0, 3, b'-'),
-        (2, 4, b'^'),
-        (2, 5, b'^'),
-    ];
-    assert_eq!(rt; axis(alloc, fork, second_up, first, &[4, 5])?, "Minus");
-    assert_eq!(rt; axis(alloc, fork, second_up, first, &[5, 4])?, "Plus");
-    assert_eq!(rt;
-        axis(alloc, fork, same_up, first, &[4, 5])?,
-        "Contradictory"
-    );
+    for case in &cases {
+        assert_eq!(rt; shown(rt.alloc(), case)?, case.wanted, "{}", case.name);
+    }
     Ok(())
 }

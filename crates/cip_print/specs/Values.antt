@@ -15,7 +15,9 @@ use Rattle.cip_print.specs.Naming.{unit_name}
 
 -- a label: the unit, the descriptor, the rule and the sphere
 abbrev pub label_line : List ℕ → Label → List ℕ
-label_line name label = name ++ (codes " " ++ (letter_text label.letter ++ (codes " " ++ (rule_text label.rule ++ (codes " " ++ decimal label.sphere)))))
+label_line name label =
+    name ++ (codes " " ++ (letter_text label.letter ++ (codes " " ++
+    (rule_text label.rule ++ (codes " " ++ decimal label.sphere)))))
 
 -- the line of a unit; none where two ligands tie or the drawing shows no sense
 abbrev pub outcome_line : List ℕ → Outcome → Option (List ℕ)

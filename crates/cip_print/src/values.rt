@@ -11,8 +11,8 @@ use cip_mol::{Outcome, ReadFault};
 use cip_text::Bytes;
 use std::alloc::{AllocError, Global};
 
-/// The value lines of an answer: why the record is refused, or a line for each unit that has a label or whose digraph is
-/// larger than the bound, and `none` where there is no such unit.
+/// The value lines of an answer: why the record is refused, or a line for each unit that has a label or whose digraph
+/// is larger than the bound, and `none` where there is no such unit.
 #[tactic(auto, unfolding(crate::specs::Values::values_of))]
 pub fn item_values(alloc: Global, answer: &Answer) -> Result<Texts, AllocError>
     ensures { IfOk result (λ texts. texts ≡ values_of answer.now) }

@@ -1,21 +1,10 @@
-use Rattle.std.proofs.Common.{sym, ◌∙◌}
-use Rattle.cip_orient.proofs.Shown.{axis_by_pairs, axis_by_marks}
+use Rattle.std.proofs.Common.{refl, sym, ◌∙◌}
 use Rattle.cip_orient.proofs.axis.show_axis.Goals as goal
-
-pub returns-then-is_spatial : goal.returns-then-is_spatial
-returns-then-is_spatial c =
-    rw (c.drawn_of-first.ensures.numbers, c.drawn_of-second.ensures.numbers, c.as_slice.ensures.value, c.as_slice-2.ensures.value, c.atoms-atoms.ensures.value, c.bonds-bonds.ensures.value) at
-    (c.show_pairs.ensures
-    ∙ axis_by_pairs _ c.bonds-bonds.result.now _ _ c.drawn_of-first.result.count c.drawn_of-second.result.count c.drawn_of-first.result.numbers c.drawn_of-second.result.numbers _ _ _
-    (sym c.has_either.ensures ∙ c.if-has_either.false) (sym c.has_either-else-has_either.ensures ∙ c.if-has_either-2.false)
-    c.step_between-between.ensures.value c.steps-firsts.ensures.value c.steps-seconds.ensures.value
-    (sym c.is_spatial.ensures ∙ c.if-is_spatial.true))
 
 pub returns : goal.returns
 returns c =
-    rw (c.drawn_of-first.ensures.numbers, c.drawn_of-second.ensures.numbers, c.as_slice.ensures.value, c.as_slice-2.ensures.value, c.atoms-atoms.ensures.value, c.bonds-bonds.ensures.value) at
-    (c.show_by_marks.ensures
-    ∙ axis_by_marks _ c.bonds-bonds.result.now _ _ c.drawn_of-first.result.count c.drawn_of-second.result.count c.drawn_of-first.result.numbers c.drawn_of-second.result.numbers _ _ _
-    (sym c.has_either.ensures ∙ c.if-has_either.false) (sym c.has_either-else-has_either.ensures ∙ c.if-has_either-2.false)
-    c.step_between-between.ensures.value c.steps-firsts.ensures.value c.steps-seconds.ensures.value
-    _ _ (sym c.is_spatial.ensures ∙ c.if-is_spatial.false) c.marks_to-marks.ensures c.marks_to-other_marks.ensures)
+    let decided = sym c.has_either.ensures ∙ c.if-has_either.false in
+    let other_decided = sym c.has_either-else-has_either.ensures ∙ c.if-has_either-2.false in
+    let flat = sym c.is_spatial.ensures ∙ c.if-is_spatial.false in
+    rw (c.drawn_of-first.ensures.value, c.drawn_of-second.ensures.value) at c.show_in_plane.ensures
+    ∙ sym (rw (decided, other_decided, flat) refl)

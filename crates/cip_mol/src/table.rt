@@ -1,0 +1,86 @@
+// What stands at each atom along the bonds looked at so far: a bond is looked up among at most eight neighbours, not
+// among all the bonds before it.
+ghost use Rattle.std.specs.Prelude.{◌≡◌, ◌<◌, [], IfOk, length, replicate};
+ghost use Rattle.cip_mol.specs.Neighbours.{HasRoom};
+ghost use Rattle.cip_mol.specs.Tables.{cause_in, row, with_bond, with_entry, IsFree};
+
+use crate::faults::BondCause;
+use crate::molecule::Bond;
+use crate::row::{MOST_BONDS, Row};
+use std::alloc::{AllocError, Global};
+use std::marker::Model;
+
+/// A row for each atom. Contracts see the list of rows.
+#[derive(Drop)]
+pub struct Table {
+    rows: Vec<Row>,
+}
+
+impl Model for Table {
+    ghost use Rattle.std.specs.Prelude.{List};
+    ghost use Rattle.cip_mol.specs.Neighbours.{AtAtom};
+
+    ghost Value = { List AtAtom };
+
+    ghost view = { λ table. table.rows.items };
+}
+
+impl Table {
+    /// So many atoms without bonds.
+    pub fn new(alloc: Global, atoms: usize) -> Result<Table, AllocError>
+        ensures { IfOk result (λ table. table ≡ replicate atoms (record { neighbours = []; bonds = [] })) }
+    {
+        let mut rows = Vec::with_capacity(alloc, atoms)?;
+        for _ in 0..atoms {
+            rows.push(Row::new(alloc))?;
+        }
+        Ok(Table { rows })
+    }
+
+    /// The first cause that holds at a bond that follows those of the table.
+    #[tactic(auto, unfolding(crate::specs::Tables::cause_in))]
+    pub fn cause_at(&self, bond: &Bond) -> Option<BondCause>
+        ensures { result ≡ cause_in self.now bond.now }
+    {
+        let atoms = self.rows.len();
+        if bond.a as usize >= atoms || bond.b as usize >= atoms {
+            return Some(BondCause::EndOutOfRange);
+        }
+        if bond.a == bond.b {
+            return Some(BondCause::Loop);
+        }
+        let (at_a, at_b) = (self.row(bond.a), self.row(bond.b));
+        if at_a.neighbours().contains(&bond.b) {
+            return Some(BondCause::Doubled);
+        }
+        if at_a.neighbours().len() >= MOST_BONDS || at_b.neighbours().len() >= MOST_BONDS {
+            return Some(BondCause::Degree);
+        }
+        None
+    }
+
+    /// Adds a bond, which stands at both of its ends.
+    pub fn join(&mut self, bond: Bond)
+        requires { IsFree self.old bond }
+        ensures { self.new ≡ with_bond bond self.old }
+    {
+        self.push(bond.a, bond.b, bond);
+        self.push(bond.b, bond.a, bond);
+    }
+
+    /// What stands at an atom.
+    pub fn row(&self, atom: u32) -> &Row
+        requires { atom < length self.now }
+        ensures { result.now ≡ row self.now atom }
+    {
+        &self.rows[atom as usize]
+    }
+
+    fn push(&mut self, atom: u32, neighbour: u32, bond: Bond)
+        requires within { atom < length self.old }
+        requires room { HasRoom (row self.old atom) }
+        ensures { self.new ≡ with_entry atom neighbour bond self.old }
+    {
+        self.rows[atom as usize].push(neighbour, bond);
+    }
+}
