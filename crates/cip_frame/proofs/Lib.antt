@@ -1,5 +1,4 @@
 pub mod Ahead
-pub mod Bools
 pub mod Cutting
 pub mod Holding
 pub mod Joining

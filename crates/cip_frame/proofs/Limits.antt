@@ -9,7 +9,7 @@ use Rattle.cip_frame.specs.Framing.{fits, all_fit}
 use Rattle.cip_frame.specs.Following.{closes, cut_behind}
 use Rattle.cip_frame.specs.Taking.{is_line}
 use Rattle.cip_frame.proofs.Cutting.{cut_closing, cut_open, cuts_follow}
-use Rattle.cip_frame.proofs.Bools.{both}
+use Rattle.std.proofs.lemmas.Bool.{and_parts}
 use Rattle.cip_frame.proofs.PieceLines.{line_closing, line_open}
 
 -- a part is longer than the limit, and none before it is whole
@@ -17,14 +17,18 @@ pub record IsOver (limit : ℕ) (cut : Cut) : Type 0 where
   pub over : all_fit limit cut ≡ false
   pub none : take_while (fits limit) cut.whole ≡ []
 
-over_first : (limit : ℕ) (front : List ℕ) (cut : Cut) → limit < length front → IsOver limit (record { whole = front ∷ cut.whole; rest = cut.rest })
+over_first : (limit : ℕ) (front : List ℕ) (cut : Cut) → limit < length front
+    → IsOver limit (record { whole = front ∷ cut.whole; rest = cut.rest })
 over_first limit front cut more = record {
   over = grind (arith, common_steps);
   none = grind (arith, common_steps, take_while-cons);
 }
 
-over_byte : (limit : ℕ) (front : List ℕ) (b : ℕ) (bs : List ℕ) (k : Bool) → closes front b ≡ k → limit < length (front ++ b ∷ []) → IsOver limit (cut_behind (front ++ b ∷ []) bs) → IsOver limit (cut_behind front (b ∷ bs))
-over_byte limit front b bs true k more later = rw (cut_closing front b bs k) (over_first limit (front ++ b ∷ []) (cut_behind [] bs) more)
+over_byte : (limit : ℕ) (front : List ℕ) (b : ℕ) (bs : List ℕ) (k : Bool) → closes front b ≡ k
+    → limit < length (front ++ b ∷ []) → IsOver limit (cut_behind (front ++ b ∷ []) bs)
+    → IsOver limit (cut_behind front (b ∷ bs))
+over_byte limit front b bs true k more later =
+    rw (cut_closing front b bs k) (over_first limit (front ++ b ∷ []) (cut_behind [] bs) more)
 over_byte limit front b bs false k more later = rw (cut_open front b bs k) later
 
 -- the front is longer than the limit, and so is the part that it begins
@@ -34,34 +38,44 @@ over_front limit front (b ∷ bs) more =
     let longer : limit < length (front ++ b ∷ []) = rw (length-append front (b ∷ [])) (omega arith) in
     over_byte limit front b bs (closes front b) refl longer (over_front limit (front ++ b ∷ []) bs longer)
 
-over_line_by : (limit : ℕ) (front line behind : List ℕ) (k : Bool) → is_closing (open_line front ++ line) ≡ k → is_line line ≡ true → limit < length (front ++ line) → IsOver limit (cut_behind front (line ++ behind))
-over_line_by limit front line behind true k h more = rw (line_closing front line behind h k) (over_first limit (front ++ line) (cut_behind [] behind) more)
-over_line_by limit front line behind false k h more = rw (line_open front line behind h k) (over_front limit (front ++ line) behind more)
+over_line_by : (limit : ℕ) (front line behind : List ℕ) (k : Bool) → is_closing (open_line front ++ line) ≡ k
+    → is_line line ≡ true → limit < length (front ++ line) → IsOver limit (cut_behind front (line ++ behind))
+over_line_by limit front line behind true k h more =
+    rw (line_closing front line behind h k) (over_first limit (front ++ line) (cut_behind [] behind) more)
+over_line_by limit front line behind false k h more =
+    rw (line_open front line behind h k) (over_front limit (front ++ line) behind more)
 
 -- so it is where the front is longer with the next line
-pub over_line : (limit : ℕ) (front line behind : List ℕ) → is_line line ≡ true → limit < length front + length line → IsOver limit (cut_behind front (line ++ behind))
+pub over_line : (limit : ℕ) (front line behind : List ℕ) → is_line line ≡ true → limit < length front + length line
+    → IsOver limit (cut_behind front (line ++ behind))
 over_line limit front line behind h more =
     let longer : limit < length (front ++ line) = rw (length-append front line) more in
     over_line_by limit front line behind (is_closing (open_line front ++ line)) refl h longer
 
 -- records up to the first that doesn't fit
 
-pub take_fitting : (limit : ℕ) (xs ys : List (List ℕ)) → list_all (fits limit) xs ≡ true → take_while (fits limit) (xs ++ ys) ≡ xs ++ take_while (fits limit) ys
+pub take_fitting : (limit : ℕ) (xs ys : List (List ℕ)) → list_all (fits limit) xs ≡ true
+    → take_while (fits limit) (xs ++ ys) ≡ xs ++ take_while (fits limit) ys
 take_fitting limit [] ys h = refl
 take_fitting limit (x ∷ xs) ys h =
-    let parts = both (fits limit x) (list_all (fits limit) xs) h in
+    let parts = and_parts (fits limit x) (list_all (fits limit) xs) h in
     rw (take_while-cons (fits limit) x (xs ++ ys), parts.0) (ap (λ rest. x ∷ rest) (take_fitting limit xs ys parts.1))
 
 take_all_fitting : (limit : ℕ) (xs : List (List ℕ)) → list_all (fits limit) xs ≡ true → take_while (fits limit) xs ≡ xs
-take_all_fitting limit xs h = ap (take_while (fits limit)) (sym (append-nil xs)) ∙ take_fitting limit xs [] h ∙ append-nil xs
+take_all_fitting limit xs h = ap (take_while (fits limit)) (sym (append-nil xs)) ∙ take_fitting limit xs [] h
+    ∙ append-nil xs
 
-take_stops_by : (limit : ℕ) (x : List ℕ) (xs ys : List (List ℕ)) (k : Bool) → fits limit x ≡ k → (k && list_all (fits limit) xs) ≡ false
+take_stops_by : (limit : ℕ) (x : List ℕ) (xs ys : List (List ℕ)) (k : Bool) → fits limit x ≡ k
+    → (k && list_all (fits limit) xs) ≡ false
     → (list_all (fits limit) xs ≡ false → take_while (fits limit) (xs ++ ys) ≡ take_while (fits limit) xs)
     → take_while (fits limit) (x ∷ (xs ++ ys)) ≡ take_while (fits limit) (x ∷ xs)
-take_stops_by limit x xs ys true e h more = rw (take_while-cons (fits limit) x (xs ++ ys), take_while-cons (fits limit) x xs, e) (ap (λ rest. x ∷ rest) (more h))
-take_stops_by limit x xs ys false e h more = rw (take_while-cons (fits limit) x (xs ++ ys), take_while-cons (fits limit) x xs, e) refl
+take_stops_by limit x xs ys true e h more = rw
+    (take_while-cons (fits limit) x (xs ++ ys), take_while-cons (fits limit) x xs, e) (ap (λ rest. x ∷ rest) (more h))
+take_stops_by limit x xs ys false e h more = rw
+    (take_while-cons (fits limit) x (xs ++ ys), take_while-cons (fits limit) x xs, e) refl
 
-take_stops : (limit : ℕ) (xs ys : List (List ℕ)) → list_all (fits limit) xs ≡ false → take_while (fits limit) (xs ++ ys) ≡ take_while (fits limit) xs
+take_stops : (limit : ℕ) (xs ys : List (List ℕ)) → list_all (fits limit) xs ≡ false
+    → take_while (fits limit) (xs ++ ys) ≡ take_while (fits limit) xs
 take_stops limit [] ys h = absurd (grind (arith, h))
 take_stops limit (x ∷ xs) ys h = take_stops_by limit x xs ys (fits limit x) refl h (take_stops limit xs ys)
 
@@ -74,7 +88,8 @@ pub record IsStopped (limit : ℕ) (xs ys : List ℕ) : Type 0 where
 longer : (limit : ℕ) (part : List ℕ) → fits limit part ≡ false → limit < length part
 longer limit part h = grind (arith, common_steps)
 
-stopped_by : (limit : ℕ) (xs ys : List ℕ) (k : Bool) → list_all (fits limit) (cut_of xs).whole ≡ k → all_fit limit (cut_of xs) ≡ false → IsStopped limit xs ys
+stopped_by : (limit : ℕ) (xs ys : List ℕ) (k : Bool) → list_all (fits limit) (cut_of xs).whole ≡ k
+    → all_fit limit (cut_of xs) ≡ false → IsStopped limit xs ys
 stopped_by limit xs ys true e h =
     let over = over_front limit (cut_of xs).rest ys (longer limit (cut_of xs).rest (rw e at h)) in
     record {

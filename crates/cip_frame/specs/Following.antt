@@ -11,4 +11,6 @@ closes front b = b == line_feed && is_terminator (without_return (open_line fron
 -- the cuts in the bytes, where the front is the first of what is cut
 abbrev pub cut_behind : List ℕ → List ℕ → Cut
 cut_behind front [] = record { whole = []; rest = front }
-cut_behind front (b ∷ bs) = if closes front b then with_first (front ++ b ∷ []) (cut_behind [] bs) else cut_behind (front ++ b ∷ []) bs
+cut_behind front (b ∷ bs) =
+    if closes front b then with_first (front ++ b ∷ []) (cut_behind [] bs)
+    else cut_behind (front ++ b ∷ []) bs

@@ -30,7 +30,9 @@ is_closing line = has_last line_feed line && is_terminator (content_of line)
 -- lines, cut behind each one that ends a record
 abbrev pub cut_lines : List (List ℕ) → Cut
 cut_lines [] = record { whole = []; rest = [] }
-cut_lines (line ∷ lines) = if is_closing line then with_first line (cut_lines lines) else with_front line (cut_lines lines)
+cut_lines (line ∷ lines) =
+    if is_closing line then with_first line (cut_lines lines)
+    else with_front line (cut_lines lines)
 
 -- the closed records of a stream, and what follows the last of them
 abbrev pub cut_of : List ℕ → Cut

@@ -15,8 +15,11 @@ is_line (b ∷ c ∷ cs) = not (b == line_feed) && is_line (c ∷ cs)
 -- the line was put behind the open bytes, and where it closed the record that one waits
 pub record TakesLine (old : Framing) (line : List ℕ) (new : Framing) : Type 0 where
   pub within : length old.open_bytes + length line ≤ old.limit
-  pub waiting : new.waiting ≡ (if is_closing (open_line old.open_bytes ++ line) then old.waiting ++ (old.open_bytes ++ line) ∷ [] else old.waiting)
-  pub open_bytes : new.open_bytes ≡ (if is_closing (open_line old.open_bytes ++ line) then [] else old.open_bytes ++ line)
+  pub waiting : new.waiting ≡
+      (if is_closing (open_line old.open_bytes ++ line)
+      then old.waiting ++ (old.open_bytes ++ line) ∷ [] else old.waiting)
+  pub open_bytes : new.open_bytes ≡
+      (if is_closing (open_line old.open_bytes ++ line) then [] else old.open_bytes ++ line)
   pub limit : new.limit ≡ old.limit
   pub fault : new.fault ≡ old.fault
 

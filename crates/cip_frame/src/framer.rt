@@ -1,14 +1,13 @@
 // Cuts a stream into its records.
 ghost use Rattle.std.specs.Prelude.{◌≡◌, ◌≤◌, ◌<◌, ◌+◌, ◌++◌, ◌∷◌, ◌↔◌, [], ℕ, List, true, None, Some, Err, length, OnOk, OnErr, IfOk, IfErr, IfSome};
 ghost use Rattle.std.specs.List.{take_while};
-ghost use Rattle.cip_text.specs.Lines.{line_feed, has_last};
 ghost use Rattle.cip_frame.specs.Records.{cut_of, is_blank_text, is_closing, open_line, tail_of};
 ghost use Rattle.cip_frame.specs.Framing.{Holds, Passed, IsFrontOf, fits, is_within};
 ghost use Rattle.cip_frame.specs.Following.{cut_behind};
 ghost use Rattle.cip_frame.specs.Taking.{is_line, TakesLine, TakesPiece, IsTooLong};
 
 use crate::{FrameFault, Record, Tail};
-use cip_text::{Bytes, is_blank, is_terminator, split_line, without_end};
+use cip_text::{Bytes, has_last, is_blank, is_terminator, split_line, without_end};
 use std::alloc::{AllocError, Global};
 use std::collections::VecDeque;
 use std::marker::Model;
@@ -33,7 +32,12 @@ impl Model for Framer {
 
     ghost Value = { Framing };
 
-    ghost view = { λ framer. record { waiting = framer.waiting.items; open_bytes = framer.open_bytes.items; limit = framer.limit; fault = framer.fault } };
+    ghost view = { λ framer. record {
+      waiting = framer.waiting.items;
+      open_bytes = framer.open_bytes.items;
+      limit = framer.limit;
+      fault = framer.fault;
+    } };
 
     ghost invariant = { λ framer. (framer.line ≤ length framer.open_bytes.items)
         × (drop framer.line framer.open_bytes.items ≡ open_line framer.open_bytes.items)
@@ -59,9 +63,12 @@ impl Framer {
 
     /// Takes the next piece of the stream, cut anywhere. After a refusal every further piece is refused alike.
     pub fn feed(&mut self, piece: &[u8]) -> Result<(), FrameFault>
-        ensures fed { (given : List (List ℕ)) (fed : List ℕ) → Holds given fed self.old → OnOk result (Holds given (fed ++ piece.now) self.new) }
-        ensures passed { (given : List (List ℕ)) (fed : List ℕ) → Holds given fed self.old → result ≡ Err FrameFault.RecordTooLong → Passed given (fed ++ piece.now) self.new }
-        ensures memory { (given : List (List ℕ)) (fed : List ℕ) → Holds given fed self.old → result ≡ Err FrameFault.Memory → IsFrontOf (given ++ self.new.waiting) (cut_of (fed ++ piece.now)).whole }
+        ensures fed { (given : List (List ℕ)) (fed : List ℕ) → Holds given fed self.old
+            → OnOk result (Holds given (fed ++ piece.now) self.new) }
+        ensures passed { (given : List (List ℕ)) (fed : List ℕ) → Holds given fed self.old
+            → result ≡ Err FrameFault.RecordTooLong → Passed given (fed ++ piece.now) self.new }
+        ensures memory { (given : List (List ℕ)) (fed : List ℕ) → Holds given fed self.old
+            → result ≡ Err FrameFault.Memory → IsFrontOf (given ++ self.new.waiting) (cut_of (fed ++ piece.now)).whole }
         ensures limit { self.new.limit ≡ self.old.limit }
 
         // A refusal is kept.
@@ -80,20 +87,26 @@ impl Framer {
 
     /// The oldest whole record that wasn't handed out yet. It takes no memory.
     pub fn next(&mut self) -> Option<Record>
-        ensures some { IfSome result (λ r. (r.closed ≡ true) × (self.old ≡ record self.new { waiting = r.bytes ∷ self.new.waiting })) }
+        ensures some { IfSome result (λ r. (r.closed ≡ true)
+            × (self.old ≡ record self.new { waiting = r.bytes ∷ self.new.waiting })) }
         ensures none { result ≡ None ↔ (self.old.waiting ≡ []) }
         ensures unchanged { result ≡ None → (self.new ≡ self.old) }
         ensures limit { self.new.limit ≡ self.old.limit }
         ensures small { IfSome result (λ r. length r.bytes ≤ self.old.limit) }
 
         // What was handed out goes on by this record.
-        ensures handed { (given : List (List ℕ)) (fed : List ℕ) → Holds given fed self.old → IfSome result (λ r. Holds (given ++ r.bytes ∷ []) fed self.new) }
-        ensures handed_before { (given : List (List ℕ)) (fed : List ℕ) → Passed given fed self.old → IfSome result (λ r. Passed (given ++ r.bytes ∷ []) fed self.new) }
-        ensures handed_front { (given all : List (List ℕ)) → IsFrontOf (given ++ self.old.waiting) all → IfSome result (λ r. IsFrontOf ((given ++ r.bytes ∷ []) ++ self.new.waiting) all) }
+        ensures handed { (given : List (List ℕ)) (fed : List ℕ) → Holds given fed self.old
+            → IfSome result (λ r. Holds (given ++ r.bytes ∷ []) fed self.new) }
+        ensures handed_before { (given : List (List ℕ)) (fed : List ℕ) → Passed given fed self.old
+            → IfSome result (λ r. Passed (given ++ r.bytes ∷ []) fed self.new) }
+        ensures handed_front { (given all : List (List ℕ)) → IsFrontOf (given ++ self.old.waiting) all
+            → IfSome result (λ r. IsFrontOf ((given ++ r.bytes ∷ []) ++ self.new.waiting) all) }
 
         // Where none waits, all of them were handed out.
-        ensures all { (given : List (List ℕ)) (fed : List ℕ) → Holds given fed self.old → result ≡ None → given ≡ (cut_of fed).whole }
-        ensures all_before { (given : List (List ℕ)) (fed : List ℕ) → Passed given fed self.old → result ≡ None → given ≡ take_while (fits self.old.limit) (cut_of fed).whole }
+        ensures all { (given : List (List ℕ)) (fed : List ℕ) → Holds given fed self.old → result ≡ None
+            → given ≡ (cut_of fed).whole }
+        ensures all_before { (given : List (List ℕ)) (fed : List ℕ) → Passed given fed self.old → result ≡ None
+            → given ≡ take_while (fits self.old.limit) (cut_of fed).whole }
     {
         let bytes = self.waiting.pop_front()?;
         Some(Record {
@@ -107,7 +120,8 @@ impl Framer {
         requires { self.fault ≡ None }
         ensures tail { result ≡ tail_of self.open_bytes }
         ensures small { is_within self.limit result ≡ true }
-        ensures rest { (given : List (List ℕ)) (fed : List ℕ) → Holds given fed self → result ≡ tail_of (cut_of fed).rest }
+        ensures rest { (given : List (List ℕ)) (fed : List ℕ) → Holds given fed self
+            → result ≡ tail_of (cut_of fed).rest }
     {
         if self.open_bytes.is_empty() {
             Tail::Nothing
@@ -125,7 +139,8 @@ impl Framer {
     fn take_piece(&mut self, piece: &[u8]) -> Result<(), FrameFault>
         ensures taken { OnOk result (TakesPiece self.old piece.now self.new) }
         ensures too_long { result ≡ Err FrameFault.RecordTooLong → IsTooLong self.old piece.now self.new }
-        ensures memory { result ≡ Err FrameFault.Memory → IsFrontOf self.new.waiting (self.old.waiting ++ (cut_behind self.old.open_bytes piece.now).whole) }
+        ensures memory { result ≡ Err FrameFault.Memory
+            → IsFrontOf self.new.waiting (self.old.waiting ++ (cut_behind self.old.open_bytes piece.now).whole) }
         ensures limit { self.new.limit ≡ self.old.limit }
     {
         let mut rest = piece;
@@ -142,7 +157,8 @@ impl Framer {
     fn take_line(&mut self, line: &[u8]) -> Result<(), FrameFault>
         requires { is_line line.now ≡ true }
         ensures taken { OnOk result (TakesLine self.old line.now self.new) }
-        ensures too_long { result ≡ Err FrameFault.RecordTooLong → (self.old.limit < length self.old.open_bytes + length line.now) × (self.new ≡ self.old) }
+        ensures too_long { result ≡ Err FrameFault.RecordTooLong
+            → (self.old.limit < length self.old.open_bytes + length line.now) × (self.new ≡ self.old) }
         ensures memory { result ≡ Err FrameFault.Memory → self.new.waiting ≡ self.old.waiting }
         ensures limit { self.new.limit ≡ self.old.limit }
     {
@@ -166,7 +182,7 @@ impl Framer {
         self.open_bytes.extend_from_slice(line)?;
         let open_line = &self.open_bytes[self.line..];
         let closes = is_closing(open_line);
-        if has_line_feed(open_line) {
+        if has_last(open_line, b'\n') {
             self.line = self.open_bytes.len();
         }
         Ok(closes)
@@ -174,7 +190,8 @@ impl Framer {
 
     // The open record is whole.
     fn close(&mut self) -> Result<(), AllocError>
-        ensures closed { OnOk result (self.new ≡ record self.old { waiting = self.old.waiting ++ self.old.open_bytes ∷ []; open_bytes = [] }) }
+        ensures closed { OnOk result (self.new
+            ≡ record self.old { waiting = self.old.waiting ++ self.old.open_bytes ∷ []; open_bytes = [] }) }
         ensures refused { OnErr result (self.new ≡ self.old) }
     {
         self.waiting.reserve(1)?;
@@ -185,17 +202,11 @@ impl Framer {
     }
 }
 
-fn has_line_feed(line: &[u8]) -> bool
-    ensures { result ≡ has_last line_feed line.now }
-{
-    !line.is_empty() && line[line.len() - 1] == b'\n'
-}
-
 // Whether a line ends a record.
 fn is_closing(line: &[u8]) -> bool
     ensures { result ≡ is_closing line.now }
 {
-    has_line_feed(line) && is_terminator(without_end(line))
+    has_last(line, b'\n') && is_terminator(without_end(line))
 }
 
 // Whether every line is blank.

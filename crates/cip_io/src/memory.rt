@@ -25,7 +25,13 @@ impl Model for MemSource {
 
     ghost Value = { Supply };
 
-    ghost view = { λ s. record { left = drop s.given s.bytes.items; piece = s.piece; calls = s.calls; failing = s.failing.items; faults = s.faults } };
+    ghost view = { λ s. record {
+      left = drop s.given s.bytes.items;
+      piece = s.piece;
+      calls = s.calls;
+      failing = s.failing.items;
+      faults = s.faults;
+    } };
 
     ghost invariant = { λ s. (s.given ≤ length s.bytes.items) × (0 < s.piece) };
 }
@@ -34,7 +40,13 @@ impl MemSource {
     /// Gives these bytes, at most `piece` in a call. The calls numbered in `failing`, counted from 1, fail.
     pub fn new(bytes: Vec<u8>, piece: usize, failing: Vec<u64>) -> MemSource
         requires { 0 < piece }
-        ensures { result ≡ record { left = bytes.items; piece = piece; calls = 0; failing = failing.items; faults = 0 } }
+        ensures { result ≡ record {
+          left = bytes.items;
+          piece = piece;
+          calls = 0;
+          failing = failing.items;
+          faults = 0;
+        } }
     {
         MemSource {
             bytes,
@@ -71,8 +83,10 @@ impl Source for MemSource {
 
         ensures fails { IsErr result ↔ Contains self.old.failing (one_more self.old.calls) }
         ensures count { IfOk result (λ n. n ≡ min (min (length self.old.left) self.old.piece) (length into.old)) }
-        ensures moved { IfOk result (λ n. self.new ≡ record self.old { left = drop n self.old.left; calls = one_more self.old.calls }) }
-        ensures refused { OnErr result (self.new ≡ record self.old { calls = one_more self.old.calls; faults = one_more self.old.faults }) }
+        ensures moved { IfOk result (λ n. self.new
+            ≡ record self.old { left = drop n self.old.left; calls = one_more self.old.calls }) }
+        ensures refused { OnErr result (self.new
+            ≡ record self.old { calls = one_more self.old.calls; faults = one_more self.old.faults }) }
         ensures untouched { OnErr result (into.new ≡ into.old) }
     {
         self.calls = self.calls.saturating_add(1);
@@ -152,7 +166,14 @@ impl Model for MemSink {
 
     ghost Value = { Store };
 
-    ghost view = { λ s. record { taken = s.bytes.items; piece = s.piece; room = s.room; calls = s.calls; failing = s.failing.items; faults = s.faults } };
+    ghost view = { λ s. record {
+      taken = s.bytes.items;
+      piece = s.piece;
+      room = s.room;
+      calls = s.calls;
+      failing = s.failing.items;
+      faults = s.faults;
+    } };
 
     // The room that is left was reserved when the sink was made, so that no push takes memory.
     ghost invariant = { λ s. (vec_len s.bytes + s.room ≤ vec_capacity s.bytes) × (0 < s.piece) };
@@ -168,7 +189,8 @@ impl MemSink {
         failing: Vec<u64>,
     ) -> Result<MemSink, AllocError>
         requires { 0 < piece }
-        ensures { IfOk result (λ s. s ≡ record { taken = []; piece = piece; room = room; calls = 0; failing = failing.items; faults = 0 }) }
+        ensures { IfOk result (λ s. s ≡ record
+            { taken = []; piece = piece; room = room; calls = 0; failing = failing.items; faults = 0 }) }
     {
         Ok(MemSink {
             bytes: Vec::with_capacity(alloc, room)?,
@@ -199,10 +221,17 @@ impl Sink for MemSink {
         ensures added { WriteAppends (Some self.old.taken) (Some self.new.taken) result piece.now }
         ensures cause { HasCause self.old.faults self.new.faults result }
 
-        ensures fails { IsErr result ↔ Contains self.old.failing (one_more self.old.calls) ⊎ (self.old.room ≡ 0) × (0 < length piece.now) }
+        ensures fails { IsErr result ↔ Contains self.old.failing (one_more self.old.calls) ⊎ (self.old.room ≡ 0)
+            × (0 < length piece.now) }
         ensures count { IfOk result (λ n. n ≡ min (min (length piece.now) self.old.piece) self.old.room) }
-        ensures moved { IfOk result (λ n. self.new ≡ record self.old { taken = self.old.taken ++ take n piece.now; room = self.old.room - n; calls = one_more self.old.calls }) }
-        ensures refused { OnErr result (self.new ≡ record self.old { calls = one_more self.old.calls; faults = one_more self.old.faults }) }
+        ensures moved { IfOk result (λ n. self.new
+            ≡ record self.old {
+              taken = self.old.taken ++ take n piece.now;
+              room = self.old.room - n;
+              calls = one_more self.old.calls;
+            }) }
+        ensures refused { OnErr result (self.new
+            ≡ record self.old { calls = one_more self.old.calls; faults = one_more self.old.faults }) }
     {
         self.calls = self.calls.saturating_add(1);
         let full = self.room == 0 && !piece.is_empty();

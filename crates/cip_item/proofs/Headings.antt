@@ -2,9 +2,10 @@
 use Rattle.std.proofs.Common.{◌≡◌, ℕ, List, [], ◌∷◌, true, false, ◌==◌, refl, arith, length, nat_lt, position}
 use Rattle.std.proofs.lemmas.Bool.{and_parts, eqb-true}
 use Rattle.cip_text.specs.Kinds.{is_blank}
-use Rattle.cip_item.specs.Kinds.{begins_heading, closes_behind, is_opening, is_heading, holds_label_name, is_label_heading}
+use Rattle.cip_text.specs.Lines.{begins_with}
+use Rattle.cip_item.specs.Kinds.{closes_behind, is_opening, is_heading, holds_label_name, is_label_heading}
 
-filled : (content : List ℕ) → begins_heading content ≡ true → is_blank content ≡ false
+filled : (content : List ℕ) → begins_with 62 content ≡ true → is_blank content ≡ false
 filled [] h = absurd (grind (arith, h))
 filled (b ∷ bs) h =
     let first : b ≡ 62 = eqb-true b 62 (and_parts (nat_lt 0 (length (b ∷ bs))) (b == 62) h).1 in
@@ -13,7 +14,8 @@ filled (b ∷ bs) h =
 -- a heading isn't blank
 
 pub heading_filled : (content : List ℕ) → is_heading content ≡ true → is_blank content ≡ false
-heading_filled content h = filled content (and_parts (begins_heading content) (closes_behind content (position is_opening content)) h).0
+heading_filled content h = filled content (and_parts (begins_with 62 content)
+    (closes_behind content (position is_opening content)) h).0
 
 pub label_heading_filled : (content : List ℕ) → is_label_heading content ≡ true → is_blank content ≡ false
-label_heading_filled content h = filled content (and_parts (begins_heading content) (holds_label_name content) h).0
+label_heading_filled content h = filled content (and_parts (begins_with 62 content) (holds_label_name content) h).0

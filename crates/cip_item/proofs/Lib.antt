@@ -1,10 +1,7 @@
 pub mod Closed
-pub mod Ended
-pub mod Halves
 pub mod Headings
 pub mod ItemLines
 pub mod Joining
-pub mod LastBytes
 pub mod LineEnds
 pub mod Made
 pub mod Numbered

@@ -28,7 +28,11 @@ abbrev pub items_from : Part → ℕ → List (List ℕ) → List Item
 items_from before number [] = []
 items_from before number (content ∷ contents) =
     if begins_item before content
-    then record { first = number; past = end_of_item (number + 1) contents; label = is_label_heading content } ∷ items_from (part_of before content) (number + 1) contents
+    then record {
+      first = number;
+      past = end_of_item (number + 1) contents;
+      label = is_label_heading content;
+    } ∷ items_from (part_of before content) (number + 1) contents
     else items_from (next_part before content) (number + 1) contents
 
 abbrev pub items_of : List ℕ → List Item

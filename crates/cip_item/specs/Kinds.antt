@@ -1,11 +1,9 @@
 -- What a line of a record is for, by its content. CTfile Formats, SDfile data items; the name of the label item is own.
-use Rattle.std.specs.Prelude.{ℕ, List, [], ◌∷◌, Bool, false, ◌==◌, ◌&&◌, ◌||◌, codes, drop, length, nat_lt, position, slice_index, take, Some, None}
+use Rattle.std.specs.Prelude.{ℕ, List, [], ◌∷◌, Bool, false, ◌==◌, ◌&&◌, ◌||◌, codes, drop, position, take, Some, None}
 use Rattle.std.specs.declared.option.Option.{Option}
 use Rattle.std.specs.List.{list_any}
 use Rattle.std.specs.Str.{bytes_eq}
-
-abbrev pub begins_heading : List ℕ → Bool
-begins_heading content = nat_lt 0 (length content) && slice_index content 0 == 62
+use Rattle.cip_text.specs.Lines.{begins_with}
 
 abbrev pub is_opening : ℕ → Bool
 is_opening b = b == 60
@@ -16,7 +14,7 @@ closes_behind content (Some place) = list_any (λ b. b == 62) (drop place conten
 
 -- the heading of a data item: it begins with `>`, and holds `<` and behind it `>`
 abbrev pub is_heading : List ℕ → Bool
-is_heading content = begins_heading content && closes_behind content (position is_opening content)
+is_heading content = begins_with 62 content && closes_behind content (position is_opening content)
 
 abbrev pub label_name : List ℕ
 label_name = codes "<CIP_LABELS>"
@@ -27,4 +25,4 @@ holds_label_name (b ∷ bs) = bytes_eq (take 12 (b ∷ bs)) label_name || holds_
 
 -- the heading of a label item: it begins with `>` and holds `<CIP_LABELS>`
 abbrev pub is_label_heading : List ℕ → Bool
-is_label_heading content = begins_heading content && holds_label_name content
+is_label_heading content = begins_with 62 content && holds_label_name content

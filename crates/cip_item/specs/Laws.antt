@@ -4,23 +4,27 @@ use Rattle.std.specs.List.{concat, list_all, list_any}
 use Rattle.cip_text.specs.Lines.{lines_of}
 use Rattle.cip_item.specs.Items.{items_of}
 use Rattle.cip_text.specs.Bodies.{body_lines}
-use Rattle.cip_item.specs.Parts.{body, closing, without_label_items, has_label_item}
+use Rattle.cip_item.specs.Parts.{without_label_items, has_label_item}
+use Rattle.cip_text.specs.Bodies.{body, closing}
 use Rattle.cip_item.specs.Putting.{with_item, prepared, is_value}
 use Rattle.cip_item.specs.declared.items.Item.{Item}
 
 -- an item that was put in is taken out whole: the record is as before, up to the line ends that the item needed
 abbrev pub ItemsAreTakenOut : Type 0
-ItemsAreTakenOut = (bytes : List ℕ) (values : List (List ℕ)) → list_all is_value values ≡ true → has_label_item bytes ≡ false →
+ItemsAreTakenOut = (bytes : List ℕ) (values : List (List ℕ)) →
+    list_all is_value values ≡ true → has_label_item bytes ≡ false →
     without_label_items (with_item bytes values) ≡ prepared bytes
 
 -- the same values put in again give the same bytes
 abbrev pub ItemsArePutAgain : Type 0
-ItemsArePutAgain = (bytes : List ℕ) (values : List (List ℕ)) → list_all is_value values ≡ true → has_label_item bytes ≡ false →
+ItemsArePutAgain = (bytes : List ℕ) (values : List (List ℕ)) →
+    list_all is_value values ≡ true → has_label_item bytes ≡ false →
     with_item (without_label_items (with_item bytes values)) values ≡ with_item bytes values
 
 -- a label item holds the line of this number
 abbrev pub is_in_label_item : List Item → ℕ → Bool
-is_in_label_item items number = list_any (λ item. item.label && nat_le item.first number && nat_lt number item.past) items
+is_in_label_item items number =
+    list_any (λ item. item.label && nat_le item.first number && nat_lt number item.past) items
 
 -- the lines from this number on, without those of label items
 abbrev pub lines_left : List Item → ℕ → List (List ℕ) → List (List ℕ)
@@ -37,4 +41,5 @@ OnlyLabelItemsGo = (bytes : List ℕ) →
 -- a record is its body with its closing behind it, and with an item it begins with its body
 pub record BodiesStay : Type 0 where
   pub parts : (bytes : List ℕ) → body bytes ++ closing bytes ≡ bytes
-  pub front : (bytes : List ℕ) (values : List (List ℕ)) → (more : List ℕ) × (with_item bytes values ≡ body bytes ++ more)
+  pub front : (bytes : List ℕ) (values : List (List ℕ))
+      → (more : List ℕ) × (with_item bytes values ≡ body bytes ++ more)

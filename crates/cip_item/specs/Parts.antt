@@ -2,25 +2,11 @@
 use Rattle.std.specs.Prelude.{ℕ, List, [], ◌∷◌, ◌++◌, Bool, true, false, ◌||◌, if◌then◌else◌}
 use Rattle.std.specs.List.{concat, list_any}
 use Rattle.cip_text.specs.Lines.{lines_of, content_of}
-use Rattle.cip_text.specs.Bodies.{body_lines, body_contents}
-use Rattle.cip_text.specs.Kinds.{is_blank, is_terminator}
-use Rattle.cip_text.specs.Kinds.{is_molecule_end}
+use Rattle.cip_text.specs.Bodies.{body_lines, body_contents, closing}
+use Rattle.cip_text.specs.Kinds.{is_blank, is_molecule_end}
 use Rattle.cip_item.specs.Kinds.{is_heading, is_label_heading}
 use Rattle.cip_item.specs.declared.part.Part.{Part}
 use Rattle.cip_item.specs.declared.part.Part.TheVariants.{Molecule, Between, OtherItem, LabelItem}
-
--- the lines before the terminator line, joined, and the rest
-
--- the terminator line, and what follows it
-abbrev pub closing_lines : List (List ℕ) → List (List ℕ)
-closing_lines [] = []
-closing_lines (line ∷ lines) = if is_terminator (content_of line) then line ∷ lines else closing_lines lines
-
-abbrev pub body : List ℕ → List ℕ
-body bytes = concat (body_lines (lines_of bytes))
-
-abbrev pub closing : List ℕ → List ℕ
-closing bytes = concat (closing_lines (lines_of bytes))
 
 -- the part that a line belongs to, by what the lines before it left open
 
@@ -31,7 +17,10 @@ first_part contents = if list_any is_molecule_end contents then Molecule else Be
 -- A line inside an item begins no other one, except that the heading of a label item always begins one.
 abbrev pub part_of : Part → List ℕ → Part
 part_of Molecule content = Molecule
-part_of Between content = if is_label_heading content then LabelItem else if is_heading content then OtherItem else Between
+part_of Between content =
+    if is_label_heading content then LabelItem
+    else if is_heading content then OtherItem
+    else Between
 part_of OtherItem content = if is_label_heading content then LabelItem else OtherItem
 part_of LabelItem content = LabelItem
 
@@ -61,11 +50,13 @@ kept_lines before (line ∷ lines) =
 
 -- a record without its label items
 abbrev pub without_label_items : List ℕ → List ℕ
-without_label_items bytes = concat (kept_lines (first_part (body_contents bytes)) (body_lines (lines_of bytes))) ++ closing bytes
+without_label_items bytes = concat (kept_lines (first_part (body_contents bytes)) (body_lines (lines_of bytes)))
+    ++ closing bytes
 
 abbrev pub has_label_part : Part → List (List ℕ) → Bool
 has_label_part before [] = false
-has_label_part before (content ∷ contents) = is_label_item (part_of before content) || has_label_part (next_part before content) contents
+has_label_part before (content ∷ contents) = is_label_item (part_of before content)
+    || has_label_part (next_part before content) contents
 
 -- some line of a record belongs to a label item
 abbrev pub has_label_item : List ℕ → Bool

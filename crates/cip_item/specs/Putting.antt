@@ -1,20 +1,13 @@
--- A record with a label item put in. CTfile Formats, SDfile data items; the name and the place of the item, and the line
+-- A record with a label item put in. CTfile Formats, SDfile data items; the name and the place of the item, and the
+-- line
 -- ends that it needs, are own.
 use Rattle.std.specs.Prelude.{ℕ, List, [], ◌∷◌, ◌++◌, Bool, true, false, not, ◌==◌, ◌&&◌, codes, if◌then◌else◌}
 use Rattle.std.specs.List.{flat_map, list_any}
-use Rattle.cip_text.specs.Lines.{line_feed, carriage_return, has_last}
+use Rattle.cip_text.specs.Lines.{line_feed, carriage_return, has_last, lf, crlf}
 use Rattle.cip_text.specs.Kinds.{is_blank, is_terminator}
 use Rattle.cip_text.specs.Kinds.{is_molecule_end}
 use Rattle.cip_text.specs.Bodies.{body_contents}
-use Rattle.cip_item.specs.Parts.{body, closing}
-
--- the line ends of the item
-
-abbrev pub lf : List ℕ
-lf = line_feed ∷ []
-
-abbrev pub crlf : List ℕ
-crlf = carriage_return ∷ line_feed ∷ []
+use Rattle.cip_text.specs.Bodies.{body, closing}
 
 -- the first LF stands right behind a CR; where there is none, the last byte is a CR
 abbrev pub has_returns : Bool → List ℕ → Bool
@@ -24,7 +17,8 @@ has_returns behind_return (b ∷ bs) = if b == line_feed then behind_return else
 abbrev pub line_end_for : List ℕ → List ℕ
 line_end_for bytes = if has_returns false bytes then crlf else lf
 
--- The end that the last line lacks, if it lacks one. Where it ends with a CR that end is CRLF, so that the CR stays content.
+-- The end that the last line lacks, if it lacks one. Where it ends with a CR that end is CRLF, so that the CR stays
+-- content.
 abbrev pub missing_end : List ℕ → List ℕ → List ℕ
 missing_end end [] = []
 missing_end end (b ∷ bs) =
@@ -67,5 +61,6 @@ prepared bytes =
 -- what may be a value: not blank, neither CR nor LF in it, no terminator line and no end of a molecule
 abbrev pub is_value : List ℕ → Bool
 is_value value =
-    not (is_blank value) && not (list_any (λ b. b == line_feed) value) && not (list_any (λ b. b == carriage_return) value)
+    not (is_blank value) && not (list_any (λ b. b == line_feed) value)
+    && not (list_any (λ b. b == carriage_return) value)
     && not (is_terminator value) && not (is_molecule_end value)

@@ -20,12 +20,15 @@ open_item splitter past = record { first = splitter.first; past = past; label = 
 -- the items that are closed, the one that is open, and those of the lines to come
 abbrev pub items_with : Splitter → List (List ℕ) → List Item
 items_with splitter contents =
-    if is_item splitter.part then splitter.items ++ open_item splitter (end_of_item splitter.number contents) ∷ items_from splitter.part splitter.number contents
+    if is_item splitter.part
+    then splitter.items ++ open_item splitter (end_of_item splitter.number contents)
+    ∷ items_from splitter.part splitter.number contents
     else splitter.items ++ items_from splitter.part splitter.number contents
 
 -- the item that ends where this part is open next
 abbrev pub closed_before : Splitter → Part → List Item
-closed_before splitter next = if is_item splitter.part && not (is_item next) then open_item splitter splitter.number ∷ [] else []
+closed_before splitter next =
+    if is_item splitter.part && not (is_item next) then open_item splitter splitter.number ∷ [] else []
 
 -- how many items began so far
 abbrev pub begun : Splitter → ℕ

@@ -3,10 +3,9 @@ ghost use Rattle.std.specs.Prelude.{◌≡◌, ◌≤◌, ◌<◌, ◌+◌, ◌-
 ghost use Rattle.cip_item.specs.Items.{items_of};
 ghost use Rattle.cip_item.specs.Splitting.{items_with, closed_before, begun};
 
-use crate::body::{first_part, split_body_line};
 use crate::part::Part;
 use cip_list::Listing;
-use cip_text::without_end;
+use cip_text::RecordLines;
 use std::alloc::{AllocError, Global};
 
 /// An item by the numbers of its first line and of the line behind its last one, counted from 0.
@@ -34,16 +33,16 @@ pub fn split_items(alloc: Global, bytes: &[u8]) -> Result<Items, AllocError>
     requires { length bytes.now < 2 ^ 32 }
     ensures { IfOk result (λ items. items ≡ items_of bytes.now) }
 {
+    let lines = RecordLines::new(alloc, bytes)?;
+    let contents = lines.contents();
     let mut splitter = Splitter {
         items: Listing::new(alloc),
-        part: first_part(bytes),
+        part: Part::before(contents),
         first: 0,
         number: 0,
     };
-    let mut rest = bytes;
-    while let Some((line, behind)) = split_body_line(rest) {
-        take_line(&mut splitter, without_end(line))?;
-        rest = behind;
+    for content in contents {
+        take_line(&mut splitter, content)?;
     }
     close_before(&mut splitter, Part::Between)?;
     Ok(splitter.items)
@@ -52,7 +51,8 @@ pub fn split_items(alloc: Global, bytes: &[u8]) -> Result<Items, AllocError>
 fn take_line(splitter: &mut Splitter, content: &[u8]) -> Result<(), AllocError>
     requires room { splitter.old.number < 2 ^ 32 - 1 }
     requires begun { begun splitter.old ≤ splitter.old.number }
-    ensures items { OnOk result ((contents : List (List ℕ)) → items_with splitter.new contents ≡ items_with splitter.old (content.now ∷ contents)) }
+    ensures items { OnOk result ((contents : List (List ℕ))
+        → items_with splitter.new contents ≡ items_with splitter.old (content.now ∷ contents)) }
     ensures number { OnOk result (splitter.new.number ≡ splitter.old.number + 1) }
     ensures begun { OnOk result (begun splitter.new ≤ splitter.new.number) }
 {
@@ -74,7 +74,8 @@ fn take_line(splitter: &mut Splitter, content: &[u8]) -> Result<(), AllocError>
 // Closes the open item, if there is one, where the next line finds no item open.
 fn close_before(splitter: &mut Splitter, next: Part) -> Result<(), AllocError>
     requires { begun splitter.old < 2 ^ 32 }
-    ensures { OnOk result (splitter.new ≡ record splitter.old { items = splitter.old.items ++ closed_before splitter.old next }) }
+    ensures { OnOk result (splitter.new ≡ record splitter.old
+        { items = splitter.old.items ++ closed_before splitter.old next }) }
 {
     if splitter.part.is_item() && !next.is_item() {
         let item = Item {

@@ -1,13 +1,15 @@
 // What a line of a record is for.
 ghost use Rattle.std.specs.Prelude.{◌≡◌, position, take};
 ghost use Rattle.std.specs.Str.{bytes_eq};
-ghost use Rattle.cip_item.specs.Kinds.{is_opening, begins_heading, is_heading, label_name, holds_label_name, is_label_heading};
+ghost use Rattle.cip_item.specs.Kinds.{is_opening, is_heading, label_name, holds_label_name, is_label_heading};
+
+use cip_text::begins_with;
 
 // Whether a line's content is the heading of a data item.
 pub(crate) fn is_heading(content: &[u8]) -> bool
     ensures { result ≡ is_heading content.now }
 {
-    if !begins_heading(content) {
+    if !begins_with(content, b'>') {
         return false;
     }
     match opening(content) {
@@ -20,13 +22,7 @@ pub(crate) fn is_heading(content: &[u8]) -> bool
 pub(crate) fn is_label_heading(content: &[u8]) -> bool
     ensures { result ≡ is_label_heading content.now }
 {
-    begins_heading(content) && holds_label_name(content)
-}
-
-fn begins_heading(content: &[u8]) -> bool
-    ensures { result ≡ begins_heading content.now }
-{
-    !content.is_empty() && content[0] == b'>'
+    begins_with(content, b'>') && holds_label_name(content)
 }
 
 fn opening(content: &[u8]) -> Option<usize>

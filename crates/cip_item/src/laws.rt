@@ -20,7 +20,7 @@ pub fn only_label_items_go()
 {}
 
 /// A record is its body with its closing behind it, and with an item put in it begins with its body.
-#[tactic(auto, using(crate::proofs::Halves::bodies_stay))]
+#[tactic(auto, using(crate::proofs::Walking::bodies_stay))]
 pub fn bodies_stay()
     ensures { BodiesStay }
 {}

@@ -1,7 +1,6 @@
 //! The data items of a record: where they stand, without label items, and with one put in.
 #![tactic(auto)]
 
-mod body;
 mod items;
 mod kinds;
 mod labels;
@@ -12,6 +11,6 @@ mod putting;
 mod tests;
 
 pub use items::{Item, Items, split_items};
-pub use labels::without_label_items;
+pub use labels::{has_label_item, without_label_items};
 pub use laws::{bodies_stay, items_are_put_again, items_are_taken_out, only_label_items_go};
-pub use putting::{Texts, with_item};
+pub use putting::{Texts, lines_with_item, with_item};

@@ -1,6 +1,9 @@
 // The parts of a record.
 ghost use Rattle.std.specs.Prelude.{◌≡◌};
-ghost use Rattle.cip_item.specs.Parts.{part_of, part_behind, is_label_item};
+ghost use Rattle.std.specs.List.{list_any};
+ghost use Rattle.cip_text.specs.Kinds.{is_molecule_end};
+ghost use Rattle.cip_text.specs.Slices.{texts};
+ghost use Rattle.cip_item.specs.Parts.{first_part, part_of, part_behind, is_label_item};
 ghost use Rattle.cip_item.specs.Items.{begins_item};
 ghost use Rattle.cip_item.specs.Splitting.{is_item};
 
@@ -17,6 +20,17 @@ pub(crate) enum Part {
 }
 
 impl Part {
+    // What is open before the first line of a record with these contents.
+    pub(crate) fn before(contents: &[&[u8]]) -> Part
+        ensures { result ≡ first_part (texts contents.now) }
+    {
+        if has_molecule_end(contents) {
+            Part::Molecule
+        } else {
+            Part::Between
+        }
+    }
+
     // What a line with this content belongs to, where this part is open.
     pub(crate) fn of_line(self, content: &[u8]) -> Part
         ensures { result ≡ part_of self content.now }
@@ -63,4 +77,15 @@ impl Part {
     {
         matches!(self, Part::LabelItem)
     }
+}
+
+fn has_molecule_end(contents: &[&[u8]]) -> bool
+    ensures { result ≡ list_any is_molecule_end (texts contents.now) }
+{
+    for content in contents {
+        if is_molecule_end(content) {
+            return true;
+        }
+    }
+    false
 }

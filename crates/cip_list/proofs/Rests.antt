@@ -10,5 +10,6 @@ rest_at xs k x h =
     rw (drop-cons xs k x (slice_get_within xs k x h), get_or_from_slice_get xs k x x h, next) refl
 
 -- some item from one place on passes a test where the one there does, or one from the next place on
-pub any_from : {A : Type 0} (test : A → Bool) (xs : List A) (k : ℕ) (x : A) → slice_get xs k ≡ Some x → list_any test (drop k xs) ≡ (test x || list_any test (drop (k + 1) xs))
+pub any_from : {A : Type 0} (test : A → Bool) (xs : List A) (k : ℕ) (x : A) → slice_get xs k ≡ Some x
+    → list_any test (drop k xs) ≡ (test x || list_any test (drop (k + 1) xs))
 any_from test xs k x h = ap (list_any test) (rest_at xs k x h)

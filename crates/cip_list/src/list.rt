@@ -48,6 +48,13 @@ impl<T: Drop> Listing<T> {
         self.items.len() as u32
     }
 
+    /// The items, lent.
+    pub fn as_slice(&self) -> &[T]
+        ensures { result.now ≡ self.now }
+    {
+        &self.items
+    }
+
     /// The item at a place, counted from 0.
     pub fn get(&self, place: u32) -> &T
         requires { place < length self.now }

@@ -6,8 +6,7 @@ fn items_come_back_in_order(rt: HostRuntime) -> Result<(), Fail> {
     let mut list = Listing::new(rt.alloc());
     list.push(7_u32)?;
     list.push(5)?;
-    assert_eq!(rt; list.len(), 2);
-    assert_eq!(rt; *list.get(0), 7);
-    assert_eq!(rt; *list.get(1), 5);
+    assert_eq!(rt; list.as_slice(), [7, 5].as_slice());
+    assert_eq!(rt; (list.len(), *list.get(1)), (2, 5));
     Ok(())
 }

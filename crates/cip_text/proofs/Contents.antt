@@ -17,7 +17,8 @@ taken (suc n) (b ∷ bs) = ap (λ xs. b ∷ xs) (taken n bs)
 front_of_front : (front middle text : List ℕ) → IsFront middle text → IsFront front middle → IsFront front text
 front_of_front front middle text m f =
     let parts : text ≡ front ++ (drop (length front) middle ++ drop (length middle) text) =
-    sym m ∙ ap (λ xs. xs ++ drop (length middle) text) (sym f) ∙ append_assoc front (drop (length front) middle) (drop (length middle) text) in
+    sym m ∙ ap (λ xs. xs ++ drop (length middle) text) (sym f)
+    ∙ append_assoc front (drop (length front) middle) (drop (length middle) text) in
     ap (λ xs. front ++ drop (length front) xs) parts
     ∙ ap (λ xs. front ++ xs) (drop-append_seam front (drop (length front) middle ++ drop (length middle) text))
     ∙ sym parts
@@ -37,5 +38,6 @@ parts line = content_front line (has_last 10 line) refl
 
 pub content_shorter : (line : List ℕ) → length (content_of line) ≤ length line
 content_shorter line =
-    let whole : length (content_of line) + length (end_of line) ≡ length line = sym (length-append (content_of line) (end_of line)) ∙ ap length (parts line) in
+    let whole : length (content_of line) + length (end_of line)
+    ≡ length line = sym (length-append (content_of line) (end_of line)) ∙ ap length (parts line) in
     omega arith

@@ -7,7 +7,8 @@ join_onto : (b : ℕ) (lines : List (List ℕ)) → concat (onto_first b lines) 
 join_onto b [] = refl
 join_onto b (line ∷ lines) = refl
 
-join_byte : (b : ℕ) (bs : List ℕ) (k : Bool) → (b == 10) ≡ k → concat (lines_of bs) ≡ bs → concat (lines_of (b ∷ bs)) ≡ b ∷ bs
+join_byte : (b : ℕ) (bs : List ℕ) (k : Bool) → (b == 10) ≡ k → concat (lines_of bs) ≡ bs
+    → concat (lines_of (b ∷ bs)) ≡ b ∷ bs
 join_byte b bs true e more = rw e (ap (λ xs. b ∷ xs) more)
 join_byte b bs false e more = rw (e, join_onto b (lines_of bs)) (ap (λ xs. b ∷ xs) more)
 
@@ -32,7 +33,8 @@ split_some b [] = split_last b (b == 10) refl
 split_some b (c ∷ cs) = split_byte b c cs (b == 10) refl (split_some c cs)
 
 -- the lines of a text are its first line and the lines of the rest
-pub lines_split : (bytes : List ℕ) → 0 < length bytes → lines_of bytes ≡ take (line_length bytes) bytes ∷ lines_of (drop (line_length bytes) bytes)
+pub lines_split : (bytes : List ℕ) → 0 < length bytes
+    → lines_of bytes ≡ take (line_length bytes) bytes ∷ lines_of (drop (line_length bytes) bytes)
 lines_split [] some = absurd (omega arith)
 lines_split (b ∷ bs) some = split_some b bs
 

@@ -1,18 +1,23 @@
 -- What a line is for, by its content. CTfile Formats; that spaces may follow `$$$$` and `M  END`, and
 -- tabs be in a blank line, is own.
-use Rattle.std.specs.Prelude.{ℕ, List, Bool, ◌==◌, ◌||◌, codes}
+use Rattle.std.specs.Prelude.{ℕ, List, [], ◌∷◌, Bool, ◌==◌, ◌&&◌, ◌||◌, codes, drop}
 use Rattle.std.specs.List.{list_all}
-use Rattle.std.specs.Str.{bytes_eq}
-use Rattle.cip_text.specs.Columns.{without_spaces_behind}
+use Rattle.cip_text.specs.Lines.{begins_with}
 
 -- spaces and tabs at most
 abbrev pub is_blank : List ℕ → Bool
 is_blank content = list_all (λ b. b == 32 || b == 9) content
 
--- `$$$$`, and spaces at most behind it
-abbrev pub is_terminator : List ℕ → Bool
-is_terminator content = bytes_eq (without_spaces_behind content) (codes "$$$$")
+abbrev pub are_spaces : List ℕ → Bool
+are_spaces text = list_all (λ b. b == 32) text
 
--- `M  END`, and spaces at most behind it
+-- this word, and spaces at most behind it
+abbrev pub is_word : List ℕ → List ℕ → Bool
+is_word [] content = are_spaces content
+is_word (b ∷ bs) content = begins_with b content && is_word bs (drop 1 content)
+
+abbrev pub is_terminator : List ℕ → Bool
+is_terminator content = is_word (codes "$$$$") content
+
 abbrev pub is_molecule_end : List ℕ → Bool
-is_molecule_end content = bytes_eq (without_spaces_behind content) (codes "M  END")
+is_molecule_end content = is_word (codes "M  END") content

@@ -28,7 +28,8 @@ LinesAreEnded = (bytes : List ℕ) → are_ended (lines_of bytes) ≡ true
 
 -- the lines of a text that is cut behind a line end are those of both parts
 abbrev pub LinesAreCut : Type 0
-LinesAreCut = (before behind : List ℕ) → has_last line_feed before ≡ true → lines_of (before ++ behind) ≡ lines_of before ++ lines_of behind
+LinesAreCut = (before behind : List ℕ) → has_last line_feed before ≡ true
+    → lines_of (before ++ behind) ≡ lines_of before ++ lines_of behind
 
 -- at the place of each line stands its content
 abbrev pub ContentsStandAtPlaces : Type 0

@@ -19,6 +19,9 @@ abbrev pub line_length : List ℕ → ℕ
 line_length [] = 0
 line_length (b ∷ bs) = if b == line_feed then 1 else suc (line_length bs)
 
+abbrev pub begins_with : ℕ → List ℕ → Bool
+begins_with b text = nat_lt 0 (length text) && slice_index text 0 == b
+
 abbrev pub has_last : ℕ → List ℕ → Bool
 has_last b text = nat_lt 0 (length text) && slice_index text (length text - 1) == b
 
@@ -35,6 +38,14 @@ content_of line = if has_last line_feed line then without_return (without_last l
 -- the end of a line: LF, CR LF or nothing
 abbrev pub end_of : List ℕ → List ℕ
 end_of line = drop (length (content_of line)) line
+
+-- the two line ends
+
+abbrev pub lf : List ℕ
+lf = line_feed ∷ []
+
+abbrev pub crlf : List ℕ
+crlf = carriage_return ∷ line_feed ∷ []
 
 abbrev pub contents_of : List ℕ → List (List ℕ)
 contents_of bytes = map content_of (lines_of bytes)

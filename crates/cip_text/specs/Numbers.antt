@@ -1,7 +1,8 @@
 -- The numbers in fields. CTfile Formats; ranges and the forms of a decimal are own.
-use Rattle.std.specs.Prelude.{ℕ, ℤ, pos, neg_ℤ, List, [], ◌+◌, ◌-◌, ◌*◌, Bool, ◌==◌, ◌&&◌, ◌||◌, nat_lt, nat_le, length, take, drop, fold, position, slice_index, slice_index_or, Some, None, Ok, Err, Result, if◌then◌else◌}
+use Rattle.std.specs.Prelude.{ℕ, ℤ, pos, neg_ℤ, List, [], ◌+◌, ◌-◌, ◌*◌, Bool, ◌==◌, ◌&&◌, ◌||◌, nat_lt, nat_le, length, take, drop, fold, position, slice_index_or, Some, None, Ok, Err, Result, if◌then◌else◌}
 use Rattle.std.specs.declared.option.Option.{Option}
 use Rattle.std.specs.List.{list_all}
+use Rattle.cip_text.specs.Lines.{begins_with}
 use Rattle.cip_text.specs.declared.numbers.NumberFault.{NumberFault}
 use Rattle.cip_text.specs.declared.numbers.NumberFault.TheVariants.{Empty, NotANumber, OutOfRange}
 
@@ -31,7 +32,9 @@ is_point b = b == 46
 abbrev pub parts : List ℕ → List ℕ → Option ℕ
 parts before behind =
     if list_all is_digit before && list_all is_digit behind && nat_lt 0 (length before + length behind)
-    then Some (10000 * value before + (1000 * digit behind 0 + (100 * digit behind 1 + (10 * digit behind 2 + digit behind 3)))) else None
+    then Some (10000 * value before
+    + (1000 * digit behind 0 + (100 * digit behind 1 + (10 * digit behind 2 + digit behind 3))))
+    else None
 
 abbrev pub cut_at : List ℕ → Option ℕ → Option ℕ
 cut_at text None = parts text []
@@ -42,9 +45,6 @@ abbrev pub decimal : List ℕ → Option ℕ
 decimal text = cut_at text (position is_point text)
 
 -- signs and ranges
-
-abbrev pub begins_with : ℕ → List ℕ → Bool
-begins_with b text = nat_lt 0 (length text) && slice_index text 0 == b
 
 abbrev pub is_negative : List ℕ → Bool
 is_negative field = begins_with 45 field

@@ -1,26 +1,117 @@
-// The lines of a record, as readers want them.
-ghost use Rattle.std.specs.Prelude.{◌≡◌, ◌≤◌, IfOk, length};
-ghost use Rattle.cip_text.specs.Bodies.{body_contents};
+// A record by its lines.
+ghost use Rattle.std.specs.Prelude.{◌≡◌, ◌≤◌, ◌<◌, ◌+◌, ◌∷◌, [], length, IfOk, IfSome, None};
+ghost use Rattle.cip_text.specs.Lines.{lines_of};
+ghost use Rattle.cip_text.specs.Bodies.{body, body_contents, body_lines, closing};
 ghost use Rattle.cip_text.specs.Slices.{texts};
 
 use crate::kinds::is_terminator;
 use crate::splitting::{split_line, without_end};
 use std::alloc::{AllocError, Global};
+use std::marker::Model;
+
+/// A record with its lines at hand, none of them copied. Contracts see it as its bytes.
+#[derive(Drop)]
+pub struct RecordLines<'a> {
+    bytes: &'a [u8],
+    contents: Vec<&'a [u8]>,
+    closing: &'a [u8],
+}
+
+impl<'a> Model for RecordLines<'a> {
+    ghost use Rattle.std.specs.Prelude.{List, ℕ};
+    ghost use Rattle.cip_text.specs.Bodies.{AreLinesOf};
+    ghost use Rattle.cip_text.specs.Slices.{texts};
+
+    ghost Value = { List ℕ };
+
+    ghost view = { λ record_lines. record_lines.bytes.now };
+
+    ghost invariant = { λ record_lines. AreLinesOf record_lines.bytes.now
+        (texts record_lines.contents.items) record_lines.closing.now };
+}
+
+impl<'a> RecordLines<'a> {
+    /// Splits a record into its lines.
+    pub fn new(alloc: Global, bytes: &'a [u8]) -> Result<RecordLines<'a>, AllocError>
+        ensures { IfOk result (λ lines. lines ≡ bytes.now) }
+    {
+        let (contents, closing) = split_record(alloc, bytes)?;
+        Ok(RecordLines {
+            bytes,
+            contents,
+            closing,
+        })
+    }
+
+    /// The record.
+    pub fn bytes(&self) -> &'a [u8]
+        ensures { result.now ≡ self.now }
+    {
+        self.bytes
+    }
+
+    /// The content of each line before the terminator line.
+    pub fn contents(&self) -> &[&'a [u8]]
+        ensures value { texts result.now ≡ body_contents self.now }
+        ensures few { length result.now ≤ length self.now }
+    {
+        &self.contents
+    }
+
+    /// The record before its terminator line.
+    #[tactic(auto, using(crate::proofs::Halves::before_closing, crate::proofs::Halves::short_closing))]
+    pub fn body(&self) -> &'a [u8]
+        ensures { result.now ≡ body self.now }
+    {
+        &self.bytes[..self.bytes.len() - self.closing.len()]
+    }
+
+    /// The record from its terminator line on.
+    pub fn closing(&self) -> &'a [u8]
+        ensures { result.now ≡ closing self.now }
+    {
+        self.closing
+    }
+}
 
 /// The content of each line of a record before its terminator line, none of it copied.
 pub fn body_contents(alloc: Global, bytes: &[u8]) -> Result<Vec<&[u8]>, AllocError>
     ensures value { IfOk result (λ found. texts found.items ≡ body_contents bytes.now) }
     ensures few { IfOk result (λ found. length found.items ≤ length bytes.now) }
 {
-    let mut contents = Vec::new(alloc);
+    let (contents, _) = split_record(alloc, bytes)?;
+    Ok(contents)
+}
+
+// The contents of the lines before the terminator line, and what stands from it on.
+fn split_record(alloc: Global, bytes: &[u8]) -> Result<(Vec<&[u8]>, &[u8]), AllocError>
+    ensures contents { IfOk result (λ parts. texts parts.0.items ≡ body_contents bytes.now) }
+    ensures closing { IfOk result (λ parts. parts.1.now ≡ closing bytes.now) }
+    ensures few { IfOk result (λ parts. length parts.0.items ≤ length bytes.now) }
+{
+    let mut contents = Vec::with_capacity(alloc, bytes.len() / 16)?;
     let mut rest = bytes;
-    while let Some((line, behind)) = split_line(rest) {
-        let content = without_end(line);
-        if is_terminator(content) {
-            return Ok(contents);
-        }
-        contents.push(content)?;
+    while let Some((line, behind)) = split_body_line(rest) {
+        contents.push(without_end(line))?;
         rest = behind;
     }
-    Ok(contents)
+    Ok((contents, rest))
+}
+
+/// The first line of a record with its end, and what follows it. None at the terminator line, and for the empty
+/// record.
+#[tactic(auto, using(crate::proofs::Halves::closing_itself))]
+pub fn split_body_line(bytes: &[u8]) -> Option<(&[u8], &[u8])>
+    ensures none { result ≡ None → body_lines (lines_of bytes.now) ≡ [] }
+    ensures end { result ≡ None → closing bytes.now ≡ bytes.now }
+    ensures line { IfSome result (λ parts. body_lines (lines_of bytes.now)
+        ≡ parts.0.now ∷ body_lines (lines_of parts.1.now)) }
+    ensures closing { IfSome result (λ parts. closing bytes.now ≡ closing parts.1.now) }
+    ensures some { IfSome result (λ parts. length parts.1.now < length bytes.now) }
+    ensures whole { IfSome result (λ parts. length parts.0.now + length parts.1.now ≡ length bytes.now) }
+{
+    match split_line(bytes) {
+        Some((line, _)) if is_terminator(without_end(line)) => None,
+        parts => parts,
+    }
 }

@@ -1,8 +1,8 @@
 // What a line is for.
 ghost use Rattle.std.specs.Prelude.{◌≡◌};
-ghost use Rattle.cip_text.specs.Kinds.{is_blank, is_terminator, is_molecule_end};
+ghost use Rattle.cip_text.specs.Kinds.{are_spaces, is_blank, is_word, is_terminator, is_molecule_end};
 
-use crate::fields::without_spaces_behind;
+use crate::splitting::begins_with;
 
 /// Whether a line's content has spaces and tabs at most.
 pub fn is_blank(content: &[u8]) -> bool
@@ -15,12 +15,32 @@ pub fn is_blank(content: &[u8]) -> bool
 pub fn is_terminator(content: &[u8]) -> bool
     ensures { result ≡ is_terminator content.now }
 {
-    without_spaces_behind(content) == b"$$$$".as_slice()
+    is_word(b"$$$$", content)
 }
 
 /// Whether a line's content ends a molfile: `M  END`, and spaces at most behind it.
 pub fn is_molecule_end(content: &[u8]) -> bool
     ensures { result ≡ is_molecule_end content.now }
 {
-    without_spaces_behind(content) == b"M  END".as_slice()
+    is_word(b"M  END", content)
+}
+
+// Whether a content is this word, with spaces at most behind it.
+fn is_word(word: &[u8], content: &[u8]) -> bool
+    ensures { result ≡ is_word word.now content.now }
+{
+    let mut rest = content;
+    for byte in word {
+        if !begins_with(rest, *byte) {
+            return false;
+        }
+        rest = &rest[1..];
+    }
+    are_spaces(rest)
+}
+
+fn are_spaces(text: &[u8]) -> bool
+    ensures { result ≡ are_spaces text.now }
+{
+    text.iter().all(|byte| *byte == b' ')
 }

@@ -2,7 +2,9 @@
 ghost use Rattle.std.specs.Prelude.{◌≡◌, ◌≤◌, min, true, position, unsigned_abs, IfOk};
 ghost use Rattle.std.specs.List.{list_all};
 ghost use Rattle.std.specs.Option.{option_map};
-ghost use Rattle.cip_text.specs.Numbers.{is_digit, is_point, value, digit, whole, parts, decimal, begins_with, is_negative, without_sign, signed, integer_of, decimal4_of};
+ghost use Rattle.cip_text.specs.Numbers.{is_digit, is_point, value, digit, whole, parts, decimal, is_negative, without_sign, signed, integer_of, decimal4_of};
+
+use crate::splitting::begins_with;
 
 // No field holds a larger number; sums of digits stop here, so that any number of digits can be read.
 const CAP: u64 = 10_000_000_000;
@@ -48,22 +50,16 @@ pub fn decimal4(field: &[u8]) -> Result<i64, NumberFault>
     )
 }
 
-fn begins_with(byte: u8, text: &[u8]) -> bool
-    ensures { result ≡ begins_with byte text.now }
-{
-    !text.is_empty() && text[0] == byte
-}
-
 fn is_negative(field: &[u8]) -> bool
     ensures { result ≡ is_negative field.now }
 {
-    begins_with(b'-', field)
+    begins_with(field, b'-')
 }
 
 fn without_sign(field: &[u8]) -> &[u8]
     ensures { result.now ≡ without_sign field.now }
 {
-    if begins_with(b'-', field) || begins_with(b'+', field) {
+    if begins_with(field, b'-') || begins_with(field, b'+') {
         &field[1..]
     } else {
         field

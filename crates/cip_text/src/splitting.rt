@@ -1,9 +1,10 @@
 // The lines of a text.
 ghost use Rattle.std.specs.Prelude.{◌≡◌, ◌≤◌, ◌<◌, ◌+◌, ◌++◌, ◌∷◌, ◌^◌, [], ℕ, All, length, slice_get, IfOk, IfSome, Some, None};
-ghost use Rattle.cip_text.specs.Lines.{lines_of, line_length, has_last, without_last, content_of, contents_of};
+ghost use Rattle.cip_text.specs.Lines.{begins_with, lines_of, line_length, has_last, without_last, content_of, contents_of};
 ghost use Rattle.cip_text.specs.Places.{places_of, text_at, place_at, IsWithin};
 
 use cip_list::Listing;
+use memchr::memchr;
 use std::alloc::{AllocError, Global};
 
 /// Where a line stands in a text, in bytes from 0: its content, and the place behind its line end.
@@ -42,7 +43,8 @@ pub fn lines(alloc: Global, bytes: &[u8]) -> Result<Lines, AllocError>
 pub fn content(bytes: &[u8], line: Line) -> &[u8]
     requires { IsWithin (length bytes.now) line }
     ensures placed { result.now ≡ text_at bytes.now line }
-    ensures content { (k : ℕ) → slice_get (places_of bytes.now) k ≡ Some line → slice_get (contents_of bytes.now) k ≡ Some result.now }
+    ensures content { (k : ℕ) → slice_get (places_of bytes.now) k ≡ Some line
+        → slice_get (contents_of bytes.now) k ≡ Some result.now }
 {
     &bytes[line.start as usize..line.end as usize]
 }
@@ -89,19 +91,26 @@ fn place_at(start: u32, line: &[u8]) -> Line
 }
 
 // How long the first line is, with its end.
+#[tactic(auto, using(crate::proofs::LineLengths::length_to, crate::proofs::LineLengths::length_without))]
 fn line_length(bytes: &[u8]) -> usize
     ensures value { result ≡ line_length bytes.now }
     ensures within { result ≤ length bytes.now }
 {
-    for (place, byte) in bytes.iter().enumerate() {
-        if *byte == b'\n' {
-            return place + 1;
-        }
+    match memchr(b'\n', bytes) {
+        Some(place) => place + 1,
+        None => bytes.len(),
     }
-    bytes.len()
 }
 
-fn has_last(text: &[u8], byte: u8) -> bool
+/// Whether a text begins with this byte.
+pub fn begins_with(text: &[u8], byte: u8) -> bool
+    ensures { result ≡ begins_with byte text.now }
+{
+    !text.is_empty() && text[0] == byte
+}
+
+/// Whether a text ends with this byte.
+pub fn has_last(text: &[u8], byte: u8) -> bool
     ensures { result ≡ has_last byte text.now }
 {
     !text.is_empty() && text[text.len() - 1] == byte

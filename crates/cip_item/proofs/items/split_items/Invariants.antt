@@ -1,15 +1,12 @@
-use Rattle.std.proofs.Common.{◌≡◌, ◌≤◌, ◌+◌, length}
-use Rattle.cip_text.specs.Bodies.{body_contents}
+use Rattle.std.proofs.Common.{◌≡◌, ◌≤◌, drop}
+use Rattle.cip_text.specs.Slices.{texts}
 use Rattle.cip_item.specs.Items.{items_of}
 use Rattle.cip_item.specs.Splitting.{items_with, begun}
 use Rattle.cip_item.proofs.items.split_items.Given as goal
 
-abbrev pub invariant-loop-line : goal.invariant-loop-line
-invariant-loop-line l = record {
-  items : items_with l.splitter (body_contents l.rest) ≡ items_of l.bytes;
-  number : l.splitter.number + length l.rest ≤ length l.bytes;
+abbrev pub invariant-loop-content : goal.invariant-loop-content
+invariant-loop-content l = record {
+  items : items_with l.splitter (texts (drop l.content-index l.contents)) ≡ items_of l.bytes;
+  number : l.splitter.number ≡ l.content-index;
   begun : begun l.splitter ≤ l.splitter.number;
 }
-
-abbrev pub decreases-loop-line : goal.decreases-loop-line
-decreases-loop-line l = length l.rest

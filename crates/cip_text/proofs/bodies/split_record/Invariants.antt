@@ -1,11 +1,12 @@
 use Rattle.std.proofs.Common.{◌≡◌, ◌≤◌, ◌+◌, ◌++◌, length}
-use Rattle.cip_text.specs.Bodies.{body_contents}
+use Rattle.cip_text.specs.Bodies.{body_contents, closing}
 use Rattle.cip_text.specs.Slices.{texts}
-use Rattle.cip_text.proofs.bodies.body_contents.Given as goal
+use Rattle.cip_text.proofs.bodies.split_record.Given as goal
 
 abbrev pub invariant-loop-line : goal.invariant-loop-line
 invariant-loop-line l = record {
   so_far : texts l.contents.items ++ body_contents l.rest ≡ body_contents l.bytes;
+  closing : closing l.rest ≡ closing l.bytes;
   few : length l.contents.items + length l.rest ≤ length l.bytes;
 }
 

@@ -1,24 +1,25 @@
 -- A record is its body with its closing behind it.
-use Rattle.std.proofs.Common.{◌≡◌, ◌+◌, ◌-◌, ◌++◌, ℕ, List, [], ◌∷◌, Bool, true, false, refl, sym, ◌∙◌, ap, arith, length, take, drop, append_assoc, length-append}
+use Rattle.std.proofs.Common.{◌≡◌, ◌≤◌, ◌+◌, ◌-◌, ◌++◌, ℕ, List, [], ◌∷◌, Bool, true, false, refl, sym, ◌∙◌, ap, arith, length, take, drop, append_assoc, length-append}
 use Rattle.std.specs.List.{concat}
 use Rattle.std.proofs.Math.Seq.{take-append_seam, drop-append_seam}
 use Rattle.cip_text.specs.Lines.{lines_of, content_of}
 use Rattle.cip_text.specs.Kinds.{is_terminator}
 use Rattle.cip_text.proofs.Firsts.{lines_join}
-use Rattle.cip_item.specs.Laws.{BodiesStay}
-use Rattle.cip_text.specs.Bodies.{body_lines}
-use Rattle.cip_item.specs.Parts.{body, closing, closing_lines}
+use Rattle.cip_text.specs.Bodies.{body_lines, body, closing, closing_lines}
 
 -- from the terminator line on all is closing
-pub closing_itself : (bytes line behind : List ℕ) → lines_of bytes ≡ line ∷ lines_of behind → is_terminator (content_of line) ≡ true → closing bytes ≡ bytes
+pub closing_itself : (bytes line behind : List ℕ) → lines_of bytes ≡ line ∷ lines_of behind
+    → is_terminator (content_of line) ≡ true → closing bytes ≡ bytes
 closing_itself bytes line behind l t = rw (l, t) (ap concat (sym l) ∙ lines_join bytes)
 
 abbrev AreHalves : List (List ℕ) → Type 0
 AreHalves lines = concat (body_lines lines) ++ concat (closing_lines lines) ≡ concat lines
 
-halves_line : (line : List ℕ) (lines : List (List ℕ)) (k : Bool) → is_terminator (content_of line) ≡ k → AreHalves lines → AreHalves (line ∷ lines)
+halves_line : (line : List ℕ) (lines : List (List ℕ)) (k : Bool) → is_terminator (content_of line) ≡ k
+    → AreHalves lines → AreHalves (line ∷ lines)
 halves_line line lines true e more = rw e refl
-halves_line line lines false e more = rw e (append_assoc line (concat (body_lines lines)) (concat (closing_lines lines)) ∙ ap (λ xs. line ++ xs) more)
+halves_line line lines false e more = rw e (append_assoc line (concat (body_lines lines))
+    (concat (closing_lines lines)) ∙ ap (λ xs. line ++ xs) more)
 
 halves : (lines : List (List ℕ)) → AreHalves lines
 halves [] = refl
@@ -29,15 +30,20 @@ body_closing bytes = halves (lines_of bytes) ∙ lines_join bytes
 
 pub before_closing : (bytes : List ℕ) → take (length bytes - length (closing bytes)) bytes ≡ body bytes
 before_closing bytes =
-    let whole : length bytes ≡ length (body bytes) + length (closing bytes) = ap length (sym (body_closing bytes)) ∙ length-append (body bytes) (closing bytes) in
+    let whole : length bytes ≡ length (body bytes) + length (closing bytes) = ap length (sym (body_closing bytes))
+    ∙ length-append (body bytes) (closing bytes) in
     let long : length bytes - length (closing bytes) ≡ length (body bytes) = omega (arith, whole) in
     rw long (ap (take (length (body bytes))) (sym (body_closing bytes)) ∙ take-append_seam (body bytes) (closing bytes))
 
 pub behind_body : (bytes : List ℕ) → drop (length bytes - length (closing bytes)) bytes ≡ closing bytes
 behind_body bytes =
-    let whole : length bytes ≡ length (body bytes) + length (closing bytes) = ap length (sym (body_closing bytes)) ∙ length-append (body bytes) (closing bytes) in
+    let whole : length bytes ≡ length (body bytes) + length (closing bytes) = ap length (sym (body_closing bytes))
+    ∙ length-append (body bytes) (closing bytes) in
     let long : length bytes - length (closing bytes) ≡ length (body bytes) = omega (arith, whole) in
     rw long (ap (drop (length (body bytes))) (sym (body_closing bytes)) ∙ drop-append_seam (body bytes) (closing bytes))
 
-pub bodies_stay : BodiesStay
-bodies_stay = record { parts = body_closing; front = λ bytes values. (_, refl) }
+pub short_closing : (bytes : List ℕ) → length (closing bytes) ≤ length bytes
+short_closing bytes =
+    let whole : length bytes ≡ length (body bytes) + length (closing bytes) =
+    ap length (sym (body_closing bytes)) ∙ length-append (body bytes) (closing bytes) in
+    omega (arith, whole)

@@ -7,12 +7,13 @@ use Rattle.cip_text.specs.Lines.{lines_of, content_of}
 use Rattle.cip_text.specs.Kinds.{is_terminator}
 use Rattle.cip_text.specs.Laws.{has_line_feed, is_ended, are_ended}
 use Rattle.cip_text.specs.Bodies.{body_lines}
-use Rattle.cip_item.specs.Parts.{closing_lines}
-use Rattle.cip_item.specs.Putting.{lf, crlf}
+use Rattle.cip_text.specs.Bodies.{closing_lines}
+use Rattle.cip_text.specs.Lines.{lf, crlf}
 
 -- a line with its end is the first line of every text that it begins
 
-first_byte : (b : ℕ) (bs behind : List ℕ) (k : Bool) → (b == 10) ≡ k → is_ended (b ∷ bs) ≡ true → (is_ended bs ≡ true → lines_of (bs ++ behind) ≡ bs ∷ lines_of behind) →
+first_byte : (b : ℕ) (bs behind : List ℕ) (k : Bool) → (b == 10) ≡ k → is_ended (b ∷ bs) ≡ true
+    → (is_ended bs ≡ true → lines_of (bs ++ behind) ≡ bs ∷ lines_of behind) →
     lines_of (b ∷ (bs ++ behind)) ≡ (b ∷ bs) ∷ lines_of behind
 first_byte b [] behind true e h more = rw e refl
 first_byte b (c ∷ cs) behind true e h more = absurd (grind (arith, common_steps, rw e at h))
@@ -22,18 +23,24 @@ pub first_ended : (line behind : List ℕ) → is_ended line ≡ true → lines_
 first_ended [] behind h = absurd (grind (arith, h))
 first_ended (b ∷ bs) behind h = first_byte b bs behind (b == 10) refl h (first_ended bs behind)
 
-pub lines_ended : (lines : List (List ℕ)) (behind : List ℕ) → list_all is_ended lines ≡ true → lines_of (concat lines ++ behind) ≡ lines ++ lines_of behind
+pub lines_ended : (lines : List (List ℕ)) (behind : List ℕ) → list_all is_ended lines ≡ true
+    → lines_of (concat lines ++ behind) ≡ lines ++ lines_of behind
 lines_ended [] behind h = refl
 lines_ended (line ∷ lines) behind h =
     let each = and_parts (is_ended line) (list_all is_ended lines) h in
-    rw (append_assoc line (concat lines) behind, first_ended line (concat lines ++ behind) each.0, lines_ended lines behind each.1) refl
+    rw (
+      append_assoc line (concat lines) behind,
+      first_ended line (concat lines ++ behind) each.0,
+      lines_ended lines behind each.1,
+    ) refl
 
 -- a content with an end behind it
 
 abbrev pub end_as : Bool → List ℕ
 end_as returns = if returns then crlf else lf
 
-lf_byte : (b : ℕ) (bs : List ℕ) (k : Bool) → (b == 10) ≡ k → has_line_feed (b ∷ bs) ≡ false → is_ended (bs ++ lf) ≡ true → is_ended (b ∷ (bs ++ lf)) ≡ true
+lf_byte : (b : ℕ) (bs : List ℕ) (k : Bool) → (b == 10) ≡ k → has_line_feed (b ∷ bs) ≡ false
+    → is_ended (bs ++ lf) ≡ true → is_ended (b ∷ (bs ++ lf)) ≡ true
 lf_byte b bs true e h more = absurd (grind (arith, common_steps, rw e at h))
 lf_byte b bs false e h more = rw e more
 
@@ -47,8 +54,10 @@ return_no_feed (b ∷ bs) h =
     let each = or_parts (b == 10) (has_line_feed bs) h in
     rw (each.0, return_no_feed bs each.1) refl
 
-pub ends : (content : List ℕ) (returns : Bool) → has_line_feed content ≡ false → is_ended (content ++ end_as returns) ≡ true
-ends content true h = rw (sym (append_assoc content (13 ∷ []) (10 ∷ []))) (lf_ends (content ++ 13 ∷ []) (return_no_feed content h))
+pub ends : (content : List ℕ) (returns : Bool) → has_line_feed content ≡ false
+    → is_ended (content ++ end_as returns) ≡ true
+ends content true h = rw (sym (append_assoc content (13 ∷ []) (10 ∷ [])))
+    (lf_ends (content ++ 13 ∷ []) (return_no_feed content h))
 ends content false h = lf_ends content h
 
 pub end_ended : (returns : Bool) → is_ended (end_as returns) ≡ true
@@ -92,25 +101,31 @@ others : (line : List ℕ) (lines : List (List ℕ)) → are_ended (line ∷ lin
 others line [] h = refl
 others line (next ∷ lines) h = (and_parts (is_ended line) (are_ended (next ∷ lines)) h).1
 
-closing_line : (line : List ℕ) (lines : List (List ℕ)) (k : Bool) → is_terminator (content_of line) ≡ k → are_ended (line ∷ lines) ≡ true → are_ended (closing_lines lines) ≡ true →
+closing_line : (line : List ℕ) (lines : List (List ℕ)) (k : Bool) → is_terminator (content_of line) ≡ k
+    → are_ended (line ∷ lines) ≡ true → are_ended (closing_lines lines) ≡ true →
     are_ended (closing_lines (line ∷ lines)) ≡ true
 closing_line line lines true e h more = rw e h
 closing_line line lines false e h more = rw e more
 
 pub closing_ended : (lines : List (List ℕ)) → are_ended lines ≡ true → are_ended (closing_lines lines) ≡ true
 closing_ended [] h = refl
-closing_ended (line ∷ lines) h = closing_line line lines (is_terminator (content_of line)) refl h (closing_ended lines (others line lines h))
+closing_ended (line ∷ lines) h = closing_line line lines (is_terminator (content_of line)) refl h
+    (closing_ended lines (others line lines h))
 
-before_ended : (line : List ℕ) (lines : List (List ℕ)) → is_ended line ≡ true → are_ended lines ≡ true → are_ended (line ∷ lines) ≡ true
+before_ended : (line : List ℕ) (lines : List (List ℕ)) → is_ended line ≡ true → are_ended lines ≡ true
+    → are_ended (line ∷ lines) ≡ true
 before_ended line [] e h = rw e refl
 before_ended line (next ∷ lines) e h = rw e h
 
-body_line : (line : List ℕ) (lines : List (List ℕ)) (k : Bool) → is_terminator (content_of line) ≡ k → are_ended (line ∷ lines) ≡ true → are_ended (body_lines lines) ≡ true →
+body_line : (line : List ℕ) (lines : List (List ℕ)) (k : Bool) → is_terminator (content_of line) ≡ k
+    → are_ended (line ∷ lines) ≡ true → are_ended (body_lines lines) ≡ true →
     are_ended (body_lines (line ∷ lines)) ≡ true
 body_line line lines true e h more = rw e refl
 body_line line [] false e h more = rw e h
-body_line line (next ∷ lines) false e h more = rw e (before_ended line (body_lines (next ∷ lines)) (and_parts (is_ended line) (are_ended (next ∷ lines)) h).0 more)
+body_line line (next ∷ lines) false e h more =
+    rw e (before_ended line (body_lines (next ∷ lines)) (and_parts (is_ended line) (are_ended (next ∷ lines)) h).0 more)
 
 pub body_ended : (lines : List (List ℕ)) → are_ended lines ≡ true → are_ended (body_lines lines) ≡ true
 body_ended [] h = refl
-body_ended (line ∷ lines) h = body_line line lines (is_terminator (content_of line)) refl h (body_ended lines (others line lines h))
+body_ended (line ∷ lines) h = body_line line lines (is_terminator (content_of line)) refl h
+    (body_ended lines (others line lines h))
