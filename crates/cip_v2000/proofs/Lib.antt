@@ -1,4 +1,5 @@
 pub mod InOrder
+pub mod LineCauses
+pub mod PairFaults
 pub mod PropertyBlock
-pub mod Rows
 pub mod Settling

@@ -1,23 +1,19 @@
 -- An atom line of a molfile. CTfile Formats; where a mass difference states nothing is own.
-use Rattle.std.specs.Prelude.{◌≤◌, ℕ, zero, suc, ℤ, pos, negsuc, List, ◌+◌, ◌-◌, ◌==◌, Some, None, Result, Ok, Err, if◌then◌else◌}
+use Rattle.std.specs.Prelude.{◌≤◌, ℕ, zero, suc, ℤ, pos, negsuc, List, ◌+◌, ◌-◌, ◌==◌, Some, None, Result, Ok, if◌then◌else◌}
 use Rattle.std.specs.declared.option.Option.{Option}
 use Rattle.std.specs.Option.{ok_or}
 use Rattle.cip_text.specs.Columns.{field}
 use Rattle.cip_text.specs.Numbers.{decimal4_of}
-use Rattle.cip_text.specs.declared.numbers.NumberFault.{NumberFault}
 use Rattle.cip_elem.specs.Symbols.{element_of}
 use Rattle.cip_elem.specs.Masses.{reference_mass_of}
 use Rattle.cip_elem.specs.declared.symbols.Element.{Element}
 use Rattle.cip_mol.specs.Ranges.{IsAtom}
 use Rattle.cip_mol.specs.declared.refusal.ReadCause.{ReadCause}
-use Rattle.cip_mol.specs.declared.refusal.ReadCause.TheVariants.{Coordinate, Symbol, AtomField}
+use Rattle.cip_mol.specs.declared.refusal.ReadCause.TheVariants.{Symbol, AtomField}
 use Rattle.cip_v2000.specs.declared.atoms.AtomLine.{AtomLine}
-use Rattle.cip_v2000.specs.Fields.{number_in, signed_in}
-use Rattle.cip_v2000.specs.Reading.{◌>>=◌}
-
-abbrev pub coordinate : Result ℤ NumberFault → Result ℤ ReadCause
-coordinate (Ok number) = Ok number
-coordinate (Err _) = Err Coordinate
+use Rattle.cip_reading.specs.Causes.{coordinate}
+use Rattle.cip_reading.specs.Fields.{number_in, signed_in}
+use Rattle.cip_reading.specs.Reading.{◌>>=◌}
 
 -- a mass difference states nothing where it is 0, where no reference mass is known, and below a mass of 1
 abbrev pub mass_from : Option ℕ → ℤ → ℕ

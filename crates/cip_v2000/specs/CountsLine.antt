@@ -1,16 +1,14 @@
 -- The counts line of a molfile. CTfile Formats; that the version is looked at first is own.
-use Rattle.std.specs.Prelude.{ℕ, List, Bool, Result, Ok, Err, if◌then◌else◌}
+use Rattle.std.specs.Prelude.{ℕ, List, Result, Ok}
 use Rattle.std.specs.Option.{ok_or}
 use Rattle.cip_text.specs.Columns.{field}
 use Rattle.cip_mol.specs.declared.refusal.ReadCause.{ReadCause}
 use Rattle.cip_mol.specs.declared.refusal.ReadCause.TheVariants.{Version, Counts}
 use Rattle.cip_v2000.specs.declared.counts.CountsLine.{CountsLine}
-use Rattle.cip_v2000.specs.Fields.{number_in}
-use Rattle.cip_v2000.specs.Reading.{◌>>=◌}
+use Rattle.cip_reading.specs.Causes.{guard}
+use Rattle.cip_reading.specs.Fields.{number_in}
+use Rattle.cip_reading.specs.Reading.{◌>>=◌}
 use Rattle.cip_v2000.specs.Version.{is_v2000}
-
-abbrev pub guard : ReadCause → Bool → Result (Unit {0}) ReadCause
-guard cause test = if test then Ok tt else Err cause
 
 unfoldable pub counts_of : List ℕ → Result CountsLine ReadCause
 counts_of line = do

@@ -12,7 +12,7 @@ use Rattle.cip_v2000.specs.AtomLine.{atom_of}
 use Rattle.cip_v2000.specs.BondLine.{bond_of}
 use Rattle.cip_v2000.specs.CountsLine.{counts_of}
 use Rattle.cip_v2000.specs.PropertyLines.{pairs_with}
-use Rattle.cip_v2000.specs.Reading.{◌>>=◌, read_at, in_turn}
+use Rattle.cip_reading.specs.Reading.{◌>>=◌, read_at, in_turn}
 use Rattle.cip_v2000.specs.Statements.{settled}
 
 -- a row of the atom block, which follows four lines

@@ -1,5 +1,5 @@
--- What is stated last of an atom, and what the atom is by it. CTfile Formats; that a later statement replaces an earlier
--- one is own.
+-- What is stated last of an atom, and what the atom is by it. CTfile Formats; that a later statement replaces an
+-- earlier one is own.
 use Rattle.std.specs.Prelude.{◌≡◌, ℕ, ℤ, pos, List, [], ◌∷◌, ◌==◌, Some, None, slice_get, if◌then◌else◌}
 use Rattle.std.specs.declared.option.Option.{Option}
 use Rattle.std.specs.Option.{option_map, option_or, unwrap_or}
@@ -28,7 +28,8 @@ isotope_in (Isotope n) = Some n
 -- the last statement of a kind on the atom at a place
 abbrev pub last_of : {A : Type 0} → (Statement → Option A) → ℕ → List Pair → Option A
 last_of kind place [] = None
-last_of kind place (pair ∷ pairs) = option_or (last_of kind place pairs) (if pair.atom == place then kind pair.states else None)
+last_of kind place (pair ∷ pairs) =
+    option_or (last_of kind place pairs) (if pair.atom == place then kind pair.states else None)
 
 -- What is stated last of an atom holds. Where nothing is, the atom is as its line has it, but for the charge and the
 -- radical where charges are stated of any atom, and but for a mass difference where isotopes are.
@@ -36,9 +37,11 @@ abbrev pub settled_atom : List Pair → ℕ → AtomLine → Atom
 settled_atom pairs place line = record line.atom {
   charge = unwrap_or (last_of charge_in place pairs) (if state_charges pairs then pos 0 else line.atom.charge);
   radical = unwrap_or (last_of radical_in place pairs) (if state_charges pairs then 0 else line.atom.radical);
-  isotope = unwrap_or (last_of isotope_in place pairs) (if state_isotopes pairs then line.symbol_isotope else line.atom.isotope);
+  isotope = unwrap_or (last_of isotope_in place pairs)
+      (if state_isotopes pairs then line.symbol_isotope else line.atom.isotope);
 }
 
 abbrev pub AtomsAreSettled : Type 0
 AtomsAreSettled =
-    (pairs : List Pair) (lines : List AtomLine) (place : ℕ) → slice_get (settled pairs lines) place ≡ option_map (settled_atom pairs place) (slice_get lines place)
+    (pairs : List Pair) (lines : List AtomLine) (place : ℕ) →
+    slice_get (settled pairs lines) place ≡ option_map (settled_atom pairs place) (slice_get lines place)

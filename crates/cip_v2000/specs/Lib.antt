@@ -1,12 +1,9 @@
 pub mod AtomLine
 pub mod BondLine
 pub mod CountsLine
-pub mod Fields
 pub mod Grammar
 pub mod LastStatements
-pub mod Laws
 pub mod PropertyLines
-pub mod Reading
 pub mod Statements
 pub mod Version
 pub mod Worked

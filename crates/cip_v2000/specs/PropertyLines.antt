@@ -11,8 +11,8 @@ use Rattle.cip_v2000.specs.declared.properties.Property.TheVariants as property
 use Rattle.cip_v2000.specs.declared.statements.Statement.{Statement}
 use Rattle.cip_v2000.specs.declared.statements.Statement.TheVariants.{Charge, Radical, Isotope}
 use Rattle.cip_v2000.specs.declared.statements.Pair.{Pair}
-use Rattle.cip_v2000.specs.Fields.{number_in, signed_in, place_named}
-use Rattle.cip_v2000.specs.Reading.{◌>>=◌, in_turn}
+use Rattle.cip_reading.specs.Fields.{number_in, signed_in, place_named}
+use Rattle.cip_reading.specs.Reading.{◌>>=◌, in_turn}
 
 -- what stands between spaces
 unfoldable pub words_of : List ℕ → List (List ℕ)
@@ -65,7 +65,8 @@ counted_pairs fault property atoms before (count ∷ words) = do
 
 abbrev pub pairs_stated : ReadFault → Option Property → ℕ → List Pair → List ℕ → Result (List Pair) ReadFault
 pairs_stated fault None atoms before line = Ok before
-pairs_stated fault (Some property) atoms before line = counted_pairs fault property atoms before (words_of (drop 6 line))
+pairs_stated fault (Some property) atoms before line =
+    counted_pairs fault property atoms before (words_of (drop 6 line))
 
 -- the pairs of a line behind those before them; a line that states something else is passed over
 unfoldable pub pairs_with : ReadFault → ℕ → List Pair → List ℕ → Result (List Pair) ReadFault

@@ -1,4 +1,5 @@
--- The version of a molfile, in columns 34 to 39 of its fourth line. CTfile Formats; that an empty version is V2000 is own.
+-- The version of a molfile, in columns 34 to 39 of its fourth line. CTfile Formats; that an empty version is V2000
+-- is own.
 use Rattle.std.specs.Prelude.{ℕ, List, length, slice_get, codes, Bool, false, ◌==◌, ◌||◌, Some, None}
 use Rattle.std.specs.declared.option.Option.{Option}
 use Rattle.std.specs.Str.{bytes_eq}

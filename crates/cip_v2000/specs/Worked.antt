@@ -1,13 +1,13 @@
 -- Worked records, on which the grammar is tried: bromochlorofluoromethane with a line changed, a bond of a type that is
--- refused, and charges that property lines drop. Own.
-use Rattle.std.specs.Prelude.{◌≡◌, ℕ, ℤ, pos, negsuc, List, [], ◌∷◌, ◌++◌, ◌-◌, false, codes, slice_set, take, map, Result, Ok, Err}
+-- refused, an atom with too many bonds, and charges that property lines drop. Own.
+use Rattle.std.specs.Prelude.{◌≡◌, ℕ, ℤ, pos, negsuc, List, [], ◌∷◌, ◌++◌, ◌-◌, false, codes, slice_set, take, replicate, map, Result, Ok, Err}
 use Rattle.cip_mol.specs.Drawing.{Drawing}
 use Rattle.cip_mol.specs.declared.molecule.Atom.{Atom}
 use Rattle.cip_mol.specs.declared.molecule.Bond.{Bond}
 use Rattle.cip_mol.specs.declared.molecule.Mark.{Mark}
 use Rattle.cip_mol.specs.declared.molecule.Mark.TheVariants.{Plain, Up}
 use Rattle.cip_mol.specs.declared.refusal.ReadCause.{ReadCause}
-use Rattle.cip_mol.specs.declared.refusal.ReadCause.TheVariants.{Short, Version, Coordinate, Symbol, AtomField, BondEnd, BondType, BondMark, BondLoop, BondDoubled, Property}
+use Rattle.cip_mol.specs.declared.refusal.ReadCause.TheVariants.{Short, Version, Coordinate, Symbol, AtomField, BondEnd, BondType, BondMark, BondLoop, BondDoubled, Degree, Property}
 use Rattle.cip_mol.specs.declared.refusal.ReadFault.{ReadFault}
 use Rattle.cip_v2000.specs.Grammar.{molecule_of}
 use Rattle.cip_v2000.specs.Version.{is_v3000}
@@ -25,7 +25,14 @@ bromochlorofluoromethane =
     ∷ codes "M  END" ∷ []
 
 abbrev pub atom : ℕ → ℤ → ℤ → Atom
-atom z x y = record { z = z; isotope = 0; charge = pos 0; radical = 0; valence_mark = 0; at = record { x = x; y = y; z = pos 0 } }
+atom z x y = record {
+  z = z;
+  isotope = 0;
+  charge = pos 0;
+  radical = 0;
+  valence_mark = 0;
+  at = record { x = x; y = y; z = pos 0 };
+}
 
 abbrev pub bond : ℕ → Mark → Bond
 bond other mark = record { a = 0; b = other; order = 1; mark = mark }
@@ -47,9 +54,12 @@ refused number cause = Err (record { line = number; cause = cause })
 
 pub record AreRefused : Type 0 where
   pub version : with_line 4 (codes "  5  4  0  0  0  0  0  0  0  0999 V4000") ≡ refused 4 Version
-  pub symbol : with_line 6 (codes "    0.0000    1.0000    0.0000 Q   0  0  0  0  0  0  0  0  0  0  0  0") ≡ refused 6 Symbol
-  pub coordinate : with_line 7 (codes "50000.0001    0.0000    0.0000 Cl  0  0  0  0  0  0  0  0  0  0  0  0") ≡ refused 7 Coordinate
-  pub charge_code : with_line 7 (codes "    1.0000    0.0000    0.0000 Cl  0  8  0  0  0  0  0  0  0  0  0  0") ≡ refused 7 AtomField
+  pub symbol :
+      with_line 6 (codes "    0.0000    1.0000    0.0000 Q   0  0  0  0  0  0  0  0  0  0  0  0") ≡ refused 6 Symbol
+  pub coordinate :
+      with_line 7 (codes "50000.0001    0.0000    0.0000 Cl  0  0  0  0  0  0  0  0  0  0  0  0") ≡ refused 7 Coordinate
+  pub charge_code :
+      with_line 7 (codes "    1.0000    0.0000    0.0000 Cl  0  8  0  0  0  0  0  0  0  0  0  0") ≡ refused 7 AtomField
   pub end : with_line 12 (codes "  1  6  1  1") ≡ refused 12 BondEnd
   pub loop : with_line 12 (codes "  1  1  1  1") ≡ refused 12 BondLoop
   pub doubled : with_line 12 (codes "  2  1  1  1") ≡ refused 12 BondDoubled
@@ -67,6 +77,16 @@ aromatic_bond =
     ∷ codes "    1.0000    0.0000    0.0000 C   0  0  0  0  0  0  0  0  0  0  0  0"
     ∷ codes "  1  2  4  0"
     ∷ codes "M  END" ∷ []
+
+-- nine bonds from one carbon atom to others
+abbrev pub star : List (List ℕ)
+star =
+    codes "star" ∷ [] ∷ []
+    ∷ codes " 10  9"
+    ∷ (replicate 10 (codes "    0.0000    0.0000    0.0000 C")
+    ++ codes "  1  2  1" ∷ codes "  1  3  1" ∷ codes "  1  4  1" ∷ codes "  1  5  1" ∷ codes "  1  6  1"
+    ∷ codes "  1  7  1" ∷ codes "  1  8  1" ∷ codes "  1  9  1" ∷ codes "  1 10  1"
+    ∷ codes "M  END" ∷ [])
 
 -- three atoms, the first one N+ by its charge code, the second one O by its mass difference 18, the third one D
 abbrev pub stating : List (List ℕ) → List (List ℕ)
@@ -90,6 +110,7 @@ pub record AreRead : Type 0 where
   pub whole : molecule_of bromochlorofluoromethane ≡ Ok drawn
   pub refusals : AreRefused
   pub bond_type : molecule_of aromatic_bond ≡ refused 7 BondType
+  pub degree : molecule_of star ≡ refused 23 Degree
   -- fields alone
   pub fields : States [] (0, pos 1) (18, pos 0) (2, pos 0)
   -- a line of charges or radicals drops all charges of fields
@@ -99,5 +120,6 @@ pub record AreRead : Type 0 where
   pub isotopes : States (codes "M  ISO  1   1  15" ∷ []) (15, pos 1) (0, pos 0) (2, pos 0)
   pub deuterium : States (codes "M  ISO  1   3   0" ∷ []) (0, pos 1) (0, pos 0) (0, pos 0)
   -- a later pair replaces an earlier one
-  pub later : States (codes "M  CHG  2   1   1   1   2" ∷ codes "M  CHG  1   1   3" ∷ []) (0, pos 3) (18, pos 0) (2, pos 0)
+  pub later :
+      States (codes "M  CHG  2   1   1   1   2" ∷ codes "M  CHG  1   1   3" ∷ []) (0, pos 3) (18, pos 0) (2, pos 0)
   pub versions : is_v3000 bromochlorofluoromethane ≡ false

@@ -1,14 +1,13 @@
 // Atom lines.
 ghost use Rattle.std.specs.Prelude.{◌≡◌, ◌≤◌, unsigned_abs, IfOk};
-ghost use Rattle.cip_text.specs.Numbers.{decimal4_of};
 ghost use Rattle.cip_elem.specs.Symbols.{IsElement};
-ghost use Rattle.cip_v2000.specs.AtomLine.{coordinate, isotope_of, charge_of, radical_of, atom_of, IsAtomLine};
+ghost use Rattle.cip_v2000.specs.AtomLine.{isotope_of, charge_of, radical_of, atom_of, IsAtomLine};
 
-use crate::fields::{number, signed};
 use cip_elem::{Element, number_of, reference_mass};
 use cip_mol::{Atom, ReadCause};
 use cip_num::Vec3;
-use cip_text::{columns, decimal4};
+use cip_reading::{coordinate, number, signed};
+use cip_text::columns;
 
 /// An atom, and the isotope that its symbol states: 0 where it states none.
 #[derive(Clone, Copy)]
@@ -42,16 +41,6 @@ pub fn atom_in(line: &[u8]) -> Result<AtomLine, ReadCause>
         atom,
         symbol_isotope: element.isotope,
     })
-}
-
-fn coordinate(field: &[u8]) -> Result<i64, ReadCause>
-    ensures value { result ≡ coordinate (decimal4_of field.now) }
-    ensures small { IfOk result (λ number. unsigned_abs number ≤ 500000000) }
-{
-    match decimal4(field) {
-        Ok(number) => Ok(number),
-        Err(_) => Err(ReadCause::Coordinate),
-    }
 }
 
 // The isotope of an element with a mass difference.

@@ -2,12 +2,12 @@
 ghost use Rattle.std.specs.Prelude.{◌≡◌, ◌≤◌, ◌<◌, ◌+◌, ◌^◌, ◌-◌, [], All, length, IfOk};
 ghost use Rattle.cip_text.specs.Slices.{texts};
 ghost use Rattle.cip_mol.specs.Ranges.{IsBond};
-ghost use Rattle.cip_mol.specs.declared.refusal.ReadCause.TheVariants.{Short};
 ghost use Rattle.cip_v2000.specs.AtomLine.{atom_of, IsAtomLine};
-ghost use Rattle.cip_v2000.specs.BondLine.{bond_of, IsFree};
+ghost use Rattle.cip_v2000.specs.BondLine.{bond_of};
 ghost use Rattle.cip_v2000.specs.CountsLine.{counts_of};
 ghost use Rattle.cip_v2000.specs.Grammar.{atom_row, bond_row, pairs_behind};
-ghost use Rattle.cip_v2000.specs.Reading.{numbered, read_at, in_turn, Gives};
+ghost use Rattle.cip_reading.specs.Causes.{IsFree};
+ghost use Rattle.cip_reading.specs.Reading.{read_at, in_turn, Gives};
 ghost use Rattle.cip_v2000.specs.Statements.{IsPair};
 
 use crate::atoms::{AtomLine, atom_in};
@@ -16,11 +16,12 @@ use crate::counts::{CountsLine, counts_in};
 use crate::properties::push_stated;
 use crate::statements::Pair;
 use cip_mol::{Bond, BondList, ReadCause, ReadFault, ReadRefusal};
+use cip_reading::{numbered, short};
 use cip_text::is_molecule_end;
 use std::alloc::Global;
 
 /// Reads the counts line.
-#[tactic(auto, unfolding(crate::specs::Reading::read_at))]
+#[tactic(auto, unfolding(cip_reading::specs::Reading::read_at))]
 pub fn counts_line(lines: &[&[u8]]) -> Result<CountsLine, ReadFault>
     requires { length lines.now < 2 ^ 32 - 1 }
     ensures value { result ≡ read_at (texts lines.now) 3 counts_of }
@@ -107,7 +108,7 @@ pub fn property_block(
     Err(ReadRefusal::Fault(short(lines)))
 }
 
-#[tactic(auto, unfolding(crate::specs::Reading::read_at))]
+#[tactic(auto, unfolding(cip_reading::specs::Reading::read_at))]
 fn atom_line(lines: &[&[u8]], place: usize) -> Result<AtomLine, ReadFault>
     requires { length lines.now < 2 ^ 32 - 1 }
     ensures value { result ≡ read_at (texts lines.now) place atom_of }
@@ -120,7 +121,7 @@ fn atom_line(lines: &[&[u8]], place: usize) -> Result<AtomLine, ReadFault>
     }
 }
 
-#[tactic(auto, unfolding(crate::specs::Reading::read_at))]
+#[tactic(auto, unfolding(cip_reading::specs::Reading::read_at))]
 fn bond_line(
     lines: &[&[u8]],
     place: usize,
@@ -138,29 +139,5 @@ fn bond_line(
     match lines.get(place) {
         None => Err(short(lines)),
         Some(line) => numbered(place as u32 + 1, bond_in(atoms, before, line)),
-    }
-}
-
-// What was read of a line, with the line's number in its fault.
-fn numbered<T: Drop>(number: u32, read: Result<T, ReadCause>) -> Result<T, ReadFault>
-    ensures { result ≡ numbered number read }
-{
-    match read {
-        Ok(row) => Ok(row),
-        Err(cause) => Err(ReadFault {
-            line: number,
-            cause,
-        }),
-    }
-}
-
-// The fault of a line that is due and missing.
-fn short(lines: &[&[u8]]) -> ReadFault
-    requires { length lines.now < 2 ^ 32 - 1 }
-    ensures { result ≡ record { line = length lines.now + 1; cause = Short } }
-{
-    ReadFault {
-        line: lines.len() as u32 + 1,
-        cause: ReadCause::Short,
     }
 }

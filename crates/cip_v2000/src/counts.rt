@@ -2,9 +2,9 @@
 ghost use Rattle.std.specs.Prelude.{◌≡◌, ◌≤◌, IfOk};
 ghost use Rattle.cip_v2000.specs.CountsLine.{counts_of};
 
-use crate::fields::number;
 use crate::version::is_v2000;
 use cip_mol::ReadCause;
+use cip_reading::number;
 use cip_text::columns;
 
 /// How many atoms and bonds follow.

@@ -1,12 +1,13 @@
 // What the grammar keeps.
+ghost use Rattle.std.specs.Prelude.{◌≡◌};
+ghost use Rattle.cip_reading.specs.Laws.{IsDecidedInOrder};
 ghost use Rattle.cip_v2000.specs.Grammar.{molecule_of};
 ghost use Rattle.cip_v2000.specs.LastStatements.{AtomsAreSettled};
-ghost use Rattle.cip_v2000.specs.Laws.{IsDecidedInOrder};
 ghost use Rattle.cip_v2000.specs.Worked.{AreRead};
 
-/// The lines of a molfile decide in order: what follows the line that decides changes nothing.
+/// The first line with a cause decides: no line before it has one, and what follows it changes nothing.
 pub fn lines_decide_in_order()
-    ensures { IsDecidedInOrder molecule_of }
+    ensures { IsDecidedInOrder (λ lines line decisive. line ≡ decisive) molecule_of }
 {}
 
 /// What property lines state last of an atom holds, and they drop what the atom block says of its kind.

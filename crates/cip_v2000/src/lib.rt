@@ -5,7 +5,6 @@ mod atoms;
 mod blocks;
 mod bonds;
 mod counts;
-mod fields;
 mod laws;
 mod properties;
 mod reading;

@@ -2,12 +2,12 @@
 ghost use Rattle.std.specs.Prelude.{◌≡◌, ◌≤◌, [], All, length, IfOk, IfSome, OnOk};
 ghost use Rattle.cip_text.specs.Slices.{texts};
 ghost use Rattle.cip_v2000.specs.PropertyLines.{words_of, property_of, statement_of, pair_of, pair_at, pair_row, pairs_of, pairs_with};
-ghost use Rattle.cip_v2000.specs.Reading.{Gives};
+ghost use Rattle.cip_reading.specs.Reading.{Gives};
 ghost use Rattle.cip_v2000.specs.Statements.{IsStatement, IsPair};
 
-use crate::fields::{number, place_named, signed};
 use crate::statements::{Pair, Statement};
 use cip_mol::{ReadFault, ReadRefusal};
+use cip_reading::{number, place_named, signed};
 use std::alloc::{AllocError, Global};
 
 /// What a property line states.
@@ -85,7 +85,8 @@ fn push_pairs(
     requires count { count ≤ 8 }
     requires range { All IsPair pairs.old.items }
     ensures range { OnOk result (All IsPair pairs.new.items) }
-    ensures value { Gives (λ _. pairs.new.items) result (pairs_of fault property atoms pairs.old.items count (texts words.now)) }
+    ensures value { Gives (λ _. pairs.new.items) result
+        (pairs_of fault property atoms pairs.old.items count (texts words.now)) }
 {
     for row in 0..count as usize {
         let pair = pair_row(fault, property, atoms, words, row)?;

@@ -3,7 +3,7 @@ ghost use Rattle.std.specs.Prelude.{◌≡◌, ◌<◌, ◌^◌, ◌-◌, false,
 ghost use Rattle.cip_text.specs.Bodies.{body_contents};
 ghost use Rattle.cip_text.specs.Slices.{texts};
 ghost use Rattle.cip_v2000.specs.Grammar.{molecule_of};
-ghost use Rattle.cip_v2000.specs.Reading.{Gives};
+ghost use Rattle.cip_reading.specs.Reading.{Gives};
 ghost use Rattle.cip_v2000.specs.Version.{is_v3000};
 
 use crate::blocks::{atom_block, bond_block, counts_line, property_block};

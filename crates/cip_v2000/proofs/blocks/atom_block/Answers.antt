@@ -4,21 +4,25 @@ use Rattle.std.proofs.lemmas.Result.{err_from_is_err_and}
 use Rattle.cip_text.specs.Slices.{texts}
 use Rattle.cip_v2000.specs.AtomLine.{IsAtomLine}
 use Rattle.cip_v2000.specs.Grammar.{atom_row}
-use Rattle.cip_v2000.proofs.Rows.{row_read, row_refused, rows_read, length-push}
+use Rattle.cip_reading.proofs.Rows.{row_read, row_refused, rows_read, length-push}
 use Rattle.cip_v2000.proofs.blocks.atom_block.Goals as goal
 
 pub returns-in_err-atom-clause-value : goal.returns-in_err-atom-clause-value
 returns-in_err-atom-clause-value c =
     let refused = err_from_is_err_and c.from_residual.result c.from_residual.ensures.1 in
-    rw (refused.1, refused.2) (row_refused (atom_row (texts c.args.lines.now)) _ _ _ _ _ c.loop-row-test.true c.in_err-atom.ensures.value c.loop-row.invariant.so_far)
+    rw (refused.1, refused.2)
+    (row_refused (atom_row (texts c.args.lines.now)) _ _ _ _ _ c.loop-row-test.true c.in_err-atom.ensures.value
+    c.loop-row.invariant.so_far)
 
 pub loop-row-preserved : goal.loop-row-preserved
 loop-row-preserved c = rw c.in_ok-push.ensures.items (record {
-  so_far = row_read (atom_row (texts c.args.lines.now)) _ _ _ _ _ c.loop-row-test.true c.in_ok-atom.ensures.value c.loop-row.invariant.so_far;
+  so_far = row_read (atom_row (texts c.args.lines.now)) _ _ _ _ _ c.loop-row-test.true c.in_ok-atom.ensures.value
+      c.loop-row.invariant.so_far;
   there = omega (arith, c.in_ok-atom.ensures.there);
   counted = length-push _ _ _ c.loop-row.invariant.counted;
   range = All-push IsAtomLine _ _ c.loop-row.invariant.range c.in_ok-atom.ensures.range;
 })
 
 pub returns-clause-value : goal.returns-clause-value
-returns-clause-value c = rows_read (atom_row (texts c.args.lines.now)) _ _ _ _ c.loop-row-test.false c.loop-row.invariant.so_far
+returns-clause-value c = rows_read (atom_row (texts c.args.lines.now)) _ _ _ _ c.loop-row-test.false
+    c.loop-row.invariant.so_far

@@ -2,12 +2,13 @@ use Rattle.std.proofs.Common.{◌≡◌, ◌≤◌, ◌+◌, ◌-◌, [], length
 use Rattle.cip_text.specs.Slices.{texts}
 use Rattle.cip_v2000.specs.AtomLine.{IsAtomLine}
 use Rattle.cip_v2000.specs.Grammar.{atom_row}
-use Rattle.cip_v2000.specs.Reading.{in_turn}
+use Rattle.cip_reading.specs.Reading.{in_turn}
 use Rattle.cip_v2000.proofs.blocks.atom_block.Given as goal
 
 abbrev pub invariant-loop-row : goal.invariant-loop-row
 invariant-loop-row l = record {
-  so_far : in_turn (atom_row (texts l.lines)) l.atoms.items (l.count - l.row) l.row ≡ in_turn (atom_row (texts l.lines)) [] l.count 0;
+  so_far : in_turn (atom_row (texts l.lines)) l.atoms.items (l.count - l.row) l.row
+      ≡ in_turn (atom_row (texts l.lines)) [] l.count 0;
   there : 4 + l.row ≤ length l.lines;
   counted : length l.atoms.items ≡ l.row;
   range : All IsAtomLine l.atoms.items;

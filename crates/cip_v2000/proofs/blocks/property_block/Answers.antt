@@ -6,19 +6,32 @@ use Rattle.cip_v2000.proofs.PropertyBlock.{pairs_end, pairs_refused, pairs_more,
 use Rattle.cip_v2000.proofs.blocks.property_block.Goals as goal
 
 pub returns-then-is_molecule_end-clause-value : goal.returns-then-is_molecule_end-clause-value
-returns-then-is_molecule_end-clause-value c = pairs_end _ _ _ _ c.args.lines.now c.loop-place.place _ _ c.loop-place-test.true (sym c.is_molecule_end.ensures ∙ c.if-is_molecule_end.true) c.loop-place.invariant.so_far
+returns-then-is_molecule_end-clause-value c =
+    pairs_end _ _ _ _ c.args.lines.now c.loop-place.place _ _ c.loop-place-test.true
+    (sym c.is_molecule_end.ensures ∙ c.if-is_molecule_end.true) c.loop-place.invariant.so_far
 
 pub returns-in_err-push_stated-clause-value : goal.returns-in_err-push_stated-clause-value
 returns-in_err-push_stated-clause-value c =
     let refused = err_from_is_err_and c.from_residual.result c.from_residual.ensures.1 in
-    rw (refused.1, refused.2) (pairs_refused (length (texts c.args.lines.now) + 1) c.args.atoms c.loop-place.pairs.items c.loop-place.place c.args.lines.now _ c.in_err-push_stated.field-0.0 _ c.loop-place-test.true (sym c.is_molecule_end.ensures ∙ c.if-is_molecule_end.false) c.in_err-push_stated.ensures.value c.loop-place.invariant.so_far)
+    rw (refused.1, refused.2)
+    (pairs_refused (length (texts c.args.lines.now) + 1) c.args.atoms c.loop-place.pairs.items c.loop-place.place
+    c.args.lines.now _ c.in_err-push_stated.field-0.0 _ c.loop-place-test.true
+    (sym c.is_molecule_end.ensures ∙ c.if-is_molecule_end.false) c.in_err-push_stated.ensures.value
+    c.loop-place.invariant.so_far)
 
 pub loop-place-preserved : goal.loop-place-preserved
 loop-place-preserved c = record {
-  so_far = pairs_more (length (texts c.args.lines.now) + 1) c.args.atoms c.loop-place.pairs.items _ c.loop-place.place c.args.lines.now _ _ c.loop-place-test.true (sym c.is_molecule_end.ensures ∙ c.if-is_molecule_end.false) c.in_ok-push_stated.ensures.value c.loop-place.invariant.so_far;
+  so_far = pairs_more (length (texts c.args.lines.now) + 1) c.args.atoms c.loop-place.pairs.items _ c.loop-place.place
+      c.args.lines.now _ _ c.loop-place-test.true
+      (sym c.is_molecule_end.ensures ∙ c.if-is_molecule_end.false) c.in_ok-push_stated.ensures.value
+      c.loop-place.invariant.so_far;
   within = omega (arith, c.loop-place-test.true);
   range = c.in_ok-push_stated.ensures.range;
 }
 
 pub returns-clause-value : goal.returns-clause-value
-returns-clause-value c = rw c.short.ensures (pairs_short (length (texts c.args.lines.now) + 1) c.args.atoms c.loop-place.pairs.items c.loop-place.place c.args.lines.now _ c.loop-place-test.false (ap (λ n. n + 1) (length-map c.args.lines.now (λ line. line.now))) c.loop-place.invariant.so_far)
+returns-clause-value c =
+    rw c.short.ensures
+    (pairs_short (length (texts c.args.lines.now) + 1) c.args.atoms c.loop-place.pairs.items c.loop-place.place
+    c.args.lines.now _ c.loop-place-test.false
+    (ap (λ n. n + 1) (length-map c.args.lines.now (λ line. line.now))) c.loop-place.invariant.so_far)

@@ -6,7 +6,8 @@ use Rattle.cip_v2000.proofs.blocks.property_block.Given as goal
 
 abbrev pub invariant-loop-place : goal.invariant-loop-place
 invariant-loop-place l = record {
-  so_far : pairs_from (length (texts l.lines) + 1) l.atoms l.pairs.items (l.place + 1) (drop l.place (texts l.lines)) ≡ pairs_behind l.atoms l.before (texts l.lines);
+  so_far : pairs_from (length (texts l.lines) + 1) l.atoms l.pairs.items (l.place + 1) (drop l.place (texts l.lines))
+      ≡ pairs_behind l.atoms l.before (texts l.lines);
   within : l.place ≤ length l.lines;
   range : All IsPair l.pairs.items;
 }

@@ -1,4 +1,5 @@
--- The numbers in the fields of a molfile. CTfile Formats; that a field must hold a number of its range is own.
+-- The numbers in the fields and words of a molfile. CTfile Formats; that a field or word must hold a number of its
+-- range is own.
 use Rattle.std.specs.Prelude.{ℕ, zero, suc, ℤ, pos, negsuc, List, Some, None, Result, Ok, Err, nat_lt, nat_le, if◌then◌else◌}
 use Rattle.std.specs.declared.option.Option.{Option}
 use Rattle.cip_text.specs.Numbers.{integer_of}
@@ -11,6 +12,11 @@ or_zero (Ok number) = Some number
 or_zero (Err Empty) = Some (pos 0)
 or_zero (Err NotANumber) = None
 or_zero (Err OutOfRange) = None
+
+-- a word that is no number is nothing, also where it is empty
+abbrev pub stated : Result ℤ NumberFault → Option ℤ
+stated (Ok number) = Some number
+stated (Err _) = None
 
 abbrev pub up_to : ℕ → Option ℤ → Option ℕ
 up_to most None = None
@@ -29,6 +35,14 @@ number_in most field = up_to most (or_zero (integer_of field))
 -- the number of a field, from `-low` to `high`
 unfoldable pub signed_in : ℕ → ℕ → List ℕ → Option ℤ
 signed_in low high field = between low high (or_zero (integer_of field))
+
+-- the number of a word, from 0 to a most
+unfoldable pub number_stated : ℕ → List ℕ → Option ℕ
+number_stated most word = up_to most (stated (integer_of word))
+
+-- the number of a word, from `-low` to `high`
+unfoldable pub signed_stated : ℕ → ℕ → List ℕ → Option ℤ
+signed_stated low high word = between low high (stated (integer_of word))
 
 -- the place, from 0, of what a number names from 1
 abbrev pub place_named : Option ℕ → Option ℕ

@@ -26,12 +26,22 @@ read_line past place read (Some line) = numbered (place + 1) (read line)
 unfoldable pub read_at : {A : Type 0} → List (List ℕ) → ℕ → (List ℕ → Result A ReadCause) → Result A ReadFault
 read_at lines place read = read_line (length lines + 1) place read (slice_get lines place)
 
+-- so many steps from this number on: each is read knowing what was read before it
+unfoldable pub through : {A E : Type 0} → (A → ℕ → Result A E) → A → ℕ → ℕ → Result A E
+through read before zero number = Ok before
+through read before (suc count) number = do
+  now ← read before number
+  through read now count (number + 1)
+
+-- a row behind those before it
+abbrev pub pushing : {A E : Type 0} → (List A → ℕ → Result A E) → List A → ℕ → Result (List A) E
+pushing read before number = do
+  row ← read before number
+  Ok (before ++ row ∷ [])
+
 -- so many rows behind those before them: each is read knowing the rows before it, and its number from here on
 unfoldable pub in_turn : {A E : Type 0} → (List A → ℕ → Result A E) → List A → ℕ → ℕ → Result (List A) E
-in_turn read before zero number = Ok before
-in_turn read before (suc count) number = do
-  row ← read before number
-  in_turn read (before ++ row ∷ []) count (number + 1)
+in_turn read = through (pushing read)
 
 -- what a reader answers, seen in this way, is what was to be read, and its fault is the one there; want of memory
 -- says nothing

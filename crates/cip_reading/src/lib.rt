@@ -1,0 +1,10 @@
+//! What the readers of both versions of molfiles share: numbers in fields and words, causes and their lines.
+#![tactic(auto)]
+
+mod causes;
+mod fields;
+mod places;
+
+pub use causes::{checked, coordinate, order};
+pub use fields::{number, number_stated, place_named, signed, signed_stated};
+pub use places::{numbered, short};

@@ -1,0 +1,62 @@
+-- One row more of the blocks.
+use Rattle.std.proofs.Common.{◌≡◌, ◌<◌, ◌≤◌, ◌+◌, ℕ, List, [], ◌∷◌, ◌++◌, length, drop, map, get_or, Result, Ok, Err, true, false, refl, sym, ◌∙◌}
+use Rattle.std.proofs.lemmas.List.{drop_more, drop-map}
+use Rattle.cip_mol.specs.declared.refusal.ReadFault.{ReadFault}
+use Rattle.cip_reading.specs.Reading.{◌>>=◌}
+use Rattle.cip_v3000.specs.declared.joining.JoinedLine as declared_line
+use Rattle.cip_v3000.specs.declared.atoms.AtomLine.{AtomLine}
+use Rattle.cip_v3000.specs.declared.bonds.BondLine.{BondLine}
+use Rattle.cip_v3000.specs.declared.frames.FrameLine.TheVariants.{EndTable}
+use Rattle.cip_v3000.specs.AtomLine.{atom_of}
+use Rattle.cip_v3000.specs.BondLine.{bond_of}
+use Rattle.cip_v3000.specs.Frames.{is_frame}
+use Rattle.cip_v3000.specs.Grammar.{Atoms, Bonds, words_in, read_at, atom_row, bond_row, table_end}
+use Rattle.cip_v3000.specs.JoinedLines.{JoinedLines, next_number}
+use Rattle.cip_v3000.specs.Joining.{seen}
+
+pub atom_row_read : (joined : JoinedLines) (before : Atoms) (row : ℕ) (line : AtomLine)
+    → read_at joined (3 + row) (atom_of before.indices) ≡ Ok line
+    → Ok (record { indices = before.indices ++ line.index ∷ []; atoms = before.atoms ++ line.atom ∷ [] })
+    ≡ atom_row joined before row
+atom_row_read joined before row line is = rw is refl
+
+pub atom_row_refused : (joined : JoinedLines) (before : Atoms) (row : ℕ) (fault : ReadFault)
+    → Err fault ≡ read_at joined (3 + row) (atom_of before.indices) → Err fault ≡ atom_row joined before row
+atom_row_refused joined before row fault is = rw (← is) refl
+
+pub bond_row_read : (joined : JoinedLines) (atoms : List ℕ) (first : ℕ) (before : Bonds) (row : ℕ) (line : BondLine)
+    → read_at joined (first + row) (bond_of atoms before.indices before.bonds) ≡ Ok line
+    → Ok (record { indices = before.indices ++ line.index ∷ []; bonds = before.bonds ++ line.bond ∷ [] })
+    ≡ bond_row joined atoms first before row
+bond_row_read joined atoms first before row line is = rw is refl
+
+pub bond_row_refused : (joined : JoinedLines) (atoms : List ℕ) (first : ℕ) (before : Bonds) (row : ℕ)
+    (fault : ReadFault)
+    → Err fault ≡ read_at joined (first + row) (bond_of atoms before.indices before.bonds) → Err fault
+    ≡ bond_row joined atoms first before row
+bond_row_refused joined atoms first before row fault is = rw (← is) refl
+
+-- lines before the end of the table
+
+drop_seen : (lines : List declared_line.JoinedLine) (place : ℕ) (d : declared_line.JoinedLine) → place < length lines
+    → drop place (map seen lines) ≡ seen (get_or lines place d) ∷ drop (place + 1) (map seen lines)
+drop_seen lines place d within =
+    rw (drop-map seen place lines, drop-map seen (place + 1) lines, drop_more lines place d within) refl
+
+pub table_ends : (past : ReadFault) (lines : List declared_line.JoinedLine) (place : ℕ) (d : declared_line.JoinedLine)
+    (total : Result ℕ ReadFault)
+    → place < length lines → is_frame EndTable (words_in (seen (get_or lines place d))) ≡ true
+    → table_end past (drop place (map seen lines)) ≡ total → total ≡ Ok (next_number (seen (get_or lines place d)))
+table_ends past lines place d total within ends so_far =
+    let one : table_end past (drop place (map seen lines))
+    ≡ Ok (next_number (seen (get_or lines place d))) = rw (drop_seen lines place d within, ends) refl in
+    sym so_far ∙ one
+
+pub table_goes_on : (past : ReadFault) (lines : List declared_line.JoinedLine) (place : ℕ)
+    (d : declared_line.JoinedLine) (total : Result ℕ ReadFault)
+    → place < length lines → is_frame EndTable (words_in (seen (get_or lines place d))) ≡ false
+    → table_end past (drop place (map seen lines)) ≡ total → table_end past (drop (place + 1) (map seen lines)) ≡ total
+table_goes_on past lines place d total within goes_on so_far =
+    let one : table_end past (drop place (map seen lines))
+    ≡ table_end past (drop (place + 1) (map seen lines)) = rw (drop_seen lines place d within, goes_on) refl in
+    sym one ∙ so_far

@@ -1,0 +1,13 @@
+use Rattle.std.proofs.Common.{◌∙◌, sym}
+use Rattle.cip_v3000.proofs.BlockRows.{table_ends, table_goes_on}
+use Rattle.cip_v3000.proofs.blocks.table_end.Goals as goal
+
+pub returns-then-branch : goal.returns-then-branch
+returns-then-branch c =
+    rw c.next_number.ensures (table_ends c.args.past c.args.lines.now c.loop-place.place _ _ c.loop-place-test.true
+    (sym c.in_ok-is_framed.ensures ∙ c.if-branch.true) c.loop-place.invariant)
+
+pub loop-place-preserved : goal.loop-place-preserved
+loop-place-preserved c =
+    table_goes_on c.args.past c.args.lines.now c.loop-place.place _ _ c.loop-place-test.true
+    (sym c.in_ok-is_framed.ensures ∙ c.if-branch.false) c.loop-place.invariant

@@ -1,0 +1,37 @@
+-- Joined lines in memory, as contracts see them. Own.
+use Rattle.std.specs.Prelude.{ℕ, List, ◌<◌, ◌++◌, ◌+◌, ◌-◌, ◌^◌, length, take, drop, map}
+use Rattle.std.specs.Borrow.{Bor}
+use Rattle.cip_text.specs.Slices.{texts}
+use Rattle.cip_v3000.specs.declared.joining.JoinedLine as declared_line
+use Rattle.cip_v3000.specs.declared.joining.JoinedLines as declared_lines
+use Rattle.cip_v3000.specs.declared.joining.Text.{Text}
+use Rattle.cip_v3000.specs.declared.joining.Text.TheVariants.{Whole, Joined}
+use Rattle.cip_v3000.specs.JoinedLines.{JoinedLine, JoinedLines, next_number, joined_from}
+
+abbrev pub seen : declared_line.JoinedLine → JoinedLine
+seen line = record { parts = texts line.parts.now; number = line.number }
+
+abbrev pub seen_all : declared_lines.JoinedLines → JoinedLines
+seen_all joined = record { lines = map seen joined.lines.items; past = joined.past }
+
+abbrev pub bytes_of : Text → List ℕ
+bytes_of (Whole bytes) = bytes.now
+bytes_of (Joined bytes) = bytes.items
+
+-- joined lines behind others
+abbrev pub with_before : List JoinedLine → JoinedLines → JoinedLines
+with_before before joined = record joined { lines = before ++ joined.lines }
+
+-- what stands from one place to another
+abbrev pub parts_at : List (Bor (List ℕ)) → ℕ → ℕ → List (List ℕ)
+parts_at lines first place = texts (take (place - first) (drop first lines))
+
+-- the joined lines from the one on that has begun at the first place, of which the lines before the other place are
+-- parts
+abbrev pub rest_from : List (Bor (List ℕ)) → ℕ → ℕ → JoinedLines
+rest_from lines first place =
+    joined_from (length lines + 1) (first + 1) (parts_at lines first place) (drop place (texts lines))
+
+-- the number of the line behind a joined line has 32 bits
+pub record IsNumbered (line : declared_line.JoinedLine) : Type 0 where
+  pub next : next_number (seen line) < 2 ^ 32

@@ -1,0 +1,12 @@
+pub mod AtomLine
+pub mod Blocks
+pub mod BondLine
+pub mod CountsLine
+pub mod Frames
+pub mod Grammar
+pub mod JoinedLines
+pub mod Joining
+pub mod Keys
+pub mod Laws
+pub mod Words
+pub mod Worked

@@ -1,0 +1,220 @@
+// The blocks of a molfile.
+ghost use Rattle.std.specs.Prelude.{◌≡◌, ◌≤◌, ◌<◌, ◌+◌, ◌-◌, ◌^◌, [], All, drop, length, map, IfOk};
+ghost use Rattle.std.specs.List.{list_any};
+ghost use Rattle.cip_text.specs.Kinds.{is_molecule_end};
+ghost use Rattle.cip_text.specs.Slices.{texts};
+ghost use Rattle.cip_mol.specs.Ranges.{IsAtom, IsBond};
+ghost use Rattle.cip_reading.specs.Reading.{Gives};
+ghost use Rattle.cip_v3000.specs.Blocks.{seen_atoms, seen_bonds};
+ghost use Rattle.cip_v3000.specs.Grammar.{atom_block, bond_rows, framed_bonds, has_bond_block, bond_block, behind_block, table_end, molecule_end};
+ghost use Rattle.cip_v3000.specs.Joining.{seen, seen_all, IsNumbered};
+
+use crate::frames::FrameLine;
+use crate::indices::Indices;
+use crate::joining::{JoinedLine, JoinedLines};
+use crate::rows::{atom_line, bond_line, frame, is_framed};
+use cip_mol::{Atom, BondList, ReadFault, ReadRefusal};
+use cip_reading::short;
+use cip_text::is_molecule_end;
+use std::alloc::{AllocError, Global};
+
+/// Atoms with their indices.
+#[derive(Drop)]
+pub struct AtomBlock {
+    pub indices: Indices,
+    pub atoms: Vec<Atom>,
+}
+
+/// Bonds with their indices.
+#[derive(Drop)]
+pub struct BondBlock {
+    pub indices: Indices,
+    pub bonds: BondList,
+}
+
+/// Reads the atom lines, so many.
+pub fn atom_block(
+    alloc: Global,
+    joined: &JoinedLines<'_>,
+    count: u32,
+) -> Result<AtomBlock, ReadRefusal>
+    requires { count ≤ 16384 }
+    ensures value { Gives seen_atoms result (atom_block (seen_all joined.now) count) }
+    ensures range { IfOk result (λ block. All IsAtom block.atoms.items) }
+    ensures counted { IfOk result (λ block. (length block.atoms.items ≡ count) × (length block.indices ≡ count)) }
+{
+    let mut indices = Indices::new(alloc);
+    let mut atoms = Vec::new(alloc);
+    for row in 0..count as usize {
+        let line = atom_line(alloc, joined, 3 + row, &indices)?;
+        indices.push(line.index)?;
+        atoms.push(line.atom)?;
+    }
+    Ok(AtomBlock { indices, atoms })
+}
+
+/// Whether there is a bond block at a place. It may be missing where there are no bonds.
+pub fn has_bond_block(
+    alloc: Global,
+    joined: &JoinedLines<'_>,
+    count: u32,
+    place: usize,
+) -> Result<bool, AllocError>
+    ensures { IfOk result (λ has. has ≡ has_bond_block (seen_all joined.now) count place) }
+{
+    if count != 0 {
+        return Ok(true);
+    }
+    match joined.lines.get(place) {
+        None => Ok(false),
+        Some(line) => is_framed(alloc, line, FrameLine::BeginBonds),
+    }
+}
+
+/// Reads the bond block at a place, where there is one.
+pub fn bond_block(
+    alloc: Global,
+    joined: &JoinedLines<'_>,
+    atoms: &Indices,
+    count: u32,
+    place: usize,
+    has: bool,
+) -> Result<BondBlock, ReadRefusal>
+    requires few { length atoms.now ≤ 16384 }
+    requires count { count ≤ 32768 }
+    requires place { place ≤ 16388 }
+    requires has { has ≡ has_bond_block (seen_all joined.now) count place }
+    ensures value { Gives seen_bonds result (bond_block (seen_all joined.now) atoms.now count place) }
+    ensures among { IfOk result (λ block. block.bonds.atoms ≡ length atoms.now) }
+    ensures range { IfOk result (λ block. All IsBond block.bonds.bonds) }
+    ensures counted { IfOk result (λ block. length block.bonds.bonds ≤ 32768) }
+{
+    if has {
+        framed_bonds(alloc, joined, atoms, count, place)
+    } else {
+        Ok(no_bonds(alloc, atoms)?)
+    }
+}
+
+/// The place behind the bond block at a place, where there is one.
+pub fn behind_bonds(has: bool, count: u32, place: usize) -> usize
+    requires count { count ≤ 32768 }
+    requires place { place ≤ 16388 }
+    ensures { result ≡ behind_block has count place }
+{
+    if has {
+        place + count as usize + 2
+    } else {
+        place
+    }
+}
+
+/// The number of the line behind the end of the table, which stands at this place of the joined lines or behind it;
+/// `past` is the fault where it doesn't.
+pub fn table_end(
+    alloc: Global,
+    lines: &[JoinedLine<'_>],
+    past: ReadFault,
+    first: usize,
+) -> Result<u32, ReadRefusal>
+    requires { All IsNumbered lines.now }
+    ensures { Gives (λ number. number) result (table_end past (drop first (map seen lines.now))) }
+{
+    let mut place = first;
+    while place < lines.len() {
+        let line = lines[place];
+        if is_framed(alloc, &line, FrameLine::EndTable)? {
+            return Ok(line.next_number());
+        }
+        place += 1;
+    }
+    Err(ReadRefusal::Fault(past))
+}
+
+/// Whether `M  END` stands at the line of this number or behind it.
+pub fn molecule_end(lines: &[&[u8]], number: u32) -> Result<(), ReadFault>
+    requires { length lines.now < 2 ^ 32 - 1 }
+    ensures { result ≡ molecule_end (texts lines.now) number }
+{
+    if has_end(lines, number.saturating_sub(1) as usize) {
+        Ok(())
+    } else {
+        Err(short(lines))
+    }
+}
+
+fn has_end(lines: &[&[u8]], place: usize) -> bool
+    ensures { result ≡ list_any is_molecule_end (drop place (texts lines.now)) }
+{
+    if place > lines.len() {
+        return false;
+    }
+    is_any_end(&lines[place..])
+}
+
+fn is_any_end(lines: &[&[u8]]) -> bool
+    ensures { result ≡ list_any (λ line. is_molecule_end line.now) lines.now }
+{
+    lines.iter().any(|line| is_molecule_end(line))
+}
+
+fn no_bonds(alloc: Global, atoms: &Indices) -> Result<BondBlock, AllocError>
+    ensures value { IfOk result (λ block. seen_bonds block ≡ record { indices = []; bonds = [] }) }
+    ensures among { IfOk result (λ block. block.bonds.atoms ≡ length atoms.now) }
+{
+    let indices = Indices::new(alloc);
+    let bonds = BondList::new(alloc, atoms.len())?;
+    Ok(BondBlock { indices, bonds })
+}
+
+fn framed_bonds(
+    alloc: Global,
+    joined: &JoinedLines<'_>,
+    atoms: &Indices,
+    count: u32,
+    place: usize,
+) -> Result<BondBlock, ReadRefusal>
+    requires few { length atoms.now ≤ 16384 }
+    requires count { count ≤ 32768 }
+    requires place { place ≤ 16388 }
+    ensures value { Gives seen_bonds result (framed_bonds (seen_all joined.now) atoms.now count place) }
+    ensures among { IfOk result (λ block. block.bonds.atoms ≡ length atoms.now) }
+    ensures range { IfOk result (λ block. All IsBond block.bonds.bonds) }
+    ensures counted { IfOk result (λ block. length block.bonds.bonds ≤ 32768) }
+{
+    frame(alloc, joined, place, FrameLine::BeginBonds)?;
+    let block = bond_rows(alloc, joined, atoms, place + 1, count)?;
+    frame(
+        alloc,
+        joined,
+        place + 1 + count as usize,
+        FrameLine::EndBonds,
+    )?;
+    Ok(block)
+}
+
+// The bond lines, so many, from this place on.
+fn bond_rows(
+    alloc: Global,
+    joined: &JoinedLines<'_>,
+    atoms: &Indices,
+    first: usize,
+    count: u32,
+) -> Result<BondBlock, ReadRefusal>
+    requires few { length atoms.now ≤ 16384 }
+    requires count { count ≤ 32768 }
+    requires first { first ≤ 16389 }
+    ensures value { Gives seen_bonds result (bond_rows (seen_all joined.now) atoms.now first count) }
+    ensures among { IfOk result (λ block. block.bonds.atoms ≡ length atoms.now) }
+    ensures range { IfOk result (λ block. All IsBond block.bonds.bonds) }
+    ensures counted { IfOk result (λ block. length block.bonds.bonds ≡ count) }
+{
+    let mut indices = Indices::new(alloc);
+    let mut bonds = BondList::new(alloc, atoms.len())?;
+    for row in 0..count as usize {
+        let line = bond_line(alloc, joined, first + row, atoms, &indices, &bonds)?;
+        indices.push(line.index)?;
+        bonds.push(line.bond)?;
+    }
+    Ok(BondBlock { indices, bonds })
+}

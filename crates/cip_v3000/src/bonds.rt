@@ -1,0 +1,103 @@
+// Bond lines.
+ghost use Rattle.std.specs.Prelude.{◌≡◌, ◌≤◌, ◌<◌, length, IfOk, IfSome};
+ghost use Rattle.cip_text.specs.Slices.{texts};
+ghost use Rattle.cip_mol.specs.declared.molecule.Mark.TheVariants.{Plain};
+ghost use Rattle.cip_reading.specs.Fields.{number_stated};
+ghost use Rattle.cip_v3000.specs.BondLine.{mark_of, marked, with_mark, place_named, bond_of, IsBondLine, IsMark};
+ghost use Rattle.cip_v3000.specs.Keys.{over};
+
+use crate::indices::{GREATEST, Indices, new_index};
+use crate::splitting::{behind, key_and_value, word};
+use cip_mol::{Bond, BondList, Mark, ReadCause};
+use cip_reading::{checked, number_stated, order};
+
+/// A bond and its index.
+#[derive(Clone, Copy)]
+pub struct BondLine {
+    pub index: u32,
+    pub bond: Bond,
+}
+
+/// What the words of a bond line say, among atoms of these indices and behind these bonds.
+#[tactic(auto, unfolding(crate::specs::BondLine::bond_of))]
+pub fn bond_in(
+    atoms: &Indices,
+    known: &Indices,
+    before: &BondList,
+    words: &[&[u8]],
+) -> Result<BondLine, ReadCause>
+    requires few { length atoms.now ≤ 1000000000 }
+    requires among { before.now.atoms ≡ length atoms.now }
+    ensures value { result ≡ bond_of atoms.now known.now before.now.bonds (texts words.now) }
+    ensures range { IfOk result (IsBondLine known.now before.now) }
+{
+    if words.len() < 4 {
+        return Err(ReadCause::Frame);
+    }
+    let index = new_index(known, word(words, 0))?;
+    let order = order(number_stated(3, word(words, 1))).ok_or(ReadCause::BondType)?;
+    let a = place_named(atoms, word(words, 2)).ok_or(ReadCause::BondEnd)?;
+    let b = place_named(atoms, word(words, 3)).ok_or(ReadCause::BondEnd)?;
+    let mark = mark_in(order, behind(words, 4))?;
+    let bond = checked(before, Bond { a, b, order, mark })?;
+    Ok(BondLine { index, bond })
+}
+
+// The place, from 0, of the atom that a word names.
+#[tactic(auto, unfolding(crate::specs::BondLine::place_named))]
+fn place_named(indices: &Indices, word: &[u8]) -> Option<u32>
+    requires { length indices.now ≤ 1000000000 }
+    ensures value { result ≡ place_named indices.now word.now }
+    ensures within { IfSome result (λ place. place < length indices.now) }
+{
+    let index = number_stated(GREATEST, word)?;
+    let place = indices.place(index)?;
+    Some(place as u32)
+}
+
+// The mark that the keys of a bond state.
+fn mark_in(order: u8, words: &[&[u8]]) -> Result<Mark, ReadCause>
+    ensures value { result ≡ over (with_mark order) Plain (texts words.now) }
+    ensures range { IfOk result (IsMark order) }
+{
+    let mut mark = Mark::Plain;
+    for word in words {
+        mark = with_mark(order, mark, word)?;
+    }
+    Ok(mark)
+}
+
+#[tactic(auto, unfolding(crate::specs::BondLine::with_mark))]
+fn with_mark(order: u8, mark: Mark, word: &[u8]) -> Result<Mark, ReadCause>
+    requires { IsMark order mark }
+    ensures value { result ≡ with_mark order mark word.now }
+    ensures range { IfOk result (IsMark order) }
+{
+    let (key, value) = key_and_value(word).ok_or(ReadCause::KeyValue)?;
+    marked(order, mark, key, value)
+}
+
+fn marked(order: u8, mark: Mark, key: &[u8], value: &[u8]) -> Result<Mark, ReadCause>
+    requires { IsMark order mark }
+    ensures value { result ≡ marked order mark (key.now, value.now) }
+    ensures range { IfOk result (IsMark order) }
+{
+    if key != b"CFG".as_slice() {
+        return Ok(mark);
+    }
+    mark_of(order, number_stated(3, value)).ok_or(ReadCause::BondMark)
+}
+
+fn mark_of(order: u8, code: Option<u32>) -> Option<Mark>
+    ensures value { result ≡ mark_of order code }
+    ensures range { IfSome result (IsMark order) }
+{
+    match (order, code?) {
+        (_, 0) => Some(Mark::Plain),
+        (1, 1) => Some(Mark::Up),
+        (1, 2) => Some(Mark::Either),
+        (1, 3) => Some(Mark::Down),
+        (2, 2) => Some(Mark::Either),
+        _ => None,
+    }
+}

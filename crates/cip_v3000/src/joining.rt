@@ -1,0 +1,159 @@
+// Lines, joined where they are continued.
+ghost use Rattle.std.specs.Prelude.{◌≡◌, ◌≤◌, ◌<◌, ◌^◌, ◌-◌, ◌+◌, All, length, IfOk};
+ghost use Rattle.std.specs.List.{flat_map};
+ghost use Rattle.cip_mol.specs.declared.refusal.ReadCause.TheVariants.{Frame};
+ghost use Rattle.cip_text.specs.Slices.{texts};
+ghost use Rattle.cip_v3000.specs.JoinedLines.{begins_v30, body, is_continued, part_of, text_of, next_number, joined_lines};
+ghost use Rattle.cip_v3000.specs.Joining.{seen, seen_all, parts_at, bytes_of, IsNumbered};
+
+use cip_mol::{ReadCause, ReadFault};
+use cip_reading::short;
+use cip_text::without_spaces_behind;
+use std::alloc::{AllocError, Global};
+
+/// The lines that make one, and the number of the first.
+#[derive(Clone, Copy)]
+pub struct JoinedLine<'a> {
+    pub parts: &'a [&'a [u8]],
+    pub number: u32,
+}
+
+/// The joined lines of a record, and the fault where one more is due.
+#[derive(Drop)]
+pub struct JoinedLines<'a> {
+    pub lines: Vec<JoinedLine<'a>>,
+    pub past: ReadFault,
+}
+
+/// The text of a joined line. It is copied only where it has several parts.
+#[derive(Drop)]
+pub enum Text<'a> {
+    Whole(&'a [u8]),
+    Joined(Vec<u8>),
+}
+
+/// The joined lines of a record behind its first four.
+#[tactic(auto, unfolding(crate::specs::JoinedLines::joined_lines))]
+pub fn joined_lines<'a>(alloc: Global, lines: &'a [&'a [u8]]) -> Result<JoinedLines<'a>, AllocError>
+    requires few { length lines.now < 2 ^ 32 - 1 }
+    ensures value { IfOk result (λ found. seen_all found ≡ joined_lines (texts lines.now)) }
+    ensures numbered { IfOk result (λ found. All IsNumbered found.lines.items) }
+{
+    let mut found = Vec::new(alloc);
+    let mut first = 4;
+    let mut place = 4;
+    while place < lines.len() {
+        let line = lines[place];
+        if !begins_v30(line) {
+            let past = frame_fault(place);
+            return Ok(JoinedLines { lines: found, past });
+        }
+        place += 1;
+        if !is_continued(line) {
+            found.push(joined_line(lines, first, place))?;
+            first = place;
+        }
+    }
+    let past = short(lines);
+    Ok(JoinedLines { lines: found, past })
+}
+
+/// The text of a joined line, without what begins and continues its parts.
+pub fn text_of<'a>(alloc: Global, line: &JoinedLine<'a>) -> Result<Text<'a>, AllocError>
+    ensures { IfOk result (λ text. bytes_of text ≡ text_of (seen line.now)) }
+{
+    match line.parts {
+        [only] => Ok(Text::Whole(part_of(only))),
+        parts => Ok(Text::Joined(joined_text(alloc, parts)?)),
+    }
+}
+
+impl<'a> Text<'a> {
+    /// Its bytes.
+    pub fn bytes(&self) -> &[u8]
+        ensures { result.now ≡ bytes_of self.now }
+    {
+        match self {
+            Text::Whole(bytes) => bytes,
+            Text::Joined(bytes) => bytes,
+        }
+    }
+}
+
+impl<'a> JoinedLine<'a> {
+    /// The number of the line behind it.
+    pub fn next_number(&self) -> u32
+        requires { IsNumbered self.now }
+        ensures { result ≡ next_number (seen self.now) }
+    {
+        self.number + self.parts.len() as u32
+    }
+}
+
+fn joined_text(alloc: Global, parts: &[&[u8]]) -> Result<Vec<u8>, AllocError>
+    ensures { IfOk result (λ text. text.items ≡ flat_map part_of (texts parts.now)) }
+{
+    let mut text = Vec::new(alloc);
+    for part in parts {
+        text.extend_from_slice(part_of(part))?;
+    }
+    Ok(text)
+}
+
+// The line that the lines at these places make.
+fn joined_line<'a>(lines: &'a [&'a [u8]], first: usize, past: usize) -> JoinedLine<'a>
+    requires few { length lines.now < 2 ^ 32 - 1 }
+    requires first { first ≤ past }
+    requires past { past ≤ length lines.now }
+    ensures value { seen result ≡ record { parts = parts_at lines.now first past; number = first + 1 } }
+    ensures numbered { IsNumbered result }
+{
+    JoinedLine {
+        parts: &lines[first..past],
+        number: first as u32 + 1,
+    }
+}
+
+fn frame_fault(place: usize) -> ReadFault
+    requires { place < 2 ^ 32 - 1 }
+    ensures { result ≡ record { line = place + 1; cause = Frame } }
+{
+    ReadFault {
+        line: place as u32 + 1,
+        cause: ReadCause::Frame,
+    }
+}
+
+fn begins_v30(line: &[u8]) -> bool
+    ensures { result ≡ begins_v30 line.now }
+{
+    line.len() >= 7 && &line[..7] == b"M  V30 ".as_slice()
+}
+
+fn is_continued(line: &[u8]) -> bool
+    ensures { result ≡ is_continued line.now }
+{
+    match without_spaces_behind(body(line)) {
+        [.., b'-'] => true,
+        _ => false,
+    }
+}
+
+fn body(line: &[u8]) -> &[u8]
+    ensures { result.now ≡ body line.now }
+{
+    if line.len() < 7 {
+        return &[];
+    }
+    &line[7..]
+}
+
+fn part_of(line: &[u8]) -> &[u8]
+    ensures { result.now ≡ part_of line.now }
+{
+    if !is_continued(line) {
+        return body(line);
+    }
+    let text = without_spaces_behind(body(line));
+    &text[..text.len().saturating_sub(1)]
+}

@@ -1,0 +1,68 @@
+// The keys of an atom line.
+ghost use Rattle.std.specs.Prelude.{◌≡◌, ◌≤◌, unsigned_abs, IfOk};
+ghost use Rattle.cip_text.specs.Slices.{texts};
+ghost use Rattle.cip_v3000.specs.Keys.{valence_of, with_value, with_key, keys_from, AreKeys};
+
+use crate::splitting::key_and_value;
+use cip_mol::ReadCause;
+use cip_reading::{number_stated, signed_stated};
+
+/// What the keys of an atom say, as `Atom` has it.
+#[derive(Clone, Copy)]
+pub struct AtomKeys {
+    pub charge: i8,
+    pub radical: u8,
+    /// The mass number; 0 where none is stated.
+    pub mass: u16,
+    pub valence_mark: u8,
+}
+
+/// The keys of these words, in turn.
+pub fn atom_keys(start: AtomKeys, words: &[&[u8]]) -> Result<AtomKeys, ReadCause>
+    requires { AreKeys start }
+    ensures value { result ≡ keys_from start (texts words.now) }
+    ensures range { IfOk result AreKeys }
+{
+    let mut keys = start;
+    for word in words {
+        keys = with_key(keys, word)?;
+    }
+    Ok(keys)
+}
+
+#[tactic(auto, unfolding(crate::specs::Keys::with_key))]
+fn with_key(keys: AtomKeys, word: &[u8]) -> Result<AtomKeys, ReadCause>
+    requires { AreKeys keys }
+    ensures value { result ≡ with_key keys word.now }
+    ensures range { IfOk result AreKeys }
+{
+    let (key, value) = key_and_value(word).ok_or(ReadCause::KeyValue)?;
+    with_value(keys, key, value)
+}
+
+// The keys with the value of one; a key that isn't read changes nothing.
+fn with_value(keys: AtomKeys, key: &[u8], value: &[u8]) -> Result<AtomKeys, ReadCause>
+    requires { AreKeys keys }
+    ensures value { result ≡ with_value keys (key.now, value.now) }
+    ensures range { IfOk result AreKeys }
+{
+    let mut keys = keys;
+    if key == b"CHG".as_slice() {
+        keys.charge = signed_stated(15, 15, value).ok_or(ReadCause::KeyValue)?;
+    } else if key == b"RAD".as_slice() {
+        keys.radical = number_stated(3, value).ok_or(ReadCause::KeyValue)? as u8;
+    } else if key == b"MASS".as_slice() {
+        keys.mass = number_stated(400, value).ok_or(ReadCause::KeyValue)? as u16;
+    } else if key == b"VAL".as_slice() {
+        keys.valence_mark = valence(signed_stated(1, 14, value).ok_or(ReadCause::KeyValue)?);
+    }
+    Ok(keys)
+}
+
+fn valence(value: i8) -> u8
+    requires { unsigned_abs value ≤ 14 }
+    ensures value { result ≡ valence_of value }
+    ensures range { result ≤ 15 }
+{
+    if value < 0 { 15 } else { value.unsigned_abs() }
+}

@@ -1,0 +1,116 @@
+// Single lines of a molfile.
+ghost use Rattle.std.specs.Prelude.{◌≡◌, ◌≤◌, length, IfOk};
+ghost use Rattle.cip_reading.specs.Reading.{Gives};
+ghost use Rattle.cip_v3000.specs.AtomLine.{atom_of, IsAtomLine};
+ghost use Rattle.cip_v3000.specs.BondLine.{bond_of, IsBondLine};
+ghost use Rattle.cip_v3000.specs.CountsLine.{counts_of};
+ghost use Rattle.cip_v3000.specs.Frames.{is_frame};
+ghost use Rattle.cip_v3000.specs.Grammar.{words_in, read_at, frame_at};
+ghost use Rattle.cip_v3000.specs.Joining.{seen, seen_all};
+
+use crate::atoms::{AtomLine, atom_in};
+use crate::bonds::{BondLine, bond_in};
+use crate::counts::{CountsLine, counts_in};
+use crate::frames::{FrameLine, is_frame};
+use crate::indices::Indices;
+use crate::joining::{JoinedLine, JoinedLines, text_of};
+use crate::splitting::words;
+use cip_mol::{BondList, ReadCause, ReadFault, ReadRefusal};
+use cip_reading::numbered;
+use std::alloc::{AllocError, Global};
+
+/// Reads the counts line.
+#[tactic(auto, unfolding(crate::specs::Grammar::read_at))]
+pub fn counts_line(alloc: Global, joined: &JoinedLines<'_>) -> Result<CountsLine, ReadRefusal>
+    ensures value { Gives (λ counts. counts) result (read_at (seen_all joined.now) 1 counts_of) }
+    ensures range { IfOk result (λ counts. (counts.atoms ≤ 16384) × (counts.bonds ≤ 32768)) }
+{
+    match joined.lines.get(1) {
+        None => Err(ReadRefusal::Fault(joined.past)),
+        Some(line) => {
+            let text = text_of(alloc, line)?;
+            let words = words(alloc, text.bytes())?;
+            Ok(numbered(line.number, counts_in(&words))?)
+        }
+    }
+}
+
+/// Reads the atom line at a place, behind atoms of these indices.
+#[tactic(auto, unfolding(crate::specs::Grammar::read_at))]
+pub fn atom_line(
+    alloc: Global,
+    joined: &JoinedLines<'_>,
+    place: usize,
+    known: &Indices,
+) -> Result<AtomLine, ReadRefusal>
+    ensures value { Gives (λ line. line) result (read_at (seen_all joined.now) place (atom_of known.now)) }
+    ensures range { IfOk result (IsAtomLine known.now) }
+{
+    match joined.lines.get(place) {
+        None => Err(ReadRefusal::Fault(joined.past)),
+        Some(line) => {
+            let text = text_of(alloc, line)?;
+            let words = words(alloc, text.bytes())?;
+            Ok(numbered(line.number, atom_in(known, &words))?)
+        }
+    }
+}
+
+/// Reads the bond line at a place, among atoms of these indices and behind these bonds.
+#[tactic(auto, unfolding(crate::specs::Grammar::read_at))]
+pub fn bond_line(
+    alloc: Global,
+    joined: &JoinedLines<'_>,
+    place: usize,
+    atoms: &Indices,
+    known: &Indices,
+    before: &BondList,
+) -> Result<BondLine, ReadRefusal>
+    requires few { length atoms.now ≤ 1000000000 }
+    requires among { before.now.atoms ≡ length atoms.now }
+    ensures value { Gives (λ line. line) result
+        (read_at (seen_all joined.now) place (bond_of atoms.now known.now before.now.bonds)) }
+    ensures range { IfOk result (IsBondLine known.now before.now) }
+{
+    match joined.lines.get(place) {
+        None => Err(ReadRefusal::Fault(joined.past)),
+        Some(line) => {
+            let text = text_of(alloc, line)?;
+            let words = words(alloc, text.bytes())?;
+            Ok(numbered(line.number, bond_in(atoms, known, before, &words))?)
+        }
+    }
+}
+
+/// Reads the line at a place that frames a part.
+#[tactic(auto, unfolding(crate::specs::Grammar::read_at))]
+pub fn frame(
+    alloc: Global,
+    joined: &JoinedLines<'_>,
+    place: usize,
+    due: FrameLine,
+) -> Result<(), ReadRefusal>
+    ensures { Gives (λ _. tt) result (frame_at (seen_all joined.now) place due) }
+{
+    match joined.lines.get(place) {
+        None => Err(ReadRefusal::Fault(joined.past)),
+        Some(line) => {
+            if !is_framed(alloc, line, due)? {
+                return Err(ReadRefusal::Fault(ReadFault {
+                    line: line.number,
+                    cause: ReadCause::Frame,
+                }));
+            }
+            Ok(())
+        }
+    }
+}
+
+/// Whether a joined line is the one that frames a part.
+pub fn is_framed(alloc: Global, line: &JoinedLine<'_>, due: FrameLine) -> Result<bool, AllocError>
+    ensures { IfOk result (λ is. is ≡ is_frame due (words_in (seen line.now))) }
+{
+    let text = text_of(alloc, line)?;
+    let words = words(alloc, text.bytes())?;
+    Ok(is_frame(due, &words))
+}
