@@ -1,0 +1,9 @@
+pub mod DrawnGraph
+pub mod Graph
+pub mod GraphRanges
+pub mod Hydrogens
+pub mod Incidence
+pub mod LonePairs
+pub mod Neglected
+pub mod Renumbering
+pub mod SoundGraphs

@@ -1,0 +1,7 @@
+pub mod Auxiliary
+pub mod Decisions
+pub mod EarlyOrder
+pub mod Exchange
+pub mod Keys
+pub mod Kinds
+pub mod Orders

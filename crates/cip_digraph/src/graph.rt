@@ -1,0 +1,126 @@
+// The graph of a molecule: its vertices, the edges between them, and the edges at each vertex.
+ghost use Rattle.std.specs.Prelude.{◌≡◌, IfOk};
+ghost use Rattle.cip_digraph.specs.graph.Graph.{edges_at, other_end};
+ghost use Rattle.cip_digraph.specs.graph.GraphRanges.{IsInRange};
+ghost use Rattle.cip_digraph.specs.graph.SoundGraphs.{IsSound};
+
+use crate::incidence::{Incidence, incidence_of};
+use std::alloc::{AllocError, Global};
+use std::marker::Model;
+
+/// An atom or implicit hydrogen.
+#[derive(Clone, Copy)]
+pub struct Vertex {
+    /// Atomic number.
+    pub z: u8,
+    /// Mass number; 0 where the atom isn't labelled.
+    pub isotope: u16,
+    /// In elementary charges.
+    pub charge: i8,
+    /// It has a lone pair that can be a ligand.
+    pub lone: bool,
+}
+
+/// A bond, or the bond of an implicit hydrogen.
+#[derive(Clone, Copy, Default)]
+pub struct Edge {
+    pub a: u32,
+    pub b: u32,
+    /// 1 single, 2 double, 3 triple.
+    pub order: u8,
+    /// A multiple bond that stands for duplicates of its ends.
+    pub counted: bool,
+}
+
+impl Edge {
+    /// The end that isn't this vertex.
+    pub fn other_end(&self, vertex: u32) -> u32
+        ensures { result ≡ other_end vertex self.now }
+    {
+        if self.a == vertex { self.b } else { self.a }
+    }
+}
+
+/// A sound graph. Contracts see its vertices, its edges and how many of the vertices are drawn.
+#[derive(Drop)]
+pub struct Graph {
+    vertices: Vec<Vertex>,
+    edges: Vec<Edge>,
+    drawn: u32,
+    incidence: Incidence,
+}
+
+impl Model for Graph {
+    ghost use Rattle.std.specs.Prelude.{length};
+    ghost use Rattle.cip_digraph.specs.graph.Graph as graphs;
+
+    ghost Value = { graphs.Graph };
+
+    ghost view = { λ g. record { vertices = g.vertices.items; edges = g.edges.items; drawn = g.drawn } };
+
+    ghost use Rattle.cip_digraph.specs.graph.GraphRanges.{IsInRange};
+    ghost use Rattle.cip_digraph.specs.graph.Incidence.{IsIncidence};
+    ghost use Rattle.cip_digraph.specs.graph.SoundGraphs.{IsSound};
+
+    ghost invariant = { λ g. IsInRange (record { vertices = g.vertices.items; edges = g.edges.items; drawn = g.drawn })
+        × IsSound (record { vertices = g.vertices.items; edges = g.edges.items; drawn = g.drawn })
+        × IsIncidence (length g.vertices.items) g.edges.items g.incidence };
+}
+
+impl Graph {
+    /// The graph of vertices and edges. It takes time linear in their numbers.
+    pub fn new(
+        alloc: Global,
+        vertices: Vec<Vertex>,
+        edges: Vec<Edge>,
+        drawn: u32,
+    ) -> Result<Graph, AllocError>
+        requires range { IsInRange (record { vertices = vertices.items; edges = edges.items; drawn = drawn }) }
+        requires sound { IsSound (record { vertices = vertices.items; edges = edges.items; drawn = drawn }) }
+        ensures { IfOk result (λ g. g ≡ record { vertices = vertices.items; edges = edges.items; drawn = drawn }) }
+    {
+        let incidence = incidence_of(alloc, vertices.len() as u32, &edges)?;
+        Ok(Graph {
+            vertices,
+            edges,
+            drawn,
+            incidence,
+        })
+    }
+
+    /// The vertices: atoms first, then implicit hydrogens.
+    pub fn vertices(&self) -> &[Vertex]
+        ensures value { result.now ≡ self.now.vertices }
+        ensures range { IsInRange self.now }
+        ensures sound { IsSound self.now }
+    {
+        &self.vertices
+    }
+
+    /// The edges.
+    pub fn edges(&self) -> &[Edge]
+        ensures value { result.now ≡ self.now.edges }
+        ensures range { IsInRange self.now }
+        ensures sound { IsSound self.now }
+    {
+        &self.edges
+    }
+
+    /// How many vertices are atoms of the drawing: they come first.
+    pub fn drawn(&self) -> u32
+        ensures value { result ≡ self.now.drawn }
+        ensures range { IsInRange self.now }
+        ensures sound { IsSound self.now }
+    {
+        self.drawn
+    }
+
+    /// The edges at a vertex, by ascending neighbour. There are none at a number that is no vertex.
+    pub fn edges_at(&self, vertex: u32) -> &[Edge]
+        ensures value { result.now ≡ edges_at self.now vertex }
+        ensures range { IsInRange self.now }
+        ensures sound { IsSound self.now }
+    {
+        self.incidence.of(vertex)
+    }
+}
