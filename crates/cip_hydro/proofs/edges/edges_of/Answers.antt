@@ -1,0 +1,12 @@
+use Rattle.std.proofs.Common.{refl}
+use Rattle.cip_hydro.proofs.Around.{surroundings_count}
+use Rattle.cip_hydro.proofs.edges.edges_of.Goals as goal
+
+pub returns : goal.returns
+returns c =
+    rw (
+      c.in_ok-push_hydrogens.ensures,
+      c.in_ok-edges.ensures,
+      ← surroundings_count c.args.molecule.now,
+      ← c.requires.around,
+    ) refl

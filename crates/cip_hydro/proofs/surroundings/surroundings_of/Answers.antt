@@ -1,0 +1,16 @@
+use Rattle.std.proofs.Common.{◌∙◌}
+use Rattle.std.proofs.lemmas.List.Elements.{All-push}
+use Rattle.cip_hydro.specs.Carriers.{HasFew}
+use Rattle.cip_hydro.proofs.Drawn.{around_next, bonds_join}
+use Rattle.cip_hydro.proofs.surroundings.surroundings_of.Goals as goal
+
+pub order_sums-requires-clause-within : goal.order_sums-requires-clause-within
+order_sums-requires-clause-within c =
+    rw (c.atoms.ensures.value, c.bonds.ensures.value) (bonds_join _ _ c.bonds.ensures.sound)
+
+pub loop-atom-preserved : goal.loop-atom-preserved
+loop-atom-preserved c = record {
+  value = c.in_ok-push.ensures.items
+      ∙ around_next c.args.molecule.now _ _ _ c.loop-atom.invariant.value c.surroundings_at.ensures.value;
+  few = rw c.in_ok-push.ensures.items (All-push HasFew _ _ c.loop-atom.invariant.few c.surroundings_at.ensures.few);
+}

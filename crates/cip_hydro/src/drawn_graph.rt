@@ -1,0 +1,23 @@
+// The graph of a molecule.
+ghost use Rattle.std.specs.Prelude.{◌≡◌, IfOk};
+ghost use Rattle.cip_digraph.specs.graph.DrawnGraph.{graph_of};
+
+use crate::carriers::carriers_of;
+use crate::edges::edges_of;
+use crate::surroundings::surroundings_of;
+use crate::vertices::vertices_of;
+use cip_digraph::Graph;
+use cip_mol::Molecule;
+use std::alloc::{AllocError, Global};
+
+/// The graph of a molecule: its atoms, then its implicit hydrogens. It takes time linear in atoms, bonds and hydrogens.
+pub fn graph_of(alloc: Global, molecule: &Molecule) -> Result<Graph, AllocError>
+    ensures { IfOk result (λ graph. graph ≡ graph_of molecule.now) }
+{
+    let drawn = molecule.atoms().len();
+    let surroundings = surroundings_of(alloc, molecule)?;
+    let carriers = carriers_of(alloc, &surroundings)?;
+    let vertices = vertices_of(alloc, molecule, &surroundings, &carriers)?;
+    let edges = edges_of(alloc, molecule, &surroundings, &carriers)?;
+    Graph::new(alloc, vertices, edges, drawn as u32)
+}

@@ -1,0 +1,87 @@
+// The edges of a molecule's graph.
+ghost use Rattle.std.specs.Prelude.{◌≡◌, ◌<◌, ◌+◌, ◌^◌, ◌++◌, IfOk, OnOk, length, map};
+ghost use Rattle.cip_digraph.specs.graph.DrawnGraph.{bond_edge, hydrogen_edges};
+ghost use Rattle.cip_hydro.specs.Surroundings.{counted_by, surroundings_of};
+
+use crate::surroundings::Surroundings;
+use cip_digraph::Edge;
+use cip_mol::{Bond, Molecule};
+use std::alloc::{AllocError, Global};
+
+/// The bonds of a molecule, and those of the hydrogens that these atoms carry.
+pub fn edges_of(
+    alloc: Global,
+    molecule: &Molecule,
+    surroundings: &[Surroundings],
+    carriers: &[u32],
+) -> Result<Vec<Edge>, AllocError>
+    requires around { surroundings.now ≡ surroundings_of molecule.now }
+    requires few { length surroundings.now + length carriers.now < 2 ^ 32 }
+    ensures { IfOk result
+        (λ edges. edges.items
+        ≡ map (bond_edge molecule.now) molecule.now.bonds ++ hydrogen_edges (length molecule.now.atoms) carriers.now) }
+{
+    let mut edges = bond_edges(alloc, molecule, surroundings)?;
+    push_hydrogens(&mut edges, surroundings.len() as u32, carriers)?;
+    Ok(edges)
+}
+
+fn bond_edges(
+    alloc: Global,
+    molecule: &Molecule,
+    surroundings: &[Surroundings],
+) -> Result<Vec<Edge>, AllocError>
+    requires { surroundings.now ≡ surroundings_of molecule.now }
+    ensures { IfOk result (λ edges. edges.items ≡ map (bond_edge molecule.now) molecule.now.bonds) }
+{
+    let mut edges = Vec::new(alloc);
+    for bond in molecule.bonds() {
+        edges.push(bond_edge(bond, surroundings))?;
+    }
+    Ok(edges)
+}
+
+fn bond_edge(bond: &Bond, surroundings: &[Surroundings]) -> Edge
+    requires a { bond.now.a < length surroundings.now }
+    requires b { bond.now.b < length surroundings.now }
+    ensures { result
+        ≡ record {
+          a = bond.now.a;
+          b = bond.now.b;
+          order = bond.now.order;
+          counted = counted_by surroundings.now bond.now;
+        } }
+{
+    Edge {
+        a: bond.a,
+        b: bond.b,
+        order: bond.order,
+        counted: is_counted(bond, surroundings),
+    }
+}
+
+fn is_counted(bond: &Bond, surroundings: &[Surroundings]) -> bool
+    requires a { bond.now.a < length surroundings.now }
+    requires b { bond.now.b < length surroundings.now }
+    ensures { result ≡ counted_by surroundings.now bond.now }
+{
+    let neglected = surroundings[bond.a as usize].neglects
+        || surroundings[bond.b as usize].neglects;
+    bond.order >= 2 && !neglected
+}
+
+// The first hydrogen has this number.
+fn push_hydrogens(edges: &mut Vec<Edge>, first: u32, carriers: &[u32]) -> Result<(), AllocError>
+    requires { first + length carriers.now < 2 ^ 32 }
+    ensures { OnOk result (edges.new.items ≡ edges.old.items ++ hydrogen_edges first carriers.now) }
+{
+    for (place, carrier) in carriers.iter().enumerate() {
+        edges.push(Edge {
+            a: *carrier,
+            b: first + place as u32,
+            order: 1,
+            counted: false,
+        })?;
+    }
+    Ok(())
+}

@@ -1,0 +1,72 @@
+// The vertices of a molecule's graph.
+ghost use Rattle.std.specs.Prelude.{◌≡◌, ◌++◌, IfOk, OnOk, length, map, replicate};
+ghost use Rattle.std.specs.List.{range_with_len};
+ghost use Rattle.cip_digraph.specs.graph.DrawnGraph.{atom_vertex, hydrogen};
+ghost use Rattle.cip_hydro.specs.Surroundings.{surroundings_of};
+
+use crate::surroundings::Surroundings;
+use cip_digraph::Vertex;
+use cip_mol::{Atom, Molecule};
+use std::alloc::{AllocError, Global};
+
+/// An implicit hydrogen.
+const HYDROGEN: Vertex = Vertex {
+    z: 1,
+    isotope: 0,
+    charge: 0,
+    lone: false,
+};
+
+/// The atoms of a molecule, and the hydrogens that these atoms carry.
+pub fn vertices_of(
+    alloc: Global,
+    molecule: &Molecule,
+    surroundings: &[Surroundings],
+    carriers: &[u32],
+) -> Result<Vec<Vertex>, AllocError>
+    requires { surroundings.now ≡ surroundings_of molecule.now }
+    ensures { IfOk result
+        (λ vertices. vertices.items
+        ≡ map (atom_vertex molecule.now) (range_with_len 0 (length molecule.now.atoms))
+        ++ replicate (length carriers.now) hydrogen) }
+{
+    let mut vertices = atom_vertices(alloc, molecule, surroundings)?;
+    push_hydrogens(&mut vertices, carriers.len())?;
+    Ok(vertices)
+}
+
+fn atom_vertices(
+    alloc: Global,
+    molecule: &Molecule,
+    surroundings: &[Surroundings],
+) -> Result<Vec<Vertex>, AllocError>
+    requires { surroundings.now ≡ surroundings_of molecule.now }
+    ensures { IfOk result
+        (λ vertices. vertices.items ≡ map (atom_vertex molecule.now) (range_with_len 0 (length molecule.now.atoms))) }
+{
+    let mut vertices = Vec::new(alloc);
+    for (number, atom) in molecule.atoms().iter().enumerate() {
+        vertices.push(atom_vertex(atom, surroundings[number].lone))?;
+    }
+    Ok(vertices)
+}
+
+fn atom_vertex(atom: &Atom, lone: bool) -> Vertex
+    ensures { result ≡ record { z = atom.now.z; isotope = atom.now.isotope; charge = atom.now.charge; lone = lone } }
+{
+    Vertex {
+        z: atom.z,
+        isotope: atom.isotope,
+        charge: atom.charge,
+        lone,
+    }
+}
+
+fn push_hydrogens(vertices: &mut Vec<Vertex>, count: usize) -> Result<(), AllocError>
+    ensures { OnOk result (vertices.new.items ≡ vertices.old.items ++ replicate count hydrogen) }
+{
+    for _ in 0..count {
+        vertices.push(HYDROGEN)?;
+    }
+    Ok(())
+}

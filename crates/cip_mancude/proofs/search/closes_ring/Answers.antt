@@ -1,0 +1,10 @@
+use Rattle.std.proofs.lemmas.Result.{IfOk-weaker}
+use Rattle.cip_mancude.proofs.Searched.{closes_is}
+use Rattle.cip_mancude.proofs.search.closes_ring.Goals as goal
+
+pub returns : goal.returns
+returns c =
+    IfOk-weaker c.finds_ring.result _ _
+    (λ found is.
+    closes_is c.args.graph.now c.args.vertex c.args.other c.in-Some.next found c.in-Some.ensures
+    c.if-not-can_close.ensures is) c.finds_ring.ensures

@@ -1,0 +1,41 @@
+-- The other ends of the double bonds of alternating atoms, and how a search goes on through them. Own.
+use Rattle.std.specs.Prelude.{ℕ, Bool, false, cond, List, [], ◌∷◌, Some, None, filter, map, not, ◌==◌, ◌||◌, ◌&&◌}
+use Rattle.std.specs.List.{list_any}
+use Rattle.std.specs.declared.option.Option.{Option}
+use Rattle.cip_digraph.specs.declared.graph.Edge.{Edge}
+use Rattle.cip_digraph.specs.rings.Alternating.{closes_ring, goes_on, is_alternating, is_in, partner, reaches, singles}
+use Rattle.cip_digraph.specs.graph.Graph.{Graph, other_end}
+
+abbrev pub alternating_partner : Graph → ℕ → Option ℕ
+alternating_partner graph vertex = cond (is_alternating graph vertex) (Some (partner graph vertex)) None
+
+abbrev pub sole : List Edge → Option Edge
+sole [] = None
+sole (edge ∷ []) = Some edge
+sole (edge ∷ next ∷ edges) = None
+
+abbrev pub sole_counted : List Edge → Option Edge
+sole_counted edges = sole (filter (λ edge. edge.counted) edges)
+
+-- whether a single bond joins two atoms that alternate, as the partner of the one does
+abbrev pub can_close : Graph → ℕ → ℕ → Bool
+can_close graph vertex other =
+    let next = partner graph vertex in
+    is_alternating graph vertex && is_alternating graph next && is_alternating graph other
+    && is_in other (singles graph vertex) && not (other == next)
+
+-- whether a search goes on through an atom and its partner and reaches the target
+abbrev pub goes_through : Graph → ℕ → ℕ → List ℕ → ℕ → Bool
+goes_through graph target more path next =
+    let other = partner graph next in
+    cond (goes_on graph path next) (reaches graph target more (other ∷ next ∷ path) other) false
+
+-- the neighbours along some edges at an alternating atom that are positions of its double bond
+abbrev pub positions_along : Graph → ℕ → List Edge → List ℕ
+positions_along graph vertex edges =
+    filter (λ other. (other == partner graph vertex) || closes_ring graph vertex other) (map (other_end vertex) edges)
+
+-- whether a search goes on along some edges and reaches the target
+abbrev pub goes_along : Graph → ℕ → ℕ → List ℕ → ℕ → List Edge → Bool
+goes_along graph target more path at edges =
+    list_any (goes_through graph target more path) (map (other_end at) (filter (λ edge. edge.order == 1) edges))

@@ -1,0 +1,4 @@
+pub mod Aside
+pub mod Marks
+pub mod Rings
+pub mod Steps

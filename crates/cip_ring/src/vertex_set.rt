@@ -1,0 +1,101 @@
+// A set of vertices that keeps the order in which they came, and a column of marks by which it is asked.
+ghost use Rattle.std.specs.Prelude.{◌≡◌, ◌<◌, ◌∷◌, [], cond, IfOk, OnOk, length, slice_index, slice_set};
+ghost use Rattle.cip_digraph.specs.rings.Alternating.{is_in};
+ghost use Rattle.cip_digraph.specs.rings.SmallRings.{with_new};
+ghost use Rattle.cip_ring.specs.Marks.{AreMarks};
+
+use std::alloc::{AllocError, Global};
+use std::marker::Model;
+
+/// Vertices in the order in which they were added, none twice. Contracts see the list of them. It is asked in one step
+/// about a vertex that its marks reach, and emptied at the cost of what it holds, so it can serve many searches.
+#[derive(Drop)]
+pub struct VertexSet {
+    vertices: Vec<u32>,
+    marks: Vec<bool>,
+}
+
+impl Model for VertexSet {
+    ghost use Rattle.std.specs.Prelude.{ℕ, List};
+    ghost use Rattle.cip_ring.specs.Marks.{AreMarks};
+
+    ghost Value = { List ℕ };
+
+    ghost view = { λ set. set.vertices.items };
+
+    ghost invariant = { λ set. AreMarks set.vertices.items set.marks.items };
+}
+
+impl VertexSet {
+    /// No vertex, with marks for those below a number.
+    pub fn new(alloc: Global, marks: usize) -> Result<VertexSet, AllocError>
+        ensures { IfOk result (λ set. set ≡ []) }
+    {
+        Ok(VertexSet {
+            vertices: Vec::new(alloc),
+            marks: vec![in alloc; false; marks]?,
+        })
+    }
+
+    /// How many vertices there are.
+    pub fn len(&self) -> usize
+        ensures { result ≡ length self.now }
+    {
+        self.vertices.len()
+    }
+
+    /// The vertex that came at a place, counted from 0.
+    pub fn get(&self, place: usize) -> u32
+        requires { place < length self.now }
+        ensures { result ≡ slice_index self.now place }
+    {
+        self.vertices[place]
+    }
+
+    /// Whether a vertex is there.
+    pub fn contains(&self, vertex: u32) -> bool
+        ensures { result ≡ is_in vertex self.now }
+    {
+        match self.marks.get(vertex as usize) {
+            Some(mark) => *mark,
+            None => self.vertices.contains(&vertex),
+        }
+    }
+
+    /// Adds a vertex that is wanted, where it isn't there.
+    pub fn insert_if(&mut self, wanted: bool, vertex: u32) -> Result<(), AllocError>
+        ensures { OnOk result (self.new ≡ with_new self.old (cond wanted (vertex ∷ []) [])) }
+    {
+        if wanted && !self.contains(vertex) {
+            self.vertices.push(vertex)?;
+            set_mark(&mut self.marks, vertex, true);
+        }
+        Ok(())
+    }
+
+    /// Takes all vertices out. The memory stays.
+    pub fn clear(&mut self)
+        ensures { self.new ≡ [] }
+    {
+        unmark(&mut self.marks, &self.vertices);
+        self.vertices.clear();
+    }
+}
+
+// Sets the mark of a vertex, where it has one.
+fn set_mark(marks: &mut Vec<bool>, vertex: u32, mark: bool)
+    ensures { marks.new.items ≡ slice_set marks.old.items vertex mark }
+{
+    if (vertex as usize) < marks.len() {
+        marks[vertex as usize] = mark;
+    }
+}
+
+fn unmark(marks: &mut Vec<bool>, vertices: &[u32])
+    requires { AreMarks vertices.now marks.old.items }
+    ensures { AreMarks [] marks.new.items }
+{
+    for vertex in vertices {
+        set_mark(marks, *vertex, false);
+    }
+}

@@ -1,0 +1,12 @@
+use Rattle.std.proofs.Common.{◌≡◌, ◌++◌, drop}
+use Rattle.std.specs.Prelude.{flat_map}
+use Rattle.cip_digraph.specs.units.DoubleBonds.{bond_sites}
+use Rattle.cip_digraph.specs.graph.Graph.{edges_at}
+use Rattle.cip_unit.specs.Sites.{one_bond_site, units_at}
+use Rattle.cip_unit.proofs.bonds.push_bonds.Given as goal
+
+abbrev pub invariant-loop-edge : goal.invariant-loop-edge
+invariant-loop-edge l =
+    l.units ++ units_at l.molecule
+    (flat_map (one_bond_site l.graph l.positions l.a) (drop l.edge-index (edges_at l.graph l.a)))
+    ≡ l.initial.units ++ units_at l.molecule (bond_sites l.graph l.positions l.a)

@@ -1,0 +1,9 @@
+use Rattle.std.proofs.Common.{◌≡◌, ◌++◌}
+use Rattle.std.specs.Prelude.{flat_map}
+use Rattle.std.specs.List.{range_with_len}
+use Rattle.cip_unit.specs.Sites.{centre_sites, units_at}
+use Rattle.cip_unit.proofs.listing.push_all_centres.Given as goal
+
+abbrev pub invariant-loop-atom : goal.invariant-loop-atom
+invariant-loop-atom l =
+    l.units ≡ l.initial.units ++ units_at l.molecule (flat_map (centre_sites l.graph) (range_with_len 0 l.atom))

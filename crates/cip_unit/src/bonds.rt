@@ -1,0 +1,96 @@
+// Bond units: double bonds that can have a descriptor.
+ghost use Rattle.std.specs.Prelude.{◌≡◌, ◌<◌, ◌++◌, ◌∷◌, [], IfOk, OnOk, length};
+ghost use Rattle.cip_digraph.specs.units.DoubleBonds.{bond_site, bond_sites, is_bond_unit};
+ghost use Rattle.cip_digraph.specs.graph.Graph.{other_end};
+ghost use Rattle.cip_digraph.specs.rings.Positions.{is_delocalised};
+ghost use Rattle.cip_unit.specs.Sites.{can_be_bond_unit, LeadsToAtoms, one_bond_site, units_at};
+
+use crate::ends::{end_ligands, is_bond_end};
+use crate::unit::push_unit;
+use cip_digraph::{Edge, Graph, Positions, Units};
+use cip_mol::{Molecule, Site};
+use cip_ring::{VertexSet, is_in_small_ring};
+use std::alloc::{AllocError, Global};
+
+/// Adds the bond units of a first end, by the second one. The set serves the search for rings.
+pub fn push_bonds(
+    alloc: Global,
+    molecule: &Molecule,
+    graph: &Graph,
+    positions: &Positions,
+    a: u32,
+    reached: &mut VertexSet,
+    units: &mut Units,
+) -> Result<(), AllocError>
+    requires drawn { graph.now.drawn ≡ length molecule.now.atoms }
+    requires within { a < graph.now.drawn }
+    requires leads { LeadsToAtoms graph.now }
+    ensures { OnOk result (units.new ≡ units.old ++ units_at molecule.now (bond_sites graph.now positions.now a)) }
+{
+    for edge in graph.edges_at(a) {
+        push_bond(alloc, molecule, graph, positions, a, edge, reached, units)?;
+    }
+    Ok(())
+}
+
+// Adds the unit of a bond, where it is one.
+fn push_bond(
+    alloc: Global,
+    molecule: &Molecule,
+    graph: &Graph,
+    positions: &Positions,
+    a: u32,
+    edge: &Edge,
+    reached: &mut VertexSet,
+    units: &mut Units,
+) -> Result<(), AllocError>
+    requires drawn { graph.now.drawn ≡ length molecule.now.atoms }
+    requires within { a < graph.now.drawn }
+    requires leads { edge.now.order ≡ 2 → other_end a edge.now < graph.now.drawn }
+    ensures { OnOk result
+        (units.new ≡ units.old ++ units_at molecule.now (one_bond_site graph.now positions.now a edge.now)) }
+{
+    let b = edge.other_end(a);
+    if is_bond_unit(graph, positions, a, b, edge, reached)? {
+        let unit = [a, b];
+        let site = Site::Bond {
+            a,
+            b,
+            first: end_ligands(alloc, graph, &unit, a),
+            second: end_ligands(alloc, graph, &unit, b),
+        };
+        push_unit(alloc, molecule, site, units)?;
+    }
+    Ok(())
+}
+
+fn is_bond_unit(
+    graph: &Graph,
+    positions: &Positions,
+    a: u32,
+    b: u32,
+    edge: &Edge,
+    reached: &mut VertexSet,
+) -> Result<bool, AllocError>
+    requires { b ≡ other_end a edge.now }
+    ensures { IfOk result (λ found. found ≡ is_bond_unit graph.now positions.now a edge.now) }
+{
+    if !can_be_bond_unit(graph, positions, a, b, edge) {
+        return Ok(false);
+    }
+    Ok(!is_in_small_ring(graph, a, b, reached)?)
+}
+
+// Whether a bond is a unit if it lies in no small ring.
+fn can_be_bond_unit(graph: &Graph, positions: &Positions, a: u32, b: u32, edge: &Edge) -> bool
+    requires { b ≡ other_end a edge.now }
+    ensures { result ≡ can_be_bond_unit graph.now positions.now a edge.now }
+{
+    let unit = [a, b];
+    edge.counted
+        && edge.order == 2
+        && a < b
+        && is_bond_end(graph, &unit, a)
+        && is_bond_end(graph, &unit, b)
+        && positions.of(a).len() <= 1
+}
