@@ -1,0 +1,85 @@
+-- A walk up to the root, step by step.
+use Rattle.std.proofs.Common.{
+  ◌≡◌,
+  ◌<◌,
+  ◌==◌,
+  ℕ,
+  zero,
+  suc,
+  Bool,
+  true,
+  false,
+  cond,
+  List,
+  length,
+  None,
+  Some,
+  refl,
+  sym,
+  ap,
+  ◌∙◌,
+  arith,
+  inl,
+  inr,
+}
+use Rattle.std.proofs.lemmas.Bool.{cases_Bool, cases_order, eqb-false, ne_eqb}
+use Rattle.cip_digraph.specs.declared.nodes.Told.{Told}
+use Rattle.cip_digraph.specs.digraph.NodeList.{told_at}
+use Rattle.cip_arena.specs.Walk.{walk_on, walk, is_above, IsEarlier}
+
+module _ (all : List Told) (e : IsEarlier all) (vertex : ℕ) where
+  enough_by : (i k m : ℕ) (b : Bool) → (i == 0) ≡ b → (0 < i → walk_on all k (told_at all i).parent vertex ≡ walk_on all
+      m (told_at all i).parent vertex)
+      → cond b None (walk_on all k (told_at all i).parent vertex) ≡ cond b None (walk_on all m (told_at all i).parent
+      vertex)
+  enough_by i k m true z h = refl
+  enough_by zero k m false z h = let bad : true ≡ false = z in cc
+  enough_by (suc i) k m false z h = h (omega arith)
+
+  -- more steps than there are nodes below change nothing
+  pub enough : (k m i : ℕ) → i < length all → i < k → i < m → walk_on all k i vertex ≡ walk_on all m i vertex
+  enough zero m i lt a b = absurd (omega arith)
+  enough (suc k) zero i lt a b = absurd (omega arith)
+  enough (suc k) (suc m) i lt a b =
+      ap (cond ((told_at all i).vertex == vertex) (Some i)) (enough_by i k m (i == 0) refl (λ some.
+      let up = e.earlier i some lt in
+      enough k m (told_at all i).parent (omega arith) (omega arith) (omega arith)))
+
+  pub step_up : (i : ℕ) → 0 < i → i < length all → ((told_at all i).vertex == vertex) ≡ false → walk all i vertex ≡ walk
+      all (told_at all i).parent vertex
+  step_up i some lt none =
+      let up = e.earlier i some lt in
+      let z : (i == 0) ≡ false = ne_eqb i 0 (λ h. absurd (omega arith)) in
+      ap (λ b. cond b (Some i) (cond (i == 0) None (walk_on all i (told_at all i).parent vertex))) none
+      ∙ ap (λ b. cond b None (walk_on all i (told_at all i).parent vertex)) z
+      ∙ enough i (suc (told_at all i).parent) (told_at all i).parent (omega arith) (omega arith) (omega arith)
+
+  pub found_here : (i : ℕ) → ((told_at all i).vertex == vertex) ≡ true → walk all i vertex ≡ Some i
+  found_here i h = ap (λ b. cond b (Some i) (cond (i == 0) None (walk_on all i (told_at all i).parent vertex))) h
+
+  pub none_at_root : ((told_at all 0).vertex == vertex) ≡ false → walk all 0 vertex ≡ None
+  none_at_root h = ap (λ b. cond b (Some 0) None) h
+
+  above_by : (i : ℕ) → (b c : Bool) → (i == 0) ≡ b → ((told_at all (told_at all i).parent).vertex == vertex) ≡ c
+      → i < length all
+      → walk all i vertex ≡ None → cond b false c ≡ false
+  above_by i true c z h lt none = refl
+  above_by i false false z h lt none = refl
+  above_by i false true z h lt none =
+      let some : 0 < i = elim (cases_order i 0) [
+        | inl e ↦ absurd (eqb-false i 0 z e)
+        | inr (inl below) ↦ absurd
+            (omega arith)
+        | inr (inr more) ↦ more
+      ] in
+      elim (cases_Bool ((told_at all i).vertex == vertex)) [
+        | inl here ↦ let bad : Some i ≡ None = sym (found_here i here) ∙ none in cc
+        | inr other ↦
+            let bad : Some (told_at all i).parent ≡ None = sym (found_here (told_at all i).parent h)
+            ∙ sym (step_up i some lt other) ∙ none in
+            cc
+      ]
+
+  -- what isn't found isn't the parent
+  pub none_above : (i : ℕ) → i < length all → walk all i vertex ≡ None → is_above all i vertex ≡ false
+  none_above i lt none = above_by i (i == 0) ((told_at all (told_at all i).parent).vertex == vertex) refl refl lt none

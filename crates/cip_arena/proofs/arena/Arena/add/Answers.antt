@@ -1,0 +1,56 @@
+use Rattle.std.proofs.Common.{
+  ◌≡◌,
+  ◌<◌,
+  ◌≤◌,
+  ◌+◌,
+  arith,
+  ap,
+  sym,
+  ◌∙◌,
+  subst,
+  length,
+  length-append,
+  ℕ,
+  Bool,
+  List,
+  [],
+  ◌∷◌,
+  ◌++◌,
+}
+use Rattle.std.proofs.lemmas.Grind.{common_steps}
+use Rattle.cip_digraph.specs.declared.nodes.Told.{Told}
+use Rattle.cip_digraph.specs.digraph.NodeList.{told_at, parents_of}
+use Rattle.cip_arena.specs.Walk.{IsEarlier, IsMarked}
+use Rattle.cip_arena.proofs.Added.{parents_added, earlier_added, near_added}
+use Rattle.cip_arena.proofs.Marked.{marked_added}
+use Rattle.cip_arena.proofs.arena.Arena.add.Goals as goal
+
+pub invariant_of-self : goal.invariant_of-self
+invariant_of-self g c =
+    let inv = c.self.invariant in
+    let ts = c.self.inside.nodes.items in
+    let t = c.args.node in
+    let room : length ts < c.self.inside.bound = subst (λ a. length a.nodes < a.bound) (sym c.self.view_is)
+    c.requires.room in
+    let below : t.parent < length ts = subst (λ a. t.parent < length a.nodes) (sym c.self.view_is) c.requires.below in
+    let near : t.as_printed ≤ length ts = subst (λ a. t.as_printed ≤ length a.nodes) (sym c.self.view_is)
+    c.requires.near in
+    let items : c.push.new.self.items ≡ ts ++ t ∷ [] = grind (arith, common_steps) in
+    let more : length c.push.new.self.items ≡ length ts + 1 = ap length items ∙ length-append ts (t ∷ []) in
+    record {
+      few = inv.few;
+      table_bound = grind (arith, common_steps);
+      parents = ap (λ tree. tree.parents) c.push-number.ensures.pushed ∙ ap (λ ps. ps ++ t.parent ∷ []) inv.parents
+          ∙ sym (parents_added ts t) ∙ ap parents_of (sym items);
+      fits = omega (arith, more, room);
+      room = omega (arith, inv.room, c.push.ensures.capacity);
+      earlier = subst IsEarlier (sym items) (earlier_added ts t inv.earlier below);
+      near = subst (λ (xs : List Told). (k : ℕ) → k < length xs → (told_at xs k).as_printed ≤ k) (sym items)
+          (near_added ts t inv.near near);
+      first = omega (arith, more, inv.first);
+      sphere = omega (arith, more, inv.sphere);
+      flags_room = omega (arith, inv.flags_room, c.mark_vertex.ensures.room);
+      marked = subst (λ (xs : List Told). IsMarked c.mark_vertex.new.flags.items xs) (sym items)
+          (subst (λ (flags : List Bool). IsMarked flags (ts ++ t ∷ [])) (sym c.mark_vertex.ensures.marked)
+          (marked_added c.self.inside.present.items ts t inv.marked));
+    }

@@ -1,0 +1,29 @@
+use Rattle.std.proofs.Common.{◌≡◌, length, ap, arith}
+use Rattle.cip_digraph.specs.declared.graph.Edge.{Edge}
+use Rattle.cip_arena.proofs.Few.{few_at}
+use Rattle.cip_arena.proofs.sizes.node_size.Goals as goal
+
+pub overflow_add-size : goal.overflow_add-size
+overflow_add-size c =
+    let few = few_at c.args.graph.now c.in-Some.vertex in
+    let same : length c.edges_at-edge-items.result.now ≡ _ = ap (length {A = Edge})
+    c.edges_at-edge-items.ensures.value in
+    let within = c.loop-edge-test.true in
+    let small = c.loop-edge.invariant.small in
+    omega (
+      arith,
+      few,
+      same,
+      within,
+      small,
+      c.edges_at-edge-items.ensures.range.few_edges,
+      c.edge_size-size.ensures.small,
+    )
+
+pub returns-clause-small : goal.returns-clause-small
+returns-clause-small c =
+    let few = few_at c.args.graph.now c.in-Some.vertex in
+    let same : length c.edges_at-edge-items.result.now ≡ _ = ap (length {A = Edge})
+    c.edges_at-edge-items.ensures.value in
+    let small = c.loop-edge.invariant.small in
+    omega (arith, few, same, small, c.edges_at-edge-items.ensures.range.few_edges, c.loop-edge.auto)

@@ -1,0 +1,363 @@
+// The digraph of a root, grown sphere by sphere in memory that was reserved.
+ghost use Rattle.std.specs.Prelude.{◌≡◌, ◌<◌, ◌≤◌, ◌+◌, ◌-◌, ◌^◌, ℕ, List, [], ◌∷◌, ◌++◌, cond, length, replicate};
+ghost use Rattle.std.specs.Prelude.{unwrap_or, IfOk};
+ghost use Rattle.cip_rank.specs.Tree.{last_parent};
+ghost use Rattle.cip_digraph.specs.graph.Graph.{other_end as end_of};
+ghost use Rattle.cip_digraph.specs.digraph.Digraph.{children, digraph};
+ghost use Rattle.cip_digraph.specs.digraph.NodeList.{told_at, parents_of};
+ghost use Rattle.cip_digraph.specs.digraph.Telling.{node_at};
+ghost use Rattle.cip_arena.specs.Walk.{walk, is_above as stands_above, Keeps};
+ghost use Rattle.cip_arena.specs.Making.{neighbours_told, with_neighbour, with_edge, with_children, with_sphere};
+ghost use Rattle.cip_arena.specs.Making.{edge_size as size_of_edge, node_size as size_of_node, size_upto};
+ghost use Rattle.cip_arena.specs.Growth.{Holds, GrownAs};
+
+use crate::finding::{find_above, is_above};
+use crate::presence::{clear_flags, mark_vertex};
+use crate::sizes::{copies, node_size, real_vertex, sphere_size};
+use crate::telling::{mass_of, tell_closure, tell_duplicate, tell_real, z_of};
+use cip_digraph::{Edge, Graph, NodeKind, Nodes, Positions, Told};
+use cip_rank::{Rules, Table};
+use cip_steps::Steps;
+use std::alloc::{AllocError, Global};
+use std::marker::Model;
+use std::sync::ledger::Ledger;
+
+/// The nodes of a digraph up to a sphere, with their table and keys.
+#[derive(Drop)]
+pub struct Arena {
+    bound: u32,
+    root: u32,
+    sphere: u32,
+    // the first node of the last sphere
+    first: u32,
+    table: Table,
+    nodes: Vec<Told>,
+    // of each vertex, whether it may have a node
+    present: Vec<bool>,
+}
+
+impl Model for Arena {
+    ghost use Rattle.cip_arena.specs.Growth.{Growth};
+
+    ghost Value = { Growth };
+
+    ghost use Rattle.cip_arena.specs.Growth.{growth_of, HoldGrowth};
+
+    ghost view = { growth_of };
+
+    ghost invariant = { HoldGrowth };
+}
+
+/// What growing answers.
+#[derive(Clone, Copy, Debug, PartialEq, Eq)]
+pub enum Grown {
+    /// The next sphere was added.
+    Grown,
+    /// There is no further node.
+    Whole,
+    /// The next sphere would pass the bound.
+    Over,
+}
+
+impl Arena {
+    /// No nodes, with room for `bound` of them. All memory is taken here, and none of it is touched before it is used.
+    pub fn reserve(alloc: Global, bound: u32) -> Result<Arena, AllocError>
+        ensures { IfOk result (λ arena. arena ≡ record { bound = bound; root = 0; sphere = 0; first = 0; nodes = [] }) }
+    {
+        Ok(Arena {
+            bound,
+            root: 0,
+            sphere: 0,
+            first: 0,
+            table: Table::reserve(alloc, bound)?,
+            nodes: Vec::with_capacity(alloc, bound as usize)?,
+            present: Vec::with_capacity(alloc, bound as usize)?,
+        })
+    }
+
+    /// Lets go of all nodes but a new root.
+    #[tactic(auto, using(crate::proofs::Marked::first_marked))]
+    pub fn start(&mut self, graph: &Graph, root: u32)
+        requires { 0 < self.old.bound }
+        ensures holds { (positions : List (List ℕ)) → Holds graph.now positions self.new }
+        ensures root { self.new.root ≡ root }
+        ensures sphere { self.new.sphere ≡ 0 }
+        ensures bound { self.new.bound ≡ self.old.bound }
+    {
+        let node = Told {
+            parent: 0,
+            kind: NodeKind::Real,
+            vertex: root,
+            counterpart: None,
+            atomic: 6 * z_of(graph, root) as u32,
+            mass: mass_of(graph, root),
+            as_printed: 0,
+            as_corrected: 0,
+        };
+        self.table.clear();
+        self.nodes.clear();
+        clear_flags(&mut self.present, graph.vertices().len(), self.bound);
+        let _ = self.table.push(None);
+        let _ = self.nodes.push(node);
+        mark_vertex(&mut self.present, root);
+        self.root = root;
+        self.sphere = 0;
+        self.first = 0;
+    }
+
+    /// Adds the next sphere, a step for each node. Where it has none, or would pass the bound, nothing changes.
+    pub fn grow<L: Ledger>(
+        &mut self,
+        graph: &Graph,
+        positions: &Positions,
+        steps: &mut Steps<L>,
+    ) -> Grown
+        requires { Holds graph.now positions.now self.old }
+        ensures holds { Holds graph.now positions.now self.new }
+        ensures fits { length self.new.nodes ≤ self.new.bound }
+        ensures answer { GrownAs graph.now positions.now self.old self.new steps.old steps.new result }
+    {
+        let past = self.len();
+        let Some(size) = sphere_size(graph, &self.nodes, self.first, past, self.bound - past) else {
+            return Grown::Over;
+        };
+        if size == 0 {
+            return Grown::Whole;
+        }
+        self.make_sphere(graph, positions, past, steps);
+        self.first = past;
+        self.sphere += 1;
+        Grown::Grown
+    }
+
+    /// The last sphere.
+    pub fn sphere(&self) -> u32
+        ensures { result ≡ self.now.sphere }
+    {
+        self.sphere
+    }
+
+    /// How many nodes there are.
+    pub fn len(&self) -> u32
+        ensures len { result ≡ length self.now.nodes }
+        ensures fits { result ≤ self.now.bound }
+    {
+        self.nodes.len() as u32
+    }
+
+    /// The first node of the last sphere.
+    pub fn first(&self) -> u32
+        ensures { result ≡ self.now.first }
+    {
+        self.first
+    }
+
+    /// How many children a node has in the digraph, those beyond the last sphere too.
+    pub fn child_count(&self, graph: &Graph, node: u32) -> u64
+        requires { node < length self.now.nodes }
+        ensures { (positions : List (List ℕ)) → Holds graph.now positions self.now
+            → result ≡ length (children graph.now positions
+            (node_at (digraph graph.now positions self.now.root self.now.sphere) node)) }
+    {
+        node_size(graph, &self.nodes, node)
+    }
+
+    #[tactic(auto, using(crate::proofs::Sized::size_next, crate::proofs::Sized::size_after, crate::proofs::Sized::node_kept, crate::proofs::Added::keeps_then))]
+    fn make_sphere<L: Ledger>(
+        &mut self,
+        graph: &Graph,
+        positions: &Positions,
+        past: u32,
+        steps: &mut Steps<L>,
+    )
+        requires past { past ≡ length self.old.nodes }
+        requires room { past + size_upto graph.now self.old.nodes self.old.first (past - self.old.first)
+            ≤ self.old.bound }
+        requires last { last_parent (parents_of self.old.nodes) ≤ self.old.first }
+        requires order { self.old.first ≤ past }
+        ensures made { self.new ≡ record self.old {
+          nodes = with_sphere graph.now positions.now self.old.nodes self.old.first (past - self.old.first);
+        } }
+        ensures last { last_parent (parents_of self.new.nodes) ≤ past }
+        ensures size { length self.new.nodes
+            ≡ length self.old.nodes + size_upto graph.now self.old.nodes self.old.first (past - self.old.first) }
+        ensures cost { steps.new + length self.old.nodes ≡ steps.old + length self.new.nodes }
+    {
+        let first = self.first;
+        for node in first..past {
+            self.make_children(graph, positions, node, steps);
+        }
+    }
+
+    #[tactic(auto, using(crate::proofs::Sized::edge_kept, crate::proofs::Added::keeps_then))]
+    fn make_children<L: Ledger>(
+        &mut self,
+        graph: &Graph,
+        positions: &Positions,
+        node: u32,
+        steps: &mut Steps<L>,
+    )
+        requires within { node < length self.old.nodes }
+        requires room { length self.old.nodes + size_of_node graph.now self.old.nodes node ≤ self.old.bound }
+        requires last { last_parent (parents_of self.old.nodes) ≤ node }
+        ensures made { self.new ≡ record self.old {
+          nodes = with_children graph.now positions.now self.old.nodes node;
+        } }
+        ensures last { last_parent (parents_of self.new.nodes) ≤ node }
+        ensures kept { Keeps self.old.nodes self.new.nodes }
+        ensures size { length self.new.nodes ≡ length self.old.nodes + size_of_node graph.now self.old.nodes node }
+        ensures cost { steps.new + length self.old.nodes ≡ steps.old + length self.new.nodes }
+    {
+        let Some(vertex) = real_vertex(&self.nodes[node as usize]) else {
+            return;
+        };
+        for edge in graph.edges_at(vertex) {
+            self.make_edge(graph, positions, node, vertex, edge, steps);
+        }
+    }
+
+    #[tactic(auto, using(crate::proofs::Added::keeps_append, crate::proofs::Added::keeps_then))]
+    fn make_edge<L: Ledger>(
+        &mut self,
+        graph: &Graph,
+        positions: &Positions,
+        node: u32,
+        vertex: u32,
+        edge: &Edge,
+        steps: &mut Steps<L>,
+    )
+        requires within { node < length self.old.nodes }
+        requires room { length self.old.nodes + size_of_edge self.old.nodes node vertex edge.now ≤ self.old.bound }
+        requires last { last_parent (parents_of self.old.nodes) ≤ node }
+        ensures made { self.new ≡ record self.old {
+          nodes = with_edge graph.now positions.now node vertex self.old.nodes edge.now;
+        } }
+        ensures last { last_parent (parents_of self.new.nodes) ≤ node }
+        ensures kept { Keeps self.old.nodes self.new.nodes }
+        ensures size { length self.new.nodes ≡ length self.old.nodes + size_of_edge self.old.nodes node vertex
+            edge.now }
+        ensures cost { steps.new + length self.old.nodes ≡ steps.old + length self.new.nodes }
+    {
+        let other = edge.other_end(vertex);
+        let stands = self.make_neighbour(graph, node, other, steps);
+        let told = tell_duplicate(
+            graph,
+            positions,
+            &self.nodes,
+            node,
+            vertex,
+            other,
+            stands,
+            edge.order,
+        );
+        self.add_copies(told, copies(edge), steps);
+    }
+
+    #[tactic(auto, using(crate::proofs::Walked::none_above, crate::proofs::Added::keeps_append))]
+    fn make_neighbour<L: Ledger>(
+        &mut self,
+        graph: &Graph,
+        node: u32,
+        other: u32,
+        steps: &mut Steps<L>,
+    ) -> u32
+        requires within { node < length self.old.nodes }
+        requires room { length self.old.nodes + cond (stands_above self.old.nodes node other) 0 1 ≤ self.old.bound }
+        requires last { last_parent (parents_of self.old.nodes) ≤ node }
+        ensures made { self.new ≡ record self.old { nodes = with_neighbour graph.now self.old.nodes node other } }
+        ensures stands { result ≡ unwrap_or (walk self.old.nodes node other) (length self.old.nodes) }
+        ensures low { result < length self.new.nodes }
+        ensures last { last_parent (parents_of self.new.nodes) ≤ node }
+        ensures size { length self.new.nodes ≡ length self.old.nodes + cond (stands_above self.old.nodes node other) 0
+            1 }
+        ensures cost { steps.new + length self.old.nodes ≡ steps.old + length self.new.nodes }
+    {
+        match find_above(&self.nodes, &self.present, node, other) {
+            Some(at) => {
+                if !is_above(&self.nodes, node, other) {
+                    let told = tell_closure(graph, &self.nodes, node, other, at);
+                    let _ = self.add(told, steps);
+                }
+                at
+            }
+            None => {
+                let told = tell_real(graph, &self.nodes, node, other);
+                self.add(told, steps)
+            }
+        }
+    }
+
+    #[tactic(auto, using(crate::proofs::Added::copies_more))]
+    fn add_copies<L: Ledger>(&mut self, node: Told, count: u8, steps: &mut Steps<L>)
+        requires room { length self.old.nodes + count ≤ self.old.bound }
+        requires below { node.parent < length self.old.nodes }
+        requires in_order { last_parent (parents_of self.old.nodes) ≤ node.parent }
+        requires near { node.as_printed ≤ length self.old.nodes }
+        ensures added { self.new ≡ record self.old { nodes = self.old.nodes ++ replicate count node } }
+        ensures last { last_parent (parents_of self.new.nodes) ≤ node.parent }
+        ensures cost { steps.new ≡ steps.old + count }
+    {
+        for _ in 0..count {
+            let _ = self.add(node, steps);
+        }
+    }
+
+    #[tactic(auto, using(crate::proofs::Added::last_added))]
+    fn add<L: Ledger>(&mut self, node: Told, steps: &mut Steps<L>) -> u32
+        requires room { length self.old.nodes < self.old.bound }
+        requires below { node.parent < length self.old.nodes }
+        requires in_order { last_parent (parents_of self.old.nodes) ≤ node.parent }
+        requires near { node.as_printed ≤ length self.old.nodes }
+        ensures added { self.new ≡ record self.old { nodes = self.old.nodes ++ node ∷ [] } }
+        ensures last { last_parent (parents_of self.new.nodes) ≡ node.parent }
+        ensures number { result ≡ length self.old.nodes }
+        ensures cost { steps.new ≡ steps.old + 1 }
+    {
+        let number = self.table.push(Some(node.parent));
+        let _ = self.nodes.push(node);
+        mark_vertex(&mut self.present, node.vertex);
+        steps.tick();
+        number
+    }
+}
+
+impl Nodes for Arena {
+    ghost nodes = { λ arena. arena.nodes };
+
+    fn table(&self) -> &Table {
+        &self.table
+    }
+
+    fn kind(&self, node: u32) -> NodeKind {
+        self.nodes[node as usize].kind
+    }
+
+    fn vertex(&self, node: u32) -> Option<u32> {
+        let told = &self.nodes[node as usize];
+        match told.kind {
+            NodeKind::Real => Some(told.vertex),
+            NodeKind::Closure => Some(told.vertex),
+            NodeKind::Multiple => Some(told.vertex),
+            NodeKind::Delocalised => None,
+        }
+    }
+
+    fn counterpart(&self, node: u32) -> Option<u32> {
+        self.nodes[node as usize].counterpart
+    }
+
+    fn atom_key(&self, node: u32) -> u32 {
+        self.nodes[node as usize].atomic
+    }
+
+    fn distance_key(&self, node: u32, rules: Rules) -> u32 {
+        match rules {
+            Rules::Wording2013 => self.nodes[node as usize].as_printed,
+            Rules::Wording2018 => self.nodes[node as usize].as_corrected,
+        }
+    }
+
+    fn mass_key(&self, node: u32) -> u32 {
+        self.nodes[node as usize].mass
+    }
+}

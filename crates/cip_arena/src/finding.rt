@@ -1,0 +1,63 @@
+// The way from a node up to the root.
+ghost use Rattle.std.specs.Prelude.{◌≡◌, ◌<◌, ◌≤◌, ◌==◌, ℕ, suc, length, IfSome};
+ghost use Rattle.cip_arena.specs.Walk.{walk, is_above as stands_above, IsEarlier, IsMarked};
+
+use crate::presence::may_stand;
+use cip_digraph::Told;
+
+fn has_vertex(told: &Told, vertex: u32) -> bool
+    ensures { result ≡ (told.now.vertex == vertex) }
+{
+    told.vertex == vertex
+}
+
+// Looks at one node after the other.
+#[tactic(auto, using(crate::proofs::Walked::step_up, crate::proofs::Walked::found_here, crate::proofs::Walked::none_at_root))]
+fn find_on(nodes: &[Told], node: u32, vertex: u32) -> Option<u32>
+    requires within { node < length nodes.now }
+    requires earlier { IsEarlier nodes.now }
+    ensures found { result ≡ walk nodes.now node vertex }
+    ensures low { IfSome result (λ at. at ≤ node) }
+{
+    let mut at = node;
+    while at != 0 {
+        if has_vertex(&nodes[at as usize], vertex) {
+            return Some(at);
+        }
+        at = nodes[at as usize].parent;
+    }
+    if has_vertex(&nodes[0], vertex) {
+        Some(0)
+    } else {
+        None
+    }
+}
+
+/// The node of a vertex on the way from a node up to the root.
+#[tactic(auto, using(crate::proofs::Marked::none_marked))]
+pub fn find_above(nodes: &[Told], present: &[bool], node: u32, vertex: u32) -> Option<u32>
+    requires within { node < length nodes.now }
+    requires earlier { IsEarlier nodes.now }
+    requires marked { IsMarked present.now nodes.now }
+    ensures found { result ≡ walk nodes.now node vertex }
+    ensures low { IfSome result (λ at. at ≤ node) }
+{
+    if may_stand(present, vertex) {
+        find_on(nodes, node, vertex)
+    } else {
+        None
+    }
+}
+
+/// Whether the parent of a node has this vertex.
+pub fn is_above(nodes: &[Told], node: u32, vertex: u32) -> bool
+    requires within { node < length nodes.now }
+    requires earlier { IsEarlier nodes.now }
+    ensures { result ≡ stands_above nodes.now node vertex }
+{
+    if node == 0 {
+        false
+    } else {
+        has_vertex(&nodes[nodes[node as usize].parent as usize], vertex)
+    }
+}

@@ -1,0 +1,10 @@
+//! The digraph of a root, grown sphere by sphere in memory that was reserved.
+#![tactic(auto)]
+
+mod arena;
+mod finding;
+mod presence;
+mod sizes;
+mod telling;
+
+pub use arena::{Arena, Grown};

@@ -1,0 +1,37 @@
+// Which vertices may have a node: where a vertex has none, no way up has to be searched for it.
+ghost use Rattle.std.specs.Prelude.{◌≡◌, ◌≤◌, true, slice_index_or, vec_capacity};
+ghost use Rattle.cip_arena.specs.Walk.{with_mark};
+
+/// Whether a vertex may have a node: its flag is set, or stands beyond the column.
+pub fn may_stand(flags: &[bool], vertex: u32) -> bool
+    ensures { result ≡ slice_index_or flags.now vertex true }
+{
+    match flags.get(vertex as usize) {
+        Some(flag) => *flag,
+        None => true,
+    }
+}
+
+/// Sets the flag of a vertex, where the column reaches so far.
+pub fn mark_vertex(flags: &mut Vec<bool>, vertex: u32)
+    ensures marked { flags.new.items ≡ with_mark vertex flags.old.items }
+    ensures room { vec_capacity flags.new ≡ vec_capacity flags.old }
+{
+    if (vertex as usize) < flags.len() {
+        flags[vertex as usize] = true;
+    }
+}
+
+/// Makes a column of flags that are not set, for so many vertices, or for as many as there is room.
+pub fn clear_flags(flags: &mut Vec<bool>, vertices: usize, room: u32)
+    requires { room ≤ vec_capacity flags.old }
+    ensures { vec_capacity flags.old ≤ vec_capacity flags.new }
+{
+    flags.clear();
+    for _ in 0..room {
+        if flags.len() == vertices {
+            return;
+        }
+        let _ = flags.push(false);
+    }
+}

@@ -1,0 +1,128 @@
+// What is told of one node.
+ghost use Rattle.std.specs.Prelude.{◌≡◌, ◌<◌, ◌≤◌, ◌+◌, ◌-◌, ◌*◌, ◌/◌, ◌^◌, ℕ, length, sum, map};
+ghost use Rattle.cip_arena.specs.Making.{real_told, closure_told, duplicate_told};
+ghost use Rattle.cip_digraph.specs.graph.Graph.{vertex_at};
+ghost use Rattle.cip_digraph.specs.rules.Keys.{atom_mass};
+ghost use Rattle.cip_digraph.specs.digraph.NodeList.{told_at};
+
+use cip_digraph::{Graph, NodeKind, Positions, Told};
+use cip_elem::natural_half;
+
+/// The atomic number of a vertex, 0 at a number that is no vertex.
+pub fn z_of(graph: &Graph, vertex: u32) -> u8
+    ensures { result ≡ (vertex_at graph.now vertex).z }
+{
+    match graph.vertices().get(vertex as usize) {
+        Some(vertex) => vertex.z,
+        None => 0,
+    }
+}
+
+/// The mass key of an atom of a vertex.
+#[tactic(auto, using(crate::proofs::Masses::no_atom))]
+pub fn mass_of(graph: &Graph, vertex: u32) -> u32
+    ensures { result ≡ atom_mass (vertex_at graph.now vertex) }
+{
+    match graph.vertices().get(vertex as usize) {
+        Some(vertex) => {
+            if vertex.isotope == 0 {
+                natural_half(vertex.z) as u32
+            } else {
+                2 * vertex.isotope as u32
+            }
+        }
+        None => 1,
+    }
+}
+
+/// Six times the mean atomic number of some vertices.
+pub fn mean_of(graph: &Graph, others: &[u32]) -> u32
+    requires some { 0 < length others.now }
+    requires few { length others.now ≤ 3 }
+    ensures { result ≡ 6 * sum (map (λ other. (vertex_at graph.now other).z) others.now) / length others.now }
+{
+    let mut total = 0u32;
+    for other in others {
+        total += z_of(graph, *other) as u32;
+    }
+    6 * total / others.len() as u32
+}
+
+/// What is told of a neighbour that isn't on the way up.
+pub fn tell_real(graph: &Graph, nodes: &[Told], node: u32, other: u32) -> Told
+    requires within { node < length nodes.now }
+    requires near { (told_at nodes.now node).as_printed + 1 < 2 ^ 32 }
+    ensures { result ≡ real_told graph.now nodes.now node other }
+{
+    let sphere = nodes[node as usize].as_printed + 1;
+    Told {
+        parent: node,
+        kind: NodeKind::Real,
+        vertex: other,
+        counterpart: None,
+        atomic: 6 * z_of(graph, other) as u32,
+        mass: mass_of(graph, other),
+        as_printed: sphere,
+        as_corrected: sphere,
+    }
+}
+
+/// What is told of a neighbour that stands on the way up.
+pub fn tell_closure(graph: &Graph, nodes: &[Told], node: u32, other: u32, at: u32) -> Told
+    requires { at < length nodes.now }
+    ensures { result ≡ closure_told graph.now nodes.now node other at }
+{
+    let sphere = nodes[at as usize].as_printed;
+    Told {
+        parent: node,
+        kind: NodeKind::Closure,
+        vertex: other,
+        counterpart: Some(at),
+        atomic: 6 * z_of(graph, other) as u32,
+        mass: 0,
+        as_printed: sphere,
+        as_corrected: sphere,
+    }
+}
+
+/// What is told of the duplicate for a multiple bond from a vertex to another one, which stands at a node.
+pub fn tell_duplicate(
+    graph: &Graph,
+    positions: &Positions,
+    nodes: &[Told],
+    node: u32,
+    vertex: u32,
+    other: u32,
+    stands: u32,
+    order: u8,
+) -> Told
+    requires within { node < length nodes.now }
+    requires stands { stands < length nodes.now }
+    ensures { result ≡ duplicate_told graph.now positions.now nodes.now node vertex other stands order }
+{
+    let others = positions.of(vertex);
+    let sphere = nodes[node as usize].as_printed;
+    if order == 2 && others.len() > 1 {
+        Told {
+            parent: node,
+            kind: NodeKind::Delocalised,
+            vertex,
+            counterpart: None,
+            atomic: mean_of(graph, others),
+            mass: 0,
+            as_printed: sphere,
+            as_corrected: sphere,
+        }
+    } else {
+        Told {
+            parent: node,
+            kind: NodeKind::Multiple,
+            vertex: other,
+            counterpart: Some(stands),
+            atomic: 6 * z_of(graph, other) as u32,
+            mass: 0,
+            as_printed: nodes[stands as usize].as_printed,
+            as_corrected: sphere,
+        }
+    }
+}

@@ -1,0 +1,425 @@
+-- Rank numbers by Rules 1a, 1b and 2 tell which closed ligands are alike.
+use Rattle.std.proofs.Common.{
+  ◌≡◌,
+  ◌<◌,
+  ◌-◌,
+  ◌==◌,
+  ◌&&◌,
+  ◌||◌,
+  ℕ,
+  ℤ,
+  zero,
+  suc,
+  pos,
+  Bool,
+  true,
+  false,
+  cond,
+  not,
+  List,
+  [],
+  ◌∷◌,
+  map,
+  length,
+  None,
+  Some,
+  slice_index,
+  refl,
+  sym,
+  ap,
+  ◌∙◌,
+  subst,
+  arith,
+}
+use Rattle.std.specs.declared.option.Option.{Option}
+use Rattle.std.specs.declared.cmp.Ordering.{Ordering}
+use Rattle.std.specs.declared.cmp.Ordering.TheVariants.{Less, Equal, Greater}
+use Rattle.std.specs.Cmp.{IsTotalOrder}
+use Rattle.std.specs.Cmp.Lexicographic.{slice_cmp}
+use Rattle.std.specs.List.{AllByRecursion, list_any}
+use Rattle.std.specs.Ordering.{is_eq, ordering_then}
+use Rattle.std.proofs.lemmas.Bool.{and_parts, or_parts, or_from, false_from_ne_true, both_ways}
+use Rattle.cip_rank.specs.Ranking.{by_number, comparison_at, OrdersAs}
+use Rattle.cip_rank.specs.declared.rules.Rules.{Rules}
+use Rattle.cip_rank.specs.declared.rules.Rules.TheVariants.{Wording2013, Wording2018}
+use Rattle.cip_rank.proofs.TotalOrder.{comparison_total}
+use Rattle.cip_mol.specs.declared.site.Ligand.{Ligand}
+use Rattle.cip_mol.specs.declared.site.Ligand.TheVariants.{Vertex, LonePair}
+use Rattle.cip_mol.specs.declared.site.Unit as units
+use Rattle.cip_digraph.specs.declared.nodes.Told.{Told}
+use Rattle.cip_digraph.specs.rules.Auxiliary.{stands_for, ligand_node, auxiliary}
+use Rattle.cip_digraph.specs.outcome.Deciding.{is_empty, nodes_below, nodes_within}
+use Rattle.cip_digraph.specs.digraph.Digraph.{Node, real_node, children, digraph}
+use Rattle.cip_digraph.specs.rules.EarlyOrder.{seen_at, are_alike_within}
+use Rattle.cip_digraph.specs.units.Ends.{end_at}
+use Rattle.cip_digraph.specs.graph.Graph.{Graph}
+use Rattle.cip_digraph.specs.rules.Keys.{atomic_key, mass_key, distance_key, sphere_in_digraph, lower_precedes}
+use Rattle.cip_digraph.specs.digraph.NodeList.{told_at, parents_of, distance_told}
+use Rattle.cip_digraph.specs.rules.Orders.{all_tie, rule_2}
+use Rattle.cip_digraph.specs.outcome.Outcomes.{is_in_unit}
+use Rattle.cip_digraph.specs.units.Ranked.{some_pair}
+use Rattle.cip_digraph.specs.digraph.SameBranch.{EndsWithin}
+use Rattle.cip_digraph.specs.graph.SoundGraphs.{IsSound}
+use Rattle.cip_digraph.specs.digraph.Telling.{node_at}
+use Rattle.cip_digraph.specs.digraph.View.{view_children}
+use Rattle.cip_digraph.proofs.BranchesEnd.{at_root, further_out, ligands_end}
+use Rattle.cip_digraph.proofs.Cut.{size, Whole}
+use Rattle.cip_constitution.proofs.CutRanks.{KeysAre, later_rule, tie_total}
+use Rattle.cip_digraph.proofs.Hanging as hanging
+use Rattle.cip_digraph.proofs.Lists.{all_by, all_filtered}
+use Rattle.cip_digraph.proofs.Numbered.{at_number, count_is}
+use Rattle.cip_digraph.proofs.Placing.{placed, parents, placed_parents}
+use Rattle.cip_constitution.proofs.SeenDistances.{EndsAt, below_ends}
+use Rattle.cip_constitution.proofs.SeenRules.{
+  IsFurther,
+  below_further,
+  IsEnded,
+  by_atoms,
+  by_distances,
+  by_masses,
+  ended_2,
+}
+use Rattle.cip_digraph.proofs.SettledTies.{both_all, none_left}
+use Rattle.cip_arena.specs.Growth.{Growth, Holds}
+use Rattle.cip_constitution.specs.Alike.{is_closed_ligand, has_closed_pair, alike_told}
+use Rattle.cip_constitution.specs.Standing.{ligand_number, have_other_ranks, differ_told}
+use Rattle.cip_constitution.proofs.Closed.{seen_below}
+use Rattle.cip_constitution.proofs.DifferTold.{eq_by_cmp, IsFirst, LigandAt, ligand_at}
+use Rattle.cip_constitution.proofs.NodeKeys.{keys_at}
+use Rattle.cip_constitution.proofs.Under.{none_ended}
+
+any_by : {X Y : Type 0} (f : X → Y) (p : Y → Bool) (q : X → Bool) → ((x : X) → q x ≡ p (f x)) → (xs : List X)
+    → list_any q xs ≡ list_any p (map f xs)
+any_by f p q same [] = refl
+any_by f p q same (x ∷ xs) = ap (λ b. b || list_any q xs) (same x) ∙ ap (λ b. p (f x) || b) (any_by f p q same xs)
+
+some_by : {X Y : Type 0} (f : X → Y) (p : Y → Y → Bool) (q : X → X → Bool) → ((x y : X) → q x y ≡ p (f x) (f y))
+    → (xs : List X) → some_pair q xs ≡ some_pair p (map f xs)
+some_by f p q same [] = refl
+some_by f p q same (x ∷ xs) =
+    ap (λ b. b || some_pair q xs) (any_by f (p (f x)) (q x) (same x) xs) ∙ ap (λ b. list_any (p (f x)) (map f xs) || b)
+    (some_by f p q same xs)
+
+-- the test of two ligands: both ended, no atom of a unit, a tie
+abbrev pub test_of : Bool → Bool → Bool
+test_of ended alike = elim ended as (λ _. Bool) [ true ↦ alike | false ↦ false ]
+
+closed_test : (e f u v t d : Bool) → ((e && not u) ≡ true → (f && not v) ≡ true → t ≡ not d)
+    → ((e && not u) && ((f && not v) && not d)) ≡ test_of (e && f) (t && not (u || v))
+closed_test true true false false t d h = sym (and_true t ∙ h refl refl)
+  where
+    and_true : (b : Bool) → (b && true) ≡ b
+    and_true true = refl
+    and_true false = refl
+closed_test true true false true t d h = sym (and_false t)
+  where
+    and_false : (b : Bool) → (b && false) ≡ false
+    and_false true = refl
+    and_false false = refl
+closed_test true true true v t d h = sym (and_false t)
+  where
+    and_false : (b : Bool) → (b && false) ≡ false
+    and_false true = refl
+    and_false false = refl
+closed_test true false false v t d h = refl
+closed_test true false true v t d h = refl
+closed_test false f u v t d h = refl
+
+module _ (rules : Rules) (g : Graph) (positions : List (List ℕ)) (all : List units.Unit) (a : Growth)
+    (h : Holds g positions a) (some : 0 < a.sphere) (sound : IsSound g)
+    (inside : a.root < length g.vertices) where
+  abbrev nodes : List Node
+  nodes = digraph g positions a.root a.sphere
+
+  abbrev d : ℕ
+  d = a.sphere - 1
+
+  abbrev view : Node → List Node
+  view = view_children g positions (a.root ∷ [])
+
+  abbrev high : ℕ
+  high = (seen_at rules g positions all a.root).height
+
+  ends_seen : (k : ℕ) (node : Node) → IsFurther g positions a.root node → EndsWithin view k node
+      → EndsWithin (children g positions) k node
+  ends_seen zero node p e = sym (further_out g positions a.root p.number node p.path) ∙ e
+  ends_seen (suc k) node p e =
+      let same = further_out g positions a.root p.number node p.path in
+      all_by (λ child. IsFurther g positions a.root child × EndsWithin view k child) (EndsWithin (children g positions)
+      k) (λ child q. ends_seen k child q.0 q.1) (children g positions node)
+      (both_all (IsFurther g positions a.root) (EndsWithin view k) (children g positions node)
+      (below_further g positions a.root node p) (subst (AllByRecursion (EndsWithin view k)) same e))
+
+  -- alike ligands are closed
+  alike_closed : (e f u v t : Bool) → test_of (e && f) (t && not (u || v)) ≡ true
+      → ((e && not u) ≡ true) × ((f && not v) ≡ true)
+  alike_closed true true false false t h = (refl, refl)
+  alike_closed true true false true t h = absurd (false_and t h)
+    where
+      false_and : (b : Bool) → (b && false) ≡ true → ⊥
+      false_and true e = let bad : false ≡ true = e in cc
+      false_and false e = let bad : false ≡ true = e in cc
+  alike_closed true true true v t h = absurd (false_and t h)
+    where
+      false_and : (b : Bool) → (b && false) ≡ true → ⊥
+      false_and true e = let bad : false ≡ true = e in cc
+      false_and false e = let bad : false ≡ true = e in cc
+  alike_closed true false u v t h = let bad : false ≡ true = h in cc
+  alike_closed false f u v t h = let bad : false ≡ true = h in cc
+
+  abbrev stand : Ligand → List Node
+  stand = ligand_node (view (real_node a.root []))
+
+  abbrev closed_one : Ligand → Bool
+  closed_one = is_closed_ligand rules g positions all a
+
+  both_closed : (ligands : List Ligand) (x y : Ligand) → are_alike_within rules g positions all (end_at a.root ligands)
+      a.sphere (stand x) (stand y) ≡ true
+      → (closed_one x ≡ true) × (closed_one y ≡ true)
+  both_closed ligands x y e =
+      alike_closed (is_empty (nodes_below view a.sphere (stand x))) (is_empty (nodes_below view a.sphere (stand y)))
+      (list_any (is_in_unit rules g positions all) (nodes_within view a.sphere (stand x)))
+      (list_any (is_in_unit rules g positions all) (nodes_within view a.sphere (stand y)))
+      (is_eq (slice_cmp (rule_2 (seen_at rules g positions all a.root) high) (stand x) (stand y))) e
+
+  none_alike : (test : List Node → List Node → Bool) → ((x y : Ligand) → test (stand x) (stand y) ≡ true
+      → (closed_one x ≡ true) × (closed_one y ≡ true))
+      → (x : Ligand) (xs : List Ligand) → (closed_one x ≡ true → list_any closed_one xs ≡ false)
+      → list_any (test (stand x)) (map stand xs) ≡ false
+  none_alike test implies x [] none = refl
+  none_alike test implies x (y ∷ ys) none =
+      or_from (test (stand x) (stand y)) (list_any (test (stand x)) (map stand ys))
+      (false_from_ne_true (test (stand x) (stand y)) (λ e.
+      let c = implies x y e in
+      both_ways (closed_one y) (or_parts (closed_one y) (list_any closed_one ys) (none c.0)).0 c.1))
+      (none_alike test implies x ys (λ c. (or_parts (closed_one y) (list_any closed_one ys) (none c)).1))
+
+  none_closed_by : (test : List Node → List Node → Bool) → ((x y : Ligand) → test (stand x) (stand y) ≡ true
+      → (closed_one x ≡ true) × (closed_one y ≡ true))
+      → (b : Bool) (x : Ligand) (xs : List Ligand) → closed_one x ≡ b → cond b (list_any closed_one xs)
+      (has_closed_pair rules g positions all a xs) ≡ false
+      → (closed_one x ≡ true → list_any closed_one xs ≡ false) × (has_closed_pair rules g positions all a xs ≡ false)
+  none_closed_by test implies true x xs is e = ((λ _. e), none_behind xs e)
+    where
+      none_behind : (ys : List Ligand) → list_any closed_one ys ≡ false → has_closed_pair rules g positions all a
+          ys ≡ false
+      none_behind [] h = refl
+      none_behind (y ∷ ys) h =
+          let t = or_parts (closed_one y) (list_any closed_one ys) h in
+          ap (λ c. cond c (list_any closed_one ys) (has_closed_pair rules g positions all a ys)) t.0
+          ∙ none_behind ys t.1
+  none_closed_by test implies false x xs is e = ((λ c. absurd (both_ways (closed_one x) is c)), e)
+
+  none_pair : (test : List Node → List Node → Bool) → ((x y : Ligand) → test (stand x) (stand y) ≡ true
+      → (closed_one x ≡ true) × (closed_one y ≡ true))
+      → (xs : List Ligand) → has_closed_pair rules g positions all a xs ≡ false → some_pair test (map stand xs) ≡ false
+  none_pair test implies [] e = refl
+  none_pair test implies (x ∷ xs) e =
+      let t = none_closed_by test implies (closed_one x) x xs refl e in
+      or_from (list_any (test (stand x)) (map stand xs)) (some_pair test (map stand xs)) (none_alike test implies x xs
+      t.0) (none_pair test implies xs t.1)
+
+  -- where no two ligands are closed, none are alike
+  pub none_are_alike : (ligands : List Ligand) → has_closed_pair rules g positions all a ligands ≡ false
+      → some_pair (are_alike_within rules g positions all (end_at a.root ligands) a.sphere) (map stand ligands) ≡ false
+  none_are_alike ligands e = none_pair (are_alike_within rules g positions all (end_at a.root ligands) a.sphere)
+      (both_closed ligands) ligands e
+
+  module _ (level r1 r2 r3 : List ℕ) (flat : (x y : ℕ) → by_number level x y ≡ Equal)
+      (ranked_1 : OrdersAs (length a.nodes) (comparison_at (parents_of a.nodes) level
+      (map (λ (told : Told). pos told.atomic) a.nodes) d) r1)
+      (ranked_2 : OrdersAs (length a.nodes) (comparison_at (parents_of a.nodes) r1
+      (map (λ (told : Told). lower_precedes (distance_told rules told)) a.nodes) d) r2)
+      (ranked_3 : OrdersAs (length a.nodes) (comparison_at (parents_of a.nodes) r2 (map (λ (told : Told). pos told.mass)
+      a.nodes) d) r3) where
+    abbrev at : ℕ → Node
+    at = hanging.node_at (placed g positions a.root a.sphere)
+
+    count : length a.nodes ≡ size g positions a.root a.sphere
+    count = h.tells.len ∙ sym (count_is g positions a.root a.sphere)
+
+    carried : (before keys : List ℕ) → Unit {0}
+    carried before keys = tt
+
+    moved : (before : List ℕ) (keys : List ℤ) (ranks : List ℕ) → OrdersAs (length a.nodes)
+        (comparison_at (parents_of a.nodes) before keys d) ranks
+        → OrdersAs (size g positions a.root a.sphere) (comparison_at (parents (placed g positions a.root a.sphere))
+        before keys d) ranks
+    moved before keys ranks o =
+        subst (λ c. OrdersAs c (comparison_at (parents (placed g positions a.root a.sphere)) before keys d) ranks) count
+        (subst (λ ps. OrdersAs (length a.nodes) (comparison_at ps before keys d) ranks) (h.tells.parents
+        ∙ sym (placed_parents g positions a.root a.sphere)) o)
+
+    keys_by : (f : Told → ℤ) (key : Node → ℤ) → ((n : ℕ) → n < length a.nodes → f (told_at a.nodes n) ≡ key
+        (node_at nodes n)) → KeysAre g positions a.root a.sphere key (map f a.nodes)
+    keys_by f key same n lt =
+        let within : n < length a.nodes = omega (arith, lt, count) in
+        sym (keys_at f a.nodes n within ∙ same n within ∙ ap key (at_number g positions a.root a.sphere n
+        (let len = h.tells.len in omega (arith, within, len))))
+
+    distance_by : (w : Rules) (n : ℕ) → n < length a.nodes → distance_told w (told_at a.nodes n) ≡ distance_key w
+        sphere_in_digraph (node_at nodes n)
+    distance_by Wording2013 n lt = (h.tells.each n lt).as_printed
+    distance_by Wording2018 n lt = (h.tells.each n lt).as_corrected
+
+    abbrev W : ℕ → Type 0
+    W = Whole g positions a.root a.sphere
+
+    told_1 : (n m : ℕ) → W n → W m → by_number r1 n m ≡ by_atoms g positions a.root d high (at n) (at m)
+    told_1 n m p q =
+        later_rule g positions a.root a.sphere all_tie tie_total (λ node. pos (atomic_key g positions node))
+        (map (λ (told : Told). pos told.atomic) a.nodes)
+        (keys_by (λ (told : Told). pos told.atomic) (λ node. pos (atomic_key g positions node))
+        (λ n lt. ap (λ k. pos k) (h.tells.each n lt).atomic)) level r1
+        (λ x y _ _. flat x y) d (moved level (map (λ (told : Told). pos told.atomic) a.nodes) r1 ranked_1) n m p q
+
+    total_1 : IsTotalOrder (by_atoms g positions a.root d high)
+    total_1 = comparison_total (children g positions) (λ node. pos (atomic_key g positions node)) tie_total d
+
+    told_2 : (n m : ℕ) → W n → W m → by_number r2 n m ≡ by_distances g positions a.root d high rules (at n) (at m)
+    told_2 n m p q =
+        later_rule g positions a.root a.sphere (by_atoms g positions a.root d high) total_1
+        (λ node. lower_precedes (distance_key rules sphere_in_digraph node))
+        (map (λ (told : Told). lower_precedes (distance_told rules told)) a.nodes)
+        (keys_by (λ (told : Told). lower_precedes (distance_told rules told))
+        (λ node. lower_precedes (distance_key rules sphere_in_digraph node))
+        (λ n lt. ap lower_precedes (distance_by rules n lt))) r1 r2
+        told_1 d (moved r1 (map (λ (told : Told). lower_precedes (distance_told rules told)) a.nodes) r2 ranked_2) n m p
+        q
+
+    total_2 : IsTotalOrder (by_distances g positions a.root d high rules)
+    total_2 = comparison_total (children g positions) (λ node. lower_precedes (distance_key rules sphere_in_digraph
+        node)) total_1 d
+
+    told_3 : (n m : ℕ) → W n → W m → by_number r3 n m ≡ by_masses g positions a.root d high rules (at n) (at m)
+    told_3 n m p q =
+        later_rule g positions a.root a.sphere (by_distances g positions a.root d high rules) total_2
+        (λ node. pos (mass_key g node)) (map (λ (told : Told). pos told.mass) a.nodes)
+        (keys_by (λ (told : Told). pos told.mass) (λ node. pos (mass_key g node))
+        (λ n lt. ap (λ k. pos k) (h.tells.each n lt).mass)) r2 r3
+        told_2 d (moved r2 (map (λ (told : Told). pos told.mass) a.nodes) r3 ranked_3) n m p q
+
+    abbrev First : ℕ → Type 0
+    First = IsFirst g positions a h some sound
+
+    abbrev no_further : List Node → Bool
+    no_further stand = is_empty (nodes_below view a.sphere stand)
+
+    -- a ligand's node that has ended
+    ended_at : (n : ℕ) → First n → no_further (node_at nodes n ∷ []) ≡ true → EndsWithin (children g positions) d
+        (node_at nodes n)
+    ended_at n p e =
+        let next : suc d ≡ a.sphere = omega (arith, some) in
+        none_ended (children g positions) d (node_at nodes n)
+        (ap (λ s. nodes_below (children g positions) s (node_at nodes n ∷ [])) next
+        ∙ sym (seen_below rules g positions all a h some n p.behind p.low p.within p.further a.sphere)
+        ∙ none_left (nodes_below view a.sphere (node_at nodes n ∷ [])) e)
+
+    whole_at : (n : ℕ) → First n → EndsWithin (children g positions) d (node_at nodes n) → W n
+    whole_at n p e =
+        let one : 1 ≡ a.sphere - d = omega (arith, some) in
+        record {
+          depth = d;
+          few = omega arith;
+          low = subst (λ t. n < size g positions a.root t) one p.low;
+          ends = subst (EndsWithin (children g positions) d) (at_number g positions a.root a.sphere n
+              (let w = p.within in let len = h.tells.len in omega (arith, w, len))) e;
+        }
+
+    rule_is : (n m : ℕ) → First n → First m → IsEnded g positions a.root d high (node_at nodes n) → IsEnded g positions
+        a.root d high (node_at nodes m)
+        → rule_2 (seen_at rules g positions all a.root) high (node_at nodes n) (node_at nodes m) ≡ by_number r3 n m
+    rule_is n m p q e f =
+        let at_n = at_number g positions a.root a.sphere n (let w = p.within in let len = h.tells.len in omega
+        (arith, w, len)) in
+        let at_m = at_number g positions a.root a.sphere m (let w = q.within in let len = h.tells.len in omega
+        (arith, w, len)) in
+        ended_2 g positions a.root d high rules (auxiliary rules g positions all) refl (node_at nodes n)
+        (node_at nodes m) e f
+        ∙ ap (λ x. by_masses g positions a.root d high rules x (node_at nodes m)) at_n
+        ∙ ap (by_masses g positions a.root d high rules (at n)) at_m
+        ∙ sym (told_3 n m (whole_at n p e.within) (whole_at m q f.within))
+
+    record HasEnd (node : Node) : Type 0 where
+      path : EndsAt a.root node.path
+      ends : EndsWithin view high node
+
+    abbrev around : List Node
+    around = view (real_node a.root [])
+
+    around_has : AllByRecursion HasEnd around
+    around_has =
+        all_by (λ (node : Node). EndsAt a.root node.path × EndsWithin view high node) HasEnd
+        (λ node q. record { path = q.0; ends = q.1 }) around
+        (both_all (λ (node : Node). EndsAt a.root node.path) (EndsWithin view high) around
+        (subst (AllByRecursion (λ (node : Node). EndsAt a.root node.path)) (sym (at_root g positions a.root))
+        (below_ends g positions a.root (real_node a.root []) refl))
+        (ligands_end g positions a.root sound inside rules (auxiliary rules g positions all)))
+
+    ligand_has : (ligand : Ligand) → AllByRecursion HasEnd (ligand_node around ligand)
+    ligand_has LonePair = tt
+    ligand_has (Vertex vertex) = all_filtered HasEnd (stands_for vertex) around around_has
+
+    ended_node : (n : ℕ) → First n → HasEnd (node_at nodes n) → no_further (node_at nodes n ∷ []) ≡ true
+        → IsEnded g positions a.root d high (node_at nodes n)
+    ended_node n p has e = record {
+      further = p.further;
+      at = has.path;
+      within = ended_at n p e;
+      high = ends_seen high
+          (node_at nodes n) p.further has.ends;
+    }
+
+    abbrev rule : Node → Node → Ordering
+    rule = rule_2 (seen_at rules g positions all a.root) high
+
+    then_equal : (r : Ordering) → is_eq (ordering_then r Equal) ≡ is_eq r
+    then_equal Less = refl
+    then_equal Equal = refl
+    then_equal Greater = refl
+
+    not_not : (b : Bool) → b ≡ not (not b)
+    not_not true = refl
+    not_not false = refl
+
+    tie_by : (x y : Option ℕ) (xs ys : List Node) → LigandAt g positions a h some sound x xs → LigandAt g positions a h
+        some sound y ys → AllByRecursion HasEnd xs → AllByRecursion HasEnd ys
+        → no_further xs ≡ true → no_further ys ≡ true → is_eq (slice_cmp rule xs ys) ≡ not (have_other_ranks r3 x y)
+    tie_by None None xs ys p q s t e f = ap (λ l. is_eq (slice_cmp rule l ys)) p ∙ ap (λ l. is_eq (slice_cmp rule [] l))
+        q
+    tie_by None (Some m) xs ys p q s t e f = ap (λ l. is_eq (slice_cmp rule l ys)) p
+        ∙ ap (λ l. is_eq (slice_cmp rule [] l)) q.0
+    tie_by (Some n) None xs ys p q s t e f = ap (λ l. is_eq (slice_cmp rule l ys)) p.0
+        ∙ ap (λ l. is_eq (slice_cmp rule (node_at nodes n ∷ []) l)) q
+    tie_by (Some n) (Some m) xs ys p q s t e f =
+        ap (λ l. is_eq (slice_cmp rule l ys)) p.0 ∙ ap (λ l. is_eq (slice_cmp rule (node_at nodes n ∷ []) l)) q.0
+        ∙ then_equal (rule (node_at nodes n) (node_at nodes m))
+        ∙ ap is_eq (rule_is n m p.1 q.1
+        (ended_node n p.1 (subst (AllByRecursion HasEnd) p.0 s).0 (sym (ap no_further p.0) ∙ e))
+        (ended_node m q.1 (subst (AllByRecursion HasEnd) q.0 t).0 (sym (ap no_further q.0) ∙ f)))
+        ∙ eq_by_cmp (slice_index r3 n) (slice_index r3 m) ∙ not_not (slice_index r3 n == slice_index r3 m)
+
+    pair_is : (ligands : List Ligand) (x y : Ligand) → alike_told rules g positions all a r3 x y
+        ≡ are_alike_within rules g positions all (end_at a.root ligands) a.sphere (ligand_node around x)
+        (ligand_node around y)
+    pair_is ligands x y =
+        let xs = ligand_node around x in
+        let ys = ligand_node around y in
+        closed_test (no_further xs) (no_further ys) (list_any (is_in_unit rules g positions all)
+        (nodes_within view a.sphere xs)) (list_any (is_in_unit rules g positions all) (nodes_within view a.sphere
+        ys))
+        (is_eq (slice_cmp rule xs ys)) (differ_told r3 a.nodes x y)
+        (λ c c2. tie_by (ligand_number a.nodes x) (ligand_number a.nodes y) xs ys (ligand_at g positions a h some sound
+        x) (ligand_at g positions a h some sound y) (ligand_has x) (ligand_has y)
+        (and_parts (no_further xs) (not (list_any (is_in_unit rules g positions all) (nodes_within view a.sphere xs)))
+        c).0
+        (and_parts (no_further ys) (not (list_any (is_in_unit rules g positions all) (nodes_within view a.sphere ys)))
+        c2).0)
+
+    -- the test by closed branches and rank numbers is the test of the definition
+    pub alike_is : (ligands : List Ligand) → some_pair (alike_told rules g positions all a r3) ligands
+        ≡ some_pair (are_alike_within rules g positions all (end_at a.root ligands) a.sphere)
+        (map (ligand_node around) ligands)
+    alike_is ligands =
+        some_by (ligand_node around) (are_alike_within rules g positions all (end_at a.root ligands) a.sphere)
+        (alike_told rules g positions all a r3) (pair_is ligands) ligands

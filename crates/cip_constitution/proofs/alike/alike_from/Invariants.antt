@@ -1,0 +1,14 @@
+use Rattle.std.proofs.Common.{◌≡◌, ◌≤◌, length, vec_capacity}
+use Rattle.std.specs.List.{list_any}
+use Rattle.cip_constitution.specs.Alike.{alike_told}
+use Rattle.cip_constitution.proofs.alike.alike_from.Given as goal
+
+abbrev pub invariant-loop-rest : goal.invariant-loop-rest
+invariant-loop-rest l = record {
+  rest : list_any (alike_told l.rules l.graph l.positions l.units l.arena l.ranks.numbers l.ligand) l.rest ≡ list_any
+      (alike_told l.rules l.graph l.positions l.units l.arena l.ranks.numbers l.ligand) l.others;
+  room : vec_capacity l.fn.under ≤ vec_capacity l.under;
+}
+
+abbrev pub decreases-loop-rest : goal.decreases-loop-rest
+decreases-loop-rest l = length l.rest

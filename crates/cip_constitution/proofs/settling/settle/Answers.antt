@@ -1,0 +1,159 @@
+use Rattle.std.proofs.Common.{rules, ap, ◌≡◌, ◌<◌, ◌+◌, ◌-◌, sym, ◌∙◌, subst, length}
+use Rattle.cip_arena.specs.declared.arena.Grown.TheVariants.{Grown, Whole, Over}
+use Rattle.cip_constitution.specs.declared.settling.Settled.TheVariants as settled
+use Rattle.cip_constitution.specs.Settling.{setting_of, Kept, one_if_grown}
+use Rattle.cip_constitution.specs.Following.{Trying, Follows}
+use Rattle.cip_constitution.proofs.Diagonals.{grown_leaves}
+use Rattle.cip_constitution.specs.Tops.{TopsUpTo}
+use Rattle.cip_constitution.proofs.TopNodes.{tops_left}
+use Rattle.cip_constitution.proofs.Rounds.{
+  none_before,
+  first_keeps,
+  more_keeps,
+  nearer,
+  ordered,
+  tied,
+  whole,
+  over,
+  lazily,
+}
+use Rattle.cip_constitution.proofs.settling.settle.Goals as goal
+
+pub returns-then-all_differ-clause-settled : goal.returns-then-all_differ-clause-settled
+returns-then-all_differ-clause-settled g c =
+    let t = setting_of c.args.rules c.args.graph.now c.args.positions.now c.args.units.now c.args.ligands.now in
+    let is : c.loop-grown.grown ≡ Grown = search rules in
+    let kept = subst (Kept t c.args.arena.now c.loop-grown.arena c.args.steps.now c.loop-grown.steps) is
+    c.loop-grown.invariant.kept in
+    ordered t c.vertices-vertices.ensures.sound c.args.arena.now c.loop-grown.arena c.args.steps.now c.loop-grown.steps
+    c.requires.root kept (sym (c.all_differ.ensures.result c.args.rules c.args.units.now) ∙ c.if-all_differ.true)
+
+pub returns-then-some_alike-clause-settled : goal.returns-then-some_alike-clause-settled
+returns-then-some_alike-clause-settled g c =
+    let t = setting_of c.args.rules c.args.graph.now c.args.positions.now c.args.units.now c.args.ligands.now in
+    let is : c.loop-grown.grown ≡ Grown = search rules in
+    let kept = subst (Kept t c.args.arena.now c.loop-grown.arena c.args.steps.now c.loop-grown.steps) is
+    c.loop-grown.invariant.kept in
+    tied t c.vertices-vertices.ensures.sound c.args.arena.now c.loop-grown.arena c.args.steps.now c.loop-grown.steps
+    c.requires.root kept
+    (sym (c.all_differ.ensures.result c.args.rules c.args.units.now) ∙ c.if-all_differ.false)
+    (sym c.some_alike.ensures.result ∙ c.if-some_alike.true)
+
+pub loop-grown-smaller : goal.loop-grown-smaller
+loop-grown-smaller g c =
+    let t = setting_of c.args.rules c.args.graph.now c.args.positions.now c.args.units.now c.args.ligands.now in
+    let is : c.loop-grown.grown ≡ Grown = search rules in
+    let k = c.loop-grown.invariant.kept in
+    let next = c.grow-grown-in-loop-grown in
+    let near = nearer t c.vertices-vertices.ensures.sound c.loop-grown.arena next.new.self c.loop-grown.steps
+    next.new.steps next.result k.fits k.holds next.ensures.holds next.ensures.fits next.ensures.answer in
+    subst (λ r. next.new.self.bound - length next.new.self.nodes + one_if_grown next.result < c.loop-grown.arena.bound
+    - length c.loop-grown.arena.nodes + one_if_grown r) (sym is) near
+
+pub returns-then-eq-clause-settled : goal.returns-then-eq-clause-settled
+returns-then-eq-clause-settled g c =
+    let t = setting_of c.args.rules c.args.graph.now c.args.positions.now c.args.units.now c.args.ligands.now in
+    let is : c.loop-grown.grown ≡ Over = search rules in
+    let kept = subst (Kept t c.args.arena.now c.loop-grown.arena c.args.steps.now c.loop-grown.steps) is
+    c.loop-grown.invariant.kept in
+    over t c.vertices-vertices.ensures.sound c.args.arena.now c.loop-grown.arena c.args.steps.now c.loop-grown.steps
+    c.requires.root kept
+
+pub returns-else-eq-clause-settled : goal.returns-else-eq-clause-settled
+returns-else-eq-clause-settled g c =
+    let t = setting_of c.args.rules c.args.graph.now c.args.positions.now c.args.units.now c.args.ligands.now in
+    let is : c.loop-grown.grown ≡ Whole = search rules in
+    let kept = subst (Kept t c.args.arena.now c.loop-grown.arena c.args.steps.now c.loop-grown.steps) is
+    c.loop-grown.invariant.kept in
+    whole t c.vertices-vertices.ensures.sound c.args.arena.now c.loop-grown.arena c.args.steps.now c.loop-grown.steps
+    c.requires.root kept
+
+pub loop-grown-init : goal.loop-grown-init
+loop-grown-init g c =
+    let t = setting_of c.args.rules c.args.graph.now c.args.positions.now c.args.units.now c.args.ligands.now in
+    let next = c.grow-grown in
+    record {
+      kept = first_keeps t c.vertices-vertices.ensures.sound c.args.arena.now next.new.self c.args.steps.now
+          next.new.steps next.result c.requires.holds c.requires.started c.requires.fits c.requires.root
+          next.ensures.holds next.ensures.fits next.ensures.answer;
+      followed = λ is. grown_leaves c.args.graph.now c.args.positions.now c.args.arena.now next.new.self
+          c.args.steps.now next.new.steps next.result c.start.new.self.firsts c.start.new.self.numbers
+          next.ensures.answer is
+          (subst (λ s. Follows c.args.graph.now c.args.positions.now c.args.arena.now.root s c.start.new.self.firsts
+          c.start.new.self.numbers) (sym c.requires.started) c.start.ensures.followed);
+      tops = λ is. tops_left c.args.graph.now c.args.positions.now c.args.arena.now next.new.self c.args.steps.now
+          next.new.steps
+          next.result c.start.new.self.tops next.ensures.answer is
+          (subst (λ s. TopsUpTo c.args.graph.now c.args.positions.now c.args.arena.now.root s c.start.new.self.tops)
+          (sym c.requires.started) c.start.ensures.tops);
+      work = c.start.ensures.bound;
+    }
+
+pub loop-grown-preserved : goal.loop-grown-preserved
+loop-grown-preserved g c =
+    let t = setting_of c.args.rules c.args.graph.now c.args.positions.now c.args.units.now c.args.ligands.now in
+    let is : c.loop-grown.grown ≡ Grown = search rules in
+    let kept = subst (Kept t c.args.arena.now c.loop-grown.arena c.args.steps.now c.loop-grown.steps) is
+    c.loop-grown.invariant.kept in
+    let next = c.grow-grown-in-loop-grown in
+    record {
+      kept = more_keeps t c.vertices-vertices.ensures.sound c.args.arena.now c.loop-grown.arena next.new.self
+          c.args.steps.now c.loop-grown.steps next.new.steps next.result kept c.requires.root
+          (sym (c.all_differ.ensures.result c.args.rules c.args.units.now) ∙ c.if-all_differ.false)
+          (sym c.some_alike.ensures.result ∙ c.if-some_alike.false)
+          next.ensures.holds next.ensures.fits next.ensures.answer;
+      followed = λ grown. grown_leaves c.args.graph.now c.args.positions.now c.loop-grown.arena next.new.self
+          c.loop-grown.steps next.new.steps next.result c.some_alike.new.self.firsts c.some_alike.new.self.numbers
+          next.ensures.answer grown
+          (subst (λ (w : Trying). Follows c.args.graph.now c.args.positions.now c.loop-grown.arena.root
+          c.loop-grown.arena.sphere w.firsts w.numbers) (sym c.some_alike.ensures.kept) c.follow.ensures.followed);
+      tops = λ grown. tops_left c.args.graph.now c.args.positions.now c.loop-grown.arena next.new.self
+          c.loop-grown.steps
+          next.new.steps next.result c.some_alike.new.self.tops next.ensures.answer grown
+          (subst (λ (w : Trying). TopsUpTo c.args.graph.now c.args.positions.now c.loop-grown.arena.root
+          c.loop-grown.arena.sphere w.tops)
+          (sym c.some_alike.ensures.kept) c.follow.ensures.tops);
+      work = ap (λ (w : Trying). w.bound) c.some_alike.ensures.kept ∙ c.follow.ensures.bound
+          ∙ c.loop-grown.invariant.work;
+    }
+
+pub some_alike-requires-clause-before : goal.some_alike-requires-clause-before
+some_alike-requires-clause-before g c some =
+    let t = setting_of c.args.rules c.args.graph.now c.args.positions.now c.args.units.now c.args.ligands.now in
+    let is : c.loop-grown.grown ≡ Grown = search rules in
+    let kept = subst (Kept t c.args.arena.now c.loop-grown.arena c.args.steps.now c.loop-grown.steps) is
+    c.loop-grown.invariant.kept in
+    none_before t c.args.arena.now c.loop-grown.arena c.args.steps.now c.loop-grown.steps kept some
+
+pub returns-then-all_differ-clause-lazy : goal.returns-then-all_differ-clause-lazy
+returns-then-all_differ-clause-lazy g c =
+    let kept = c.loop-grown.invariant.kept in
+    lazily (setting_of c.args.rules c.args.graph.now c.args.positions.now c.args.units.now c.args.ligands.now)
+    c.args.arena.now c.loop-grown.arena
+    c.args.steps.now c.loop-grown.steps settled.Ordered c.requires.holds c.requires.started kept.holds kept.fits
+    kept.cost
+    (returns-then-all_differ-clause-settled g c)
+
+pub returns-then-some_alike-clause-lazy : goal.returns-then-some_alike-clause-lazy
+returns-then-some_alike-clause-lazy g c =
+    let kept = c.loop-grown.invariant.kept in
+    lazily (setting_of c.args.rules c.args.graph.now c.args.positions.now c.args.units.now c.args.ligands.now)
+    c.args.arena.now c.loop-grown.arena
+    c.args.steps.now c.loop-grown.steps settled.Tied c.requires.holds c.requires.started kept.holds kept.fits kept.cost
+    (returns-then-some_alike-clause-settled g c)
+
+pub returns-then-eq-clause-lazy : goal.returns-then-eq-clause-lazy
+returns-then-eq-clause-lazy g c =
+    let kept = c.loop-grown.invariant.kept in
+    lazily (setting_of c.args.rules c.args.graph.now c.args.positions.now c.args.units.now c.args.ligands.now)
+    c.args.arena.now c.loop-grown.arena
+    c.args.steps.now c.loop-grown.steps settled.Over c.requires.holds c.requires.started kept.holds kept.fits kept.cost
+    (returns-then-eq-clause-settled g c)
+
+pub returns-else-eq-clause-lazy : goal.returns-else-eq-clause-lazy
+returns-else-eq-clause-lazy g c =
+    let kept = c.loop-grown.invariant.kept in
+    lazily (setting_of c.args.rules c.args.graph.now c.args.positions.now c.args.units.now c.args.ligands.now)
+    c.args.arena.now c.loop-grown.arena
+    c.args.steps.now c.loop-grown.steps settled.Whole c.requires.holds c.requires.started kept.holds kept.fits kept.cost
+    (returns-else-eq-clause-settled g c)

@@ -1,0 +1,35 @@
+-- Ligands that are alike, by closed branches and rank numbers. Own.
+use Rattle.std.specs.Prelude.{◌&&◌, ℕ, Bool, false, cond, not, List, [], ◌∷◌}
+use Rattle.std.specs.List.{list_any}
+use Rattle.cip_rank.specs.declared.rules.Rules.{Rules}
+use Rattle.cip_mol.specs.declared.site.Ligand.{Ligand}
+use Rattle.cip_mol.specs.declared.site.Unit as units
+use Rattle.cip_digraph.specs.rules.Auxiliary.{ligand_node}
+use Rattle.cip_digraph.specs.outcome.Deciding.{is_empty, nodes_below, nodes_within}
+use Rattle.cip_digraph.specs.digraph.Digraph.{real_node}
+use Rattle.cip_digraph.specs.graph.Graph.{Graph}
+use Rattle.cip_digraph.specs.outcome.Outcomes.{is_in_unit}
+use Rattle.cip_digraph.specs.digraph.View.{view_children}
+use Rattle.cip_arena.specs.Growth.{Growth}
+use Rattle.cip_constitution.specs.Standing.{differ_told}
+
+-- a ligand has no node beyond the last sphere, and holds no atom of a unit
+abbrev pub is_closed_ligand : Rules → Graph → List (List ℕ) → List units.Unit → Growth → Ligand → Bool
+is_closed_ligand rules graph positions all growth ligand =
+    let view = view_children graph positions (growth.root ∷ []) in
+    let nodes = ligand_node (view (real_node growth.root [])) ligand in
+    is_empty (nodes_below view growth.sphere nodes)
+    && not (list_any (is_in_unit rules graph positions all) (nodes_within view growth.sphere nodes))
+
+-- a first closed ligand has another one behind it
+abbrev pub has_closed_pair : Rules → Graph → List (List ℕ) → List units.Unit → Growth → List Ligand → Bool
+has_closed_pair rules graph positions all growth [] = false
+has_closed_pair rules graph positions all growth (ligand ∷ others) =
+    cond (is_closed_ligand rules graph positions all growth ligand)
+    (list_any (is_closed_ligand rules graph positions all growth) others)
+    (has_closed_pair rules graph positions all growth others)
+
+abbrev pub alike_told : Rules → Graph → List (List ℕ) → List units.Unit → Growth → List ℕ → Ligand → Ligand → Bool
+alike_told rules graph positions all growth ranks a b =
+    is_closed_ligand rules graph positions all growth a
+    && (is_closed_ligand rules graph positions all growth b && not (differ_told ranks growth.nodes a b))

@@ -1,0 +1,104 @@
+// Branches that end with the last sphere and hold no atom of a unit.
+ghost use Rattle.std.specs.Prelude.{◌≡◌, ◌<◌, ◌≤◌, ◌==◌, ◌&&◌, ◌++◌, ◌∷◌, [], ℕ, true, false, length, vec_capacity};
+ghost use Rattle.std.specs.Prelude.{flat_map, slice_index_or};
+ghost use Rattle.cip_rank.specs.Tree.{IsTree};
+ghost use Rattle.cip_rank.specs.declared.rules.Rules.{Rules as Wording};
+ghost use Rattle.cip_digraph.specs.digraph.Digraph.{is_real as is_kind_real};
+ghost use Rattle.cip_digraph.specs.rings.Alternating.{is_in};
+ghost use Rattle.cip_digraph.specs.units.Ends.{atoms_of};
+ghost use Rattle.cip_digraph.specs.digraph.NodeList.{told_at, parents_of};
+ghost use Rattle.cip_arena.specs.Growth.{Holds};
+ghost use Rattle.cip_constitution.specs.Closing.{is_under, keeps_open};
+
+use crate::columns::push_reserved;
+use crate::marking::MarkedUnits;
+use cip_arena::Arena;
+use cip_digraph::{Graph, NodeKind, Nodes, Positions};
+use cip_rank::Table;
+
+fn is_atom_of_unit(arena: &Arena, units: &MarkedUnits<'_>, node: u32) -> bool
+    requires { node < length arena.now.nodes }
+    ensures { result ≡ (is_kind_real (told_at arena.now.nodes node).kind
+        && is_in (told_at arena.now.nodes node).vertex (flat_map (λ unit. atoms_of unit.site) units.now)) }
+{
+    match (arena.kind(node), arena.vertex(node)) {
+        (NodeKind::Real, Some(vertex)) => units.has(vertex),
+        _ => false,
+    }
+}
+
+// Whether a node keeps its branch open: an atom of a unit, or a node of the last sphere that has children.
+fn keeps_it_open(
+    arena: &Arena,
+    graph: &Graph,
+    positions: &Positions,
+    units: &MarkedUnits<'_>,
+    node: u32,
+) -> bool
+    requires holds { Holds graph.now positions.now arena.now }
+    requires within { node < length arena.now.nodes }
+    ensures { (rules : Wording) → result ≡ keeps_open rules graph.now positions.now units.now arena.now node }
+{
+    let _positions = positions;
+    is_atom_of_unit(arena, units, node)
+        || (node >= arena.first() && arena.child_count(graph, node) > 0)
+}
+
+fn is_open(
+    arena: &Arena,
+    graph: &Graph,
+    positions: &Positions,
+    units: &MarkedUnits<'_>,
+    node: u32,
+    is_below: bool,
+) -> bool
+    requires holds { Holds graph.now positions.now arena.now }
+    requires within { node < length arena.now.nodes }
+    ensures { (rules : Wording) → result
+        ≡ (is_below && keeps_open rules graph.now positions.now units.now arena.now node) }
+{
+    is_below && keeps_it_open(arena, graph, positions, units, node)
+}
+
+fn is_under_by(table: &Table, under: &[bool], top: u32, node: u32) -> bool
+    requires within { node < length table.now.parents }
+    requires under { (k : ℕ) → k < node → slice_index_or under.now k false ≡ is_under table.now.parents top k }
+    requires len { length under.now ≡ node }
+    ensures { result ≡ is_under table.now.parents top node }
+{
+    let _count = table.len();
+    match table.parent(node) {
+        None => node == top,
+        Some(parent) => node == top || under[parent as usize],
+    }
+}
+
+/// Whether the branch of a node has no node beyond the last sphere and no atom of a unit.
+pub fn is_closed(
+    arena: &Arena,
+    graph: &Graph,
+    positions: &Positions,
+    units: &MarkedUnits<'_>,
+    under: &mut Vec<bool>,
+    top: u32,
+) -> bool
+    requires holds { Holds graph.now positions.now arena.now }
+    requires room { length arena.now.nodes ≤ vec_capacity under.old }
+    ensures closed { (rules : Wording) → result ≡ true → (node : ℕ) → node < length arena.now.nodes
+        → is_under (parents_of arena.now.nodes) top node ≡ true
+        → keeps_open rules graph.now positions.now units.now arena.now node ≡ false }
+    ensures opened { (rules : Wording) → result ≡ false
+        → (node : ℕ) × ((node < length arena.now.nodes) × ((is_under (parents_of arena.now.nodes) top node ≡ true)
+        × (keeps_open rules graph.now positions.now units.now arena.now node ≡ true))) }
+    ensures room { vec_capacity under.old ≤ vec_capacity under.new }
+{
+    under.clear();
+    for node in 0..arena.len() {
+        let is_below = is_under_by(arena.table(), under.as_slice(), top, node);
+        push_reserved(under, is_below);
+        if is_open(arena, graph, positions, units, node, is_below) {
+            return false;
+        }
+    }
+    true
+}

@@ -1,0 +1,18 @@
+//! How far a digraph has to be grown until the ligands of its root are settled, by Rules 1a, 1b and 2 alone.
+#![tactic(auto)]
+
+mod alike;
+mod closing;
+mod columns;
+mod differing;
+mod ending;
+mod keys;
+mod marking;
+mod settling;
+mod standing;
+mod work;
+
+pub use keys::{ByAtom, ByDistance, ByMass};
+pub use marking::MarkedUnits;
+pub use settling::{Settled, settle};
+pub use work::Work;

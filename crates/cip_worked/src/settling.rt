@@ -1,0 +1,224 @@
+// How far digraphs of worked molecules are grown.
+ghost use Rattle.std.specs.Prelude.{◌≡◌, ◌<◌, ◌≤◌, length};
+
+use crate::molecules::graph;
+use cip_arena::{Arena, Grown};
+use cip_constitution::{MarkedUnits, Work, settle};
+use cip_digraph::{Graph, Positions};
+use cip_mancude::positions;
+use cip_mol::{Cause, Geometry, Ligand, Ligands, Site, Unit};
+use cip_rank::Rules;
+use cip_steps::Steps;
+use std::alloc::{AllocError, Global};
+use std::marker::Brand;
+use std::sync::ledger::{Blank, Ledger};
+use std::test::Fail;
+
+type Ends<'a> = &'a [(u32, u32, u8)];
+
+// A unit at an atom, whose geometry does not matter here.
+fn unit_at(alloc: Global, atom: u32) -> Unit {
+    Unit {
+        site: Site::Centre {
+            at: atom,
+            ligands: Ligands::new(alloc),
+        },
+        geometry: Geometry::Unknown(Cause::NoMark),
+    }
+}
+
+// How the ligands of atom 0 are settled, and what the arena then holds.
+fn settled<L: Ledger>(
+    alloc: Global,
+    blank: Blank,
+    graph: &Graph,
+    positions: &Positions,
+    units: &MarkedUnits<'_>,
+    ligands: &[Ligand],
+    bound: u32,
+) -> Result<String, AllocError>
+    requires name { blank.name ≡ L.name }
+    requires parts { blank.parts ≡ L.parts }
+    requires one { 0 < blank.parts }
+    requires root { 0 < length graph.now.vertices }
+    requires bound { 0 < bound }
+{
+    let mut steps = Steps::<L>::open(blank);
+    let mut arena = Arena::reserve(alloc, bound)?;
+    let mut work = Work::reserve(alloc, bound)?;
+    arena.start(graph, 0);
+    let _count = arena.len();
+    let settled = settle(
+        &mut arena,
+        &mut work,
+        graph,
+        positions,
+        units,
+        ligands,
+        Rules::Wording2013,
+        &mut steps,
+    );
+    format!(in alloc;
+        "{settled:?}, sphere {}, {} nodes",
+        arena.sphere(),
+        arena.len()
+    )
+}
+
+// The same for a molecule with at most one unit, each ligand by its vertex.
+fn told(
+    alloc: Global,
+    symbols: &[u8],
+    ends: Ends<'_>,
+    vertices: &[u32],
+    unit: Option<u32>,
+    bound: u32,
+) -> Result<String, AllocError>
+    requires atoms { length symbols.now ≤ 16384 }
+    requires bonds { length ends.now ≤ 32768 }
+{
+    let Some(graph) = graph(alloc, symbols, ends)? else {
+        return format!(in alloc; "no molecule");
+    };
+    if graph.vertices().is_empty() || bound == 0 {
+        return format!(in alloc; "no room");
+    }
+    let positions = positions(alloc, &graph)?;
+    let mut units = Vec::new(alloc);
+    if let Some(atom) = unit {
+        units.push(unit_at(alloc, atom))?;
+    }
+    let mut ligands = Vec::new(alloc);
+    for vertex in vertices {
+        ligands.push(Ligand::Vertex(*vertex))?;
+    }
+    let marked = MarkedUnits::of(alloc, units.as_slice(), symbols.len() as u32)?;
+    settled::<Brand>(
+        alloc,
+        Blank::new(1),
+        &graph,
+        &positions,
+        &marked,
+        ligands.as_slice(),
+        bound,
+    )
+}
+
+#[test]
+fn digraphs_are_grown_as_far_as_needed(rt: HostRuntime) -> Result<(), Fail> {
+    let alloc = rt.alloc();
+    let glyceraldehyde = [(0, 1, 1), (1, 2, 2), (0, 3, 1), (0, 4, 1), (4, 5, 1)];
+    let methylcyclopropane = [(0, 1, 1), (0, 2, 1), (1, 2, 1), (0, 3, 1)];
+    // an anion of oxirane carbaldehyde, of whose ligands two differ by Rule 1b alone
+    let oxirane = [
+        (0, 1, 1),
+        (0, 2, 1),
+        (1, 2, 1),
+        (2, 3, 1),
+        (0, 4, 1),
+        (4, 5, 2),
+    ];
+    let ring = [1, 2, 3, 4];
+    let around = [1, 2, 4, 6];
+    let cases: [(&[u8], Ends<'_>, &[u32], Option<u32>, u32, &str); 7] = [
+        (
+            b"CCOOCO",
+            &glyceraldehyde,
+            &[1, 3, 4, 6],
+            None,
+            100_000,
+            "Ordered, sphere 2, 12 nodes",
+        ),
+        (
+            b"CCCC",
+            &methylcyclopropane,
+            &ring,
+            None,
+            20,
+            "Tied, sphere 3, 20 nodes",
+        ),
+        (
+            b"CCCC",
+            &methylcyclopropane,
+            &ring,
+            None,
+            19,
+            "Over, sphere 2, 14 nodes",
+        ),
+        (
+            b"CCCC",
+            &methylcyclopropane,
+            &ring,
+            Some(1),
+            20,
+            "Whole, sphere 3, 20 nodes",
+        ),
+        (
+            b"COC-CO",
+            &oxirane,
+            &around,
+            Some(2),
+            17,
+            "Whole, sphere 3, 17 nodes",
+        ),
+        (
+            b"COC-CO",
+            &oxirane,
+            &around,
+            Some(2),
+            16,
+            "Over, sphere 2, 12 nodes",
+        ),
+        (b"C", &[], &[1, 2, 3, 4], None, 5, "Tied, sphere 1, 5 nodes"),
+    ];
+    for (symbols, ends, ligands, unit, bound, want) in cases {
+        let answer = told(alloc, symbols, ends, ligands, unit, bound)?;
+        assert_eq!(rt; answer.as_str(), want, "{want}");
+    }
+    Ok(())
+}
+
+// How many nodes each sphere of a digraph has.
+fn spheres<L: Ledger>(
+    alloc: Global,
+    blank: Blank,
+    graph: &Graph,
+    positions: &Positions,
+) -> Result<Vec<u32>, AllocError>
+    requires name { blank.name ≡ L.name }
+    requires parts { blank.parts ≡ L.parts }
+    requires one { 0 < blank.parts }
+{
+    let mut steps = Steps::<L>::open(blank);
+    let mut arena = Arena::reserve(alloc, 100)?;
+    arena.start(graph, 0);
+    let mut sizes = Vec::new(alloc);
+    sizes.push(1)?;
+    for _ in 0..10 {
+        if arena.grow(graph, positions, &mut steps) != Grown::Grown {
+            return Ok(sizes);
+        }
+        sizes.push(arena.len() - arena.first())?;
+    }
+    Ok(sizes)
+}
+
+#[test]
+fn cages_close_their_rings_on_every_way(rt: HostRuntime) -> Result<(), Fail> {
+    let alloc = rt.alloc();
+    let cage = [
+        (0, 1, 1),
+        (0, 2, 1),
+        (0, 3, 1),
+        (1, 2, 1),
+        (1, 3, 1),
+        (2, 3, 1),
+    ];
+    let Some(graph) = graph(alloc, b"CCCC", &cage)? else {
+        panic!(rt; "no molecule");
+    };
+    let positions = positions(alloc, &graph)?;
+    let sizes = spheres::<Brand>(alloc, Blank::new(1), &graph, &positions)?;
+    assert_eq!(rt; sizes.as_slice(), [1, 4, 9, 18, 18].as_slice());
+    Ok(())
+}
