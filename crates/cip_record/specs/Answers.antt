@@ -17,12 +17,11 @@ use Rattle.cip_mol.specs.declared.site.Geometry.TheVariants.{Known, Unknown}
 use Rattle.cip_mol.specs.declared.site.Ligand.{Ligand}
 use Rattle.cip_mol.specs.declared.site.Site.TheVariants.{Centre}
 use Rattle.cip_item.specs.Parts.{without_label_items}
-use Rattle.cip_v2000.specs.Version.{is_v3000}
-use Rattle.cip_v2000.specs.Grammar.{molecule_of}
 use Rattle.cip_print.specs.declared.answer.Answer.{Answer}
 use Rattle.cip_print.specs.declared.answer.Answer.TheVariants.{Labelled, Refused, NotBuilt}
 use Rattle.cip_print.specs.declared.answer.UnitAnswer.{UnitAnswer}
 use Rattle.cip_record.specs.Surroundings.{are_single, hydrogens_at, is_centre}
+use Rattle.cip_record.specs.Molecules.{read_molecule}
 use Rattle.cip_record.specs.Ligands.{ligands_of, numbers_of, vertex_count}
 use Rattle.cip_record.specs.Ranking.{are_different, ranks, order, letter}
 
@@ -76,7 +75,7 @@ answer_read nodes (Err fault) = Refused fault
 
 -- the answer to the lines of a record without label items; `nodes` bounds each digraph
 abbrev pub answer_lines : ℕ → List (List ℕ) → Answer
-answer_lines nodes lines = if is_v3000 lines then NotBuilt else answer_read nodes (molecule_of lines)
+answer_lines nodes lines = answer_read nodes (read_molecule lines)
 
 unfoldable pub answer_without_items : ℕ → List ℕ → Answer
 answer_without_items nodes bytes = answer_lines nodes (body_contents bytes)

@@ -1,6 +1,7 @@
 pub mod Answers
 pub mod Carriers
 pub mod Ligands
+pub mod Molecules
 pub mod Ranking
 pub mod Surroundings
 pub mod WholeAnswers

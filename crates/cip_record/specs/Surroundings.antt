@@ -4,9 +4,9 @@ use Rattle.std.specs.List.{insert, list_all}
 use Rattle.cip_mol.specs.Drawing.{Drawing}
 use Rattle.cip_mol.specs.Neighbours.{neighbours}
 use Rattle.cip_mol.specs.declared.molecule.Bond.{Bond}
-use Rattle.cip_digraph.specs.Hydrogens.{atom_at, hydrogens}
-use Rattle.cip_digraph.specs.LonePairs.{lone_pair}
-use Rattle.cip_digraph.specs.Centres.{is_centre_by}
+use Rattle.cip_digraph.specs.graph.Hydrogens.{atom_at, hydrogens}
+use Rattle.cip_digraph.specs.graph.LonePairs.{lone_pair}
+use Rattle.cip_digraph.specs.units.Centres.{is_centre_by}
 
 abbrev pub are_single : List Bond → Bool
 are_single bonds = list_all (λ bond. bond.order == 1) bonds

@@ -1,5 +1,5 @@
 -- The answer to a record by all definitions together: each unit of its molecule with the outcome of its whole digraphs, ranked by
--- all rules. IUPAC 2013, P-91 to P-93; own: the bound on nodes, and that a record of another version isn't read yet.
+-- all rules. IUPAC 2013, P-91 to P-93; own: the bound on nodes.
 use Rattle.std.specs.Prelude.{◌≡◌, ℕ, List, [], ◌∷◌, codes, map, Result, Ok, Err}
 use Rattle.cip_text.specs.Bodies.{body_contents}
 use Rattle.cip_rank.specs.declared.rules.Rules.{Rules}
@@ -9,15 +9,15 @@ use Rattle.cip_mol.specs.Geometry.{geometry_of}
 use Rattle.cip_mol.specs.declared.refusal.ReadFault.{ReadFault}
 use Rattle.cip_mol.specs.declared.site.Unit as units
 use Rattle.cip_item.specs.Parts.{without_label_items}
-use Rattle.cip_v2000.specs.Grammar.{molecule_of}
-use Rattle.cip_digraph.specs.Graph.{Graph}
-use Rattle.cip_digraph.specs.DrawnGraph.{graph_of}
-use Rattle.cip_digraph.specs.Positions.{positions_of}
-use Rattle.cip_digraph.specs.Units.{units_of}
-use Rattle.cip_digraph.specs.Outcomes.{outcome_of}
+use Rattle.cip_digraph.specs.graph.Graph.{Graph}
+use Rattle.cip_digraph.specs.graph.DrawnGraph.{graph_of}
+use Rattle.cip_digraph.specs.rings.Positions.{positions_of}
+use Rattle.cip_digraph.specs.units.Units.{units_of}
+use Rattle.cip_digraph.specs.outcome.Outcomes.{outcome_of}
 use Rattle.cip_print.specs.declared.answer.Answer.{Answer}
 use Rattle.cip_print.specs.declared.answer.Answer.TheVariants.{Labelled, Refused}
 use Rattle.cip_print.specs.Values.{values_of}
+use Rattle.cip_record.specs.Molecules.{read_molecule}
 use Rattle.cip_record.specs.WorkedRecords as records
 
 -- each of the units of a graph with its outcome
@@ -34,7 +34,7 @@ of_molecule rules nodes (Ok drawing) = of_graph rules nodes drawing (graph_of dr
 of_molecule rules nodes (Err fault) = Refused fault
 
 unfoldable pub whole_answer : Rules → ℕ → List ℕ → Answer
-whole_answer rules nodes bytes = of_molecule rules nodes (molecule_of (body_contents (without_label_items bytes)))
+whole_answer rules nodes bytes = of_molecule rules nodes (read_molecule (body_contents (without_label_items bytes)))
 
 -- the value lines of a record in the wording of 2013, with room for 100,000 nodes
 abbrev pub values_by_definition : List ℕ → List (List ℕ)
@@ -48,6 +48,12 @@ pub record HaveWholeAnswers : Type 0 where
   pub ethyl_methyl_sulfoxide : values_by_definition records.ethyl_methyl_sulfoxide ≡ codes "a1 S 1a 2" ∷ []
   pub ethyl_methyl_sulfone : values_by_definition records.ethyl_methyl_sulfone ≡ codes "none" ∷ []
   pub ammonium : values_by_definition records.ammonium ≡ codes "a1 S 1a 3" ∷ []
+  -- Rules 4a and 4c: an atom with unlike groups is r and precedes one whose like groups tie; r precedes s
+  pub pentane_with_one_like_branch : values_by_definition records.pentane_with_one_like_branch
+      ≡ codes "a1 R 4a 1" ∷ codes "a3 r 5 1" ∷ codes "a4 R 1a 1" ∷ codes "a7 S 1a 1" ∷ codes "a11 R 1a 1" ∷ codes "a14 R 1a 1" ∷ []
+  pub pentane_with_unlike_branches : values_by_definition records.pentane_with_unlike_branches
+      ≡ codes "a1 R 4c 1" ∷ codes "a3 r 5 1" ∷ codes "a4 R 1a 1" ∷ codes "a7 S 1a 1" ∷ codes "a10 s 5 1" ∷ codes "a11 R 1a 1"
+      ∷ codes "a14 S 1a 1" ∷ []
   -- Rules 1b, 2, 3, 4b and 5; a small letter, and a capital where Rule 5 decides twice
   pub oxirane_carbaldehyde_anion : values_by_definition records.oxirane_carbaldehyde_anion ≡ codes "a1 S 1b 3" ∷ []
   pub isotopic_chloromethane : values_by_definition records.isotopic_chloromethane ≡ codes "a1 R 2 1" ∷ []

@@ -1,9 +1,9 @@
 // What is around an atom, where all bonds are single.
 ghost use Rattle.std.specs.Prelude.{◌≡◌, ◌≤◌, ◌+◌, Some};
 ghost use Rattle.cip_mol.specs.Ranges.{IsAtom};
-ghost use Rattle.cip_digraph.specs.Hydrogens.{radical_electrons, free_valence, hydrogens};
-ghost use Rattle.cip_digraph.specs.LonePairs.{leaves_pair, lone_pair};
-ghost use Rattle.cip_digraph.specs.Centres.{is_quadriligant, is_centre_by};
+ghost use Rattle.cip_digraph.specs.graph.Hydrogens.{radical_electrons, free_valence, hydrogens};
+ghost use Rattle.cip_digraph.specs.graph.LonePairs.{leaves_pair, lone_pair};
+ghost use Rattle.cip_digraph.specs.units.Centres.{is_quadriligant, is_centre_by};
 ghost use Rattle.cip_record.specs.Surroundings.{are_single};
 
 use cip_elem::{outer, valences};

@@ -323,8 +323,9 @@ fn hydrogens_count_but_lone_pairs_and_old_items_do_not(rt: HostRuntime) -> Resul
         (&neutral, 4, b"a1 over|"),
         (&annotated, NODES, b"a1 S 1a 1|"),
         (&cut_short, NODES, b"refused 10 Short|"),
+        // of the extended format
+        (EXTENDED, NODES, b"a1 R 1a 1|"),
         // not labelled so far
-        (EXTENDED, NODES, b""),
         (&double, NODES, b""),
         (&isotopic, NODES, b""),
     ];

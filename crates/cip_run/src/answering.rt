@@ -5,7 +5,7 @@ ghost use Rattle.cip_io.specs.Faults.{Rose};
 ghost use Rattle.cip_item.specs.Parts.{without_label_items};
 ghost use Rattle.cip_frame.specs.Framing.{is_within};
 ghost use Rattle.cip_frame.specs.Records.{tail_of};
-ghost use Rattle.cip_record.specs.Answers.{answer_of};
+ghost use Rattle.cip_record.specs.Answers.{answer_of, answer_without_items, is_flagged};
 ghost use Rattle.cip_run.specs.Due.{annotated, with_answer, is_flagged_record};
 ghost use Rattle.cip_run.specs.Endings.{Answers, AnswersTail};
 
@@ -13,10 +13,11 @@ use crate::limits::NODES;
 use crate::stop::Stop;
 use cip_frame::{Framer, Tail};
 use cip_io::{Sink, push_all};
-use cip_item::{with_item, without_label_items};
+use cip_item::{has_label_item, lines_with_item, without_label_items};
 use cip_print::{Answer, item_values};
 use cip_rank::Rules;
 use cip_record::{is_flagged, label_without_items};
+use cip_text::RecordLines;
 use std::alloc::{AllocError, Global};
 
 /// Writes the records that wait, each with its item. Says whether one of them is flagged.
@@ -66,30 +67,51 @@ fn annotate(alloc: Global, bytes: &[u8]) -> Result<Option<Annotated>, AllocError
     ensures text { IfOk result (λ found. option_map (λ a. a.text.items) found ≡ annotated bytes.now) }
     ensures flagged { IfOk result (λ found. IfSome found (λ a. a.flagged ≡ is_flagged_record bytes.now)) }
 {
+    let lines = RecordLines::new(alloc, bytes)?;
+    if !has_label_item(&lines) {
+        return annotate_lines(alloc, &lines);
+    }
     let bare = without_label_items(alloc, bytes)?;
-    let answer = label_without_items(alloc, &bare, NODES, Rules::Wording2013)?;
-    let Some(text) = text_with(alloc, &bare, &answer)? else {
+    let lines = RecordLines::new(alloc, &bare)?;
+    annotate_lines(alloc, &lines)
+}
+
+// A record without label items, by its lines.
+fn annotate_lines(alloc: Global, lines: &RecordLines) -> Result<Option<Annotated>, AllocError>
+    requires { length lines.now < 2 ^ 32 - 1 }
+    ensures text { IfOk result (λ found. option_map (λ a. a.text.items) found ≡
+        with_answer lines.now (answer_without_items NODES lines.now)) }
+    ensures flagged { IfOk result (λ found. IfSome found
+        (λ a. a.flagged ≡ is_flagged (answer_without_items NODES lines.now))) }
+{
+    let answer = label_without_items(alloc, lines, NODES, Rules::Wording2013)?;
+    let Some(text) = text_with(alloc, lines, &answer)? else {
         return Ok(None);
     };
     let flagged = is_flagged(&answer);
     Ok(Some(Annotated { text, flagged }))
 }
 
-fn text_with(alloc: Global, bare: &[u8], answer: &Answer) -> Result<Option<Vec<u8>>, AllocError>
-    ensures { IfOk result (λ text. option_map (λ v. v.items) text ≡ with_answer bare.now answer.now) }
+fn text_with(
+    alloc: Global,
+    lines: &RecordLines,
+    answer: &Answer,
+) -> Result<Option<Vec<u8>>, AllocError>
+    ensures { IfOk result (λ text. option_map (λ v. v.items) text ≡ with_answer lines.now answer.now) }
 {
     if matches!(answer, Answer::NotBuilt) {
         return Ok(None);
     }
     let values = item_values(alloc, answer)?;
-    Ok(Some(with_item(alloc, bare, &values)?))
+    Ok(Some(lines_with_item(alloc, lines, &values)?))
 }
 
 /// Writes what follows the last closed record: blank lines as they are, a record with its item. Says whether it is
 /// flagged.
 pub fn answer_tail<K: Sink>(alloc: Global, tail: &Tail, sink: &mut K) -> Result<bool, Stop>
     requires { is_within (2 ^ 31) tail.now ≡ true }
-    ensures answered { (rest : List ℕ) → tail.now ≡ tail_of rest → AnswersTail rest result (K.taken sink.old) (K.taken sink.new) }
+    ensures answered { (rest : List ℕ) → tail.now ≡ tail_of rest
+        → AnswersTail rest result (K.taken sink.old) (K.taken sink.new) }
     ensures fault { IsErrOf result Stop.WriteFault → Rose (K.faults sink.old) (K.faults sink.new) }
     ensures later { K.faults sink.old ≤ K.faults sink.new }
 {

@@ -1,5 +1,6 @@
 // Answering a whole stream.
-ghost use Rattle.std.specs.Prelude.{◌≡◌, ◌≤◌, ◌<◌, ◌+◌, ◌^◌, IfSome, IsErrOf};
+ghost use Rattle.std.specs.Prelude.{◌≡◌, ◌≤◌, ◌<◌, ◌+◌, ◌^◌, IfSome, IsErrOf, IsOk};
+ghost use Rattle.std.specs.Io.KnownBytes.{IsAtEnd};
 ghost use Rattle.cip_io.specs.Faults.{Rose};
 ghost use Rattle.cip_run.specs.Endings.{EndsAs, AnswersTaken};
 ghost use Rattle.cip_run.specs.Reading.{TakesAtMost};
@@ -22,7 +23,9 @@ pub fn answer_stream<S: Source, K: Sink>(
 ) -> Result<bool, Stop>
     requires { limits.record < 2 ^ 31 }
     ensures ended { IfSome (S.left source.old) (EndsAs limits result (K.taken sink.old) (K.taken sink.new)) }
-    ensures read_fault { IsErrOf result Stop.ReadFault → AnswersTaken limits (S.left source.old) (S.left source.new) (K.taken sink.old) (K.taken sink.new) }
+    ensures whole { IsOk result → IsAtEnd (S.left source.new) }
+    ensures read_fault { IsErrOf result Stop.ReadFault →
+        AnswersTaken limits (S.left source.old) (S.left source.new) (K.taken sink.old) (K.taken sink.new) }
     ensures bounded { TakesAtMost (limits.input + 1) (S.left source.old) (S.left source.new) }
     ensures source_fault { IsErrOf result Stop.ReadFault → Rose (S.faults source.old) (S.faults source.new) }
     ensures sink_fault { IsErrOf result Stop.WriteFault → Rose (K.faults sink.old) (K.faults sink.new) }
