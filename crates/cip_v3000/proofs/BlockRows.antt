@@ -1,8 +1,7 @@
 -- One row more of the blocks.
-use Rattle.std.proofs.Common.{◌≡◌, ◌<◌, ◌≤◌, ◌+◌, ℕ, List, [], ◌∷◌, ◌++◌, length, drop, map, get_or, Result, Ok, Err, true, false, refl, sym, ◌∙◌}
+use Rattle.std.proofs.Common.{◌≡◌, ◌<◌, ◌+◌, ℕ, List, [], ◌∷◌, ◌++◌, length, drop, map, get_or, Result, Ok, Err, true, false, refl, sym, ◌∙◌}
 use Rattle.std.proofs.lemmas.List.{drop_more, drop-map}
 use Rattle.cip_mol.specs.declared.refusal.ReadFault.{ReadFault}
-use Rattle.cip_reading.specs.Reading.{◌>>=◌}
 use Rattle.cip_v3000.specs.declared.joining.JoinedLine as declared_line
 use Rattle.cip_v3000.specs.declared.atoms.AtomLine.{AtomLine}
 use Rattle.cip_v3000.specs.declared.bonds.BondLine.{BondLine}

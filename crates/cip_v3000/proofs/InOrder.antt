@@ -1,5 +1,5 @@
 -- The lines of a molfile decide in order.
-use Rattle.std.proofs.Common.{◌≡◌, ◌≤◌, ◌<◌, ◌+◌, ◌-◌, ◌||◌, ◌==◌, ℕ, zero, suc, List, [], ◌∷◌, ◌++◌, length, drop, Result, Ok, Err, Option, Some, None, Bool, true, false, cond, refl, sym, ap, ◌∙◌, inl, inr, arith}
+use Rattle.std.proofs.Common.{◌≡◌, ◌≤◌, ◌<◌, ◌+◌, ◌-◌, ◌||◌, ◌==◌, ℕ, zero, suc, List, [], ◌∷◌, ◌++◌, length, drop, Result, Ok, Err, Some, Bool, true, false, cond, refl, ap, inl, inr, arith}
 use Rattle.std.specs.Prelude.{slice_get}
 use Rattle.std.specs.List.{list_any}
 use Rattle.std.proofs.lemmas.Bool.Decides.{nat_tests}
@@ -11,7 +11,7 @@ use Rattle.cip_mol.specs.declared.refusal.ReadFault.{ReadFault}
 use Rattle.cip_reading.specs.Causes.{guard}
 use Rattle.cip_reading.specs.Laws.{Reader, IsDecidedInOrder}
 use Rattle.cip_reading.specs.Reading.{◌>>=◌, numbered, through}
-use Rattle.cip_reading.proofs.InOrder.{DecidesSomewhere, Anywhere, IsLineAt, line_there, short_at, gives, alike, mapped, one_after_another, there_decides, rows_decide, drop_cases, in_order}
+use Rattle.cip_reading.proofs.InOrder.{DecidesSomewhere, Anywhere, IsLineAt, line_there, gives, alike, mapped, one_after_another, there_decides, rows_decide, drop_cases, in_order}
 use Rattle.cip_reading.proofs.LineCauses.{guard_is}
 use Rattle.cip_v3000.specs.declared.counts.CountsLine.{CountsLine}
 use Rattle.cip_v3000.specs.declared.frames.FrameLine.{FrameLine}
@@ -21,7 +21,7 @@ use Rattle.cip_v3000.specs.BondLine.{bond_of}
 use Rattle.cip_v3000.specs.CountsLine.{counts_of}
 use Rattle.cip_v3000.specs.Frames.{is_frame}
 use Rattle.cip_v3000.specs.Grammar.{Atoms, Bonds, words_in, read_at, frame_at, atom_row, bond_row, atom_block, bond_rows, framed_bonds, bond_block, has_bond_block, behind_block, table_end, molecule_end, molecule_in, molecule_of}
-use Rattle.cip_v3000.specs.JoinedLines.{JoinedLine, JoinedLines, next_number, joined_lines}
+use Rattle.cip_v3000.specs.JoinedLines.{JoinedLine, next_number, joined_lines}
 use Rattle.cip_v3000.specs.Laws.{TellsAtFirstPart}
 use Rattle.cip_v3000.proofs.JoinedInOrder.{joined_at, missing_told, Told, Stands, Read, joined_decides, words_decide}
 use Rattle.cip_v3000.proofs.LineCauses.{counts_line, atom_line, bond_line}

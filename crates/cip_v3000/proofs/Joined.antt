@@ -1,5 +1,5 @@
 -- One line more of the joined lines.
-use Rattle.std.proofs.Common.{◌≡◌, ℕ, zero, suc, ◌-◌, ◌+◌, ◌≤◌, ◌<◌, List, [], ◌∷◌, ◌++◌, refl, sym, ap, ◌∙◌, arith, length, take, drop, map, get_or, true, false, append_assoc}
+use Rattle.std.proofs.Common.{◌≡◌, ℕ, ◌-◌, ◌+◌, ◌≤◌, ◌<◌, List, [], ◌∷◌, ◌++◌, refl, sym, ap, ◌∙◌, arith, length, take, drop, get_or, true, false, append_assoc}
 use Rattle.std.proofs.lemmas.List.{append-nil, take_more, get_or-drop, length-drop, length-take, length-map, map-append}
 use Rattle.std.specs.Borrow.{Bor}
 use Rattle.cip_mol.specs.declared.refusal.ReadCause.TheVariants.{Short, Frame}

@@ -1,7 +1,6 @@
 -- No line is refused as Short: that is told of lines that are missing alone.
-use Rattle.std.proofs.Common.{◌≡◌, ◌≢◌, ℕ, List, [], ◌∷◌, Result, Ok, Err, Option, Some, None, Bool, true, false, cond, pos, length, drop, nat_eq, nat_lt, ◌==◌, ◌||◌}
+use Rattle.std.proofs.Common.{ℕ, List, [], ◌∷◌, Result, Option, Some, None, Bool, true, false, cond, pos, length, drop, nat_eq, nat_lt, ◌==◌, ◌||◌}
 use Rattle.std.specs.List.{list_any}
-use Rattle.std.specs.Option.{ok_or}
 use Rattle.std.specs.Prelude.{codes}
 use Rattle.std.specs.Str.{bytes_eq}
 use Rattle.cip_text.specs.Numbers.{integer_of, decimal4_of}
@@ -17,7 +16,7 @@ use Rattle.cip_reading.specs.Fields.{number_stated, signed_stated}
 use Rattle.cip_reading.proofs.LineCauses.{IsOfLine, given_is, cause_is, ok_or_is, then_is, coordinate_is, guard_is, unless_refused_is}
 use Rattle.cip_v3000.specs.declared.keys.AtomKeys.{AtomKeys}
 use Rattle.cip_v3000.specs.AtomLine.{word_at, unless_known, new_index, is_number, isotope_of, atom_of}
-use Rattle.cip_v3000.specs.BondLine.{mark_of, marked, with_mark, place_named, bond_of}
+use Rattle.cip_v3000.specs.BondLine.{mark_of, with_mark, place_named, bond_of}
 use Rattle.cip_v3000.specs.CountsLine.{is_counts, count_at, counts_of}
 use Rattle.cip_v3000.specs.Keys.{valence_of, with_value, with_key, over}
 use Rattle.cip_v3000.specs.Words.{keyed}

@@ -1,6 +1,6 @@
 -- A bond line by its words: index, type, the indices of its two atoms, keys. CTfile Formats, V3000; which further
 -- bonds are refused is own.
-use Rattle.std.specs.Prelude.{◌≡◌, ◌⊎◌, false, ℕ, List, ◌==◌, ◌&&◌, nat_eq, nat_lt, length, drop, codes, position, Some, None, Result, Ok, Err, if◌then◌else◌}
+use Rattle.std.specs.Prelude.{◌≡◌, ◌⊎◌, false, ℕ, List, ◌==◌, ◌&&◌, nat_eq, nat_lt, length, drop, codes, position, Some, None, Result, Ok, if◌then◌else◌}
 use Rattle.std.specs.declared.option.Option.{Option}
 use Rattle.std.specs.Option.{ok_or}
 use Rattle.std.specs.List.{list_any}

@@ -1,6 +1,6 @@
 -- The lines that frame the parts of a molfile. CTfile Formats, V3000; that they have exactly two words, but for the
 -- first one, is own.
-use Rattle.std.specs.Prelude.{ℕ, List, [], ◌∷◌, ◌&&◌, Bool, true, false, codes}
+use Rattle.std.specs.Prelude.{ℕ, List, [], ◌∷◌, ◌&&◌, Bool, false, codes}
 use Rattle.std.specs.Str.{bytes_eq}
 use Rattle.cip_v3000.specs.declared.frames.FrameLine.{FrameLine}
 use Rattle.cip_v3000.specs.declared.frames.FrameLine.TheVariants.{BeginTable, BeginAtoms, EndAtoms, BeginBonds, EndBonds, EndTable}

@@ -1,6 +1,6 @@
 -- The lines of a molfile of version V3000, joined where they are continued. CTfile Formats, V3000: each line begins
 -- with `M  V30 `, and one whose content ends in `-` goes on in the next; that spaces may follow the `-` is own.
-use Rattle.std.specs.Prelude.{ℕ, List, Bool, not, nat_eq, [], ◌∷◌, ◌++◌, ◌+◌, ◌-◌, length, take, drop, map, codes, if◌then◌else◌}
+use Rattle.std.specs.Prelude.{ℕ, List, Bool, not, nat_eq, [], ◌∷◌, ◌++◌, ◌+◌, ◌-◌, length, take, drop, codes, if◌then◌else◌}
 use Rattle.std.specs.List.{ends_with, flat_map}
 use Rattle.std.specs.Str.{bytes_eq}
 use Rattle.cip_text.specs.Columns.{without_spaces_behind}

@@ -1,6 +1,6 @@
 -- The keys of an atom line. CTfile Formats, V3000; that every other key is passed over, and that of a repeated key the
 -- last one holds, is own.
-use Rattle.std.specs.Prelude.{◌≤◌, ℕ, zero, suc, ℤ, pos, negsuc, unsigned_abs, List, [], ◌∷◌, Some, None, Result, Ok, Err, codes, if◌then◌else◌}
+use Rattle.std.specs.Prelude.{◌≤◌, ℕ, ℤ, pos, negsuc, unsigned_abs, List, [], ◌∷◌, Result, Ok, codes, if◌then◌else◌}
 use Rattle.std.specs.Option.{ok_or}
 use Rattle.std.specs.Str.{bytes_eq}
 use Rattle.cip_mol.specs.declared.refusal.ReadCause.{ReadCause}

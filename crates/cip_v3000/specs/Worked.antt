@@ -1,13 +1,13 @@
 -- Worked records, on which the grammar is tried: L-alanine, of which one atom stands on a continued line, with a line
 -- changed; and bromochlorofluoromethane with indices in no order. Own.
-use Rattle.std.specs.Prelude.{◌≡◌, ℕ, ℤ, pos, negsuc, List, [], ◌∷◌, ◌++◌, ◌-◌, codes, slice_set, take, map, Result, Ok, Err}
+use Rattle.std.specs.Prelude.{◌≡◌, ℕ, ℤ, pos, negsuc, List, [], ◌∷◌, ◌++◌, ◌-◌, codes, slice_set, take, Result, Ok, Err}
 use Rattle.cip_mol.specs.Drawing.{Drawing}
 use Rattle.cip_mol.specs.declared.molecule.Atom.{Atom}
 use Rattle.cip_mol.specs.declared.molecule.Bond.{Bond}
 use Rattle.cip_mol.specs.declared.molecule.Mark.{Mark}
 use Rattle.cip_mol.specs.declared.molecule.Mark.TheVariants.{Plain, Up}
 use Rattle.cip_mol.specs.declared.refusal.ReadCause.{ReadCause}
-use Rattle.cip_mol.specs.declared.refusal.ReadCause.TheVariants.{Short, Counts, Frame, Index, KeyValue}
+use Rattle.cip_mol.specs.declared.refusal.ReadCause.TheVariants.{Short, Counts, Frame, Index, Coordinate, KeyValue}
 use Rattle.cip_mol.specs.declared.refusal.ReadFault.{ReadFault}
 use Rattle.cip_v3000.specs.Grammar.{molecule_of}
 
@@ -117,6 +117,8 @@ pub record AreRead : Type 0 where
   pub key : with_line 9 (codes "M  V30 2 N 1.000000 1.000000 1.000000 0 CHG=x") ≡ refused 9 KeyValue
   pub end : with_line 16 (codes "M  V30 END BOND") ≡ refused 16 Frame
   pub counts : with_line 6 (codes "M  V30 COUNTS 16385 6 0 0 0") ≡ refused 6 Counts
+  -- a cause in the second part of a line
+  pub second_part : with_line 13 (codes "M  V30 x 0") ≡ refused 12 Coordinate
   -- the line that goes on is cut off, or goes on in one of another kind
   pub cut : molecule_of (take 12 alanine) ≡ refused 13 Short
   pub broken : with_line 13 (codes "1.000000 0") ≡ refused 13 Frame

@@ -150,3 +150,32 @@ fn molecules_are_read(rt: HostRuntime) -> Result<(), Fail> {
     assert_eq!(rt; stated, (1, 2, 1, 15));
     Ok(())
 }
+
+// Ten carbon atoms, the first of which has a bond to each other one.
+fn star(alloc: Global) -> Result<String, AllocError> {
+    let mut record = String::new(alloc);
+    for line in &LINES[..5] {
+        record.push_str(line)?;
+        record.push('\n')?;
+    }
+    record.push_str("M  V30 COUNTS 10 9\nM  V30 BEGIN ATOM\n")?;
+    for atom in 1..11 {
+        record.push_str(format!(in alloc; "M  V30 {atom} C 0 0 0 0\n")?.as_str())?;
+    }
+    record.push_str("M  V30 END ATOM\nM  V30 BEGIN BOND\n")?;
+    for bond in 1..10 {
+        record.push_str(format!(in alloc;
+            "M  V30 {bond} 1 1 {other}\n",
+            other = bond + 1
+        )?.as_str())?;
+    }
+    Ok(record)
+}
+
+#[test]
+fn an_atom_has_eight_bonds_at_most(rt: HostRuntime) -> Result<(), Fail> {
+    let alloc = rt.alloc();
+    let record = star(alloc)?;
+    assert_eq!(rt; told(alloc, record.as_str())?.as_str(), "line 28: Degree");
+    Ok(())
+}

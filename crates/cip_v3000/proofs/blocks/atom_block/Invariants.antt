@@ -1,4 +1,4 @@
-use Rattle.std.proofs.Common.{◌≡◌, ◌≤◌, ◌-◌, length, All}
+use Rattle.std.proofs.Common.{◌≡◌, ◌-◌, length, All}
 use Rattle.cip_mol.specs.Ranges.{IsAtom}
 use Rattle.cip_reading.specs.Reading.{through}
 use Rattle.cip_v3000.specs.Grammar.{atom_row, atom_block}

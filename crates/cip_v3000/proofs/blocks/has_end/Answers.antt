@@ -1,4 +1,4 @@
-use Rattle.std.proofs.Common.{◌∙◌, sym, drop}
+use Rattle.std.proofs.Common.{sym, drop}
 use Rattle.std.proofs.lemmas.List.{take_rest, drop-map}
 use Rattle.cip_text.specs.Kinds.{is_molecule_end}
 use Rattle.cip_reading.proofs.Texts.{any_text}

@@ -2,7 +2,7 @@ use Rattle.std.proofs.Common.{◌∙◌, ◌∷◌, [], sym, arith, map}
 use Rattle.std.proofs.lemmas.List.{map-append}
 use Rattle.std.proofs.lemmas.List.Elements.{All-push}
 use Rattle.cip_v3000.specs.Joining.{seen, IsNumbered}
-use Rattle.cip_v3000.proofs.Joined.{line_refused, line_continued, line_whole, lines_end}
+use Rattle.cip_v3000.proofs.Joined.{line_refused, line_continued, line_whole}
 use Rattle.cip_v3000.proofs.joining.joined_lines.Goals as goal
 
 pub returns-then-not-begins_v30-clause-value : goal.returns-then-not-begins_v30-clause-value

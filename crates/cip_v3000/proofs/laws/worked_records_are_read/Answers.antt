@@ -24,6 +24,7 @@ returns c = record {
   key = refl;
   end = refl;
   counts = refl;
+  second_part = refl;
   cut = refl;
   broken = refl;
   no_end = refl;
