@@ -1,0 +1,130 @@
+// Nodes in two readings, with R and with S as the reference, as one row of numbers.
+ghost use Rattle.std.specs.Prelude.{◌≡◌, ◌<◌, ◌≤◌, ◌+◌, ◌-◌, pos, nat_lt, cond, length, slice_index, take, drop};
+ghost use Rattle.cip_rank.specs.Sets.{HoldSets};
+ghost use Rattle.cip_pairs.specs.Readings.{pair_at, like_at, first_readings, next_readings, pair_set};
+
+use crate::descriptors::Descriptors;
+use crate::keys::compare_values;
+use crate::values::like_value;
+use cip_rank::sorting::NodeOrder;
+use cip_rank::{Ranks, Table};
+use std::cmp::Ordering;
+
+// The node of a number: those read with R come first, then those read with S.
+fn node_of(count: u32, number: u32) -> u32
+    ensures { result ≡ (pair_at count number).0 }
+{
+    if number < count {
+        number
+    } else {
+        number - count
+    }
+}
+
+fn value_of(marks: &Descriptors, count: u32, number: u32) -> u8
+    requires count { count ≤ length marks.now.marks }
+    requires below { number < count + count }
+    ensures { pos result ≡ like_at marks.now.marks (pair_at count number) }
+{
+    if number < count {
+        like_value(marks.get(number), false)
+    } else {
+        like_value(marks.get(number - count), true)
+    }
+}
+
+/// By earlier rank numbers, and where they tie by what is like the reference.
+#[derive(Drop)]
+pub struct ByLike<'a> {
+    pub count: u32,
+    pub both: u32,
+    pub earlier: &'a Ranks,
+    pub marks: &'a Descriptors,
+    ghost twice: { both ≡ count + count },
+    ghost numbered: { count ≤ length earlier.now.numbers },
+    ghost marked: { count ≤ length marks.now.marks },
+}
+
+impl NodeOrder for ByLike<'_> {
+    ghost use Rattle.std.specs.Ordering.{int_cmp};
+    ghost use Rattle.std.proofs.lemmas.Cmp.{then_total, on_total, nat_cmp_total, int_cmp_total};
+
+    ghost nodes = { λ by. by.both };
+
+    ghost order = { λ by. first_readings by.earlier.now.numbers by.marks.now.marks by.count };
+
+    fn count(&self) -> u32 {
+        self.both
+    }
+
+    fn compare_nodes(&self, a: u32, b: u32) -> Ordering {
+        let first = self.earlier.of(node_of(self.count, a));
+        let second = self.earlier.of(node_of(self.count, b));
+        match first.cmp(&second) {
+            Ordering::Equal => compare_values(
+                value_of(self.marks, self.count, a),
+                value_of(self.marks, self.count, b),
+            ),
+            decided => decided,
+        }
+    }
+
+    ghost total = { λ by. on_total (pair_at by.count)
+        (then_total (on_total (λ a. slice_index by.earlier.now.numbers a.0) nat_cmp_total)
+        (on_total (like_at by.marks.now.marks) int_cmp_total)) };
+}
+
+/// By rank numbers, and where they tie by the sets of children in the same reading.
+#[derive(Drop)]
+pub struct ByReadSets<'a> {
+    pub count: u32,
+    pub both: u32,
+    pub table: &'a Table,
+    pub numbers: &'a [u32],
+    pub sets_r: &'a [u32],
+    pub sets_s: &'a [u32],
+    ghost twice: { both ≡ count + count },
+    ghost nodes: { length table.now.parents ≡ count },
+    ghost numbers_len: { length numbers.now ≡ both },
+    ghost len_r: { length sets_r.now ≡ count },
+    ghost len_s: { length sets_s.now ≡ count },
+    ghost hold_r: { HoldSets table.now.parents (take count numbers.now) sets_r.now },
+    ghost hold_s: { HoldSets table.now.parents (drop count numbers.now) sets_s.now },
+}
+
+impl ByReadSets<'_> {
+    fn set(&self, number: u32) -> &[u32]
+        requires { number < self.now.both }
+        ensures { result.now ≡ pair_set self.now.table.now.parents self.now.numbers.now self.now.count number }
+    {
+        let (first, past) = self.table.children(node_of(self.count, number));
+        if number < self.count {
+            &self.sets_r[first as usize..past as usize]
+        } else {
+            &self.sets_s[first as usize..past as usize]
+        }
+    }
+}
+
+impl NodeOrder for ByReadSets<'_> {
+    ghost use Rattle.std.specs.Ordering.{nat_cmp};
+    ghost use Rattle.std.proofs.lemmas.Cmp.{then_total, on_total, nat_cmp_total, lists_total};
+
+    ghost nodes = { λ by. by.both };
+
+    ghost order = { λ by. next_readings by.table.now.parents by.numbers.now by.count };
+
+    fn count(&self) -> u32 {
+        self.both
+    }
+
+    fn compare_nodes(&self, a: u32, b: u32) -> Ordering {
+        match self.numbers[a as usize].cmp(&self.numbers[b as usize]) {
+            Ordering::Equal => self.set(a).cmp(self.set(b)),
+            decided => decided,
+        }
+    }
+
+    ghost total = { λ by. then_total (on_total (slice_index by.numbers.now) nat_cmp_total)
+        (on_total (pair_set by.table.now.parents by.numbers.now by.count) (lists_total nat_cmp_total)) };
+}
