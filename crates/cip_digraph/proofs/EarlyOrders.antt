@@ -42,10 +42,10 @@ use Rattle.cip_rank.proofs.TotalOrder.{comparison_total}
 use Rattle.cip_mol.specs.declared.outcome.Rule.{Rule}
 use Rattle.cip_mol.specs.declared.outcome.Rule.TheVariants.{R1a, R1b, R2, R3, R4a, R4b, R4c, R5}
 use Rattle.cip_digraph.specs.outcome.Deciding.{all_differ}
+use Rattle.cip_digraph.specs.declared.decision.Decision.{Decision}
 use Rattle.cip_digraph.specs.rules.Decisions.{
   Difference,
   first_difference,
-  Decision,
   difference_by,
   first_decision,
   rules_in_turn,

@@ -6,6 +6,7 @@ use Rattle.std.specs.declared.cmp.Ordering.{Ordering}
 use Rattle.std.specs.declared.cmp.Ordering.TheVariants.{Less, Equal, Greater}
 use Rattle.cip_mol.specs.declared.outcome.Rule.{Rule}
 use Rattle.cip_mol.specs.declared.outcome.Rule.TheVariants.{R1a, R1b, R2, R3, R4a, R4b, R4c, R5}
+use Rattle.cip_digraph.specs.declared.decision.Decision.{Decision}
 use Rattle.cip_digraph.specs.rules.Orders.{Seen, rule_1a, rule_1b, rule_2, rule_3, rule_4a, rule_4b_higher, rule_4b_lower, rule_4c, rule_5}
 
 pub record Difference : Type 0 where
@@ -41,11 +42,6 @@ module _ {N : Type 0} (seen : Seen N) (r_first : Bool) (a b : N) where
   difference_by R4b = or_else (look (rule_4b_higher seen)) (look (rule_4b_lower seen))
   difference_by R4c = look (rule_4c seen)
   difference_by R5 = look (rule_5 seen r_first)
-
-pub record Decision : Type 0 where
-  pub side : Ordering
-  pub rule : Rule
-  pub sphere : ℕ
 
 abbrev pub first_decision : (Rule → Option Difference) → List Rule → Option Decision
 first_decision find [] = None
