@@ -1,0 +1,92 @@
+-- The turns of a unit's ends.
+use Rattle.std.proofs.Common.{◌≡◌, ℕ, List, [], ◌∷◌, ◌++◌, cond, sym, ap, ◌∙◌, subst, None, Some, eq-eqb}
+use Rattle.std.specs.declared.option.Option.{Option}
+use Rattle.cip_mol.specs.declared.descriptor.Descriptor.{Descriptor}
+use Rattle.cip_mol.specs.declared.site.Ligand.{Ligand}
+use Rattle.cip_digraph.specs.rules.Auxiliary.{nearer_first, root_at, roots_at}
+use Rattle.cip_digraph.specs.units.Ends.{end_at}
+use Rattle.cip_digraph.specs.digraph.NodeList.{parents_of}
+use Rattle.cip_digraph.specs.digraph.Telling.{node_at}
+use Rattle.cip_aux.specs.declared.turns.Turns.{Turns}
+use Rattle.cip_aux.specs.Inner.{Inner, Ready}
+use Rattle.cip_aux.specs.Marking.{AreRootTurns, AreEndTurns}
+use Rattle.cip_aux.specs.Neighbours.{shape_at}
+use Rattle.cip_aux.specs.Turned.{listed, Joins, far_number, both_turns, roots_turns}
+use Rattle.cip_aux.specs.TurnsOf.{root_turns}
+use Rattle.cip_aux.specs.Sights.{path_at}
+use Rattle.cip_aux.proofs.FarEnds.{IsFar, far_found, far_none, far_same}
+use Rattle.cip_aux.proofs.LettersTurn.{both_are, none_are}
+
+module _ (inner : Inner) (node : ℕ) (r : Ready inner node) (between : Option ℕ) (far : ℕ) where
+  far_is : (c : ℕ) → Some c ≡ far_number (shape_at inner.sight.told) (parents_of inner.sight.told) node between far
+      → IsFar inner.sight r.shows node between far c
+  far_is c e =
+      far_found inner.sight r.shows node between far c
+      (sym (e ∙ far_same inner.sight r.shows node between far))
+
+  -- the node of the far end is ready too
+  pub far_ready : (c : ℕ) → Some c
+      ≡ far_number (shape_at inner.sight.told) (parents_of inner.sight.told) node between far → Ready inner c
+  far_ready c e = record { shows = r.shows; real = (far_is c e).real; marks = r.marks }
+
+  -- without a node for it there are no turns
+  pub no_far : (near others : List Ligand) (at : ℕ)
+      → Joins inner.sight.graph (node_at inner.sight.nodes node).vertex between far
+      → None ≡ far_number (shape_at inner.sight.told) (parents_of inner.sight.told) node between far
+      → AreEndTurns inner node (listed between) (end_at at near ∷ end_at far others ∷ []) None
+  no_far near others at joins e =
+      let none = far_none inner.sight r.shows node between far r.real joins
+      (sym (e ∙ far_same inner.sight r.shows node between far)) in
+      record {
+        each =
+            λ mark agrees. sym (none_are inner.sight.rules inner.sight.graph inner.sight.positions mark
+            (path_at inner.sight.nodes node) (listed between) (end_at at near) (end_at far others) none);
+      }
+
+  pub both_ends : (near others : List Ligand) (at c : ℕ) (one other : Option Turns)
+      → Some c ≡ far_number (shape_at inner.sight.told) (parents_of inner.sight.told) node between far
+      → AreRootTurns inner node near one → AreRootTurns inner c others other
+      → AreEndTurns inner node (listed between) (end_at at near ∷ end_at far others ∷ []) (both_turns one other)
+  both_ends near others at c one other e first second =
+      let found = far_is c e in
+      record {
+        each = λ mark agrees.
+            ap (λ t. both_turns t other) (first.each mark agrees)
+            ∙ ap (both_turns (root_turns
+            (root_at inner.sight.rules inner.sight.graph inner.sight.positions mark (path_at inner.sight.nodes node)
+            near)))
+            (second.each mark agrees ∙ ap
+            (λ path. root_turns (root_at inner.sight.rules inner.sight.graph inner.sight.positions mark path others))
+            found.path)
+            ∙ sym (both_are inner.sight.rules inner.sight.graph inner.sight.positions mark
+            (path_at inner.sight.nodes node) (listed between) (end_at at near) (end_at far others) found.new);
+      }
+
+  -- where the ligands of the near end tie, the far end doesn't matter
+  pub near_ties : (near others : List Ligand) (at c : ℕ)
+      → Some c ≡ far_number (shape_at inner.sight.told) (parents_of inner.sight.told) node between far
+      → AreRootTurns inner node near None
+      → AreEndTurns inner node (listed between) (end_at at near ∷ end_at far others ∷ []) None
+  near_ties near others at c e first =
+      let found = far_is c e in
+      record {
+        each = λ mark agrees.
+            ap (λ t. both_turns t (root_turns
+            (root_at inner.sight.rules inner.sight.graph inner.sight.positions mark
+            (far ∷ listed between ++ path_at inner.sight.nodes node) others))) (first.each mark agrees)
+            ∙ sym (both_are inner.sight.rules inner.sight.graph inner.sight.positions mark
+            (path_at inner.sight.nodes node) (listed between) (end_at at near) (end_at far others) found.new);
+      }
+
+-- a centre has one end
+pub centre_is : (inner : Inner) (node at vertex : ℕ) (ligands : List Ligand) (turns : Option Turns) → at ≡ vertex
+    → node ≡ inner.from → AreRootTurns inner node ligands turns
+    → AreEndTurns inner inner.from [] (nearer_first vertex (end_at at ligands ∷ [])) turns
+centre_is inner node at vertex ligands turns here same are =
+    subst (λ n. AreEndTurns inner n [] (nearer_first vertex (end_at at ligands ∷ [])) turns) same (record {
+      each = λ mark agrees.
+          are.each mark agrees
+          ∙ ap (λ ends. roots_turns (roots_at inner.sight.rules inner.sight.graph inner.sight.positions mark
+          (path_at inner.sight.nodes node) [] ends))
+          (sym (ap (λ b. cond b (end_at at ligands ∷ []) []) (eq-eqb at vertex here)));
+    })

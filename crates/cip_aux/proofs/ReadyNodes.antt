@@ -1,0 +1,48 @@
+-- What is known where a node is ready to be looked from.
+use Rattle.std.proofs.Common.{◌≡◌, ◌<◌, ℕ, List, map, length, true, false, Some, refl, ◌∙◌, All, IfSome}
+use Rattle.std.specs.declared.option.Option.{Option}
+use Rattle.std.proofs.lemmas.List.Elements.{All-from_recursion}
+use Rattle.cip_mol.specs.declared.descriptor.Descriptor.{Descriptor}
+use Rattle.cip_mol.specs.declared.site.Ligand.{Ligand}
+use Rattle.cip_digraph.specs.digraph.NodeList.{parents_of}
+use Rattle.cip_aux.specs.declared.turns.Turns.{Turns}
+use Rattle.cip_aux.specs.Inner.{Inner, AgreesInside, Ready}
+use Rattle.cip_aux.specs.Marking.{AreRootTurns}
+use Rattle.cip_aux.specs.Neighbours.{ligand_number, shape_at}
+use Rattle.cip_aux.specs.Sides.{Sides, pair_sides}
+use Rattle.cip_aux.specs.Sights.{SidesAre, seen_sides}
+use Rattle.cip_aux.specs.TurnsOf.{turns_of, AreEarlyTurns}
+use Rattle.cip_aux.proofs.Paths.{within_told}
+use Rattle.cip_aux.proofs.RootTurns.{numbers_within, root_is}
+
+module _ (inner : Inner) (node : ℕ) (r : Ready inner node) where
+  abbrev pub numbers_of : List Ligand → List (Option ℕ)
+  numbers_of ligands = map (ligand_number (shape_at inner.sight.told) (parents_of inner.sight.told) node) ligands
+
+  pub ready_within : node < length inner.sight.told
+  ready_within = within_told inner.sight r.shows node r.real.within
+
+  pub ready_numbers : (ligands : List Ligand)
+      → All (λ number. IfSome number (λ n. n < length inner.sight.nodes)) (numbers_of ligands)
+  ready_numbers ligands =
+      All-from_recursion (λ number. IfSome number (λ n. n < length inner.sight.nodes)) (numbers_of ligands)
+      (numbers_within inner.sight r.shows node r.real.within ligands)
+
+  pub ready_turns : (sides : Sides)
+      → ((mark : List ℕ → Option Descriptor) → AgreesInside inner mark → SidesAre inner.sight node mark sides)
+      → (ligands : List Ligand)
+      → AreRootTurns inner node ligands
+      (turns_of (pair_sides (sides true) (numbers_of ligands)) (pair_sides (sides false) (numbers_of ligands)))
+  ready_turns sides seen ligands = record {
+    each = λ mark agrees. root_is inner.sight r.shows mark sides node r.real (seen mark agrees) ligands;
+  }
+
+  -- without a look at descriptors
+  pub ready_early : (ligands : List Ligand) (turns : Turns) → AreEarlyTurns inner.sight node (numbers_of ligands) turns
+      → AreRootTurns inner node ligands (Some turns)
+  ready_early ligands turns early = record {
+    each = λ mark agrees.
+        early.each mark
+        ∙ root_is inner.sight r.shows mark (seen_sides inner.sight node mark) node r.real
+        (record { each = λ r_first a b la lb. refl }) ligands;
+  }

@@ -1,0 +1,39 @@
+use Rattle.std.proofs.Common.{◌≡◌, ◌<◌, ◌-◌, ◌+◌, ◌∙◌, sym, ap, subst, arith, length, slice_set}
+use Rattle.cip_pairs.specs.Marks.{Marks}
+use Rattle.cip_digraph.specs.digraph.NodeList.{parents_of}
+use Rattle.cip_aux.specs.Marking.{AreMarked}
+use Rattle.cip_aux.specs.Sights.{sight_of}
+use Rattle.cip_aux.proofs.NodeMarks.{one_more}
+use Rattle.cip_aux.proofs.SitesJoin.{units_join}
+use Rattle.cip_aux.proofs.Told.{whole_shows}
+use Rattle.cip_aux.proofs.filling.auxiliaries.Goals as goal
+
+pub wanted_mark-requires-clause-shows : goal.wanted_mark-requires-clause-shows
+wanted_mark-requires-clause-shows g c = whole_shows c.args.whole.now c.nodes.ensures.whole
+
+pub wanted_mark-requires-clause-joined : goal.wanted_mark-requires-clause-joined
+wanted_mark-requires-clause-joined g c =
+    units_join (sight_of c.args.whole.now) c.args.units.now c.nodes.ensures.whole.sound c.requires.sites
+
+pub loop-done-preserved : goal.loop-done-preserved
+loop-done-preserved g c =
+    let sight = sight_of c.args.whole.now in
+    let are = AreMarked sight c.args.units.now c.args.wanted.now in
+    let old = c.loop-done.marks.marks in
+    let count = c.len-count.result in
+    let node = count - 1 - c.loop-done.done in
+    let shows = whole_shows c.args.whole.now c.nodes.ensures.whole in
+    let many : count ≡ length sight.nodes =
+    c.len-count.ensures.len ∙ ap length c.table.ensures ∙ ap (λ all. length (parents_of all)) c.nodes.ensures.told
+    ∙ sym shows.told.len in
+    let now : count - c.loop-done.done ≡ node + 1 = omega (arith, c.loop-done-test.true) in
+    let next : node ≡ count - (c.loop-done.done + 1) = omega (arith, c.loop-done-test.true) in
+    let low : node < length sight.nodes = omega (arith, many, c.loop-done-test.true) in
+    record {
+      room = c.wanted_mark.ensures.room ∙ c.loop-done.invariant.room;
+      bound = ap (λ (marks : Marks). marks.bound) c.set.ensures ∙ c.loop-done.invariant.bound;
+      marks = subst (are (count - (c.loop-done.done + 1))) (sym (ap (λ (marks : Marks). marks.marks) c.set.ensures))
+          (subst (λ k. are k (slice_set old node c.in_ok-mark.mark)) next
+          (one_more sight c.args.units.now c.args.wanted.now node old c.in_ok-mark.mark low c.in_ok-mark.ensures.mark
+          (subst (λ k. are k old) now c.loop-done.invariant.marks)));
+    }

@@ -1,0 +1,26 @@
+use Rattle.std.proofs.Common.{rules, ◌<◌, ◌∙◌, refl, sym, subst, length, None}
+use Rattle.cip_aux.specs.Marking.{IsUnitLetter}
+use Rattle.cip_aux.proofs.OddTurns.{all_rest}
+use Rattle.cip_aux.proofs.UnitLetters.{ends_leave, none_here}
+use Rattle.cip_aux.proofs.letters.first_letter.Goals as goal
+
+pub loop-rest-init : goal.loop-rest-init
+loop-rest-init g c = record {
+  room = refl;
+  low = c.of-rest.ensures.low;
+  left = ends_leave c.args.inner.now c.args.inner.now.from c.args.vertex c.args.units.now c.of-rest.result.now
+      c.requires.ready c.requires.vertex c.of-rest.ensures;
+}
+
+pub loop-rest-preserved : goal.loop-rest-preserved
+loop-rest-preserved g c =
+    let inner = c.args.inner.now in
+    let all = c.args.units.now in
+    record {
+      room = c.unit_letter.ensures.room ∙ c.loop-rest.invariant.room;
+      low = all_rest (λ place. place < length all) c.loop-rest.rest.now (search rules) c.loop-rest.invariant.low;
+      left = none_here inner inner.from all c.loop-rest.rest.now _ (search rules)
+          (subst (λ unit. IsUnitLetter inner inner.from unit None) c.unit.ensures
+          (subst (IsUnitLetter inner inner.from c.unit.result.now) c.in_default-2.is c.in_ok-letter.ensures.letter))
+          c.loop-rest.invariant.left;
+    }

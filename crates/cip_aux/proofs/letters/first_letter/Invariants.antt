@@ -1,0 +1,13 @@
+use Rattle.std.proofs.Common.{◌≡◌, ◌<◌, All, length}
+use Rattle.cip_aux.proofs.UnitLetters.{Leaves}
+use Rattle.cip_aux.proofs.letters.first_letter.Given as goal
+
+abbrev pub invariant-loop-rest : goal.invariant-loop-rest
+invariant-loop-rest g l = record {
+  room : g.V.Viewer.room l.viewer ≡ g.V.Viewer.room l.initial.viewer;
+  low : All (λ place. place < length l.units) l.rest;
+  left : Leaves l.inner l.inner.from l.units l.rest;
+}
+
+abbrev pub decreases-loop-rest : goal.decreases-loop-rest
+decreases-loop-rest g l = length l.rest

@@ -1,0 +1,9 @@
+use Rattle.std.proofs.Common.{rules, ◌∙◌}
+use Rattle.cip_aux.specs.Sides.{is_below}
+use Rattle.cip_aux.proofs.OddTurns.{count_odd}
+use Rattle.cip_aux.proofs.turns.is_turned.Goals as goal
+
+pub loop-rest-preserved : goal.loop-rest-preserved
+loop-rest-preserved c =
+    count_odd is_below c.loop-rest.rest.now c.loop-rest.odd c.is_below-odd.result _ (search rules)
+    c.is_below-odd.ensures ∙ c.loop-rest.invariant

@@ -1,0 +1,71 @@
+-- What each step of marking answers. Own.
+use Rattle.std.specs.Prelude.{◌≡◌, ◌<◌, ◌≤◌, ℕ, Bool, true, false, cond, slice_index, slice_index_or, List, ◌∷◌, length, All, None}
+use Rattle.std.specs.declared.option.Option.{Option}
+use Rattle.cip_mol.specs.declared.descriptor.Descriptor.{Descriptor}
+use Rattle.cip_mol.specs.declared.site.Ligand.{Ligand}
+use Rattle.cip_mol.specs.declared.site.Unit as units
+use Rattle.cip_digraph.specs.digraph.Digraph.{Node, is_real}
+use Rattle.cip_digraph.specs.digraph.NodeList.{parents_of}
+use Rattle.cip_digraph.specs.digraph.Telling.{node_at}
+use Rattle.cip_digraph.specs.rules.Auxiliary.{root_at, roots_at, unit_letter, first_letter, auxiliary}
+use Rattle.cip_digraph.specs.units.Ends.{End}
+use Rattle.cip_views.specs.Below.{is_below}
+use Rattle.cip_aux.specs.declared.turns.Turns.{Turns}
+use Rattle.cip_aux.specs.Inner.{Inner, AgreesInside, mark_at}
+use Rattle.cip_aux.specs.Sights.{Sight, path_at}
+use Rattle.cip_aux.specs.Turned.{roots_turns, EndsJoin}
+use Rattle.cip_aux.specs.TurnsOf.{root_turns}
+
+module _ (inner : Inner) (node : ℕ) where
+  -- the turns of these ligands at the node, whichever descriptors agree with those inside
+  pub record AreRootTurns (ligands : List Ligand) (turns : Option Turns) : Type 0 where
+    pub each : (mark : List ℕ → Option Descriptor) → AgreesInside inner mark → turns
+        ≡ root_turns
+        (root_at inner.sight.rules inner.sight.graph inner.sight.positions mark (path_at inner.sight.nodes node)
+        ligands)
+
+  pub record AreEndTurns (between : List ℕ) (ends : List End) (turns : Option Turns) : Type 0 where
+    pub each : (mark : List ℕ → Option Descriptor) → AgreesInside inner mark → turns
+        ≡ roots_turns
+        (roots_at inner.sight.rules inner.sight.graph inner.sight.positions mark (path_at inner.sight.nodes node)
+        between ends)
+
+  pub record IsUnitLetter (unit : units.Unit) (letter : Option Descriptor) : Type 0 where
+    pub each : (mark : List ℕ → Option Descriptor) (vertex : ℕ) (up : List ℕ) → AgreesInside inner mark
+        → path_at inner.sight.nodes node ≡ vertex ∷ up
+        → letter ≡ unit_letter inner.sight.rules inner.sight.graph inner.sight.positions unit vertex up mark
+
+  pub record IsFirstLetter (all : List units.Unit) (letter : Option Descriptor) : Type 0 where
+    pub each : (mark : List ℕ → Option Descriptor) (vertex : ℕ) (up : List ℕ) → AgreesInside inner mark
+        → path_at inner.sight.nodes node ≡ vertex ∷ up
+        → letter ≡ first_letter inner.sight.rules inner.sight.graph inner.sight.positions all vertex up mark
+
+abbrev pub UnitsJoin : Sight → List units.Unit → Type 0
+UnitsJoin sight all = All (λ unit. EndsJoin sight.graph unit.site) all
+
+-- what stands on a node: nothing on duplicates
+abbrev pub node_mark : Sight → List units.Unit → Node → Option Descriptor
+node_mark sight all node =
+    cond (is_real node.kind) (auxiliary sight.rules sight.graph sight.positions all node.path) None
+
+-- the nodes strictly below one of them have their descriptors
+pub record AreInner (inner : Inner) (all : List units.Unit) : Type 0 where
+  pub len : length inner.marks ≡ length inner.sight.nodes
+  pub each : (number : ℕ) → number < length inner.sight.nodes
+      → is_below (parents_of inner.sight.told) inner.from number ≡ true
+      → mark_at inner.marks number ≡ node_mark inner.sight all (node_at inner.sight.nodes number)
+
+abbrev pub flag_at : List Bool → ℕ → Bool
+flag_at flags number = slice_index_or flags number false
+
+-- below each node that is wanted all nodes are
+pub record AreWanted (parents : List ℕ) (wanted : List Bool) : Type 0 where
+  pub below : (number : ℕ) → 0 < number → number < length parents
+      → flag_at wanted (slice_index parents number) ≡ true → flag_at wanted number ≡ true
+
+-- The nodes that are wanted, from a number on, have their descriptors, and the others of these none.
+pub record AreMarked (sight : Sight) (all : List units.Unit) (wanted : List Bool) (from : ℕ)
+    (marks : List (Option Descriptor)) : Type 0 where
+  pub len : length marks ≡ length sight.nodes
+  pub each : (number : ℕ) → from ≤ number → number < length sight.nodes → mark_at marks number
+      ≡ cond (flag_at wanted number) (node_mark sight all (node_at sight.nodes number)) None

@@ -1,0 +1,59 @@
+-- Letters from the turns of their roots, and where the ends of a unit stand. Own.
+use Rattle.std.specs.Prelude.{◌≡◌, ◌≢◌, ℕ, true, List, [], ◌∷◌, None, Some}
+use Rattle.std.specs.declared.option.Option.{Option}
+use Rattle.cip_mol.specs.declared.descriptor.Descriptor.{Descriptor}
+use Rattle.cip_mol.specs.declared.descriptor.Sense.{Sense}
+use Rattle.cip_mol.specs.declared.site.Site.{Site}
+use Rattle.cip_mol.specs.declared.site.Site.TheVariants.{Centre, Bond, Axis}
+use Rattle.cip_digraph.specs.rings.Alternating.{is_in}
+use Rattle.cip_digraph.specs.units.Descriptors.{letter_by, turned_if}
+use Rattle.cip_digraph.specs.digraph.Digraph.{Node}
+use Rattle.cip_digraph.specs.graph.Graph.{Graph, neighbours}
+use Rattle.cip_digraph.specs.units.Ranked.{Root}
+use Rattle.cip_aux.specs.declared.turns.Turns.{Turns}
+use Rattle.cip_aux.specs.Falls.{differ}
+use Rattle.cip_aux.specs.Neighbours.{real_child}
+use Rattle.cip_aux.specs.TurnsOf.{root_turns}
+
+-- of both ends together
+abbrev pub both_turns : Option Turns → Option Turns → Option Turns
+both_turns None other = None
+both_turns (Some one) None = None
+both_turns (Some one) (Some other) =
+    Some (record { natural = differ one.natural other.natural; turned = differ one.turned other.turned })
+
+abbrev pub roots_turns : {N : Type 0} → List (Root N) → Option Turns
+roots_turns [] = None
+roots_turns (root ∷ []) = root_turns root
+roots_turns (root ∷ other ∷ roots) = both_turns (root_turns root) (root_turns other)
+
+abbrev pub turned_letter : Site → Sense → Option Turns → Option Descriptor
+turned_letter site sense None = None
+turned_letter site sense (Some turns) =
+    Some (letter_by site (turned_if turns.natural sense) (turned_if turns.turned sense))
+
+-- the atom between the ends of an axis
+abbrev pub listed : Option ℕ → List ℕ
+listed None = []
+listed (Some vertex) = vertex ∷ []
+
+-- the way from one end of a unit to the other runs along bonds
+abbrev pub Joins : Graph → ℕ → Option ℕ → ℕ → Type 0
+Joins graph from None far = is_in far (neighbours graph from) ≡ true
+Joins graph from (Some middle) far =
+    (is_in middle (neighbours graph from) ≡ true) × (is_in far (neighbours graph middle) ≡ true) × (middle ≢ far)
+
+-- the ends of a unit are joined, in both directions
+abbrev pub EndsJoin : Graph → Site → Type 0
+EndsJoin graph (Centre at ligands) = Unit {0}
+EndsJoin graph (Bond a b first second) = Joins graph a None b × Joins graph b None a
+EndsJoin graph (Axis a middle b first second) = Joins graph a (Some middle) b × Joins graph b (Some middle) a
+
+abbrev pub next_child : (ℕ → Node) → List ℕ → ℕ → Option ℕ → Option ℕ
+next_child nodes parents vertex None = None
+next_child nodes parents vertex (Some node) = real_child nodes parents node vertex
+
+-- where the other end stands below a node
+abbrev pub far_number : (ℕ → Node) → List ℕ → ℕ → Option ℕ → ℕ → Option ℕ
+far_number nodes parents node None far = real_child nodes parents node far
+far_number nodes parents node (Some middle) far = next_child nodes parents far (real_child nodes parents node middle)

@@ -1,0 +1,130 @@
+// The descriptors inside a whole digraph, from the last node to the first.
+ghost use Rattle.std.specs.Prelude.{◌≡◌, ◌<◌, ◌≤◌, ◌+◌, length, cond, map, replicate, None, IfOk, OnOk};
+ghost use Rattle.cip_digraph.specs.digraph.NodeList.{told_at, parents_of};
+ghost use Rattle.cip_digraph.specs.digraph.Telling.{node_at};
+ghost use Rattle.cip_digraph.specs.units.Units.{sites_of};
+ghost use Rattle.cip_aux.specs.Marking.{UnitsJoin, node_mark, flag_at, AreMarked, AreInner, AreWanted};
+ghost use Rattle.cip_aux.specs.Neighbours.{atom_told};
+ghost use Rattle.cip_aux.specs.Sights.{Shows, sight_of};
+
+use crate::inner::Inner;
+use crate::letters::first_letter;
+use crate::units_at::UnitsAt;
+use crate::viewer::Viewer;
+use crate::whole::Whole;
+use cip_digraph::{NodeKind, Nodes};
+use cip_mol::Descriptor;
+use cip_pairs::Descriptors;
+use std::alloc::{AllocError, Global};
+
+// The vertex of a real node.
+fn atom_at<N: Nodes>(nodes: &N, node: u32) -> Option<u32>
+    requires { node < length (N.nodes nodes.now) }
+    ensures { result ≡ atom_told (told_at (N.nodes nodes.now) node) }
+{
+    match nodes.kind(node) {
+        NodeKind::Real => nodes.vertex(node),
+        NodeKind::Closure | NodeKind::Multiple | NodeKind::Delocalised => None,
+    }
+}
+
+// The descriptor at a node, by those of the nodes strictly below it.
+fn mark_of<N: Nodes, V: Viewer>(
+    alloc: Global,
+    inner: &Inner<'_, N>,
+    viewer: &mut V,
+    units: &UnitsAt<'_>,
+) -> Result<Option<Descriptor>, AllocError>
+    requires shows { Shows inner.now.sight }
+    requires within { inner.now.from < length inner.now.sight.nodes }
+    requires joined { UnitsJoin inner.now.sight units.now }
+    requires below { AreInner inner.now units.now }
+    requires room { length inner.now.sight.told ≤ V.room viewer.old }
+    ensures room { V.room viewer.new ≡ V.room viewer.old }
+    ensures mark { IfOk result (λ mark. mark
+        ≡ node_mark inner.now.sight units.now (node_at inner.now.sight.nodes inner.now.from)) }
+{
+    let node = inner.from();
+    let Some(vertex) = atom_at(inner.whole().nodes(), node) else {
+        return Ok(None);
+    };
+    if node == 0 {
+        return Ok(None);
+    }
+    first_letter(alloc, inner, viewer, vertex, units)
+}
+
+fn is_wanted(wanted: &[bool], node: u32) -> bool
+    ensures { result ≡ flag_at wanted.now node }
+{
+    match wanted.get(node as usize) {
+        Some(flag) => *flag,
+        None => false,
+    }
+}
+
+// The descriptor at a node, if it is wanted, by those of all nodes behind it.
+fn wanted_mark<N: Nodes, V: Viewer>(
+    alloc: Global,
+    whole: &Whole<'_, N>,
+    viewer: &mut V,
+    node: u32,
+    units: &UnitsAt<'_>,
+    wanted: &[bool],
+    marks: &Descriptors,
+) -> Result<Option<Descriptor>, AllocError>
+    requires shows { Shows (sight_of whole.now) }
+    requires within { node < length (sight_of whole.now).nodes }
+    requires joined { UnitsJoin (sight_of whole.now) units.now }
+    requires wanted { AreWanted (parents_of whole.now.told) wanted.now }
+    requires behind { AreMarked (sight_of whole.now) units.now wanted.now (node + 1) marks.now.marks }
+    requires room { length whole.now.told ≤ V.room viewer.old }
+    ensures room { V.room viewer.new ≡ V.room viewer.old }
+    ensures mark { IfOk result (λ mark. mark ≡ cond (flag_at wanted.now node)
+        (node_mark (sight_of whole.now) units.now (node_at (sight_of whole.now).nodes node)) None) }
+{
+    if !is_wanted(wanted, node) {
+        return Ok(None);
+    }
+    let inner = Inner::new(whole, node, marks);
+    mark_of(alloc, &inner, viewer, units)
+}
+
+// No descriptor at each of so many nodes.
+fn clear(marks: &mut Descriptors, count: u32)
+    requires { count ≤ marks.old.bound }
+    ensures { marks.new ≡ record marks.old { marks = replicate count None } }
+{
+    marks.clear();
+    for _ in 0..count {
+        marks.push(None);
+    }
+}
+
+/// The descriptor at each node of a whole digraph that is wanted; none at the root, at duplicates and where ligands
+/// tie.
+pub fn auxiliaries<N: Nodes, V: Viewer>(
+    alloc: Global,
+    whole: &Whole<'_, N>,
+    viewer: &mut V,
+    units: &UnitsAt<'_>,
+    wanted: &[bool],
+    marks: &mut Descriptors,
+) -> Result<(), AllocError>
+    requires sites { map (λ unit. unit.site) units.now ≡ sites_of whole.now.graph whole.now.positions }
+    requires wanted { AreWanted (parents_of whole.now.told) wanted.now }
+    requires room { length whole.now.told ≤ V.room viewer.old }
+    requires bound { length whole.now.told ≤ marks.old.bound }
+    ensures room { V.room viewer.new ≡ V.room viewer.old }
+    ensures bound { marks.new.bound ≡ marks.old.bound }
+    ensures marks { OnOk result (AreMarked (sight_of whole.now) units.now wanted.now 0 marks.new.marks) }
+{
+    let count = whole.nodes().table().len();
+    clear(marks, count);
+    for done in 0..count {
+        let node = count - 1 - done;
+        let mark = wanted_mark(alloc, whole, viewer, node, units, wanted, marks)?;
+        marks.set(node, mark);
+    }
+    Ok(())
+}

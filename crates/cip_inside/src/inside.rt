@@ -1,0 +1,60 @@
+// The descriptors inside a whole digraph that is told of.
+ghost use Rattle.std.specs.Prelude.{◌≡◌, ◌≤◌, true, length, map, replicate, IfOk, OnOk};
+ghost use Rattle.cip_digraph.specs.digraph.NodeList.{parents_of};
+ghost use Rattle.cip_digraph.specs.units.Units.{sites_of};
+ghost use Rattle.cip_aux.specs.Marking.{node_mark, AreMarked, AreWanted};
+ghost use Rattle.cip_aux.specs.Sights.{sight_of};
+
+use crate::sights::Sights;
+use cip_aux::{UnitsAt, Whole, auxiliaries};
+use cip_digraph::Nodes;
+use cip_pairs::Descriptors;
+use std::alloc::{AllocError, Global};
+
+/// Puts the descriptors of those nodes of a whole digraph that are wanted into memory that was reserved, and none for
+/// the others.
+pub fn descriptors_where<N: Nodes>(
+    alloc: Global,
+    whole: &Whole<'_, N>,
+    units: &UnitsAt<'_>,
+    wanted: &[bool],
+    sights: &mut Sights,
+    marks: &mut Descriptors,
+) -> Result<(), AllocError>
+    requires sites { map (λ unit. unit.site) units.now ≡ sites_of whole.now.graph whole.now.positions }
+    requires wanted { AreWanted (parents_of whole.now.told) wanted.now }
+    requires room { length whole.now.told ≤ sights.old.views.bound }
+    requires bound { length whole.now.told ≤ marks.old.bound }
+    ensures room { sights.new.views.bound ≡ sights.old.views.bound }
+    ensures bound { marks.new.bound ≡ marks.old.bound }
+    ensures marks { OnOk result (AreMarked (sight_of whole.now) units.now wanted.now 0 marks.new.marks) }
+{
+    auxiliaries(alloc, whole, sights, units, wanted, marks)
+}
+
+fn all_true(alloc: Global, count: u32) -> Result<Vec<bool>, AllocError>
+    ensures { IfOk result (λ flags. flags.items ≡ replicate count true) }
+{
+    vec![in alloc; true; count as usize]
+}
+
+/// The same with all nodes wanted: the descriptor at each node; none at the root, at duplicates and where ligands tie.
+pub fn descriptors_inside<N: Nodes>(
+    alloc: Global,
+    whole: &Whole<'_, N>,
+    units: &UnitsAt<'_>,
+    sights: &mut Sights,
+    marks: &mut Descriptors,
+) -> Result<(), AllocError>
+    requires sites { map (λ unit. unit.site) units.now ≡ sites_of whole.now.graph whole.now.positions }
+    requires room { length whole.now.told ≤ sights.old.views.bound }
+    requires bound { length whole.now.told ≤ marks.old.bound }
+    ensures room { sights.new.views.bound ≡ sights.old.views.bound }
+    ensures bound { marks.new.bound ≡ marks.old.bound }
+    ensures marks { OnOk result (marks.new.marks
+        ≡ map (node_mark (sight_of whole.now) units.now) (sight_of whole.now).nodes) }
+{
+    let count = whole.nodes().table().len();
+    let wanted = all_true(alloc, count)?;
+    descriptors_where(alloc, whole, units, wanted.as_slice(), sights, marks)
+}

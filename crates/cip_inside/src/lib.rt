@@ -1,0 +1,10 @@
+//! Descriptors inside a whole digraph, by its views in tables.
+#![tactic(auto)]
+
+mod asking;
+mod inside;
+mod near;
+mod sights;
+
+pub use inside::{descriptors_inside, descriptors_where};
+pub use sights::Sights;
