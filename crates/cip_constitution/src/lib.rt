@@ -15,4 +15,5 @@ mod work;
 pub use keys::{ByAtom, ByDistance, ByMass};
 pub use marking::MarkedUnits;
 pub use settling::{Settled, settle};
+pub use standing::number_of;
 pub use work::Work;

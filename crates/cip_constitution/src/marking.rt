@@ -41,6 +41,13 @@ impl<'a> MarkedUnits<'a> {
         Ok(MarkedUnits { units, flags })
     }
 
+    /// The units in their order.
+    pub fn as_slice(&self) -> &'a [Unit]
+        ensures { result.now ≡ self.now }
+    {
+        self.units
+    }
+
     /// Whether a vertex is an atom of some unit.
     pub fn has(&self, vertex: u32) -> bool
         ensures { result ≡ is_in vertex (flat_map (λ unit. atoms_of unit.site) self.now) }

@@ -1,0 +1,9 @@
+pub mod EarlyBranches
+pub mod EarlyStanding
+pub mod FoundPairs
+pub mod KnownRoots
+pub mod RootLow
+pub mod RootNodes
+pub mod SettledRoots
+pub mod WholeStanding
+pub mod Within

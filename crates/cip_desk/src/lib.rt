@@ -1,0 +1,7 @@
+//! One desk for the digraphs of a run: grown in reserved memory, settled, and ranked by as many rules as it takes.
+#![tactic(auto)]
+
+mod branches;
+mod desk;
+
+pub use desk::Desk;

@@ -1,0 +1,10 @@
+pub mod Odd
+pub mod PlaceLists
+pub mod LastReason
+pub mod KnownOutcomes
+pub mod LigandNodes
+pub mod RootsAlike
+pub mod SiteEnds
+pub mod UnitOutcomes
+pub mod StepsRise
+pub mod FitUnits

@@ -1,0 +1,56 @@
+-- The ends of a site, and that they are fit.
+use Rattle.std.proofs.Common.{
+  ◌≡◌,
+  ◌≤◌,
+  ◌+◌,
+  ◌∷◌,
+  ◌++◌,
+  ◌∙◌,
+  ◌⊎◌,
+  inl,
+  inr,
+  [],
+  ℕ,
+  List,
+  ap,
+  arith,
+  length,
+  subst,
+  flat_map,
+}
+use Rattle.std.specs.List.{All}
+use Rattle.std.proofs.lemmas.List.{append-nil, length-append}
+use Rattle.std.proofs.lemmas.List.Elements.{All-head, All-tail}
+use Rattle.cip_mol.specs.declared.site.Ligand.{Ligand}
+use Rattle.cip_mol.specs.declared.site.Site.{Site}
+use Rattle.cip_mol.specs.declared.site.Site.TheVariants.{Bond, Axis}
+use Rattle.cip_digraph.specs.units.Ends.{End, end_at, ends_of}
+use Rattle.cip_digraph.specs.graph.Graph.{Graph}
+use Rattle.cip_label.specs.Fitting.{IsFit, IsFitSite}
+
+pub two_ends : (site : Site) (a b : ℕ) (first second : List Ligand) →
+    (site ≡ Bond a b first second) ⊎ ((middle : ℕ) × (site ≡ Axis a middle b first second)) →
+    ends_of site ≡ end_at a first ∷ end_at b second ∷ []
+two_ends site a b first second (inl e) = ap ends_of e
+two_ends site a b first second (inr (middle, e)) = ap ends_of e
+
+module _ (graph : Graph) (site : Site) (fit : IsFitSite graph site) where
+  abbrev Fit : End → Type 0
+  Fit end = IsFit graph end.at end.ligands
+
+  pub first_fit : (one : End) (others : List End) → ends_of site ≡ one ∷ others → IsFit graph one.at one.ligands
+  first_fit one others e = All-head Fit one others (subst (All Fit) e fit.ends)
+
+  pub second_fit : (one other : End) (others : List End) → ends_of site ≡ one ∷ other ∷ others →
+      IsFit graph other.at other.ligands
+  second_fit one other others e = All-head Fit other others
+      (All-tail Fit one (other ∷ others) (subst (All Fit) e fit.ends))
+
+  pub few_together : (one other : End) → ends_of site ≡ one ∷ other ∷ [] → length one.ligands + length other.ligands ≤ 4
+  few_together one other e =
+      let counted : length (one.ligands ++ (other.ligands ++ [])) ≡ length one.ligands + length other.ligands =
+      length-append one.ligands (other.ligands ++ [])
+      ∙ ap (λ ls. length one.ligands + length ls) (append-nil other.ligands) in
+      let few : length (one.ligands ++ (other.ligands ++ [])) ≤ 4 =
+      subst (λ ends. length (flat_map (λ end. end.ligands) ends) ≤ 4) e fit.four in
+      omega (arith, counted, few)

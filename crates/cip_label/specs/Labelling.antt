@@ -1,0 +1,75 @@
+-- The ranked ligands of a root, and the outcome of a unit by its ranked roots. Own.
+use Rattle.std.specs.Prelude.{◌≤◌, ◌+◌, length, ℕ, Bool, true, false, List, [], ◌∷◌, ◌++◌, Some, nat_lt}
+use Rattle.std.specs.declared.cmp.Ordering.TheVariants.{Equal}
+use Rattle.cip_mol.specs.declared.descriptor.Sense.{Sense}
+use Rattle.cip_mol.specs.declared.outcome.Outcome.{Outcome}
+use Rattle.cip_mol.specs.declared.outcome.Outcome.TheVariants as outcomes
+use Rattle.cip_mol.specs.declared.site.Site.{Site}
+use Rattle.cip_mol.specs.FlatCentres.{inversions}
+use Rattle.cip_digraph.specs.units.Descriptors.{is_odd, letter_by, reason_needed, turned_if}
+use Rattle.cip_digraph.specs.units.Ends.{End}
+use Rattle.cip_digraph.specs.units.Ranked as digraphs
+use Rattle.cip_digraph.specs.units.Ranked.{Root, has_tie, later_reason, ranks, turned_ranks}
+use Rattle.cip_label.specs.declared.reasons.Reason.{Reason}
+use Rattle.cip_label.specs.declared.roots.Ranked.{Ranked}
+use Rattle.cip_label.specs.declared.roots.Ranked.TheVariants.{Ordered, Tie, Over}
+use Rattle.cip_label.specs.Settings.{Setting, root_in, cost_in}
+
+-- the code's reason as the definitions' one
+abbrev pub as_reason : Reason → digraphs.Reason
+as_reason reason = record { rule = reason.rule; sphere = reason.sphere }
+
+abbrev pub ranked_by : {N : Type 0} → Root N → Ranked
+ranked_by root =
+    let needed = reason_needed (root ∷ []) in
+    let ordered = Ordered (ranks root) (turned_ranks root) needed.rule needed.sphere in
+    elim (has_tie root) as (λ _. Ranked) [ true ↦ Tie | false ↦ ordered ]
+
+-- the bound goes before a tie
+abbrev pub ranked_root : Setting → ℕ → End → Ranked
+ranked_root setting bound end =
+    let within = ranked_by (root_in setting end) in
+    elim (nat_lt bound (cost_in setting end)) as (λ _. Ranked) [ true ↦ Over | false ↦ within ]
+
+-- the sense with the ligands of one end, or of both, in an order
+abbrev pub in_order : List ℕ → Sense → Sense
+in_order places sense = turned_if (is_odd (inversions places)) sense
+
+abbrev pub labelled : Site → Sense → Sense → digraphs.Reason → List ℕ → Outcome
+labelled site sense turned reason order =
+    outcomes.Label (record {
+      letter = letter_by site sense turned;
+      rule = reason.rule;
+      sphere = reason.sphere;
+      order = order;
+    })
+
+abbrev pub of_one : Site → Sense → Ranked → Outcome
+of_one site sense Over = outcomes.Over
+of_one site sense Tie = outcomes.Tie
+of_one site sense (Ordered places turned rule sphere) =
+    labelled site (in_order places sense) (in_order turned sense) (record { rule = rule; sphere = sphere }) places
+
+abbrev pub of_two : Site → Sense → Ranked → Ranked → Outcome
+of_two site sense Over other = outcomes.Over
+of_two site sense Tie Over = outcomes.Over
+of_two site sense Tie Tie = outcomes.Tie
+of_two site sense Tie (Ordered places turned rule sphere) = outcomes.Tie
+of_two site sense (Ordered places turned rule sphere) Over = outcomes.Over
+of_two site sense (Ordered places turned rule sphere) Tie = outcomes.Tie
+of_two site sense (Ordered places turned rule sphere) (Ordered more more_turned other_rule other_sphere) =
+    let first : digraphs.Reason = record { rule = rule; sphere = sphere } in
+    let last = later_reason first (Some (record { side = Equal; rule = other_rule; sphere = other_sphere })) in
+    labelled site (in_order places (in_order more sense)) (in_order turned (in_order more_turned sense)) last
+    (places ++ more)
+
+-- the label has room for the places of both ends
+abbrev pub FitTogether : Ranked → Ranked → Type 0
+FitTogether (Ordered places turned rule sphere) (Ordered more more_turned other_rule other_sphere) =
+    length places + length more ≤ 4
+FitTogether one other = Unit {0}
+
+abbrev pub is_over : Ranked → Bool
+is_over Over = true
+is_over Tie = false
+is_over (Ordered places turned rule sphere) = false

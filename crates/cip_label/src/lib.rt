@@ -1,0 +1,19 @@
+//! Labels of stereogenic units, from how the branches of their digraphs stand.
+#![tactic(auto)]
+
+mod digraphs;
+mod labeller;
+mod labels;
+mod laws;
+mod letters;
+mod places;
+mod reasons;
+mod roots;
+mod setting;
+mod standing;
+
+pub use digraphs::{Digraphs, Ranking};
+pub use labeller::Labeller;
+pub use laws::units_are_fit;
+pub use roots::Ranked;
+pub use setting::Setting;

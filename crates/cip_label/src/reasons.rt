@@ -1,0 +1,73 @@
+// What was needed for a rank order.
+ghost use Rattle.std.specs.Prelude.{◌≡◌, Some, true, map};
+ghost use Rattle.std.specs.declared.cmp.Ordering.TheVariants.{Equal};
+ghost use Rattle.cip_digraph.specs.units.Ranked.{decisions_along, last_reason, later_reason, turn_of};
+ghost use Rattle.cip_label.specs.Labelling.{as_reason};
+ghost use Rattle.cip_label.specs.Standing.{branch};
+
+use crate::digraphs::Digraphs;
+use crate::standing::decide_places;
+use cip_digraph::Decision;
+use cip_mol::{Ligands, Places, Rule};
+
+/// The last rule that was needed, and the greatest sphere in which it was.
+#[derive(Clone, Copy)]
+pub struct Reason {
+    pub rule: Rule,
+    pub sphere: u32,
+}
+
+/// What was needed for places in rank order.
+pub fn reason_along<D: Digraphs>(digraphs: &D, ligands: &Ligands, places: &Places) -> Reason
+    ensures { as_reason result ≡ last_reason (decisions_along (D.standing digraphs.now true) (map branch ligands.now)
+        places.now) }
+{
+    let mut reason = Reason {
+        rule: Rule::R1a,
+        sphere: 0,
+    };
+    for next in 1..places.len() {
+        let above = *places.get(next - 1);
+        let decision = decide_places(digraphs, ligands, above, *places.get(next), true);
+        reason = with_decision(reason, decision);
+    }
+    reason
+}
+
+fn with_decision(reason: Reason, decision: Option<Decision>) -> Reason
+    ensures { as_reason result ≡ later_reason (as_reason reason) decision }
+{
+    match decision {
+        Some(decision) => later(reason, decision.rule, decision.sphere),
+        None => reason,
+    }
+}
+
+/// Of two reasons that by the later rule, and by the same rule the one further out.
+pub fn later(reason: Reason, rule: Rule, sphere: u32) -> Reason
+    ensures { as_reason result ≡ later_reason (as_reason reason)
+        (Some (record { side = Equal; rule = rule; sphere = sphere })) }
+{
+    let old = turn_of(reason.rule);
+    let new = turn_of(rule);
+    if old < new || (old == new && reason.sphere < sphere) {
+        Reason { rule, sphere }
+    } else {
+        reason
+    }
+}
+
+fn turn_of(rule: Rule) -> u8
+    ensures { result ≡ turn_of rule }
+{
+    match rule {
+        Rule::R1a => 0,
+        Rule::R1b => 1,
+        Rule::R2 => 2,
+        Rule::R3 => 3,
+        Rule::R4a => 4,
+        Rule::R4b => 5,
+        Rule::R4c => 6,
+        Rule::R5 => 7,
+    }
+}
