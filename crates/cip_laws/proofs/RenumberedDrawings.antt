@@ -1,0 +1,120 @@
+-- A drawing with its atoms and bonds at the places of two permutations is a renumbering of it.
+use Rattle.std.proofs.Common.{◌≡◌, ◌<◌, ◌+◌, ◌-◌, ℕ, zero, suc, cond, List, [], ◌∷◌, map, length, sum, get_or, refl, sym, ap, subst, ◌∙◌, lt-ltb, le-ltb, inl, arith}
+use Rattle.std.specs.List.{AllByRecursion, range_with_len}
+use Rattle.std.specs.List.Sorted.{IsPermutation}
+use Rattle.std.proofs.lemmas.List.{length-map}
+use Rattle.std.proofs.lemmas.List.Sums.{sum_by-cons}
+use Rattle.std.proofs.lemmas.List.Sorted.{IsPermutation-refl}
+use Rattle.cip_rank.specs.Matching.{InPairs}
+use Rattle.cip_mol.specs.Bonds.{IsSound}
+use Rattle.cip_mol.specs.Drawing.{Drawing}
+use Rattle.cip_mol.specs.Points.{no_atom}
+use Rattle.cip_mol.specs.declared.molecule.Bond.{Bond}
+use Rattle.cip_mol.proofs.SoundBonds.{finds_room}
+use Rattle.cip_digraph.specs.graph.Hydrogens.{hydrogens_of}
+use Rattle.cip_digraph.specs.graph.Renumbering.{hydrogen_number, IsImage, IsRenumbering}
+use Rattle.cip_digraph.proofs.Lists.{by_recursion}
+use Rattle.cip_laws.specs.RenumberedDrawing.{no_bond, place_of, renamed, renumbered, hydrogen_image, vertex_image, RenumberedDrawingsAreRenumberings}
+use Rattle.cip_laws.proofs.CarriedLists.{mapped_below}
+use Rattle.cip_laws.proofs.PlacedItems.{places_listed, placed_long, placed_at, placed_arranged}
+
+module _ (drawing : Drawing) (atoms bonds : List ℕ)
+    (p : IsPermutation atoms (range_with_len 0 (length drawing.atoms)))
+    (q : IsPermutation bonds (range_with_len 0 (length drawing.bonds))) where
+  abbrev n : ℕ
+  n = length drawing.atoms
+
+  abbrev other : Drawing
+  other = renumbered atoms bonds drawing
+
+  abbrev image : ℕ → ℕ
+  image = vertex_image drawing other atoms
+
+  abbrev h : ℕ → ℕ
+  h = hydrogens_of drawing
+
+  of_atom : (k : ℕ) → k < n → image k ≡ place_of atoms k
+  of_atom k lt =
+      ap (λ b. cond b (place_of atoms k) (hydrogen_image drawing other atoms (range_with_len 0 n) (k - n)))
+      (lt-ltb k n lt)
+
+  -- the hydrogens of the atoms before one are passed
+  passed : (start count before index : ℕ) → before < count → index < h (start + before)
+      → hydrogen_image drawing other atoms (range_with_len start count)
+      (sum (map h (range_with_len start before)) + index)
+      ≡ hydrogen_number other (place_of atoms (start + before)) index
+  passed start zero before index lt few = absurd (omega (arith, lt))
+  passed start (suc count) zero index lt few =
+      let same : start + 0 ≡ start = omega arith in
+      let few_here : index < h start = subst (λ atom. index < h atom) same few in
+      ap (λ left. hydrogen_image drawing other atoms (range_with_len start (suc count)) left)
+      (let e : 0 + index ≡ index = omega arith in e)
+      ∙ ap (λ b. cond b (hydrogen_number other (place_of atoms start) index)
+      (hydrogen_image drawing other atoms (range_with_len (start + 1) count) (index - h start)))
+      (lt-ltb index (h start) few_here)
+      ∙ ap (λ atom. hydrogen_number other (place_of atoms atom) index) (sym same)
+  passed start (suc count) (suc before) index lt few =
+      let rest = sum (map h (range_with_len (start + 1) before)) in
+      let left = sum (map h (range_with_len start (suc before))) + index in
+      let grown : sum (map h (range_with_len start (suc before))) ≡ h start + rest =
+      sum_by-cons (λ x. x) (h start) (map h (range_with_len (start + 1) before)) in
+      let next : start + 1 + before ≡ start + suc before = omega arith in
+      ap (λ b. cond b (hydrogen_number other (place_of atoms start) left)
+      (hydrogen_image drawing other atoms (range_with_len (start + 1) count) (left - h start)))
+      (le-ltb left (h start) (omega (arith, grown)))
+      ∙ ap (hydrogen_image drawing other atoms (range_with_len (start + 1) count))
+      (let e : left - h start ≡ rest + index = omega (arith, grown) in e)
+      ∙ passed (start + 1) count before index (omega (arith, lt)) (subst (λ atom. index < h atom) (sym next) few)
+      ∙ ap (λ atom. hydrogen_number other (place_of atoms atom) index) next
+
+  of_hydrogen : (k index : ℕ) → k < n → index < h k
+      → image (hydrogen_number drawing k index) ≡ hydrogen_number other (image k) index
+  of_hydrogen k index lt few =
+      let v = hydrogen_number drawing k index in
+      let start : 0 + k ≡ k = omega arith in
+      ap (λ b. cond b (place_of atoms v) (hydrogen_image drawing other atoms (range_with_len 0 n) (v - n)))
+      (le-ltb v n (omega arith))
+      ∙ ap (hydrogen_image drawing other atoms (range_with_len 0 n))
+      (let e : v - n ≡ sum (map h (range_with_len 0 k)) + index = omega arith in e)
+      ∙ passed 0 n k index lt (subst (λ atom. index < h atom) (sym start) few)
+      ∙ ap (λ atom. hydrogen_number other (place_of atoms atom) index) start
+      ∙ ap (λ atom. hydrogen_number other atom index) (sym (of_atom k lt))
+
+  pairs : (some : List Bond) → AllByRecursion (λ bond. (bond.a < n) × (bond.b < n)) some
+      → InPairs (IsImage image) some (map (renamed (place_of atoms)) some)
+  pairs [] all = tt
+  pairs (bond ∷ some) all = (
+    record {
+      order = refl;
+      mark = refl;
+      ends = inl (record { a = sym (of_atom bond.a all.0.0); b = sym (of_atom bond.b all.0.1) });
+    },
+    pairs some all.1,
+  )
+
+  is_renumbering : IsSound n drawing.bonds → IsRenumbering drawing other image
+  is_renumbering sound = record {
+    len = placed_long n atoms p no_atom drawing.atoms refl;
+    permutation =
+        subst (λ images. IsPermutation images (range_with_len 0 n))
+        (sym (mapped_below image (place_of atoms) 0 n (λ k low high. of_atom k (omega (arith, high)))
+        ∙ places_listed n atoms p)) p;
+    atoms = λ k lt d.
+        ap (λ place. get_or other.atoms place d) (of_atom k lt) ∙ placed_at n atoms p no_atom drawing.atoms refl k d lt;
+    bonds = record {
+      one = drawing.bonds;
+      other = map (renamed (place_of atoms)) drawing.bonds;
+      of_one = IsPermutation-refl drawing.bonds;
+      of_other =
+          placed_arranged (length drawing.bonds) bonds q no_bond (map (renamed (place_of atoms)) drawing.bonds)
+          (length-map drawing.bonds (renamed (place_of atoms)));
+      pairs =
+          pairs drawing.bonds
+          (by_recursion (λ bond. (bond.a < n) × (bond.b < n)) drawing.bonds
+          (λ k d lt. let f = finds_room _ _ _ (sound.each k lt d) in (f.a, f.b)));
+    };
+    hydrogens = of_hydrogen;
+  }
+
+pub renumbered_drawings_are_renumberings : RenumberedDrawingsAreRenumberings
+renumbered_drawings_are_renumberings drawing atoms bonds sound p q = is_renumbering drawing atoms bonds p q sound

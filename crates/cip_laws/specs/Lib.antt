@@ -1,0 +1,9 @@
+pub mod DrawnMolecules
+pub mod DrawnOutcomes
+pub mod Images
+pub mod ReflectionLaw
+pub mod RenumberedDrawing
+pub mod RenumberingLaw
+pub mod TieLaw
+pub mod WorkedNumberings
+pub mod WorkedRenumbering

@@ -1,0 +1,16 @@
+//! What another numbering, a mirror and ties do to labels: laws of the definitions, on which no part of the program
+//! stands.
+#![tactic(auto)]
+
+mod reflection;
+mod renumbering;
+mod ties;
+
+pub use reflection::{
+    reflection_keeps_drawings, reflection_mirrors_outcomes, worked_molecules_are_mirrored,
+};
+pub use renumbering::{
+    renumbered_drawings_are_renumberings, renumbering_keeps_outcomes, renumberings_are_sound,
+    units_share_no_end, worked_molecules_are_renumbered, worked_renumbering_is_labelled,
+};
+pub use ties::{lone_pairs_tie_with_nothing, ties_are_same_trees};
