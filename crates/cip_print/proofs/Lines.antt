@@ -6,9 +6,10 @@ use Rattle.cip_list.proofs.Rests.{rest_at}
 use Rattle.cip_print.specs.declared.answer.UnitAnswer.{UnitAnswer}
 use Rattle.cip_print.specs.Values.{unit_line}
 
-pub one_more : (units : List UnitAnswer) (place : ℕ) (unit : UnitAnswer) (before now : List (List ℕ)) → slice_get units place ≡ Some unit → now ≡ before ++ filter_map unit_line (unit ∷ []) →
-    before ++ filter_map unit_line (drop place units) ≡ filter_map unit_line units → now ++ filter_map unit_line (drop (place + 1) units) ≡ filter_map unit_line units
-one_more units place unit before now at added so_far =
+pub one_more : (units : List UnitAnswer) (place : ℕ) (unit : UnitAnswer) (before now all : List (List ℕ)) →
+    slice_get units place ≡ Some unit → now ≡ before ++ filter_map unit_line (unit ∷ []) →
+    before ++ filter_map unit_line (drop place units) ≡ all → now ++ filter_map unit_line (drop (place + 1) units) ≡ all
+one_more units place unit before now all at added so_far =
     ap (λ lines. lines ++ filter_map unit_line (drop (place + 1) units)) added
     ∙ append_assoc before (filter_map unit_line (unit ∷ [])) (filter_map unit_line (drop (place + 1) units))
     ∙ ap (λ lines. before ++ lines) (sym (filter_map-append unit_line (unit ∷ []) (drop (place + 1) units)))

@@ -1,44 +1,41 @@
--- The value lines of a record's item. Own.
+-- The value lines of a record's item, version 2. Own.
 use Rattle.std.specs.Prelude.{ℕ, List, [], ◌∷◌, ◌++◌, codes, decimal, Some, None}
 use Rattle.std.specs.declared.option.Option.{Option}
 use Rattle.std.specs.List.{filter_map}
-use Rattle.cip_mol.specs.declared.outcome.Label.{Label}
 use Rattle.cip_mol.specs.declared.outcome.Outcome.{Outcome}
 use Rattle.cip_mol.specs.declared.outcome.Outcome.TheVariants as outcomes
-use Rattle.cip_mol.specs.declared.refusal.ReadFault.{ReadFault}
-use Rattle.cip_mol.specs.Causes.{cause_text}
-use Rattle.cip_mol.specs.Letters.{letter_text, rule_text}
+use Rattle.cip_rank.specs.declared.rules.Rules.{Rules}
+use Rattle.cip_rank.specs.declared.rules.Rules.TheVariants.{Wording2013, Wording2018}
 use Rattle.cip_print.specs.declared.answer.Answer.{Answer}
-use Rattle.cip_print.specs.declared.answer.Answer.TheVariants.{Labelled, Refused, NotBuilt}
+use Rattle.cip_print.specs.declared.answer.Answer.TheVariants.{Labelled, Refused}
 use Rattle.cip_print.specs.declared.answer.UnitAnswer.{UnitAnswer}
+use Rattle.cip_print.specs.Labels.{ordered_label}
 use Rattle.cip_print.specs.Naming.{unit_name}
+use Rattle.cip_print.specs.Refusals.{refusal_line}
 
--- a label: the unit, the descriptor, the rule and the sphere
-abbrev pub label_line : List ℕ → Label → List ℕ
-label_line name label =
-    name ++ (codes " " ++ (letter_text label.letter ++ (codes " " ++
-    (rule_text label.rule ++ (codes " " ++ decimal label.sphere)))))
+abbrev pub year_text : Rules → List ℕ
+year_text Wording2013 = codes "2013"
+year_text Wording2018 = codes "2018"
+
+-- what the labels rest on: the wording of Rule 1b, and the bound on the nodes of a digraph
+abbrev pub settings_line : ℕ → Rules → List ℕ
+settings_line nodes rules = codes "cip 2 rule1b " ++ (year_text rules ++ (codes " nodes " ++ decimal nodes))
 
 -- the line of a unit; none where two ligands tie or the drawing shows no sense
-abbrev pub outcome_line : List ℕ → Outcome → Option (List ℕ)
-outcome_line name (outcomes.Label label) = Some (label_line name label)
-outcome_line name outcomes.Over = Some (name ++ codes " over")
-outcome_line name outcomes.Tie = None
-outcome_line name (outcomes.NoGeometry cause) = None
+abbrev pub outcome_line : UnitAnswer → Outcome → Option (List ℕ)
+outcome_line unit (outcomes.Label label) = Some (ordered_label unit label)
+outcome_line unit outcomes.Over = Some (unit_name unit.site ++ codes " over")
+outcome_line unit outcomes.Tie = None
+outcome_line unit (outcomes.NoGeometry cause) = None
 
 abbrev pub unit_line : UnitAnswer → Option (List ℕ)
-unit_line unit = outcome_line (unit_name unit.site) unit.outcome
-
--- the line and the cause of a refusal
-abbrev pub refusal_line : ReadFault → List ℕ
-refusal_line fault = codes "refused " ++ (decimal fault.line ++ (codes " " ++ cause_text fault.cause))
+unit_line unit = outcome_line unit unit.outcome
 
 abbrev pub or_none : List (List ℕ) → List (List ℕ)
 or_none [] = codes "none" ∷ []
 or_none (line ∷ lines) = line ∷ lines
 
--- The value lines of an answer; a record that isn't answered so far has none.
-unfoldable pub values_of : Answer → List (List ℕ)
-values_of (Labelled units) = or_none (filter_map unit_line units)
-values_of (Refused fault) = refusal_line fault ∷ []
-values_of NotBuilt = []
+-- The value lines of an answer.
+unfoldable pub values_of : ℕ → Rules → Answer → List (List ℕ)
+values_of nodes rules (Labelled units) = settings_line nodes rules ∷ or_none (filter_map unit_line units)
+values_of nodes rules (Refused fault) = settings_line nodes rules ∷ refusal_line fault ∷ []

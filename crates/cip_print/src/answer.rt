@@ -14,10 +14,9 @@ pub struct UnitAnswer {
 /// Units in their order: centres, then bonds, then axes.
 pub type UnitAnswers = Listing<UnitAnswer>;
 
-/// The answer to a record: its units, why it is refused, or that it isn't of the kind that is labelled so far.
+/// The answer to a record: its units, or why it is refused.
 #[derive(Drop)]
 pub enum Answer {
     Labelled(UnitAnswers),
     Refused(ReadFault),
-    NotBuilt,
 }

@@ -2,10 +2,16 @@
 #![tactic(auto)]
 
 mod answer;
+mod explaining;
+mod labels;
 mod naming;
+mod refusals;
+mod tally;
 #[cfg(test)]
 mod tests;
 mod values;
 
 pub use answer::{Answer, UnitAnswer, UnitAnswers};
+pub use explaining::explain_text;
+pub use tally::Tally;
 pub use values::item_values;

@@ -1,47 +1,82 @@
 // The value lines of a record's item.
-ghost use Rattle.std.specs.Prelude.{◌≡◌, ◌<◌, ◌≤◌, ◌+◌, ◌-◌, ◌^◌, ◌++◌, ◌∷◌, [], length, IfOk, OnOk, string_bytes};
+ghost use Rattle.std.specs.Prelude.{◌≡◌, ◌≢◌, ◌<◌, ◌≤◌, ◌+◌, ◌-◌, ◌^◌, ◌++◌, ◌∷◌, [], length, IfOk, OnOk, string_bytes};
 ghost use Rattle.std.specs.List.{filter_map};
 ghost use Rattle.std.specs.Option.{option_map};
-ghost use Rattle.cip_print.specs.Values.{label_line, outcome_line, unit_line, refusal_line, or_none, values_of};
+ghost use Rattle.cip_print.specs.Refusals.{refusal_line};
+ghost use Rattle.cip_print.specs.Values.{year_text, settings_line, outcome_line, unit_line, or_none, values_of};
 
 use crate::answer::{Answer, UnitAnswer, UnitAnswers};
+use crate::labels::ordered_label;
 use crate::naming::name_of;
+use crate::refusals::refusal;
 use cip_item::Texts;
-use cip_mol::{Outcome, ReadFault};
+use cip_mol::Outcome;
+use cip_rank::Rules;
 use cip_text::Bytes;
 use std::alloc::{AllocError, Global};
 
-/// The value lines of an answer: why the record is refused, or a line for each unit that has a label or whose digraph
-/// is larger than the bound, and `none` where there is no such unit.
+/// The value lines of an answer that was found within a bound on nodes by a wording of Rule 1b: these two, then why the
+/// record is refused, or a line for each unit that has a label or whose digraph is larger than the bound, and `none`
+/// where there is no such unit.
 #[tactic(auto, unfolding(crate::specs::Values::values_of))]
-pub fn item_values(alloc: Global, answer: &Answer) -> Result<Texts, AllocError>
-    ensures { IfOk result (λ texts. texts ≡ values_of answer.now) }
+pub fn item_values(
+    alloc: Global,
+    answer: &Answer,
+    nodes: u32,
+    rules: Rules,
+) -> Result<Texts, AllocError>
+    ensures { IfOk result (λ texts. texts ≡ values_of nodes rules answer.now) }
 {
     match answer {
-        Answer::Labelled(units) => unit_values(alloc, units),
-        Answer::Refused(fault) => one_text(alloc, refusal(alloc, *fault)?),
-        Answer::NotBuilt => Ok(Texts::new(alloc)),
+        Answer::Labelled(units) => unit_values(alloc, units, settings(alloc, nodes, rules)?),
+        Answer::Refused(fault) => {
+            let mut values = one_text(alloc, settings(alloc, nodes, rules)?)?;
+            values.push(Bytes::from_vec(refusal(alloc, *fault)?.into_bytes()))?;
+            Ok(values)
+        }
     }
 }
 
-fn unit_values(alloc: Global, units: &UnitAnswers) -> Result<Texts, AllocError>
-    ensures { IfOk result (λ texts. texts ≡ or_none (filter_map unit_line units.now)) }
+// What the labels rest on.
+fn settings(alloc: Global, nodes: u32, rules: Rules) -> Result<String, AllocError>
+    ensures { IfOk result (λ line. string_bytes line ≡ settings_line nodes rules) }
 {
-    let values = unit_lines(alloc, units)?;
-    if values.len() == 0 {
-        return one_text(alloc, format!(in alloc; "none")?);
+    let year = year(rules);
+    format!(in alloc; "cip 2 rule1b {year} nodes {nodes}")
+}
+
+fn year(rules: Rules) -> &'static str
+    ensures { result.now ≡ year_text rules }
+{
+    match rules {
+        Rules::Wording2013 => "2013",
+        Rules::Wording2018 => "2018",
+    }
+}
+
+fn unit_values(alloc: Global, units: &UnitAnswers, first: String) -> Result<Texts, AllocError>
+    ensures { IfOk result (λ texts. texts ≡ string_bytes first ∷ or_none (filter_map unit_line units.now)) }
+{
+    let mut values = one_text(alloc, first)?;
+    push_lines(alloc, &mut values, units)?;
+    if values.len() == 1 {
+        values.push(Bytes::from_vec(format!(in alloc; "none")?.into_bytes()))?;
     }
     Ok(values)
 }
 
-fn unit_lines(alloc: Global, units: &UnitAnswers) -> Result<Texts, AllocError>
-    ensures { IfOk result (λ texts. texts ≡ filter_map unit_line units.now) }
+// Adds the lines of units behind a first line. A list can't hold a line more than there are units at most.
+fn push_lines(alloc: Global, values: &mut Texts, units: &UnitAnswers) -> Result<(), AllocError>
+    requires { length values.old ≤ 1 }
+    ensures { OnOk result (values.new ≡ values.old ++ filter_map unit_line units.now) }
 {
-    let mut values = Texts::new(alloc);
+    if units.len() == u32::MAX {
+        return Err(AllocError);
+    }
     for place in 0..units.len() {
-        push_line(alloc, &mut values, units.get(place))?;
+        push_line(alloc, values, units.get(place))?;
     }
-    Ok(values)
+    Ok(())
 }
 
 // Adds the line of a unit, where it has one.
@@ -51,33 +86,22 @@ fn push_line(alloc: Global, values: &mut Texts, unit: &UnitAnswer) -> Result<(),
     ensures few { OnOk result (length values.new ≤ length values.old + 1) }
 {
     if let Some(value) = value_of(alloc, unit)? {
-        values.push(Bytes::from_vec(value.into_bytes()))?;
+        values.push(Bytes::from_vec(value))?;
     }
     Ok(())
 }
 
-fn value_of(alloc: Global, unit: &UnitAnswer) -> Result<Option<String>, AllocError>
-    ensures { IfOk result (λ value. option_map string_bytes value ≡ unit_line unit.now) }
+fn value_of(alloc: Global, unit: &UnitAnswer) -> Result<Option<Vec<u8>>, AllocError>
+    ensures { IfOk result (λ value. option_map (λ line. line.items) value ≡ unit_line unit.now) }
 {
-    let name = name_of(&unit.site);
     match &unit.outcome {
-        Outcome::Label(label) => {
-            let letter = label.letter;
-            let rule = label.rule;
-            let sphere = label.sphere;
-            Ok(Some(format!(in alloc; "{name} {letter} {rule} {sphere}")?))
+        Outcome::Label(label) => Ok(Some(ordered_label(alloc, unit, label)?)),
+        Outcome::Over => {
+            let name = name_of(&unit.site);
+            Ok(Some(format!(in alloc; "{name} over")?.into_bytes()))
         }
-        Outcome::Over => Ok(Some(format!(in alloc; "{name} over")?)),
         Outcome::Tie | Outcome::NoGeometry(_) => Ok(None),
     }
-}
-
-fn refusal(alloc: Global, fault: ReadFault) -> Result<String, AllocError>
-    ensures { IfOk result (λ value. string_bytes value ≡ refusal_line fault) }
-{
-    let line = fault.line;
-    let cause = fault.cause;
-    format!(in alloc; "refused {line} {cause}")
 }
 
 fn one_text(alloc: Global, text: String) -> Result<Texts, AllocError>

@@ -1,0 +1,6 @@
+use Rattle.std.proofs.Common.{◌≡◌, ◌++◌}
+use Rattle.cip_make.specs.Made.{chain_atoms}
+use Rattle.cip_make.proofs.making.push_chain_atoms.Given as goal
+
+abbrev pub invariant-loop-before : goal.invariant-loop-before
+invariant-loop-before l = l.text.items ≡ l.fn.text.items ++ chain_atoms l.before

@@ -1,0 +1,10 @@
+//! Records that are made from a number: chains of carbon atoms with substituents, drawn with and without marks.
+#![tactic(auto)]
+
+mod chain;
+mod lines;
+mod making;
+#[cfg(test)]
+mod tests;
+
+pub use making::record;

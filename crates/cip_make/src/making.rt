@@ -1,0 +1,114 @@
+// Made records.
+ghost use Rattle.std.specs.Prelude.{◌≡◌, ◌<◌, ◌≤◌, ◌+◌, ◌++◌, IfOk, OnOk, length, string_bytes};
+ghost use Rattle.cip_make.specs.Made.{name_lines, across, chain_atom, chain_atoms, branch_atom, branch_atoms, chain_bonds, branch_bonds, made};
+
+use crate::chain::{Branch, Element, Stereo, branches};
+use crate::lines::{atom_line, bond_line, counts_line};
+use rand_pcg::Lcg64Xsh32;
+use rand_pcg::rand_core::utils::NextWord;
+use std::alloc::{AllocError, Global};
+
+/// The made record of this number from 1, in the series that starts at a number.
+#[tactic(auto, unfolding(crate::specs::Made::made))]
+pub fn record(alloc: Global, start: u32, number: u32) -> Result<Vec<u8>, AllocError>
+    requires { (1 ≤ number) × (number ≤ 100000) }
+    ensures { IfOk result (λ text. text.items ≡ made start number) }
+{
+    let mut generator = Lcg64Xsh32::new(u64::from(start), u64::from(number));
+    let chain = 4 + generator.next_word() % 17;
+    let branches = branches(alloc, &mut generator, chain)?;
+    let mut text = name_lines(alloc, start, number)?.into_bytes();
+    let atoms = chain + branches.len() as u32;
+    text.extend_from_slice(&counts_line(alloc, atoms, atoms - 1)?)?;
+    push_chain_atoms(alloc, &mut text, chain)?;
+    push_branch_atoms(alloc, &mut text, &branches)?;
+    push_chain_bonds(alloc, &mut text, chain - 1)?;
+    push_branch_bonds(alloc, &mut text, chain, &branches)?;
+    text.extend_from_slice(b"M  END\n$$$$\n")?;
+    Ok(text)
+}
+
+fn name_lines(alloc: Global, start: u32, number: u32) -> Result<String, AllocError>
+    ensures { IfOk result (λ text. string_bytes text ≡ name_lines start number) }
+{
+    format!(in alloc; "make {start} {number}\n\n\n")
+}
+
+#[tactic(auto, using(crate::proofs::Texts::longer))]
+fn push_chain_atoms(alloc: Global, text: &mut Vec<u8>, chain: u32) -> Result<(), AllocError>
+    requires { chain ≤ 20 }
+    ensures { OnOk result (text.new.items ≡ text.old.items ++ chain_atoms chain) }
+{
+    for before in 0..chain {
+        text.extend_from_slice(&chain_atom(alloc, before + 1)?)?;
+    }
+    Ok(())
+}
+
+#[tactic(auto, unfolding(crate::specs::Made::chain_atom))]
+fn chain_atom(alloc: Global, atom: u32) -> Result<Vec<u8>, AllocError>
+    requires { atom ≤ 20 }
+    ensures { IfOk result (λ line. line.items ≡ chain_atom atom) }
+{
+    let height = if atom % 2 == 0 { 5_000 } else { 0 };
+    atom_line(alloc, across(atom), height, Element::Carbon)
+}
+
+#[tactic(auto, unfolding(crate::specs::Made::branch_atom))]
+fn branch_atom(alloc: Global, branch: Branch) -> Result<Vec<u8>, AllocError>
+    ensures { IfOk result (λ line. line.items ≡ branch_atom branch) }
+{
+    let height = if branch.at % 2 == 0 { 15_000 } else { -10_000 };
+    atom_line(alloc, across(branch.at), height, branch.element)
+}
+
+// Where an atom of the chain stands from left to right.
+#[tactic(auto, unfolding(crate::specs::Made::across))]
+fn across(atom: u32) -> i64
+    ensures { result ≡ across atom }
+{
+    8_660 * i64::from(atom)
+}
+
+#[tactic(auto, using(crate::proofs::Texts::moved))]
+fn push_branch_atoms(
+    alloc: Global,
+    text: &mut Vec<u8>,
+    branches: &[Branch],
+) -> Result<(), AllocError>
+    ensures { OnOk result (text.new.items ≡ text.old.items ++ branch_atoms branches.now) }
+{
+    for branch in branches {
+        text.extend_from_slice(&branch_atom(alloc, *branch)?)?;
+    }
+    Ok(())
+}
+
+#[tactic(auto, using(crate::proofs::Texts::longer))]
+fn push_chain_bonds(alloc: Global, text: &mut Vec<u8>, bonds: u32) -> Result<(), AllocError>
+    requires { bonds ≤ 20 }
+    ensures { OnOk result (text.new.items ≡ text.old.items ++ chain_bonds bonds) }
+{
+    for before in 0..bonds {
+        text.extend_from_slice(&bond_line(alloc, before + 1, before + 2, Stereo::Plain)?)?;
+    }
+    Ok(())
+}
+
+#[tactic(auto, using(crate::proofs::Texts::moved))]
+fn push_branch_bonds(
+    alloc: Global,
+    text: &mut Vec<u8>,
+    chain: u32,
+    branches: &[Branch],
+) -> Result<(), AllocError>
+    requires { chain + length branches.now < 1000 }
+    ensures { OnOk result (text.new.items ≡ text.old.items ++ branch_bonds (chain + 1) branches.now) }
+{
+    let mut number = chain;
+    for branch in branches {
+        number += 1;
+        text.extend_from_slice(&bond_line(alloc, branch.at, number, branch.stereo)?)?;
+    }
+    Ok(())
+}

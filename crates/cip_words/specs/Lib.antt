@@ -1,0 +1,4 @@
+pub mod Choices
+pub mod Help
+pub mod Numbers
+pub mod Settings

@@ -1,0 +1,89 @@
+-- What the words of a command line ask for: a command's name, then names of its options, each at most once, and values
+-- in turn. Own.
+use Rattle.std.specs.Prelude.{ℕ, List, [], ◌∷◌, ◌==◌, map, String, string_bytes, Some, None, if◌then◌else◌}
+use Rattle.std.specs.declared.option.Option.{Option}
+use Rattle.std.specs.declared.alloc.Global.{Global}
+use Rattle.std.specs.Option.{option_map}
+use Rattle.std.specs.Str.{bytes_eq}
+use Rattle.cip_rank.specs.declared.rules.Rules.{Rules}
+use Rattle.cip_rank.specs.declared.rules.Rules.TheVariants.{Wording2013, Wording2018}
+use Rattle.cip_words.specs.Choices.{are_pairs, set_to}
+use Rattle.cip_words.specs.declared.forms.Command.{Command}
+use Rattle.cip_words.specs.declared.forms.Command.TheVariants as commands
+use Rattle.cip_words.specs.declared.forms.TheConstants.{FORMS, NODES, RECORDS, START, WORDING, WORKERS}
+use Rattle.cip_words.specs.declared.settings.Settings.{Settings}
+use Rattle.cip_words.specs.declared.settings.Settings.TheVariants.{Annotate, Explain, Make, Trial, Help}
+
+-- what follows is asked for only where everything before it is set
+infixl 10 ◌>>=◌
+abbrev pub ◌>>=◌ : {A B : Type 0} → Option A → (A → Option B) → Option B
+(Some x) >>= next = next x
+None >>= next = None
+
+-- a command's name, the command, and the names of its options
+abbrev pub Form : Type 0
+Form = List ℕ × Command × List (List ℕ)
+
+abbrev pub forms : List Form
+forms = map (λ form. (form.0.now, form.1, map (λ choice. choice.0.now) form.2.now)) FORMS
+
+-- the command of this name
+abbrev pub form_of : List ℕ → List Form → Option Form
+form_of name [] = None
+form_of name (form ∷ forms) = if bytes_eq name form.0 then Some form else form_of name forms
+
+-- the wording of a year
+abbrev pub wording_of : ℕ → Rules
+wording_of year = if year == 2013 then Wording2013 else Wording2018
+
+-- the options
+
+abbrev pub start_of : List (String Global) → Option ℕ
+start_of words = set_to START.0.now START.1 words
+
+abbrev pub records_of : List (String Global) → Option ℕ
+records_of words = set_to RECORDS.0.now RECORDS.1 words
+
+abbrev pub nodes_of : List (String Global) → Option ℕ
+nodes_of words = set_to NODES.0.now NODES.1 words
+
+abbrev pub workers_of : List (String Global) → Option ℕ
+workers_of words = set_to WORKERS.0.now WORKERS.1 words
+
+abbrev pub rules_of : List (String Global) → Option Rules
+rules_of words = option_map wording_of (set_to WORDING.0.now WORDING.1 words)
+
+-- what a command asks for with these names and values
+abbrev pub asked : Command → List (String Global) → Option Settings
+asked commands.Annotate words = do
+  nodes ← nodes_of words
+  workers ← workers_of words
+  rules ← rules_of words
+  Some (Annotate nodes workers rules)
+asked commands.Explain words = do
+  nodes ← nodes_of words
+  workers ← workers_of words
+  rules ← rules_of words
+  Some (Explain nodes workers rules)
+asked commands.Make words = do
+  start ← start_of words
+  records ← records_of words
+  Some (Make start records)
+asked commands.Trial words = do
+  start ← start_of words
+  records ← records_of words
+  nodes ← nodes_of words
+  workers ← workers_of words
+  rules ← rules_of words
+  Some (Trial start records nodes workers rules)
+asked commands.Help words = Some Help
+
+abbrev pub asked_by : Form → List (String Global) → Option Settings
+asked_by form words = if are_pairs form.2 words then asked form.1 words else None
+
+-- what the words ask for; none where they are those of no command
+unfoldable pub settings_of : List (String Global) → Option Settings
+settings_of [] = None
+settings_of (name ∷ words) = do
+  form ← form_of (string_bytes name) forms
+  asked_by form words

@@ -1,0 +1,112 @@
+// What the words of a command line ask for.
+ghost use Rattle.std.specs.Prelude.{◌≡◌, map};
+ghost use Rattle.std.specs.Option.{option_map};
+ghost use Rattle.cip_words.specs.Settings.{form_of, workers_of, rules_of, asked, settings_of};
+
+use crate::forms::{Command, FORMS, Form, NODES, RECORDS, START, WORDING, WORKERS};
+use crate::values::{are_pairs, set_to};
+use cip_rank::Rules;
+
+/// What a command line asks for: the numbers of its options, the bound on the nodes of a digraph among them.
+#[derive(Clone, Copy)]
+pub enum Settings {
+    /// Each record is written with its item.
+    Annotate {
+        nodes: u32,
+        workers: u8,
+        rules: Rules,
+    },
+    /// Of each record its units are written with what is found of them.
+    Explain {
+        nodes: u32,
+        workers: u8,
+        rules: Rules,
+    },
+    /// So many records are made.
+    Make {
+        start: u32,
+        records: u32,
+    },
+    /// So many records are made and labelled, and the outcomes counted.
+    Trial {
+        start: u32,
+        records: u32,
+        nodes: u32,
+        workers: u8,
+        rules: Rules,
+    },
+    /// The forms of the commands are written.
+    Help,
+}
+
+/// What these words ask for. None where they are those of no command.
+#[tactic(auto, unfolding(crate::specs::Settings::settings_of))]
+pub fn read_words(words: &[String]) -> Option<Settings>
+    ensures { result ≡ settings_of words.now }
+{
+    let [name, rest @ ..] = words else {
+        return None;
+    };
+    let (_, command, choices) = form_of(name.as_bytes(), &FORMS)?;
+    if !are_pairs(choices, rest) {
+        return None;
+    }
+    asked(command, rest)
+}
+
+fn form_of(name: &[u8], forms: &[Form]) -> Option<Form>
+    ensures { option_map (λ form. (form.0.now, form.1, map (λ choice. choice.0.now) form.2.now)) result
+        ≡ form_of name.now (map (λ form. (form.0.now, form.1, map (λ choice. choice.0.now) form.2.now)) forms.now) }
+{
+    for form in forms {
+        if name == form.0 {
+            return Some(*form);
+        }
+    }
+    None
+}
+
+fn asked(command: Command, words: &[String]) -> Option<Settings>
+    ensures { result ≡ asked command words.now }
+{
+    match command {
+        Command::Annotate => Some(Settings::Annotate {
+            nodes: set_to(&NODES, words)?,
+            workers: workers(words)?,
+            rules: rules(words)?,
+        }),
+        Command::Explain => Some(Settings::Explain {
+            nodes: set_to(&NODES, words)?,
+            workers: workers(words)?,
+            rules: rules(words)?,
+        }),
+        Command::Make => Some(Settings::Make {
+            start: set_to(&START, words)?,
+            records: set_to(&RECORDS, words)?,
+        }),
+        Command::Trial => Some(Settings::Trial {
+            start: set_to(&START, words)?,
+            records: set_to(&RECORDS, words)?,
+            nodes: set_to(&NODES, words)?,
+            workers: workers(words)?,
+            rules: rules(words)?,
+        }),
+        Command::Help => Some(Settings::Help),
+    }
+}
+
+fn workers(words: &[String]) -> Option<u8>
+    ensures { result ≡ workers_of words.now }
+{
+    Some(set_to(&WORKERS, words)? as u8)
+}
+
+fn rules(words: &[String]) -> Option<Rules>
+    ensures { result ≡ rules_of words.now }
+{
+    if set_to(&WORDING, words)? == 2013 {
+        Some(Rules::Wording2013)
+    } else {
+        Some(Rules::Wording2018)
+    }
+}

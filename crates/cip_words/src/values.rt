@@ -1,0 +1,88 @@
+// What an option is set to by the words behind a command.
+ghost use Rattle.std.specs.Prelude.{◌≡◌, ◌≤◌, IfSome, map};
+ghost use Rattle.std.specs.List.{list_any};
+ghost use Rattle.std.specs.Str.{bytes_eq};
+ghost use Rattle.cip_words.specs.Choices.{greatest, allows, is_given, are_pairs, allowed, set_to};
+
+use crate::forms::{Named, Values};
+use crate::numbers::number;
+
+/// Whether the words are names of these options, each with a word for its value behind it.
+pub fn are_pairs(choices: &[Named], words: &[String]) -> bool
+    ensures { result ≡ are_pairs (map (λ choice. choice.0.now) choices.now) words.now }
+{
+    let mut rest = words;
+    while let [word, _, more @ ..] = rest {
+        if !is_name(choices, word.as_bytes()) {
+            return false;
+        }
+        rest = more;
+    }
+    rest.is_empty()
+}
+
+fn is_name(choices: &[Named], word: &[u8]) -> bool
+    ensures { result ≡ list_any (bytes_eq word.now) (map (λ choice. choice.0.now) choices.now) }
+{
+    for choice in choices {
+        if word == choice.0 {
+            return true;
+        }
+    }
+    false
+}
+
+/// What an option is set to by names and values in turn: by its default where it isn't given, by its value where it is
+/// given once.
+pub fn set_to(choice: &Named, words: &[String]) -> Option<u32>
+    requires { IfSome choice.now.1.default (λ number. number ≤ greatest choice.now.1.values) }
+    ensures set { result ≡ set_to choice.now.0.now choice.now.1 words.now }
+    ensures small { IfSome result (λ number. number ≤ greatest choice.now.1.values) }
+{
+    let mut rest = words;
+    while let [word, value, more @ ..] = rest {
+        if word.as_bytes() == choice.0 {
+            if is_given(choice.0, more) {
+                return None;
+            }
+            return allowed(choice.1.values, value.as_bytes());
+        }
+        rest = more;
+    }
+    choice.1.default
+}
+
+fn is_given(name: &[u8], words: &[String]) -> bool
+    ensures { result ≡ is_given name.now words.now }
+{
+    let mut rest = words;
+    while let [word, _, more @ ..] = rest {
+        if word.as_bytes() == name {
+            return true;
+        }
+        rest = more;
+    }
+    false
+}
+
+// The number of a word, where it is one of these.
+fn allowed(values: Values, word: &[u8]) -> Option<u32>
+    ensures set { result ≡ allowed values word.now }
+    ensures small { IfSome result (λ number. number ≤ greatest values) }
+{
+    let number = number(word)?;
+    if allows(values, number) {
+        Some(number as u32)
+    } else {
+        None
+    }
+}
+
+fn allows(values: Values, number: u64) -> bool
+    ensures { result ≡ allows values number }
+{
+    match values {
+        Values::Between { least, most } => u64::from(least) <= number && number <= u64::from(most),
+        Values::Either { one, other } => number == u64::from(one) || number == u64::from(other),
+    }
+}
