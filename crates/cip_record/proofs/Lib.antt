@@ -1,6 +1,4 @@
 pub mod Answered
-pub mod Ascending
-pub mod Four
-pub mod FourLigands
+pub mod FewUnits
 pub mod Overs
-pub mod Units
+pub mod UnitLists

@@ -1,9 +1,5 @@
 pub mod Answers
-pub mod Carriers
-pub mod Ligands
 pub mod Molecules
-pub mod Ranking
-pub mod Surroundings
-pub mod WholeAnswers
 pub mod Worked
+pub mod WorkedLabels
 pub mod WorkedRecords

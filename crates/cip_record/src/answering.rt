@@ -4,17 +4,31 @@ ghost use Rattle.std.specs.List.{list_any};
 ghost use Rattle.cip_text.specs.Slices.{texts};
 ghost use Rattle.cip_reading.specs.Reading.{Gives};
 ghost use Rattle.cip_record.specs.Molecules.{read_molecule};
-ghost use Rattle.cip_record.specs.Answers.{known, units_of, answer_lines, answer_without_items, answer_of, is_over, is_flagged};
+ghost use Rattle.cip_record.specs.Answers.{
+  answer_by,
+  answer_lines,
+  answer_without_items,
+  is_flagged,
+  is_over,
+  of_molecule,
+};
 
-use crate::centres::centres_of;
-use crate::surroundings::are_single;
+use crate::units::label_units;
+use cip_desk::Desk;
+use cip_hydro::graph_of;
 use cip_item::without_label_items;
+use cip_label::{Labeller, Setting};
+use cip_mancude::positions;
 use cip_mol::{Molecule, Outcome, ReadRefusal};
 use cip_print::{Answer, UnitAnswers};
 use cip_rank::Rules;
 use cip_text::RecordLines;
+use cip_unit::units;
 use cip_v2000::is_v3000;
 use std::alloc::{AllocError, Global};
+
+/// Memory in which records are answered, one after the other.
+pub type RecordLabeller = Labeller<Desk>;
 
 /// The answer to a record, whose label items are taken out first. No digraph may have more than `nodes` nodes.
 pub fn label_record(
@@ -26,35 +40,55 @@ pub fn label_record(
     requires few { length bytes.now < 2 ^ 32 - 1 }
     requires some { 1 ≤ nodes }
     requires bounded { nodes ≤ 1000000 }
-    ensures { IfOk result (λ answer. answer ≡ answer_of nodes bytes.now) }
+    ensures { IfOk result (λ answer. answer ≡ answer_by rules nodes bytes.now) }
 {
     let bare = without_label_items(alloc, bytes)?;
     let lines = RecordLines::new(alloc, &bare)?;
-    label_without_items(alloc, &lines, nodes, rules)
+    label_once(alloc, &lines, nodes, rules)
 }
 
-/// The answer to a record that has no label items, by its lines.
-#[tactic(auto, unfolding(crate::specs::Answers::answer_without_items))]
-pub fn label_without_items(
+// In memory that is reserved for this record alone.
+fn label_once(
     alloc: Global,
     lines: &RecordLines,
     nodes: u32,
-    _rules: Rules,
+    rules: Rules,
 ) -> Result<Answer, AllocError>
     requires few { length lines.now < 2 ^ 32 - 1 }
     requires some { 1 ≤ nodes }
-    requires bounded { nodes ≤ 1000000 }
-    ensures { IfOk result (λ answer. answer ≡ answer_without_items nodes lines.now) }
+    ensures { IfOk result (λ answer. answer ≡ answer_without_items rules nodes lines.now) }
 {
-    answer_lines(alloc, lines.contents(), nodes)
+    let mut labeller = RecordLabeller::reserve(alloc, nodes)?;
+    label_within(alloc, &mut labeller, lines, rules)
 }
 
-fn answer_lines(alloc: Global, lines: &[&[u8]], nodes: u32) -> Result<Answer, AllocError>
+/// The answer to a record that has no label items, in memory that was reserved before: once for many records.
+#[tactic(auto, unfolding(crate::specs::Answers::answer_without_items))]
+pub fn label_within(
+    alloc: Global,
+    labeller: &mut RecordLabeller,
+    lines: &RecordLines,
+    rules: Rules,
+) -> Result<Answer, AllocError>
+    requires few { length lines.now < 2 ^ 32 - 1 }
+    ensures answer { IfOk result (λ answer. answer ≡ answer_without_items rules labeller.old lines.now) }
+    ensures kept { labeller.new ≡ labeller.old }
+{
+    answer_lines(alloc, labeller, lines.contents(), rules)
+}
+
+fn answer_lines(
+    alloc: Global,
+    labeller: &mut RecordLabeller,
+    lines: &[&[u8]],
+    rules: Rules,
+) -> Result<Answer, AllocError>
     requires { length lines.now < 2 ^ 32 - 1 }
-    ensures { IfOk result (λ answer. answer ≡ answer_lines nodes (texts lines.now)) }
+    ensures answer { IfOk result (λ answer. answer ≡ answer_lines rules labeller.old (texts lines.now)) }
+    ensures kept { labeller.new ≡ labeller.old }
 {
     match read_molecule(alloc, lines) {
-        Ok(molecule) => answer_molecule(alloc, &molecule, nodes),
+        Ok(molecule) => answer_molecule(alloc, labeller, &molecule, rules),
         Err(ReadRefusal::Fault(fault)) => Ok(Answer::Refused(fault)),
         Err(ReadRefusal::Memory) => Err(AllocError),
     }
@@ -72,16 +106,23 @@ fn read_molecule(alloc: Global, lines: &[&[u8]]) -> Result<Molecule, ReadRefusal
     }
 }
 
-fn answer_molecule(alloc: Global, molecule: &Molecule, nodes: u32) -> Result<Answer, AllocError>
-    ensures { IfOk result (λ answer. answer ≡ known (units_of nodes molecule.now)) }
+fn answer_molecule(
+    alloc: Global,
+    labeller: &mut RecordLabeller,
+    molecule: &Molecule,
+    rules: Rules,
+) -> Result<Answer, AllocError>
+    ensures answer { IfOk result (λ answer. answer ≡ of_molecule rules labeller.old molecule.now) }
+    ensures kept { labeller.new ≡ labeller.old }
 {
-    if !are_single(molecule.bonds()) {
-        return Ok(Answer::NotBuilt);
-    }
-    match centres_of(alloc, molecule, nodes)? {
-        Some(units) => Ok(Answer::Labelled(units)),
-        None => Ok(Answer::NotBuilt),
-    }
+    // Reading the atoms tells that there are few.
+    let _atoms = molecule.atoms();
+    let graph = graph_of(alloc, molecule)?;
+    let positions = positions(alloc, &graph)?;
+    let units = units(alloc, molecule, &graph, &positions)?;
+    let setting = Setting::new(alloc, &graph, &positions, units.list(), rules)?;
+    let answers = label_units(alloc, labeller, &setting)?;
+    Ok(Answer::Labelled(answers))
 }
 
 /// Whether a record is refused, or a digraph of it is larger than the bound.
@@ -91,7 +132,6 @@ pub fn is_flagged(answer: &Answer) -> bool
     match answer {
         Answer::Labelled(units) => has_over(units),
         Answer::Refused(_) => true,
-        Answer::NotBuilt => false,
     }
 }
 

@@ -2,14 +2,10 @@
 #![tactic(auto)]
 
 mod answering;
-mod carriers;
-mod centres;
 mod laws;
-mod ligands;
-mod ranking;
-mod surroundings;
 #[cfg(test)]
 mod tests;
+mod units;
 
-pub use answering::{is_flagged, label_record, label_without_items};
-pub use laws::{worked_records_are_answered, worked_records_have_whole_answers};
+pub use answering::{RecordLabeller, is_flagged, label_record, label_within};
+pub use laws::{worked_records_are_answered, worked_records_have_labels};

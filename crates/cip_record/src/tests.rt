@@ -146,6 +146,16 @@ fn changed(
     Ok(bytes)
 }
 
+// A value line up to the order of its ligands.
+fn without_order(line: &[u8]) -> &[u8] {
+    for place in 0..line.len() {
+        if line[place..].starts_with(b" order") {
+            return &line[..place];
+        }
+    }
+    line
+}
+
 // Whether the answer to a record has exactly these value lines, each followed by `|`, and is flagged where one of them
 // is a refusal or tells of a digraph larger than the bound.
 fn gives(alloc: Global, record: &[u8], nodes: u32, lines: &[u8]) -> Result<bool, AllocError> {
@@ -153,10 +163,10 @@ fn gives(alloc: Global, record: &[u8], nodes: u32, lines: &[u8]) -> Result<bool,
         return Ok(false);
     }
     let answer = label_record(alloc, record, nodes, Rules::Wording2013)?;
-    let values = item_values(alloc, &answer)?;
+    let values = item_values(alloc, &answer, nodes, Rules::Wording2013)?;
     let mut text: Vec<u8> = Vec::new(alloc);
-    for place in 0..values.len() {
-        text.extend_from_slice(values.get(place).as_slice())?;
+    for place in 1..values.len() {
+        text.extend_from_slice(without_order(values.get(place).as_slice()))?;
         text.push(b'|')?;
     }
     let flagged = lines.starts_with(b"refused ") || lines.ends_with(b" over|");
@@ -325,9 +335,9 @@ fn hydrogens_count_but_lone_pairs_and_old_items_do_not(rt: HostRuntime) -> Resul
         (&cut_short, NODES, b"refused 10 Short|"),
         // of the extended format
         (EXTENDED, NODES, b"a1 R 1a 1|"),
-        // not labelled so far
-        (&double, NODES, b""),
-        (&isotopic, NODES, b""),
+        // ethene has no unit, and deuterium precedes hydrogen
+        (&double, NODES, b"none|"),
+        (&isotopic, NODES, b"a1 S 2 1|"),
     ];
     for (record, nodes, lines) in cases {
         assert!(rt; gives(alloc, record, nodes, lines)?);

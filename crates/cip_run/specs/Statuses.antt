@@ -6,8 +6,8 @@ use Rattle.cip_io.specs.Faults.{Rose}
 use Rattle.cip_io.specs.Growth.{AppendsPrefix}
 use Rattle.cip_run.specs.declared.limits.Limits.{Limits}
 use Rattle.cip_run.specs.declared.words.Settings.{Settings}
-use Rattle.cip_run.specs.declared.status.TheConstants.{DONE, FLAGGED, WORDS_REFUSED, READ_FAULT, WRITE_FAULT, OUT_OF_MEMORY, LIMIT, NOT_BUILT}
-use Rattle.cip_run.specs.Due.{are_labelled, due}
+use Rattle.cip_run.specs.declared.status.TheConstants.{DONE, FLAGGED, WORDS_REFUSED, READ_FAULT, WRITE_FAULT, OUT_OF_MEMORY, LIMIT}
+use Rattle.cip_run.specs.Due.{due}
 use Rattle.cip_run.specs.Endings.{AnswersTaken, Grew, GrewTo, IsLimited, IsWhole}
 use Rattle.cip_run.specs.Limits.{answered}
 
@@ -23,7 +23,7 @@ abbrev pub streams : Option (List ℕ) → ℕ → Option (List ℕ) → ℕ →
 streams left read_faults taken write_faults =
     record { left = left; read_faults = read_faults; taken = taken; write_faults = write_faults }
 
--- the whole source was taken, no limit is passed, every record is answered, and the sink grew by the text that is due
+-- the whole source was taken, no limit is passed, and the sink grew by the text that is due
 pub record IsDone (limits : Limits) (flagged : Bool) (old new : Streams) : Type 0 where
   pub end : IsAtEnd new.left
   pub written : IfSome old.left (λ bytes. Grew (IsWhole limits flagged bytes) (due limits bytes) old.taken new.taken)
@@ -47,11 +47,6 @@ abbrev pub IsOverLimit : Limits → Streams → Streams → Type 0
 IsOverLimit limits old new =
     IfSome old.left (λ bytes. Grew (IsLimited limits bytes) (due limits bytes) old.taken new.taken)
 
--- some record isn't answered so far, and the sink grew by the texts of the records before it
-abbrev pub IsNotBuilt : Limits → Streams → Streams → Type 0
-IsNotBuilt limits old new = IfSome old.left
-    (λ bytes. Grew (are_labelled (answered limits bytes) ≡ false) (due limits bytes) old.taken new.taken)
-
 -- What each exit status means: a line for each.
 pub record Means (settings : Option Settings) (limits : Limits) (status : ℕ) (old new : Streams) : Type 0 where
   pub done : status ≡ DONE → IsDone limits false old new
@@ -61,4 +56,3 @@ pub record Means (settings : Option Settings) (limits : Limits) (status : ℕ) (
   pub write_fault : status ≡ WRITE_FAULT → IsWriteFault limits old new
   pub out_of_memory : status ≡ OUT_OF_MEMORY → IsOutOfMemory limits old new
   pub limit : status ≡ LIMIT → IsOverLimit limits old new
-  pub not_built : status ≡ NOT_BUILT → IsNotBuilt limits old new

@@ -15,5 +15,6 @@ loop-next-preserved g c = record {
   so_far = one_more c.args.framer.now c.loop-next.framer c.next.new.self c.in-Some.next.bytes c.loop-next.flagged _ _
       _ _ c.loop-next.invariant.so_far c.in-Some.ensures.some.1 (search rules);
   limit = search rules;
+  nodes = search rules;
   later = search rules;
 }

@@ -1,0 +1,102 @@
+// The units of a graph, each with its outcome.
+ghost use Rattle.std.specs.Prelude.{◌≡◌, ◌<◌, ◌^◌, IfOk, length};
+ghost use Rattle.cip_record.specs.Answers.{unit_answers};
+
+use crate::answering::RecordLabeller;
+use cip_label::Setting;
+use cip_mol::{Ligands, Site};
+use cip_print::{UnitAnswer, UnitAnswers};
+use cip_steps::Steps;
+use std::alloc::{AllocError, Global};
+use std::marker::Brand;
+use std::sync::ledger::{Blank, Ledger};
+
+/// The units of a setting, each with its outcome.
+pub fn label_units(
+    alloc: Global,
+    labeller: &mut RecordLabeller,
+    setting: &Setting<'_>,
+) -> Result<UnitAnswers, AllocError>
+    requires few { length setting.now.units < 2 ^ 32 }
+    ensures answers { IfOk result
+        (λ answers. answers ≡ unit_answers setting.now.rules labeller.old setting.now.graph setting.now.positions
+        setting.now.units) }
+    ensures kept { labeller.new ≡ labeller.old }
+{
+    label_counted::<Brand>(alloc, labeller, setting, Blank::new(1))
+}
+
+// The same with a counter of steps.
+fn label_counted<L: Ledger>(
+    alloc: Global,
+    labeller: &mut RecordLabeller,
+    setting: &Setting<'_>,
+    blank: Blank,
+) -> Result<UnitAnswers, AllocError>
+    requires name { blank.name ≡ L.name }
+    requires parts { blank.parts ≡ L.parts }
+    requires one { 0 < blank.parts }
+    requires few { length setting.now.units < 2 ^ 32 }
+    ensures answers { IfOk result
+        (λ answers. answers ≡ unit_answers setting.now.rules labeller.old setting.now.graph setting.now.positions
+        setting.now.units) }
+    ensures kept { labeller.new ≡ labeller.old }
+{
+    let mut steps = Steps::<L>::open(blank);
+    let mut answers = UnitAnswers::new(alloc);
+    let units = setting.units().as_slice();
+    for unit in units {
+        let outcome = labeller.label(alloc, setting, answers.len(), &mut steps)?;
+        answers.push(UnitAnswer {
+            site: copy_site(alloc, &unit.site),
+            drawn: setting.graph().drawn(),
+            outcome,
+        })?;
+    }
+    Ok(answers)
+}
+
+fn copy_site(alloc: Global, site: &Site) -> Site
+    ensures { result ≡ site.now }
+{
+    match site {
+        Site::Centre { at, ligands } => Site::Centre {
+            at: *at,
+            ligands: copy_ligands(alloc, ligands),
+        },
+        Site::Bond {
+            a,
+            b,
+            first,
+            second,
+        } => Site::Bond {
+            a: *a,
+            b: *b,
+            first: copy_ligands(alloc, first),
+            second: copy_ligands(alloc, second),
+        },
+        Site::Axis {
+            a,
+            middle,
+            b,
+            first,
+            second,
+        } => Site::Axis {
+            a: *a,
+            middle: *middle,
+            b: *b,
+            first: copy_ligands(alloc, first),
+            second: copy_ligands(alloc, second),
+        },
+    }
+}
+
+fn copy_ligands(alloc: Global, ligands: &Ligands) -> Ligands
+    ensures { result ≡ ligands.now }
+{
+    let mut copy = Ligands::new(alloc);
+    for ligand in ligands.as_slice() {
+        copy.push(*ligand);
+    }
+    copy
+}
