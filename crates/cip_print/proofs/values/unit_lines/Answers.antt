@@ -1,9 +1,0 @@
-use Rattle.std.proofs.Common.{arith}
-use Rattle.cip_print.proofs.Lines.{one_more}
-use Rattle.cip_print.proofs.values.unit_lines.Goals as goal
-
-pub loop-place-preserved : goal.loop-place-preserved
-loop-place-preserved c = record {
-  so_far = one_more c.args.units.now c.loop-place.place c.get.result.now c.loop-place.values c.push_line.new.values c.get.ensures c.in_ok-push_line.ensures.added c.loop-place.invariant.so_far;
-  few = omega (arith, c.in_ok-push_line.ensures.few, c.loop-place.invariant.few);
-}
