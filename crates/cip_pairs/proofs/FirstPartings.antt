@@ -1,12 +1,13 @@
 -- The first depth at which a comparison differs.
-use Rattle.std.proofs.Common.{◌≡◌, ◌≢◌, ℕ, zero, suc, ◌+◌, ◌<◌, ◌≤◌, refl, sym, ap, ◌∙◌, arith}
-use Rattle.std.specs.Prelude.{None, Some}
+use Rattle.std.proofs.Common.{◌≡◌, ◌≢◌, true, false, ℕ, zero, suc, ◌+◌, ◌<◌, ◌≤◌, refl, sym, ap, ◌∙◌, arith}
+use Rattle.std.specs.Prelude.{None, Some, IsNone}
 use Rattle.std.specs.declared.option.Option.{Option}
 use Rattle.std.specs.declared.cmp.Ordering.{Ordering}
 use Rattle.std.specs.declared.cmp.Ordering.TheVariants.{Less, Equal, Greater}
 use Rattle.cip_digraph.specs.rules.Decisions.{Difference, first_difference, or_else}
 use Rattle.cip_digraph.proofs.ExchangedOrders.{found_at}
 use Rattle.cip_pairs.specs.Partings.{parting}
+use Rattle.cip_pairs.specs.declared.pairs.Parting.{Parting}
 
 found : (depth : ℕ) (later : Option Difference) (r : Ordering) → r ≢ Equal → found_at depth later r ≡ Some (record { side = r; depth = depth })
 found depth later Less n = refl
@@ -53,3 +54,7 @@ else_none one other e = ap (λ found. parting (or_else found other)) (none_told 
 pub else_some : (one other : Option Difference) → parting one ≢ None → parting (or_else one other) ≡ parting one
 else_some None other n = absurd (n refl)
 else_some (Some found) other n = refl
+
+pub none_is : (parted : Option Parting) → IsNone parted → parted ≡ None
+none_is None none = refl
+none_is (Some parted) none = let bad : true ≡ false = none in cc

@@ -1,5 +1,5 @@
 // Rule 4b: branches in both readings, the higher one with the higher one, then the lower with the lower.
-ghost use Rattle.std.specs.Prelude.{◌≡◌, ◌<◌, ◌≤◌, ◌+◌, ◌^◌, ℕ, false, cond, length, slice_index, IfOk, IfSome, IsErr};
+ghost use Rattle.std.specs.Prelude.{◌≡◌, ◌<◌, ◌≤◌, ◌+◌, ◌^◌, ℕ, false, cond, length, slice_index, IfOk, IfSome, IsErr, IsNone};
 ghost use Rattle.std.specs.Ordering.{is_lt};
 ghost use Rattle.cip_rank.specs.Tree.{height_of};
 ghost use Rattle.cip_rank.specs.Ranking.{OrdersAs, by_number};
@@ -11,7 +11,7 @@ use crate::descriptors::Descriptors;
 use crate::readings::{ByLike, ByReadSets};
 use cip_rank::columns::fill_with_zeros;
 use cip_rank::sets::write_sets;
-use cip_rank::sorting::{assign_numbers, sort_and_number};
+use cip_rank::sorting::{assign_numbers, refine_and_number, sort_and_number};
 use cip_rank::{Ranks, Table};
 use std::alloc::{AllocError, Global};
 use std::cmp::Ordering;
@@ -112,7 +112,7 @@ impl PairWork {
             sets_r: &self.sets_r,
             sets_s: &self.sets_s,
         };
-        sort_and_number(&by, &mut self.sorted, &mut self.new_numbers);
+        refine_and_number(&by, &self.numbers, &mut self.sorted, &mut self.new_numbers);
         assign_numbers(&self.sorted, &self.new_numbers, &mut self.numbers)
     }
 
@@ -151,18 +151,16 @@ impl PairWork {
 
     // Ranks all nodes in both readings, down to the outermost sphere.
     fn rank_whole(&mut self, table: &Table, earlier: &Ranks, marks: &Descriptors)
-        requires some { 0 < length table.now.parents }
         requires bound { length table.now.parents ≤ self.old.bound }
         requires earlier { length earlier.now.numbers ≡ length table.now.parents }
         requires marks { length table.now.parents ≤ length marks.now.marks }
         ensures ranked { ReadingsRanked table.now.parents earlier.now.numbers marks.now.marks
             (height_of table.now.parents) self.new.numbers }
         ensures bound { self.new.bound ≡ self.old.bound }
-        ensures few { length table.now.parents + length table.now.parents < 2 ^ 32 }
     {
         let _bound = self.bound;
         self.rank_sphere(table, earlier, marks, 0);
-        for depth in 0..table.sphere(table.len() - 1) {
+        for depth in 0..height(table) {
             if !self.rank_sphere(table, earlier, marks, depth + 1) {
                 return;
             }
@@ -200,6 +198,43 @@ impl PairWork {
         }
         None
     }
+
+    // The same where all readings are ranked down to the outermost sphere: nothing is ranked anew where the two tie.
+    fn part_unless_tied(
+        &mut self,
+        table: &Table,
+        earlier: &Ranks,
+        marks: &Descriptors,
+        a: u32,
+        b: u32,
+    ) -> Option<Parting>
+        requires first { a < length table.now.parents + length table.now.parents }
+        requires second { b < length table.now.parents + length table.now.parents }
+        requires bound { length table.now.parents ≤ self.old.bound }
+        requires earlier { length earlier.now.numbers ≡ length table.now.parents }
+        requires marks { length table.now.parents ≤ length marks.now.marks }
+        requires ranked { ReadingsRanked table.now.parents earlier.now.numbers marks.now.marks
+            (height_of table.now.parents) self.old.numbers }
+        ensures parted { result ≡ parting (look_at table.now.parents earlier.now.numbers marks.now.marks
+            (pair_at (length table.now.parents) a) (pair_at (length table.now.parents) b)) }
+        ensures low { IfSome result (λ parted. parted.depth < length table.now.parents) }
+        ensures kept { IsNone result → self.new ≡ self.old }
+        ensures bound { self.new.bound ≡ self.old.bound }
+    {
+        match self.compare(a, b) {
+            Ordering::Equal => None,
+            _ => self.part(table, earlier, marks, a, b),
+        }
+    }
+}
+
+fn height(table: &Table) -> u32
+    ensures { result ≡ height_of table.now.parents }
+{
+    match table.len() {
+        0 => 0,
+        count => table.sphere(count - 1),
+    }
 }
 
 // The numbers of a node's higher and lower reading.
@@ -218,8 +253,51 @@ fn readings(work: &PairWork, count: u32, node: u32) -> (u32, u32)
     }
 }
 
-/// Compares the higher readings of two branches, and where they tie the lower ones, over earlier rank numbers. No
-/// memory is taken.
+/// Ranks the branches at all nodes in both readings, over earlier rank numbers. No memory is taken.
+pub fn rank_readings(table: &Table, earlier: &Ranks, marks: &Descriptors, work: &mut PairWork)
+    requires bound { length table.now.parents ≤ work.old.bound }
+    requires earlier { length earlier.now.numbers ≡ length table.now.parents }
+    requires marks { length table.now.parents ≤ length marks.now.marks }
+    ensures ranked { ReadingsRanked table.now.parents earlier.now.numbers marks.now.marks
+        (height_of table.now.parents) work.new.numbers }
+    ensures bound { work.new.bound ≡ work.old.bound }
+{
+    work.rank_whole(table, earlier, marks);
+}
+
+/// Compares the higher readings of two branches, and where they tie the lower ones, where all readings were ranked. The
+/// ranks stay where the branches tie. No memory is taken.
+pub fn part_ranked(
+    table: &Table,
+    earlier: &Ranks,
+    marks: &Descriptors,
+    work: &mut PairWork,
+    a: u32,
+    b: u32,
+) -> Option<Parting>
+    requires first { a < length table.now.parents }
+    requires second { b < length table.now.parents }
+    requires bound { length table.now.parents ≤ work.old.bound }
+    requires earlier { length earlier.now.numbers ≡ length table.now.parents }
+    requires marks { length table.now.parents ≤ length marks.now.marks }
+    requires ranked { ReadingsRanked table.now.parents earlier.now.numbers marks.now.marks
+        (height_of table.now.parents) work.old.numbers }
+    ensures parted { result ≡ parting (pair_difference table.now.parents earlier.now.numbers marks.now.marks a b) }
+    ensures low { IfSome result (λ parted. parted.depth < length table.now.parents) }
+    ensures kept { IsNone result → work.new ≡ work.old }
+    ensures bound { work.new.bound ≡ work.old.bound }
+{
+    let count = table.len();
+    let _bound = work.bound;
+    let (higher_a, lower_a) = readings(work, count, a);
+    let (higher_b, lower_b) = readings(work, count, b);
+    match work.part_unless_tied(table, earlier, marks, higher_a, higher_b) {
+        None => work.part_unless_tied(table, earlier, marks, lower_a, lower_b),
+        parted => parted,
+    }
+}
+
+/// The same over earlier rank numbers, whatever was ranked before.
 pub fn pair_order(
     table: &Table,
     earlier: &Ranks,
@@ -237,12 +315,6 @@ pub fn pair_order(
     ensures low { IfSome result (λ parted. parted.depth < length table.now.parents) }
     ensures bound { work.new.bound ≡ work.old.bound }
 {
-    let count = table.len();
-    work.rank_whole(table, earlier, marks);
-    let (higher_a, lower_a) = readings(work, count, a);
-    let (higher_b, lower_b) = readings(work, count, b);
-    match work.part(table, earlier, marks, higher_a, higher_b) {
-        None => work.part(table, earlier, marks, lower_a, lower_b),
-        parted => parted,
-    }
+    rank_readings(table, earlier, marks, work);
+    part_ranked(table, earlier, marks, work, a, b)
 }

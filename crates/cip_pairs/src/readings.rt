@@ -6,6 +6,7 @@ ghost use Rattle.cip_pairs.specs.Readings.{pair_at, like_at, first_readings, nex
 use crate::descriptors::Descriptors;
 use crate::keys::compare_values;
 use crate::values::like_value;
+use cip_rank::sets::compare_sets;
 use cip_rank::sorting::NodeOrder;
 use cip_rank::{Ranks, Table};
 use std::cmp::Ordering;
@@ -120,7 +121,7 @@ impl NodeOrder for ByReadSets<'_> {
 
     fn compare_nodes(&self, a: u32, b: u32) -> Ordering {
         match self.numbers[a as usize].cmp(&self.numbers[b as usize]) {
-            Ordering::Equal => self.set(a).cmp(self.set(b)),
+            Ordering::Equal => compare_sets(self.set(a), self.set(b)),
             decided => decided,
         }
     }
