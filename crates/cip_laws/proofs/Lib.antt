@@ -22,7 +22,6 @@ pub mod HydrogenPlaces
 pub mod LastReasons
 pub mod ListedSites
 pub mod OrderlyDecisions
-pub mod PlacedItems
 pub mod RankParity
 pub mod ReflectedDrawings
 pub mod ReflectedOutcomes

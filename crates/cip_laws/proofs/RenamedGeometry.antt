@@ -28,12 +28,13 @@ use Rattle.cip_mol.specs.declared.site.Geometry.{Geometry}
 use Rattle.cip_mol.specs.declared.site.Geometry.TheVariants.{Unknown}
 use Rattle.cip_mol.specs.declared.site.Ligand.{Ligand}
 use Rattle.cip_mol.specs.declared.site.Ligand.TheVariants.{Vertex, LonePair}
+use Rattle.cip_mol.proofs.SimpleBonds.{Once}
 use Rattle.cip_digraph.specs.graph.Renumbering.{IsForward, IsTurned, IsRenumbering}
 use Rattle.cip_digraph.proofs.Lists.{Pairwise}
 use Rattle.cip_laws.specs.Images.{ligand_image}
 use Rattle.cip_laws.proofs.Arranged.{arranged}
 use Rattle.cip_laws.proofs.CarriedLists.{mapped_twice, mapped_below}
-use Rattle.cip_laws.proofs.BondsOnce.{Once, once_back, bonds_once}
+use Rattle.cip_laws.proofs.BondsOnce.{once_back, bonds_once}
 use Rattle.cip_laws.proofs.LastReasons.{elements, pairwise_arranged}
 use Rattle.cip_laws.proofs.RenumberedAtoms.{IsImageBond, image_eq, bond_pairs}
 use Rattle.cip_laws.proofs.RenumberedBonds.{joins_image}

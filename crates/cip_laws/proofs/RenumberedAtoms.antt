@@ -12,7 +12,7 @@ use Rattle.cip_mol.specs.Drawing.{Drawing}
 use Rattle.cip_mol.specs.Points.{no_atom}
 use Rattle.cip_mol.specs.declared.molecule.Atom.{Atom}
 use Rattle.cip_mol.specs.declared.molecule.Bond.{Bond}
-use Rattle.cip_mol.proofs.SoundBonds.{finds_room}
+use Rattle.cip_mol.proofs.SimpleBonds.{IsJoin, simple_from_sound}
 use Rattle.cip_digraph.specs.graph.Hydrogens.{atom_at, bond_orders, hydrogens, hydrogens_of}
 use Rattle.cip_digraph.specs.graph.LonePairs.{lone_pair, lone_pair_of}
 use Rattle.cip_digraph.specs.graph.Neglected.{neglects, neglects_at, is_counted}
@@ -24,11 +24,6 @@ use Rattle.cip_laws.proofs.Arranged.{filter_arranged}
 use Rattle.cip_laws.proofs.LastReasons.{pairwise_arranged}
 use Rattle.cip_laws.proofs.Truths.{or_back}
 use Rattle.cip_laws.proofs.Elements.{unmapped}
-
-pub record IsJoin (atoms : ℕ) (bond : Bond) : Type 0 where
-  pub a : bond.a < atoms
-  pub b : bond.b < atoms
-  pub differ : bond.a ≢ bond.b
 
 -- a bond of a drawing and its image
 pub record IsImageBond (image : ℕ → ℕ) (atoms : ℕ) (bond other : Bond) : Type 0 where
@@ -128,8 +123,7 @@ module _ (drawing other : Drawing) (image : ℕ → ℕ) (r : IsRenumbering draw
 
   pub bonds_join : AllByRecursion (IsJoin atoms) drawing.bonds
   bonds_join =
-      by_recursion (IsJoin atoms) drawing.bonds
-      (λ k d lt. let f = finds_room _ _ _ (sound.each k lt d) in record { a = f.a; b = f.b; differ = f.apart })
+      by_recursion (IsJoin atoms) drawing.bonds (simple_from_sound atoms drawing.bonds sound).joins
 
   -- the bonds in pairs
   abbrev pub ones : List Bond

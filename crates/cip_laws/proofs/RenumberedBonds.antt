@@ -1,86 +1,22 @@
 -- A renumbered drawing has no fault where the drawing has none: its bonds join atoms, no two of them the same ones, and
 -- no atom has more of them.
-use Rattle.std.proofs.Common.{◌≡◌, ◌⊎◌, inl, inr, ◌<◌, ◌≤◌, ◌+◌, ℕ, zero, suc, Bool, true, false, cond, ◌==◌, ◌&&◌, ◌||◌, List, [], ◌∷◌, length, take, get_or, refl, sym, ap, subst, ◌∙◌, eq-eqb, arith}
-use Rattle.std.specs.Prelude.{None, Some, nat_le, if◌then◌else◌}
-use Rattle.std.specs.List.{AllByRecursion, list_any}
-use Rattle.std.proofs.lemmas.Bool.{lt-leb, ne_eqb}
+use Rattle.std.proofs.Common.{◌≡◌, ◌⊎◌, inl, inr, ◌<◌, ◌≤◌, ℕ, Bool, ◌==◌, ◌&&◌, ◌||◌, List, [], ◌∷◌, length, refl, sym, ap, subst, ◌∙◌, arith}
+use Rattle.std.specs.List.{AllByRecursion}
 use Rattle.std.proofs.lemmas.List.Elements.{All-from_recursion}
 use Rattle.std.proofs.lemmas.List.Sorted.{IsPermutation-sym}
-use Rattle.std.proofs.lemmas.List.Sums.{sum_by-cons}
 use Rattle.cip_rank.specs.Matching.{InPairs}
-use Rattle.cip_mol.specs.Bonds.{cause_of, joins_same, touches, degree}
+use Rattle.cip_mol.specs.Bonds.{degree}
 use Rattle.cip_mol.specs.Bonds as bonds
 use Rattle.cip_mol.specs.Drawing.{Drawing}
 use Rattle.cip_mol.specs.Marks.{joins}
-use Rattle.cip_mol.specs.declared.faults.BondCause.TheVariants.{EndOutOfRange, Loop, Doubled, Degree}
 use Rattle.cip_mol.specs.declared.molecule.Bond.{Bond}
-use Rattle.cip_mol.proofs.OtherEnds.{length-neighbours}
-use Rattle.cip_mol.proofs.SoundBonds.{neighbours_few}
+use Rattle.cip_mol.proofs.SimpleBonds.{IsJoin, Once, simple_from_sound, sound_from_simple}
 use Rattle.cip_digraph.specs.graph.Renumbering.{IsForward, IsTurned, IsRenumbering}
-use Rattle.cip_digraph.proofs.Lists.{Pairwise}
-use Rattle.cip_laws.proofs.BondsOnce.{Once, once_back, bonds_once}
+use Rattle.cip_digraph.proofs.Lists.{Pairwise, pairs_from_pairwise}
+use Rattle.cip_laws.proofs.BondsOnce.{once_back, bonds_once}
 use Rattle.cip_laws.proofs.LastReasons.{pairwise_arranged}
-use Rattle.cip_laws.proofs.RenumberedAtoms.{IsJoin, IsImageBond, all_arranged, image_below, image_onto, image_injective, image_eq, bond_pairs, degree_same}
-use Rattle.cip_laws.proofs.Truths.{and_back, or_back, or_true}
-
-none_by : (outside loop doubled crowded : Bool) → outside ≡ false → loop ≡ false → doubled ≡ false → crowded ≡ false
-    → (if outside then Some EndOutOfRange else if loop then Some Loop else if doubled then Some Doubled
-    else if crowded then Some Degree else None) ≡ None
-none_by outside loop doubled crowded e f g h = rw (e, f, g, h) refl
-
-neither : (a b : Bool) → a ≡ false → b ≡ false → (a || b) ≡ false
-neither a b e f = ap (λ x. x || b) e ∙ f
-
--- no earlier bond joins the same atoms
-no_earlier : (some : List Bond) → Pairwise Once some → (k : ℕ) (d : Bond) → k < length some
-    → list_any (λ other. joins_same other (get_or some k d)) (take k some) ≡ false
-no_earlier [] once k d lt = absurd (omega (arith, lt))
-no_earlier (bond ∷ some) once zero d lt = refl
-no_earlier (bond ∷ some) once (suc k) d lt =
-    neither (joins_same bond (get_or some k d)) (list_any (λ other. joins_same other (get_or some k d)) (take k some))
-    (All-from_recursion (Once bond) some once.0 k d (omega (arith, lt)))
-    (no_earlier some once.1 k d (omega (arith, lt)))
-
--- a bond at an atom is one more than those before it
-one_more : (atom : ℕ) (some : List Bond) (k : ℕ) (d : Bond) → k < length some → touches atom (get_or some k d) ≡ true
-    → degree atom (take k some) + 1 ≤ degree atom some
-one_more atom [] k d lt e = absurd (omega (arith, lt))
-one_more atom (bond ∷ some) zero d lt e =
-    let all : degree atom (bond ∷ some) ≡ 1 + degree atom some =
-    sum_by-cons (λ b. cond (touches atom b) 1 0) bond some ∙ ap (λ t. cond t 1 0 + degree atom some) e in
-    let none : degree atom (take 0 (bond ∷ some)) ≡ 0 = refl in
-    omega (arith, all, none)
-one_more atom (bond ∷ some) (suc k) d lt e =
-    let weight = cond (touches atom bond) 1 0 in
-    let all : degree atom (bond ∷ some) ≡ weight + degree atom some =
-    sum_by-cons (λ b. cond (touches atom b) 1 0) bond some in
-    let front : degree atom (take (suc k) (bond ∷ some)) ≡ weight + degree atom (take k some) =
-    sum_by-cons (λ b. cond (touches atom b) 1 0) bond (take k some) in
-    let rest = one_more atom some k d (omega (arith, lt)) e in
-    omega (arith, all, front, rest)
-
--- bonds without a fault, whatever their order
-sound_by : (atoms : ℕ) (some : List Bond) → AllByRecursion (IsJoin atoms) some → Pairwise Once some
-    → ((atom : ℕ) → atom < atoms → degree atom some ≤ 8) → bonds.IsSound atoms some
-unfolding cause_of
-sound_by atoms some joins once few = record {
-  each = λ k lt d.
-      let bond = get_or some k d in
-      let j = All-from_recursion (IsJoin atoms) some joins k d lt in
-      let room : (atom : ℕ) → atom < atoms → touches atom bond ≡ true → degree atom (take k some) < 8 =
-      λ atom below e. let more = one_more atom some k d lt e in let most = few atom below in
-      omega (arith, more, most) in
-      none_by (nat_le atoms bond.a || nat_le atoms bond.b) (bond.a == bond.b)
-      (list_any (λ other. joins_same other bond) (take k some))
-      (nat_le 8 (degree bond.a (take k some)) || nat_le 8 (degree bond.b (take k some)))
-      (neither (nat_le atoms bond.a) (nat_le atoms bond.b) (lt-leb atoms bond.a j.a) (lt-leb atoms bond.b j.b))
-      (ne_eqb bond.a bond.b j.differ) (no_earlier some once k d lt)
-      (neither (nat_le 8 (degree bond.a (take k some))) (nat_le 8 (degree bond.b (take k some)))
-      (lt-leb 8 (degree bond.a (take k some))
-      (room bond.a j.a (ap (λ t. t || (bond.b == bond.a)) (eq-eqb bond.a bond.a refl))))
-      (lt-leb 8 (degree bond.b (take k some))
-      (room bond.b j.b (or_true (bond.a == bond.b) (bond.b == bond.b) (eq-eqb bond.b bond.b refl)))));
-}
+use Rattle.cip_laws.proofs.RenumberedAtoms.{IsImageBond, all_arranged, image_below, image_onto, image_injective, image_eq, bond_pairs, degree_same}
+use Rattle.cip_laws.proofs.Truths.{and_back, or_back}
 
 module _ (drawing other : Drawing) (image : ℕ → ℕ) (r : IsRenumbering drawing other image)
     (sound : bonds.IsSound (length drawing.atoms) drawing.bonds) where
@@ -167,18 +103,24 @@ module _ (drawing other : Drawing) (image : ℕ → ℕ) (r : IsRenumbering draw
   few : (atom : ℕ) → atom < n → degree atom other.bonds ≤ 8
   few atom lt =
       let from = image_onto drawing other image r sound atom lt in
-      let most = (neighbours_few n from.0 drawing.bonds sound).few in
-      let long = length-neighbours from.0 drawing.bonds in
+      let most = (simple_from_sound n drawing.bonds sound).few from.0 from.1 in
       let same : degree atom other.bonds ≡ degree from.0 drawing.bonds =
       ap (λ v. degree v other.bonds) from.2 ∙ degree_same drawing other image r sound from.0 from.1 in
-      omega (arith, most, long, same)
+      omega (arith, most, same)
 
   pub renumbered_sound : bonds.IsSound (length other.atoms) other.bonds
   renumbered_sound =
       let pairs = bond_pairs drawing other image r sound in
       let back = IsPermutation-sym other.bonds r.bonds.other r.bonds.of_other in
       subst (λ count. bonds.IsSound count other.bonds) (sym r.len)
-      (sound_by n other.bonds (all_arranged (IsJoin n) r.bonds.other other.bonds back (all_join _ _ pairs))
-      (pairwise_arranged Once once_back r.bonds.other other.bonds back
-      (all_once r.bonds.one r.bonds.other pairs
-      (pairwise_arranged Once once_back drawing.bonds r.bonds.one r.bonds.of_one (bonds_once drawing sound)))) few)
+      (sound_from_simple n other.bonds (record {
+        joins =
+            All-from_recursion (IsJoin n) other.bonds
+            (all_arranged (IsJoin n) r.bonds.other other.bonds back (all_join _ _ pairs));
+        once =
+            pairs_from_pairwise Once other.bonds
+            (pairwise_arranged Once once_back r.bonds.other other.bonds back
+            (all_once r.bonds.one r.bonds.other pairs
+            (pairwise_arranged Once once_back drawing.bonds r.bonds.one r.bonds.of_one (bonds_once drawing sound))));
+        few = few;
+      }))

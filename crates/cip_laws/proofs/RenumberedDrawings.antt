@@ -2,25 +2,39 @@
 use Rattle.std.proofs.Common.{◌≡◌, ◌<◌, ◌+◌, ◌-◌, ℕ, zero, suc, cond, List, [], ◌∷◌, map, length, sum, get_or, refl, sym, ap, subst, ◌∙◌, lt-ltb, le-ltb, inl, arith}
 use Rattle.std.specs.List.{AllByRecursion, range_with_len}
 use Rattle.std.specs.List.Sorted.{IsPermutation}
-use Rattle.std.proofs.lemmas.List.{length-map}
+use Rattle.std.proofs.lemmas.List.{get_or_default, same_lists}
+use Rattle.std.proofs.lemmas.List.FromFn.{get_or-map-range_with_len, length-map-range_with_len}
 use Rattle.std.proofs.lemmas.List.Sums.{sum_by-cons}
 use Rattle.std.proofs.lemmas.List.Sorted.{IsPermutation-refl}
 use Rattle.cip_rank.specs.Matching.{InPairs}
 use Rattle.cip_mol.specs.Bonds.{IsSound}
 use Rattle.cip_mol.specs.Drawing.{Drawing}
+use Rattle.cip_mol.specs.Permutations.{ArePlaces}
 use Rattle.cip_mol.specs.Points.{no_atom}
+use Rattle.cip_mol.specs.RenumberedDrawing.{no_bond, place_of, renamed, renumbered}
 use Rattle.cip_mol.specs.declared.molecule.Bond.{Bond}
+use Rattle.cip_mol.proofs.Permutations.{as_many}
+use Rattle.cip_mol.proofs.Placing.{length-placed, placed_at, IsPermutation-placed}
+use Rattle.cip_mol.proofs.Renumbered.{for_renamed}
 use Rattle.cip_mol.proofs.SoundBonds.{finds_room}
 use Rattle.cip_digraph.specs.graph.Hydrogens.{hydrogens_of}
 use Rattle.cip_digraph.specs.graph.Renumbering.{hydrogen_number, IsImage, IsRenumbering}
 use Rattle.cip_digraph.proofs.Lists.{by_recursion}
-use Rattle.cip_laws.specs.RenumberedDrawing.{no_bond, place_of, renamed, renumbered, hydrogen_image, vertex_image, RenumberedDrawingsAreRenumberings}
+use Rattle.cip_laws.specs.VertexImages.{hydrogen_image, vertex_image, RenumberedDrawingsAreRenumberings}
 use Rattle.cip_laws.proofs.CarriedLists.{mapped_below}
-use Rattle.cip_laws.proofs.PlacedItems.{places_listed, placed_long, placed_at, placed_arranged}
 
-module _ (drawing : Drawing) (atoms bonds : List ℕ)
-    (p : IsPermutation atoms (range_with_len 0 (length drawing.atoms)))
-    (q : IsPermutation bonds (range_with_len 0 (length drawing.bonds))) where
+places_listed : (count : ℕ) (places : List ℕ) → ArePlaces count places
+    → map (place_of places) (range_with_len 0 count) ≡ places
+places_listed count places p =
+    let many = as_many count places p in
+    let long = length-map-range_with_len (place_of places) 0 count in
+    same_lists (map (place_of places) (range_with_len 0 count)) places (omega (arith, many, long)) (λ k d lt.
+    let inside : k < count = omega (arith, lt, long) in
+    get_or-map-range_with_len (place_of places) 0 count k k d inside (omega arith)
+    ∙ get_or_default places k k d (omega (arith, inside, many)))
+
+module _ (drawing : Drawing) (atoms bonds : List ℕ) (p : ArePlaces (length drawing.atoms) atoms)
+    (q : ArePlaces (length drawing.bonds) bonds) where
   abbrev n : ℕ
   n = length drawing.atoms
 
@@ -94,20 +108,20 @@ module _ (drawing : Drawing) (atoms bonds : List ℕ)
 
   is_renumbering : IsSound n drawing.bonds → IsRenumbering drawing other image
   is_renumbering sound = record {
-    len = placed_long n atoms p no_atom drawing.atoms refl;
+    len = length-placed atoms drawing.atoms p no_atom;
     permutation =
         subst (λ images. IsPermutation images (range_with_len 0 n))
         (sym (mapped_below image (place_of atoms) 0 n (λ k low high. of_atom k (omega (arith, high)))
         ∙ places_listed n atoms p)) p;
     atoms = λ k lt d.
-        ap (λ place. get_or other.atoms place d) (of_atom k lt) ∙ placed_at n atoms p no_atom drawing.atoms refl k d lt;
+        ap (λ place. get_or other.atoms place d) (of_atom k lt) ∙ placed_at atoms drawing.atoms p no_atom k d lt;
     bonds = record {
       one = drawing.bonds;
       other = map (renamed (place_of atoms)) drawing.bonds;
       of_one = IsPermutation-refl drawing.bonds;
       of_other =
-          placed_arranged (length drawing.bonds) bonds q no_bond (map (renamed (place_of atoms)) drawing.bonds)
-          (length-map drawing.bonds (renamed (place_of atoms)));
+          IsPermutation-placed bonds (map (renamed (place_of atoms)) drawing.bonds)
+          (for_renamed drawing atoms bonds p q) no_bond;
       pairs =
           pairs drawing.bonds
           (by_recursion (λ bond. (bond.a < n) × (bond.b < n)) drawing.bonds

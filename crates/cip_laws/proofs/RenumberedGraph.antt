@@ -11,6 +11,7 @@ use Rattle.cip_mol.specs.Bonds as bonds
 use Rattle.cip_mol.specs.Drawing.{Drawing}
 use Rattle.cip_mol.specs.declared.molecule.Bond.{Bond}
 use Rattle.cip_mol.specs.declared.molecule.Atom.{Atom}
+use Rattle.cip_mol.proofs.SimpleBonds.{IsJoin}
 use Rattle.cip_digraph.specs.graph.DrawnGraph.{atom_vertex, hydrogen, bond_edge, carriers, hydrogen_edges, graph_of}
 use Rattle.cip_digraph.specs.declared.graph.Vertex.{Vertex}
 use Rattle.cip_digraph.specs.declared.graph.Edge.{Edge}
@@ -25,7 +26,7 @@ use Rattle.cip_laws.proofs.Arranged.{filter_arranged}
 use Rattle.cip_laws.proofs.CarriedLists.{mapped_twice, IsInjective, mapped_below}
 use Rattle.cip_laws.proofs.CarriedNodes.{Way, way, ways, way_image, IsRenamed}
 use Rattle.cip_laws.proofs.HydrogenPlaces.{before, IsPlaced, locate, below_later, one_place, single_way, ways_from, ways_in, ways_append, carried_long, atom_ways, hydrogen_ways, beyond_ways}
-use Rattle.cip_laws.proofs.RenumberedAtoms.{IsJoin, IsImageBond, image_below, image_injective, image_eq, bond_pairs, touches_carried, hydrogens_same, atom_same, lone_same, counted_same, all_arranged, bonds_join}
+use Rattle.cip_laws.proofs.RenumberedAtoms.{IsImageBond, image_below, image_injective, image_eq, bond_pairs, touches_carried, hydrogens_same, atom_same, lone_same, counted_same, all_arranged, bonds_join}
 
 insert_permutes : (vertex : ℕ) (edge : Edge) (edges : List Edge)
     → IsPermutation (edge ∷ edges) (insert_up vertex edge edges)

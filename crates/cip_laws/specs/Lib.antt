@@ -2,8 +2,8 @@ pub mod DrawnMolecules
 pub mod DrawnOutcomes
 pub mod Images
 pub mod ReflectionLaw
-pub mod RenumberedDrawing
 pub mod RenumberingLaw
 pub mod TieLaw
+pub mod VertexImages
 pub mod WorkedNumberings
 pub mod WorkedRenumbering

@@ -44,6 +44,10 @@ pub record OutcomesGo (rules : Rules) (bound : ℕ) (drawing other : Drawing) (i
   pub back : (two : units.Unit) → Among two (units_in other)
       → (one : units.Unit) × GoTogether rules bound drawing other image one two
 
+-- in both wordings of Rule 1b, whatever the bound
+abbrev pub KeepsOutcomes : Drawing → Drawing → (ℕ → ℕ) → Type 0
+KeepsOutcomes drawing other image = (rules : Rules) (bound : ℕ) → OutcomesGo rules bound drawing other image
+
 abbrev pub RenumberingKeepsOutcomes : Type 0
 RenumberingKeepsOutcomes = (rules : Rules) (bound : ℕ) (drawing other : Drawing) (image : ℕ → ℕ) →
     bonds.IsSound (length drawing.atoms) drawing.bonds → IsRenumbering drawing other image →

@@ -5,6 +5,7 @@ use Rattle.std.specs.declared.option.Option.{Option}
 use Rattle.cip_rank.specs.declared.rules.Rules.TheVariants.{Wording2018}
 use Rattle.cip_mol.specs.Drawing.{Drawing}
 use Rattle.cip_mol.specs.Reflection.{reflected}
+use Rattle.cip_mol.specs.RenumberedDrawing.{renumbered}
 use Rattle.cip_mol.specs.declared.descriptor.Descriptor.{Descriptor}
 use Rattle.cip_mol.specs.declared.descriptor.Descriptor.TheVariants.{R, S, SmallS, M, P, Z}
 use Rattle.cip_mol.specs.declared.outcome.Outcome.{Outcome}
@@ -18,7 +19,6 @@ use Rattle.cip_digraph.specs.units.Ends.{ends_of}
 use Rattle.cip_laws.specs.DrawnMolecules.{bromochlorofluoromethane, but_2_ene, dichloropropadiene, glyceraldehyde, trihydroxyglutaric_acid, menthol}
 use Rattle.cip_laws.specs.DrawnOutcomes.{units_in, outcome_in}
 use Rattle.cip_laws.specs.Images.{ligands_in_rank}
-use Rattle.cip_laws.specs.RenumberedDrawing.{renumbered}
 
 -- a label with its ends and, for each of them, the atoms of its ligands, highest first: none for a hydrogen that isn't
 -- drawn

@@ -1,5 +1,5 @@
-//! What another numbering, a mirror and ties do to labels: laws of the definitions, on which no part of the program
-//! stands.
+//! What another numbering, a mirror and ties do to labels: laws of the definitions, and of the calls that renumber and
+//! mirror a molecule. No part of the program stands on them.
 #![tactic(auto)]
 
 mod reflection;
@@ -7,10 +7,11 @@ mod renumbering;
 mod ties;
 
 pub use reflection::{
-    reflection_keeps_drawings, reflection_mirrors_outcomes, worked_molecules_are_mirrored,
+    mirror, reflection_keeps_drawings, reflection_mirrors_outcomes, worked_molecules_are_mirrored,
 };
 pub use renumbering::{
-    renumbered_drawings_are_renumberings, renumbering_keeps_outcomes, renumberings_are_sound,
-    units_share_no_end, worked_molecules_are_renumbered, worked_renumbering_is_labelled,
+    renumber, renumbered_drawings_are_renumberings, renumbering_keeps_outcomes,
+    renumberings_are_sound, units_share_no_end, worked_molecules_are_renumbered,
+    worked_renumbering_is_labelled,
 };
 pub use ties::{lone_pairs_tie_with_nothing, ties_are_same_trees};

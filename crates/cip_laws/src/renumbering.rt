@@ -1,8 +1,30 @@
 // Another numbering of the same molecule.
-ghost use Rattle.cip_laws.specs.RenumberedDrawing.{RenumberedDrawingsAreRenumberings};
-ghost use Rattle.cip_laws.specs.RenumberingLaw.{RenumberingKeepsOutcomes, RenumberingsAreSound, UnitsShareNoEnd};
+ghost use Rattle.std.specs.Prelude.{◌≡◌, length, IfOk};
+ghost use Rattle.cip_mol.specs.Permutations.{ArePlaces};
+ghost use Rattle.cip_mol.specs.RenumberedDrawing.{renumbered};
+ghost use Rattle.cip_laws.specs.RenumberingLaw.{KeepsOutcomes, RenumberingKeepsOutcomes, RenumberingsAreSound, UnitsShareNoEnd};
+ghost use Rattle.cip_laws.specs.VertexImages.{vertex_image, RenumberedDrawingsAreRenumberings};
 ghost use Rattle.cip_laws.specs.WorkedNumberings.{AreRenumbered};
 ghost use Rattle.cip_laws.specs.WorkedRenumbering.{IsRenumbered};
+
+use cip_mol::Molecule;
+use std::alloc::{AllocError, Global};
+
+/// The molecule with atom i at place `atoms[i]` and bond i at place `bonds[i]`: its units are those of the molecule,
+/// with their outcomes and costs.
+pub fn renumber(
+    alloc: Global,
+    molecule: &Molecule,
+    atoms: &[u32],
+    bonds: &[u32],
+) -> Result<Molecule, AllocError>
+    requires atoms { ArePlaces (length molecule.now.atoms) atoms.now }
+    requires bonds { ArePlaces (length molecule.now.bonds) bonds.now }
+    ensures drawn { IfOk result (λ m. m ≡ renumbered atoms.now bonds.now molecule.now) }
+    ensures outcomes { IfOk result (λ m. KeepsOutcomes molecule.now m (vertex_image molecule.now m atoms.now)) }
+{
+    molecule.renumber(alloc, atoms, bonds)
+}
 
 /// Each stereogenic unit goes to a unit of the renumbered molecule, and each unit there comes from one, with the same
 /// descriptor, rule, sphere and cost, or the same reason why there is none; the ligands in rank order go along.

@@ -1,0 +1,28 @@
+use Rattle.cip_mol.specs.Points.{no_atom}
+use Rattle.cip_mol.specs.RenumberedDrawing.{no_bond}
+use Rattle.cip_mol.proofs.Renumbered.{range_renumbered, sound_renumbered}
+use Rattle.cip_mol.proofs.molecule.Molecule.renumber.Goals as goal
+
+pub of_sound-requires-clause-range : goal.of_sound-requires-clause-range
+of_sound-requires-clause-range c =
+    rw (
+      c.in_ok-placed_atoms.ensures no_atom,
+      c.in_ok-placed_bonds.ensures no_bond,
+      c.deref.ensures.value,
+      c.in_ok-renamed.ensures,
+      c.atoms.ensures.value,
+      c.bonds.ensures.value,
+    )
+    (range_renumbered _ _ _ c.requires.atoms c.requires.bonds c.atoms.ensures.range)
+
+pub of_sound-requires-clause-sound : goal.of_sound-requires-clause-sound
+of_sound-requires-clause-sound c =
+    rw (
+      c.in_ok-placed_atoms.ensures no_atom,
+      c.in_ok-placed_bonds.ensures no_bond,
+      c.deref.ensures.value,
+      c.in_ok-renamed.ensures,
+      c.atoms.ensures.value,
+      c.bonds.ensures.value,
+    )
+    (sound_renumbered _ _ _ c.requires.atoms c.requires.bonds c.atoms.ensures.sound)

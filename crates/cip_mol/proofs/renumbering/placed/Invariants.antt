@@ -1,0 +1,5 @@
+use Rattle.cip_mol.proofs.Placing.{StandAtPlaces}
+use Rattle.cip_mol.proofs.renumbering.placed.Given as goal
+
+abbrev pub invariant-loop-k : goal.invariant-loop-k
+invariant-loop-k g l = StandAtPlaces l.places l.items l.k l.there.items

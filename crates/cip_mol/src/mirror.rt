@@ -1,0 +1,63 @@
+// The mirror image of a molecule.
+ghost use Rattle.std.specs.Prelude.{◌≡◌, All, map, IfOk};
+ghost use Rattle.cip_mol.specs.Ranges.{IsAtom, IsPlace};
+ghost use Rattle.cip_mol.specs.Reflection.{exchanged, mirrored_atom, mirrored_bond, reflected};
+
+use crate::molecule::{Atom, Bond, Mark, Molecule};
+use cip_num::Vec3;
+use std::alloc::{AllocError, Global};
+
+impl Molecule {
+    /// The molecule with every z negated, and Up and Down in each other's place.
+    pub fn mirror(&self, alloc: Global) -> Result<Molecule, AllocError>
+        ensures { IfOk result (λ m. m ≡ reflected self.now) }
+    {
+        let atoms = mirrored_atoms(alloc, self.atoms())?;
+        let bonds = mirrored_bonds(alloc, self.bonds())?;
+        Molecule::of_sound(alloc, atoms, bonds)
+    }
+}
+
+fn mirrored_atoms(alloc: Global, atoms: &[Atom]) -> Result<Vec<Atom>, AllocError>
+    requires { All IsAtom atoms.now }
+    ensures { IfOk result (λ v. v.items ≡ map mirrored_atom atoms.now) }
+{
+    atoms.iter().map(|atom| mirrored_atom(*atom)).collect(alloc)
+}
+
+fn mirrored_atom(atom: Atom) -> Atom
+    requires { IsPlace atom.at }
+    ensures { result ≡ mirrored_atom atom }
+{
+    let Vec3 { x, y, z } = atom.at;
+    Atom {
+        at: Vec3 { x, y, z: -z },
+        ..atom
+    }
+}
+
+fn mirrored_bonds(alloc: Global, bonds: &[Bond]) -> Result<Vec<Bond>, AllocError>
+    ensures { IfOk result (λ v. v.items ≡ map mirrored_bond bonds.now) }
+{
+    bonds.iter().map(|bond| mirrored_bond(*bond)).collect(alloc)
+}
+
+fn mirrored_bond(bond: Bond) -> Bond
+    ensures { result ≡ mirrored_bond bond }
+{
+    Bond {
+        mark: exchanged(bond.mark),
+        ..bond
+    }
+}
+
+fn exchanged(mark: Mark) -> Mark
+    ensures { result ≡ exchanged mark }
+{
+    match mark {
+        Mark::Up => Mark::Down,
+        Mark::Down => Mark::Up,
+        Mark::Plain => Mark::Plain,
+        Mark::Either => Mark::Either,
+    }
+}
