@@ -1,17 +1,18 @@
 -- What is known where a node is ready to be looked from.
-use Rattle.std.proofs.Common.{◌≡◌, ◌<◌, ℕ, List, map, length, true, false, Some, refl, ◌∙◌, All, IfSome}
+use Rattle.std.proofs.Common.{◌≡◌, ◌<◌, ℕ, List, map, length, true, false, refl, ◌∙◌, All, IfSome}
+use Rattle.std.specs.declared.cmp.Ordering.{Ordering}
 use Rattle.std.specs.declared.option.Option.{Option}
 use Rattle.std.proofs.lemmas.List.Elements.{All-from_recursion}
 use Rattle.cip_mol.specs.declared.descriptor.Descriptor.{Descriptor}
 use Rattle.cip_mol.specs.declared.site.Ligand.{Ligand}
 use Rattle.cip_digraph.specs.digraph.NodeList.{parents_of}
-use Rattle.cip_aux.specs.declared.turns.Turns.{Turns}
+use Rattle.cip_aux.specs.Early.{AreEarly}
 use Rattle.cip_aux.specs.Inner.{Inner, AgreesInside, Ready}
 use Rattle.cip_aux.specs.Marking.{AreRootTurns}
 use Rattle.cip_aux.specs.Neighbours.{ligand_number, shape_at}
 use Rattle.cip_aux.specs.Sides.{Sides, pair_sides}
 use Rattle.cip_aux.specs.Sights.{SidesAre, seen_sides}
-use Rattle.cip_aux.specs.TurnsOf.{turns_of, AreEarlyTurns}
+use Rattle.cip_aux.specs.TurnsOf.{turns_of}
 use Rattle.cip_aux.proofs.Paths.{within_told}
 use Rattle.cip_aux.proofs.RootTurns.{numbers_within, root_is}
 
@@ -37,12 +38,13 @@ module _ (inner : Inner) (node : ℕ) (r : Ready inner node) where
     each = λ mark agrees. root_is inner.sight r.shows mark sides node r.real (seen mark agrees) ligands;
   }
 
-  -- without a look at descriptors
-  pub ready_early : (ligands : List Ligand) (turns : Turns) → AreEarlyTurns inner.sight node (numbers_of ligands) turns
-      → AreRootTurns inner node ligands (Some turns)
-  ready_early ligands turns early = record {
+  -- without a look at the whole digraph
+  pub ready_early : (ligands : List Ligand) (natural turned : List (Option Ordering))
+      → AreEarly inner node (numbers_of ligands) natural turned
+      → AreRootTurns inner node ligands (turns_of natural turned)
+  ready_early ligands natural turned early = record {
     each = λ mark agrees.
-        early.each mark
+        (λ i. turns_of (early.of_natural mark agrees i) (early.of_turned mark agrees i))
         ∙ root_is inner.sight r.shows mark (seen_sides inner.sight node mark) node r.real
         (record { each = λ r_first a b la lb. refl }) ligands;
   }

@@ -1,5 +1,5 @@
 -- Whether the ranks of a root's ligands turn a sense, by the numbers of the ligands' nodes. Own.
-use Rattle.std.specs.Prelude.{◌≡◌, ℕ, true, false, List, None, Some, count_by}
+use Rattle.std.specs.Prelude.{true, false, List, None, Some, count_by}
 use Rattle.std.specs.List.{list_any}
 use Rattle.std.specs.declared.cmp.Ordering.{Ordering}
 use Rattle.std.specs.declared.option.Option.{Option}
@@ -7,9 +7,7 @@ use Rattle.cip_aux.specs.declared.turns.Turns.{Turns}
 use Rattle.cip_mol.specs.FlatCentres.{inversions}
 use Rattle.cip_digraph.specs.units.Descriptors.{is_odd}
 use Rattle.cip_digraph.specs.units.Ranked.{Root, has_tie, ranks, turned_ranks}
-use Rattle.cip_mol.specs.declared.descriptor.Descriptor.{Descriptor}
-use Rattle.cip_aux.specs.Sides.{is_tied, is_below, pair_sides}
-use Rattle.cip_aux.specs.Sights.{Sight, seen_sides}
+use Rattle.cip_aux.specs.Sides.{is_tied, is_below}
 
 -- by the sides of each two ligands, with R and with S first in the last rule; none where two of them tie
 abbrev pub turns_of : List (Option Ordering) → List (Option Ordering) → Option Turns
@@ -23,9 +21,3 @@ root_turns root =
     let found =
     Some (record { natural = is_odd (inversions (ranks root)); turned = is_odd (inversions (turned_ranks root)) }) in
     elim (has_tie root) as (λ _. Option Turns) [ true ↦ None | false ↦ found ]
-
--- so the ligands of a root turn, whichever descriptors there are
-pub record AreEarlyTurns (sight : Sight) (from : ℕ) (ligands : List (Option ℕ)) (turns : Turns) : Type 0 where
-  pub each : (mark : List ℕ → Option Descriptor) → Some turns
-      ≡ turns_of (pair_sides (seen_sides sight from mark true) ligands)
-      (pair_sides (seen_sides sight from mark false) ligands)

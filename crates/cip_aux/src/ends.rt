@@ -11,14 +11,13 @@ ghost use Rattle.cip_aux.specs.Turned.{both_turns, listed, Joins, EndsJoin, far_
 
 use crate::inner::Inner;
 use crate::neighbours::{ligands_at, real_child};
-use crate::turns::{Turns, early_turns, turns_by};
+use crate::turns::{Turns, turns_from};
 use crate::viewer::Viewer;
 use cip_digraph::Nodes;
 use cip_mol::{Ligands, Site};
 use std::alloc::{AllocError, Global};
 
-// The turns of a root's ligands, seen from its node: by the first spheres around it where they tell, and else with the
-// descriptors that count.
+// The turns of a root's ligands, seen from its node: by a part of the digraph where that tells, and else by all of it.
 fn turns_at<N: Nodes, V: Viewer>(
     alloc: Global,
     inner: &Inner<'_, N>,
@@ -34,11 +33,12 @@ fn turns_at<N: Nodes, V: Viewer>(
     let whole = inner.whole();
     let numbers = ligands_at(alloc, whole.nodes(), node, ligands)?;
     let ligands = numbers.as_slice();
-    if let Some(turns) = early_turns(alloc, whole, viewer, node, ligands)? {
-        return Ok(Some(turns));
+    if let Some(sides) = viewer.look(alloc, inner, node, ligands)? {
+        return Ok(turns_from(&sides));
     }
     viewer.see(inner, node);
-    turns_by(alloc, whole, viewer, ligands)
+    let sides = viewer.decide(alloc, whole, ligands)?;
+    Ok(turns_from(&sides))
 }
 
 fn both(one: Turns, other: Option<Turns>) -> Option<Turns>

@@ -6,7 +6,7 @@ ghost use Rattle.cip_mol.specs.declared.descriptor.Descriptor.{Descriptor};
 ghost use Rattle.cip_aux.specs.Early.{AreEarly};
 ghost use Rattle.cip_aux.specs.Inner.{AgreesInside, Ready};
 ghost use Rattle.cip_aux.specs.Sides.{pair_sides};
-ghost use Rattle.cip_aux.specs.Sights.{Sight, SidesAre, IsReal, sight_of};
+ghost use Rattle.cip_aux.specs.Sights.{Sight, SidesAre, sight_of};
 
 use crate::inner::Inner;
 use crate::whole::Whole;
@@ -32,19 +32,20 @@ pub trait Viewer {
     /// How two nodes stand in the last look, with R or S first in the last rule.
     ghost sides: { Self → Sight → Bool → ℕ → ℕ → Option Ordering };
 
-    /// Which of each two ligands of a real node precedes, as far as the first spheres around it tell whichever
-    /// descriptors there are.
-    fn near<N: Nodes>(
+    /// Which of each two ligands of a real node precedes, with the descriptors that count at another one, where a part
+    /// of the digraph tells.
+    fn look<N: Nodes>(
         &mut self,
         alloc: Global,
-        whole: &Whole<'_, N>,
+        inner: &Inner<'_, N>,
         node: u32,
         ligands: &[Option<u32>],
-    ) -> Result<Vec<Option<Ordering>>, AllocError>
-        requires room { length whole.now.told ≤ room self.old }
-        requires real { IsReal (sight_of whole.now).nodes node }
+    ) -> Result<Option<BothSides>, AllocError>
+        requires room { length inner.now.sight.told ≤ room self.old }
+        requires ready { Ready inner.now node }
         ensures room { room self.new ≡ room self.old }
-        ensures early { IfOk result (λ found. AreEarly (sight_of whole.now) node ligands.now found.items) };
+        ensures early { IfOk result (λ found. IfSome found (λ sides.
+            AreEarly inner.now node ligands.now sides.natural.items sides.turned.items)) };
 
     /// Looks from a real node, with the descriptors that count at another one.
     fn see<N: Nodes>(&mut self, inner: &Inner<'_, N>, node: u32)

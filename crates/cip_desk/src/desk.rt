@@ -19,6 +19,7 @@ use cip_inside::{Sights, descriptors_inside};
 use cip_label::{Digraphs, Ranking, Setting};
 use cip_mol::{Ligand, Ligands};
 use cip_pairs::Descriptors;
+use cip_pruned::Pruner;
 use cip_steps::Steps;
 use cip_views::Views;
 use std::alloc::{AllocError, Global};
@@ -60,6 +61,7 @@ impl Digraphs for Desk {
             work: Work::reserve(alloc, nodes)?,
             sights: Sights {
                 views: Views::reserve(alloc, nodes)?,
+                pruner: Pruner::reserve(alloc, nodes)?,
             },
             marks: Descriptors::reserve(alloc, nodes)?,
             branches: Branches::reserve(alloc)?,

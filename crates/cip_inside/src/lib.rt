@@ -2,6 +2,7 @@
 #![tactic(auto)]
 
 mod asking;
+mod below;
 mod inside;
 mod near;
 mod sights;

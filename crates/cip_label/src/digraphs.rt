@@ -1,5 +1,5 @@
 // What is found of the digraph of a root.
-ghost use Rattle.std.specs.Prelude.{◌≡◌, ◌≤◌, ◌∷◌, [], ℕ, Bool, IfOk, Option};
+ghost use Rattle.std.specs.Prelude.{◌≡◌, ◌≤◌, ◌^◌, ◌∷◌, [], ℕ, Bool, IfOk, IsErr, Option};
 ghost use Rattle.cip_digraph.specs.declared.decision.Decision as decisions;
 ghost use Rattle.cip_digraph.specs.units.Ends.{end_at};
 ghost use Rattle.cip_label.specs.Fitting.{IsFit};
@@ -33,9 +33,10 @@ pub trait Digraphs {
     /// whether R is above S by the last rule.
     ghost standing: { Self → Bool → ℕ → ℕ → Option decisions.Decision };
 
-    /// Takes memory for at most so many nodes of each digraph.
+    /// Takes memory for at most so many nodes of each digraph. For 2^31 nodes and more there is none.
     fn reserve(alloc: Global, nodes: u32) -> Result<Self, AllocError>
-        ensures { IfOk result (λ digraphs. bound digraphs ≡ nodes) };
+        ensures room { IfOk result (λ digraphs. bound digraphs ≡ nodes) }
+        ensures many { 2 ^ 31 ≤ nodes → IsErr result };
 
     /// Grows the digraph of a root as far as its ligands need, and ranks them.
     fn rank<L: Ledger>(

@@ -1,5 +1,5 @@
 // Memory in which units are labelled, one after the other.
-ghost use Rattle.std.specs.Prelude.{◌≡◌, ◌<◌, ◌≤◌, ◌∷◌, [], IfOk, Some, length, slice_get};
+ghost use Rattle.std.specs.Prelude.{◌≡◌, ◌<◌, ◌≤◌, ◌^◌, ◌∷◌, [], IfOk, IsErr, Some, length, slice_get};
 ghost use Rattle.cip_mol.specs.declared.site.Unit as units;
 ghost use Rattle.cip_digraph.specs.units.Ends.{end_at};
 ghost use Rattle.cip_label.specs.Fitting.{IsFit};
@@ -35,10 +35,11 @@ impl<D: Digraphs> Model for Labeller<D> {
 }
 
 impl<D: Digraphs> Labeller<D> {
-    /// Takes memory for digraphs of at most so many nodes.
+    /// Takes memory for digraphs of at most so many nodes. For 2^31 nodes and more there is none.
     pub fn reserve(alloc: Global, nodes: u32) -> Result<Labeller<D>, AllocError>
         requires some { 1 ≤ nodes }
-        ensures { IfOk result (λ labeller. labeller ≡ nodes) }
+        ensures room { IfOk result (λ labeller. labeller ≡ nodes) }
+        ensures many { 2 ^ 31 ≤ nodes → IsErr result }
     {
         Ok(Labeller {
             digraphs: D::reserve(alloc, nodes)?,

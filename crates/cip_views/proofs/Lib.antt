@@ -6,6 +6,7 @@ pub mod MovedOrders
 pub mod NearViews
 pub mod Noted
 pub mod PathEnds
+pub mod Reaching
 pub mod Ready
 pub mod RuleSteps
 pub mod RulesInTurn

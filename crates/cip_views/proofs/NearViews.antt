@@ -16,7 +16,6 @@ use Rattle.cip_rank.proofs.Embedded.{embedded_comparison}
 use Rattle.cip_mol.specs.declared.descriptor.Descriptor.{Descriptor}
 use Rattle.cip_mol.specs.declared.outcome.Rule.TheVariants.{R1a, R1b, R2, R3, R4a, R4b, R4c, R5}
 use Rattle.cip_digraph.specs.declared.nodes.Told.{Told}
-use Rattle.cip_digraph.specs.outcome.Deciding.{nodes_below}
 use Rattle.cip_digraph.specs.rules.Decisions.{first_difference, or_else, difference_by, first_decision, order}
 use Rattle.cip_digraph.specs.digraph.Digraph.{Node, is_real}
 use Rattle.cip_digraph.specs.graph.Graph.{Graph}
@@ -26,7 +25,6 @@ use Rattle.cip_digraph.specs.rules.Orders.{Seen, all_tie, rule_1a}
 use Rattle.cip_digraph.specs.graph.SoundGraphs.{IsSound}
 use Rattle.cip_digraph.specs.digraph.Telling.{node_at}
 use Rattle.cip_digraph.specs.digraph.View.{apart, real_at, view_children, height_below, seen_from}
-use Rattle.cip_digraph.proofs.BranchesEnd.{one_further, split_all}
 use Rattle.cip_digraph.proofs.ExchangedOrders.{found_at, all_tie_total}
 use Rattle.cip_digraph.proofs.Lists.{all_by}
 use Rattle.cip_reroot.specs.View.{View, IsCut}
@@ -36,12 +34,12 @@ use Rattle.cip_views.specs.Near.{near_keys, near_depths, found_near}
 use Rattle.cip_views.specs.Whole.{IsTold}
 use Rattle.cip_views.proofs.FoundWithin.{first_split, decided_else}
 use Rattle.cip_views.proofs.Members.{all_images, child_has}
-use Rattle.cip_views.proofs.PathEnds.{apart_itself}
+use Rattle.cip_views.proofs.Reaching.{height_reached}
 use Rattle.cip_views.proofs.RuleSteps.{zeros_at, zeros_tie}
 use Rattle.cip_views.proofs.RulesInTurn.{first_by}
 use Rattle.cip_views.proofs.SeenChildren.{seen_are}
-use Rattle.cip_views.proofs.SeenSpheres.{map_map, IsNext, all_next}
-use Rattle.cip_views.proofs.Spheres.{sphere_root, sphere_next, rises}
+use Rattle.cip_views.proofs.SeenSpheres.{map_map}
+use Rattle.cip_views.proofs.Spheres.{sphere_next, rises}
 use Rattle.cip_views.proofs.Standing.{real_is, few}
 
 -- comparisons that agree below a depth
@@ -51,35 +49,6 @@ same_below f g zero s same = refl
 same_below f g (suc m) s same =
     ap (found_at s (first_difference f (s + 1) m)) (same s (omega arith) (omega arith))
     ∙ ap (λ later. found_at s later (g s)) (same_below f g m (s + 1) (λ d low high. same d (omega arith) (omega arith)))
-
--- what holds of each node so many spheres below
-module _ {N : Type 0} (below : N → List N) where
-  none_below : (s : ℕ) → nodes_below below s [] ≡ []
-  none_below zero = refl
-  none_below (suc s) = ap (flat_map below) (none_below s)
-
-  all_each : (P : N → Type 0) (ns : List N) → AllByRecursion P (flat_map below ns)
-      → AllByRecursion (λ n. AllByRecursion P (below n)) ns
-  all_each P [] all = tt
-  all_each P (n ∷ ns) all = let both = split_all below P (below n) (flat_map below ns) all in
-      (both.0, all_each P ns both.1)
-
-  abbrev further : ℕ → List N → ℕ
-  further more next = elim next as (λ _. ℕ) [ [] ↦ 0 | node ∷ others ↦ more + 1 ]
-
-  at_least_by : (s more : ℕ) (next : List N) → (next ≡ [] → ⊥) → s ≤ more → suc s ≤ further more next
-  at_least_by s more [] some le = absurd (some refl)
-  at_least_by s more (n ∷ ns) some le = omega arith
-
-  -- where there are nodes so many spheres below, the height is at least that
-  at_least : (s most : ℕ) (ns : List N) → s ≤ most → (nodes_below below s ns ≡ [] → ⊥) → s ≤ height_below below most ns
-  at_least zero most ns le some = omega arith
-  at_least (suc s) zero ns le some = absurd (omega arith)
-  at_least (suc s) (suc most) ns le some =
-      let next = flat_map below ns in
-      at_least_by s (height_below below most next) next
-      (λ e. some (one_further below s ns ∙ ap (nodes_below below s) e ∙ none_below s))
-      (at_least s most next (omega arith) (λ e. some (one_further below s ns ∙ e)))
 
 kept_near : (near rest later : Option Decision)
     → kept_or near (kept_or (kept_or near rest) later) ≡ kept_or (kept_or near rest) later
@@ -108,95 +77,28 @@ module _ (graph : Graph) (positions : List (List ℕ)) (root : ℕ) (nodes : Lis
       ∙ seen_are graph positions root nodes (parents_of all) is_told.whole sound from
       (omega (arith, inside, is_told.len)) real (slice_index view.originals n) (cut.originals n (omega arith))
 
-  next_there : (n : ℕ) → 0 < n → n < length view.tree → IsNext path (there (slice_index view.tree n)) (there n)
-  next_there n some h =
+  next_has : (P : Node → Type 0) (n : ℕ) → 0 < n → n < length view.tree
+      → AllByRecursion P (view_children graph positions path (there (slice_index view.tree n))) → P (there n)
+  next_has P n some h all =
       let m = slice_index view.tree n in
-      child_has (λ c. IsNext path (there m) (there c)) view.tree m n some h refl
-      (all_images (IsNext path (there m)) there (children_of view.tree m)
-      (subst (AllByRecursion (IsNext path (there m))) (sym (children_there m (cut.parents n some h)))
-      (all_next graph positions path (there m))))
-
-  sphere_by : (most n : ℕ) → n < most → n < length view.tree → is_real (there n).kind ≡ true
-      → at n ≡ apart path (there n).path
-  sphere_by zero n short h r = absurd (omega arith)
-  sphere_by (suc most) n short h r = elim (cases_order 0 n) [
-    | inl first ↦
-        ap (slice_index (spheres_of view.tree)) (sym first) ∙ sphere_root view.tree
-        ∙ sym
-        (ap (λ k. apart path (there k).path) (sym first) ∙ ap (λ k. apart path (node_at nodes k).path) cut.root
-        ∙ apart_itself path)
-    | inr (inl some) ↦
-        let behind : slice_index view.tree n < n = cut.is_tree.behind n some h in
-        let next = next_there n some h in
-        omega (
-          arith,
-          sphere_next view.tree cut.is_tree n some h,
-          sphere_by most (slice_index view.tree n) (omega arith)
-              (omega arith) next.real,
-          next.further r,
-        )
-    | inr (inr less) ↦ absurd (omega arith)
-  ]
-
-  sphere_few : root < length graph.vertices → (n : ℕ) → n < length view.tree → at n ≤ 2 * length graph.vertices + 2
-  sphere_few lt n h = elim (cases_order 0 n) [
-    | inl first ↦ omega (arith, sphere_root view.tree, ap (slice_index (spheres_of view.tree)) first)
-    | inr (inl some) ↦
-        let m = slice_index view.tree n in
-        let behind : m < n = cut.is_tree.behind n some h in
-        let near : length path ≤ length graph.vertices =
-        few graph positions root nodes (parents_of all) is_told.whole sound lt from
-        (omega (arith, inside, is_told.len)) in
-        let far : length (there m).path ≤ length graph.vertices =
-        few graph positions root nodes (parents_of all) is_told.whole sound lt (slice_index view.originals m)
-        (cut.originals m (omega arith)) in
-        omega (
-          arith,
-          sphere_next view.tree cut.is_tree n some h,
-          sphere_by (m + 1) m (omega arith) (omega arith)
-              (next_there n some h).real,
-          near,
-          far,
-        )
-    | inr (inr less) ↦ absurd (omega arith)
-  ]
-
-  -- each node of the cut view is among the nodes so many spheres below its root
-  reaches : (P : Node → Type 0) (s n : ℕ) → n < length view.tree → at n ≡ s
-      → AllByRecursion P (nodes_below (view_children graph positions path) s (there 0 ∷ [])) → P (there n)
-  reaches P zero n h e all = elim (cases_order 0 n) [
-    | inl first ↦ subst (λ k. P (there k)) first all.0
-    | inr (inl some) ↦ absurd (omega (arith, sphere_next view.tree cut.is_tree n some h, e))
-    | inr (inr less) ↦ absurd (omega arith)
-  ]
-  reaches P (suc s) n h e all = elim (cases_order 0 n) [
-    | inl first ↦ absurd (omega (arith, sphere_root view.tree, ap (slice_index (spheres_of view.tree)) first, e))
-    | inr (inl some) ↦
-        let m = slice_index view.tree n in
-        let behind : m < n = cut.is_tree.behind n some h in
-        let below : AllByRecursion P (view_children graph positions path (there m)) =
-        reaches (λ node. AllByRecursion P (view_children graph positions path node)) s m (omega arith)
-        (omega (arith, sphere_next view.tree cut.is_tree n some h, e))
-        (all_each (view_children graph positions path) P
-        (nodes_below (view_children graph positions path) s (there 0 ∷ [])) all) in
-        child_has (λ c. P (there c)) view.tree m n some h refl
-        (all_images P there (children_of view.tree m)
-        (subst (AllByRecursion P) (sym (children_there m (cut.parents n some h))) below))
-    | inr (inr less) ↦ absurd (omega arith)
-  ]
+      child_has (λ c. P (there c)) view.tree m n some h refl
+      (all_images P there (children_of view.tree m)
+      (subst (AllByRecursion P) (sym (children_there m (cut.parents n some h))) all))
 
   height_low : root < length graph.vertices → (n : ℕ) → n < length view.tree
       → at n ≤ height_below (view_children graph positions path) (2 * length graph.vertices + 2) (real_at path ∷ [])
   height_low lt n h =
-      let most = 2 * length graph.vertices + 2 in
-      let is =
-      real_is graph positions root nodes (parents_of all) is_told.whole from (omega (arith, inside, is_told.len))
-      real in
+      let count = length graph.vertices in
+      let within : from < length (parents_of all) = omega (arith, inside, is_told.len) in
+      let is = real_is graph positions root nodes (parents_of all) is_told.whole from within real in
       let first : there 0 ≡ real_at path =
       ap (node_at nodes) cut.root ∙ is.is ∙ ap (λ (node : Node). real_at node.path) (sym is.is) in
-      subst (λ node. at n ≤ height_below (view_children graph positions path) most (node ∷ [])) first
-      (at_least (view_children graph positions path) (at n) most (there 0 ∷ []) (sphere_few lt n h)
-      (λ none. reaches (λ node. ⊥) (at n) n h refl (subst (AllByRecursion (λ node. ⊥)) (sym none) tt)))
+      subst (λ node. at n ≤ height_below (view_children graph positions path) (2 * count + 2) (node ∷ [])) first
+      (height_reached graph positions path view.tree cut.is_tree there (ap (λ k. (node_at nodes k).path) cut.root)
+      next_has count
+      (λ k low. few graph positions root nodes (parents_of all) is_told.whole sound lt (slice_index view.originals k)
+      (cut.originals k low))
+      (few graph positions root nodes (parents_of all) is_told.whole sound lt from within) n h)
 
   -- so many further spheres of a node are there
   abbrev HasSpheres : ℕ → ℕ → Type 0

@@ -28,11 +28,11 @@ use Rattle.cip_views.proofs.MovedOrders.{moved_order}
 use Rattle.cip_views.proofs.SeenSpheres.{children_there, sphere_of_real, height_there}
 use Rattle.cip_views.proofs.Standing.{hangs}
 
-real_path : (path : List ℕ) → (real_at path).path ≡ path
+pub real_path : (path : List ℕ) → (real_at path).path ≡ path
 real_path [] = refl
 real_path (vertex ∷ up) = refl
 
-real_kind : (path : List ℕ) → is_real (real_at path).kind ≡ true
+pub real_kind : (path : List ℕ) → is_real (real_at path).kind ≡ true
 real_kind [] = refl
 real_kind (vertex ∷ up) = refl
 

@@ -96,7 +96,7 @@ all_any P f (x ∷ xs) = (f x, all_any P f xs)
 module _ (parents : List ℕ) (tree : IsTree parents)
     (ordered : (m n : ℕ) → m ≤ n → n < length parents → slice_index parents m ≤ slice_index parents n) where
   -- a branch ends within the spheres that are left
-  branch_ends : (depth n : ℕ) → n < length parents → height_of parents ≤ slice_index (spheres_of parents) n + depth
+  pub branch_ends : (depth n : ℕ) → n < length parents → height_of parents ≤ slice_index (spheres_of parents) n + depth
       → EndsWithin (children_of parents) depth n
   branch_ends zero n h far =
       no_child (children_of parents n) (all_by (IsChild parents n) (λ c. ⊥)

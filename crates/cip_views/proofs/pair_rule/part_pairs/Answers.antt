@@ -11,5 +11,6 @@ loop-one-preserved c = record {
       ∙ mapped_more
       (with_found (found_in_pairs c.args.table.now.parents c.args.earlier.now.numbers c.args.marks.now.marks))
       c.args.asked.now c.loop-one.asked c.loop-one.one-index _ c.loop-one.invariant.found (omega arith);
+  ranked = c.parted.ensures.ranked;
   bound = c.parted.ensures.bound ∙ c.loop-one.invariant.bound;
 }

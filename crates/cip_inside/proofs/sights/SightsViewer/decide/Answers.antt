@@ -1,11 +1,14 @@
-use Rattle.std.proofs.Common.{◌<◌, ◌∙◌, true, false, List, refl, sym, ap, subst, length, map, All, IfSome}
+use Rattle.std.proofs.Common.{◌≡◌, ◌<◌, ◌∙◌, true, false, List, refl, sym, ap, subst, length, map, All, IfSome}
 use Rattle.std.proofs.lemmas.List.Elements.{All-from_recursion}
 use Rattle.cip_digraph.specs.declared.nodes.Told.{Told}
 use Rattle.cip_digraph.proofs.Lists.{by_recursion}
 use Rattle.cip_views.specs.Asking.{AreWithin, with_found}
 use Rattle.cip_views.specs.Finding.{found_by_all}
 use Rattle.cip_views.specs.TableView.{seen_in_table}
-use Rattle.cip_inside.specs.Asking.{asked_pairs, side_at}
+use Rattle.cip_aux.specs.declared.viewer.BothSides.{BothSides}
+use Rattle.cip_aux.specs.Sides.{pair_sides}
+use Rattle.cip_aux.proofs.NodeMarks.{ok_by}
+use Rattle.cip_inside.specs.Asking.{asked_pairs, side_at, table_sides}
 use Rattle.cip_inside.proofs.AskedPairs.{low_ligands, pairs_within, pairs_found}
 use Rattle.cip_inside.proofs.sights.SightsViewer.decide.Goals as goal
 
@@ -40,11 +43,15 @@ returns-clause-natural g c =
     let view = c.args.self.now.views.view in
     let marks = c.args.self.now.views.marks in
     let asked = c.as_mut_slice-asked.ensures.value ∙ c.in_ok-pairs.ensures in
-    c.in_ok-sides.ensures
+    ok_by (λ (found : BothSides). found.natural.items ≡ map side_at c.decide_both_ways.new.asked)
+    (λ found. found.natural.items
+    ≡ pair_sides (table_sides whole.rules whole.told marks view true) c.args.ligands.now) c.both.result
+    (λ found e. e
     ∙ ap (map side_at) (c.decide_both_ways.ensures.decided
     ∙ (λ i. map (with_found (found_by_all
     (seen_in_table (c.rules.ensures i) (c.nodes-nodes.ensures.told i) marks view) true)) (asked i)))
-    ∙ pairs_found (seen_in_table whole.rules whole.told marks view) view.places true c.args.ligands.now
+    ∙ pairs_found (seen_in_table whole.rules whole.told marks view) view.places true c.args.ligands.now)
+    c.both.ensures.natural
 
 pub returns-clause-turned : goal.returns-clause-turned
 returns-clause-turned g c =
@@ -52,8 +59,12 @@ returns-clause-turned g c =
     let view = c.args.self.now.views.view in
     let marks = c.args.self.now.views.marks in
     let asked = c.as_mut_slice-asked.ensures.value ∙ c.in_ok-pairs.ensures in
-    c.in_ok-sides-2.ensures
+    ok_by (λ (found : BothSides). found.turned.items ≡ map side_at c.decide_both_ways.new.turned)
+    (λ found. found.turned.items
+    ≡ pair_sides (table_sides whole.rules whole.told marks view false) c.args.ligands.now) c.both.result
+    (λ found e. e
     ∙ ap (map side_at) (c.decide_both_ways.ensures.turned
     ∙ (λ i. map (with_found (found_by_all
     (seen_in_table (c.rules.ensures i) (c.nodes-nodes.ensures.told i) marks view) false)) (asked i)))
-    ∙ pairs_found (seen_in_table whole.rules whole.told marks view) view.places false c.args.ligands.now
+    ∙ pairs_found (seen_in_table whole.rules whole.told marks view) view.places false c.args.ligands.now)
+    c.both.ensures.turned

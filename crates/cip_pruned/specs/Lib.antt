@@ -1,0 +1,4 @@
+pub mod Growing
+pub mod Laws
+pub mod PrunerColumns
+pub mod Pruning
