@@ -1,0 +1,19 @@
+// Work that any thread can do.
+ghost use Rattle.std.specs.Prelude.{◌≡◌, IfOk};
+
+use std::alloc::AllocError;
+
+/// A piece of work that any thread can do.
+pub trait Job {
+    type Out: Send + Drop;
+
+    /// What a worker keeps from job to job, as memory that was reserved. It changes no answer.
+    type Desk: Send + Drop;
+
+    /// What the work answers.
+    ghost answer: { Self → Self.Out };
+
+    /// Does the work at a desk, whatever was done there before. Only want of memory refuses it.
+    fn work(&self, desk: &mut Self::Desk) -> Result<Self::Out, AllocError>
+        ensures { IfOk result (λ out. out ≡ answer self.now) };
+}

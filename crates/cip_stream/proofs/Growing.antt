@@ -1,0 +1,128 @@
+-- Records that are answered one after the other.
+use Rattle.std.proofs.Common.{Bool, Result, Ok, Err, ◌≡◌, ◌+◌, ℕ, suc, List, [], ◌∷◌, ◌++◌, length, Option, Some, None, refl, sym, ◌∙◌, ap, arith, add-zero, append_assoc, append-nil, length-append, take, ◌||◌}
+use Rattle.std.proofs.lemmas.List.{take-append-le}
+use Rattle.std.proofs.lemmas.List.Folds.{list_any-append}
+use Rattle.std.proofs.Math.Seq.{take-append-add}
+use Rattle.std.specs.Io.KnownBytes.{Appends}
+use Rattle.cip_io.specs.Growth.{AppendsPrefix}
+use Rattle.cip_stream.specs.declared.stop.Stop.{Stop}
+use Rattle.cip_stream.specs.declared.stop.Stop.TheVariants as stops
+use Rattle.cip_stream.specs.Manner.{Manner}
+use Rattle.cip_stream.specs.Due.{are_flagged, texts_from}
+use Rattle.cip_stream.specs.Batches.{Answers, telling, told_from}
+
+-- what a sink took
+
+pub appends_none : (old : Option (List ℕ)) → Appends old old []
+appends_none None = tt
+appends_none (Some bytes) = sym (append-nil bytes)
+
+pub appends_both : (old middle new : Option (List ℕ)) (xs ys : List ℕ) → Appends old middle xs → Appends middle new ys
+    → Appends old new (xs ++ ys)
+appends_both None middle new xs ys first second = tt
+appends_both (Some b) None new xs ys first second = absurd first
+appends_both (Some b) (Some c) None xs ys first second = absurd second
+appends_both (Some b) (Some c) (Some d) xs ys first second = second ∙ ap (λ text. text ++ ys) first
+    ∙ append_assoc b xs ys
+
+-- a front that is written behind what was written is a front of both
+pub prefix_behind : (old middle new : Option (List ℕ)) (xs ys : List ℕ) → Appends old middle xs
+    → AppendsPrefix middle new ys → AppendsPrefix old new (xs ++ ys)
+prefix_behind old middle new xs ys first second = (
+  length xs + second.0,
+  rw (length-append xs ys) (omega (arith, second.1)),
+  rw (take-append-add xs ys second.0) (appends_both old middle new xs (take second.0 ys) first second.2),
+)
+
+-- a front of a text is a front of a longer one
+pub prefix_longer : (old new : Option (List ℕ)) (text more : List ℕ) → AppendsPrefix old new text
+    → AppendsPrefix old new (text ++ more)
+prefix_longer old new text more front = (
+  front.0,
+  rw (length-append text more) (omega (arith, front.1)),
+  rw (take-append-le front.0 text more front.1) front.2,
+)
+
+-- what is due for records, and for others behind them
+
+pub flagged_both : (manner : Manner) (xs ys : List (List ℕ))
+    → are_flagged manner (xs ++ ys) ≡ are_flagged manner xs || are_flagged manner ys
+flagged_both manner xs ys = list_any-append manner.flagged xs ys
+
+pub texts_both : (manner : Manner) (number : ℕ) (xs ys : List (List ℕ))
+    → texts_from manner number (xs ++ ys)
+    ≡ texts_from manner number xs ++ texts_from manner (number + length xs) ys
+texts_both manner number [] ys = ap (λ n. texts_from manner n ys) (sym (add-zero number))
+texts_both manner number (x ∷ xs) ys =
+    let place : number + 1 + length xs ≡ number + suc (length xs) = omega arith in
+    ap (λ text. manner.text number x ++ text) (texts_both manner (number + 1) xs ys
+    ∙ ap (λ n. texts_from manner (number + 1) xs ++ texts_from manner n ys) place)
+    ∙ sym (append_assoc (manner.text number x) (texts_from manner (number + 1) xs)
+    (texts_from manner (number + suc (length xs)) ys))
+
+pub told_both : (manner : Manner) (number : ℕ) (xs ys : List (List ℕ))
+    → told_from manner number (xs ++ ys) ≡ told_from manner number xs ++ told_from manner (number + length xs) ys
+told_both manner number [] ys = ap (λ n. told_from manner n ys) (sym (add-zero number))
+told_both manner number (x ∷ xs) ys =
+    let place : number + 1 + length xs ≡ number + suc (length xs) = omega arith in
+    ap (λ told. telling manner number x ∷ told) (told_both manner (number + 1) xs ys
+    ∙ ap (λ n. told_from manner (number + 1) xs ++ told_from manner n ys) place)
+
+-- how records were answered
+
+-- the same result with what came before
+abbrev pub joined_flags : Bool → Result Bool Stop → Result Bool Stop
+joined_flags flagged (Ok more) = Ok (flagged || more)
+joined_flags flagged (Err stop) = Err stop
+
+-- records that stopped it did so whatever follows them
+pub answers_longer : (manner : Manner) (number : ℕ) (stopped more : List (List ℕ)) (stop : Stop)
+    (old new : Option (List ℕ)) → Answers manner number stopped (Err stop) old new
+    → Answers manner number (stopped ++ more) (Err stop) old new
+answers_longer manner number stopped more stops.WriteFault old new answers =
+    rw (texts_both manner number stopped more)
+    (prefix_longer old new (texts_from manner number stopped) (texts_from manner (number + length stopped) more)
+    answers)
+answers_longer manner number stopped more stops.Memory old new answers = record {
+  before = answers.before;
+  front = record {
+    more = answers.front.more ++ more;
+    joined = ap (λ records. records ++ more) answers.front.joined
+        ∙ append_assoc answers.before answers.front.more more;
+  };
+  written = answers.written;
+}
+answers_longer manner number stopped more stops.ReadFault old new answers = absurd answers
+answers_longer manner number stopped more stops.Limit old new answers = absurd answers
+
+-- records were answered behind others
+pub answers_behind : (manner : Manner) (number : ℕ) (before records : List (List ℕ)) (flagged : Bool)
+    (result : Result Bool Stop) (old middle new : Option (List ℕ)) → are_flagged manner before ≡ flagged
+    → Appends old middle (texts_from manner number before)
+    → Answers manner (number + length before) records result middle new
+    → Answers manner number (before ++ records) (joined_flags flagged result) old new
+answers_behind manner number before records flagged (Ok more) old middle new told written grew = record {
+  holds = rw (flagged_both manner before records, told, grew.holds) refl;
+  written = rw (texts_both manner number before records)
+      (appends_both old middle new (texts_from manner number before)
+      (texts_from manner (number + length before) records) written grew.written);
+}
+answers_behind manner number before records flagged (Err stops.WriteFault) old middle new told written answers =
+    rw (texts_both manner number before records)
+    (prefix_behind old middle new (texts_from manner number before)
+    (texts_from manner (number + length before) records) written answers)
+answers_behind manner number before records flagged (Err stops.Memory) old middle new told written answers = record {
+  before = before ++ answers.before;
+  front = record {
+    more = answers.front.more;
+    joined = ap (λ xs. before ++ xs) answers.front.joined
+        ∙ sym (append_assoc before answers.before answers.front.more);
+  };
+  written = rw (texts_both manner number before answers.before)
+      (appends_both old middle new (texts_from manner number before)
+      (texts_from manner (number + length before) answers.before) written answers.written);
+}
+answers_behind manner number before records flagged (Err stops.ReadFault) old middle new told written answers =
+    absurd answers
+answers_behind manner number before records flagged (Err stops.Limit) old middle new told written answers =
+    absurd answers

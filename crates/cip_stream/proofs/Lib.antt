@@ -1,0 +1,10 @@
+pub mod Answered
+pub mod Batches
+pub mod Bounds
+pub mod Counting
+pub mod Ending
+pub mod Growing
+pub mod LimitPlaces
+pub mod Progressing
+pub mod Tails
+pub mod Turning

@@ -1,0 +1,15 @@
+use Rattle.std.proofs.Common.{rules, ◌≡◌, ◌+◌, length, map, subst, sym, ap}
+use Rattle.cip_stream.specs.Batches.{told_from, telling}
+use Rattle.cip_stream.proofs.Batches.{told_pushed}
+use Rattle.cip_stream.proofs.batch.Batch.push.Goals as goal
+
+pub invariant_of-self-2 : goal.invariant_of-self-2
+invariant_of-self-2 g c =
+    let manner = g.T.Teller.manner c.self.inside.teller.now in
+    let number : c.self.inside.first + c.len.result ≡ c.self.inside.first + length c.self.inside.waiting.items =
+    search rules in
+    subst (λ jobs. map (λ w. telling (g.T.Teller.manner w.teller.now) w.number w.bytes) jobs
+    ≡ told_from manner c.self.inside.first (map (λ w. w.bytes) jobs)) (sym c.in_ok-push.ensures.items)
+    (told_pushed manner c.self.inside.first (λ w. telling (g.T.Teller.manner w.teller.now) w.number w.bytes)
+    (λ w. w.bytes) c.self.inside.waiting.items _ c.self.invariant
+    (ap (λ n. telling manner n c.args.bytes) number))

@@ -1,0 +1,18 @@
+use Rattle.std.proofs.Common.{◌≡◌, ◌≤◌, ◌<◌, length}
+use Rattle.cip_stream.proofs.Progressing.{Progress}
+use Rattle.cip_stream.proofs.streaming.answer_stream.Given as goal
+
+abbrev pub invariant-loop-batch : goal.invariant-loop-batch
+invariant-loop-batch g l = record {
+  progress : Progress (g.T.Teller.manner l.fn.teller) l.fn.limits l.room l.flagged
+      (g.S.Source.left l.fn.source) (g.S.Source.left l.source) (g.K.Sink.taken l.fn.sink) (g.K.Sink.taken l.sink)
+      l.framer l.batch.first l.batch.records;
+  teller : l.batch.teller ≡ l.fn.teller;
+  source_later : g.S.Source.faults l.fn.source ≤ g.S.Source.faults l.source;
+  sink_later : g.K.Sink.faults l.fn.sink ≤ g.K.Sink.faults l.sink;
+  piece : 0 < length l.piece.items;
+  crew : length l.crew.items ≡ l.fn.workers;
+}
+
+abbrev pub decreases-loop-batch : goal.decreases-loop-batch
+decreases-loop-batch g l = l.room

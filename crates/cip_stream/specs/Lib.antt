@@ -1,0 +1,6 @@
+pub mod Batches
+pub mod Due
+pub mod Endings
+pub mod Limits
+pub mod Manner
+pub mod Reading

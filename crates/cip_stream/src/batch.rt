@@ -1,0 +1,294 @@
+// Answering records in batches.
+ghost use Rattle.std.specs.Prelude.{◌≡◌, ◌≤◌, ◌<◌, ◌+◌, ◌-◌, ◌^◌, ◌++◌, ◌∷◌, [], ℕ, List, true, IfErr, IsErrOf, OnOk, length, map, if◌then◌else◌};
+ghost use Rattle.std.specs.Io.KnownBytes.{Appends};
+ghost use Rattle.cip_io.specs.Faults.{Rose};
+ghost use Rattle.cip_io.specs.Growth.{AppendsPrefix};
+ghost use Rattle.cip_frame.specs.Framing.{is_within};
+ghost use Rattle.cip_frame.specs.Records.{tail_of};
+ghost use Rattle.cip_stream.specs.Manner.{Manner};
+ghost use Rattle.cip_stream.specs.Batches.{Answers, AnswersFirst, AnswersTail, told_from, telling};
+
+use crate::stop::Stop;
+use crate::teller::{Teller, Told};
+use cip_batch::{Gate, Job, Worker, map_batch};
+use cip_frame::{Framer, Tail};
+use cip_io::{Sink, push_all};
+use cip_text::Bytes;
+use std::alloc::{AllocError, Global};
+use std::marker::Model;
+use std::thread::Threads;
+
+// How many records a batch has for each worker.
+const RECORDS: usize = 8;
+
+// How many bytes of records are enough for a batch: 64 MiB.
+const BYTES: u64 = 67_108_864;
+
+/// What a worker found for a record.
+#[derive(Drop)]
+pub struct Found {
+    told: Told,
+}
+
+impl Model for Found {
+    ghost use Rattle.cip_stream.specs.Batches.{Telling};
+
+    ghost Value = { Telling };
+
+    ghost view = { λ found. record { text = found.told.text.items; flagged = found.told.flagged } };
+}
+
+/// A record that waits for its answer.
+#[derive(Drop)]
+pub struct Waiting<'a, T: Teller> {
+    teller: &'a T,
+    alloc: Global,
+    number: u64,
+    bytes: Bytes,
+    ghost short: { length bytes < 2 ^ 32 - 1 },
+}
+
+impl<'a, T: Teller> Job for Waiting<'a, T> {
+    type Out = Found;
+
+    type Desk = T::Desk;
+
+    ghost answer = { λ job. telling (T.manner job.teller.now) job.number job.bytes };
+
+    fn work(&self, desk: &mut T::Desk) -> Result<Found, AllocError> {
+        let told = self
+            .teller
+            .tell(self.alloc, desk, self.number, self.bytes.as_slice())?;
+        Ok(Found { told })
+    }
+}
+
+/// The records that wait for their answers.
+#[derive(Drop)]
+pub struct Batch<'a, T: Teller> {
+    teller: &'a T,
+    alloc: Global,
+    first: u64,
+    waiting: Vec<Waiting<'a, T>>,
+    bytes: u64,
+    full: usize,
+}
+
+impl<'a, T: Teller> Model for Batch<'a, T> {
+    ghost use Rattle.std.specs.Prelude.{◌≡◌, List, ℕ, map};
+    ghost use Rattle.cip_stream.specs.Batches.{Gathered, told_from, telling};
+
+    ghost Value = { Gathered T };
+
+    ghost view = { λ b. record {
+      teller = b.teller.now;
+      first = b.first;
+      records = map (λ w. w.bytes) b.waiting.items;
+    } };
+
+    ghost invariant = { λ b. map (λ w. telling (T.manner w.teller.now) w.number w.bytes) b.waiting.items
+        ≡ told_from (T.manner b.teller.now) b.first (map (λ w. w.bytes) b.waiting.items) };
+}
+
+impl<'a, T: Teller + Sync> Batch<'a, T> {
+    /// A batch for so many workers, whose first record has the number 1. It takes no memory.
+    pub fn new(alloc: Global, teller: &'a T, workers: u8) -> Batch<'a, T>
+        ensures { result ≡ record { teller = teller.now; first = 1; records = [] } }
+    {
+        Batch {
+            teller,
+            alloc,
+            first: 1,
+            waiting: Vec::new(alloc),
+            bytes: 0,
+            full: RECORDS * workers as usize,
+        }
+    }
+
+    fn is_full(&self) -> bool {
+        self.waiting.len() >= self.full || self.bytes >= BYTES
+    }
+
+    // Puts a record behind the others.
+    fn push(&mut self, bytes: Bytes) -> Result<(), AllocError>
+        requires short { length bytes < 2 ^ 32 - 1 }
+        requires room { self.old.first + length self.old.records < 2 ^ 64 - 1 }
+        ensures pushed { OnOk result (self.new ≡ record self.old { records = self.old.records ++ bytes ∷ [] }) }
+        ensures teller { self.new.teller ≡ self.old.teller }
+    {
+        let number = self.first + self.waiting.len() as u64;
+        self.bytes = self.bytes.saturating_add(bytes.as_slice().len() as u64);
+        self.waiting.push(Waiting {
+            teller: self.teller,
+            alloc: self.alloc,
+            number,
+            bytes,
+        })?;
+        Ok(())
+    }
+}
+
+/// Takes the records that wait in the framer, and answers each batch that is full. Says whether an answered record is
+/// flagged.
+pub fn answer_waiting<'a, R: Threads + Sync, G: Gate + Sync, T: Teller + Sync, K: Sink>(
+    rt: &R,
+    alloc: Global,
+    gate: &G,
+    workers: &mut [Worker<T::Desk, Found>],
+    framer: &mut Framer,
+    batch: &mut Batch<'a, T>,
+    sink: &mut K,
+) -> Result<bool, Stop>
+    requires limit { framer.old.limit < 2 ^ 31 }
+    requires some { 0 < length workers.old }
+    requires few { length workers.old < 2 ^ 32 }
+    requires room { batch.old.first + length (batch.old.records ++ framer.old.waiting) < 2 ^ 64 }
+    ensures answered { AnswersFirst (T.manner batch.old.teller) batch.old.first
+        (batch.old.records ++ framer.old.waiting) batch.new.first batch.new.records result
+        (K.taken sink.old) (K.taken sink.new) }
+    ensures emptied { OnOk result (framer.new ≡ record framer.old { waiting = [] }) }
+    ensures teller { batch.new.teller ≡ batch.old.teller }
+    ensures workers { length workers.new ≡ length workers.old }
+    ensures fault { IsErrOf result Stop.WriteFault → Rose (K.faults sink.old) (K.faults sink.new) }
+    ensures later { K.faults sink.old ≤ K.faults sink.new }
+{
+    let mut flagged = false;
+    while let Some(next) = framer.next() {
+        flagged |= take_record(rt, alloc, gate, workers, next.bytes, batch, sink)?;
+    }
+    Ok(flagged)
+}
+
+// Puts a record into the batch, and answers the batch where it is full then.
+fn take_record<'a, R: Threads + Sync, G: Gate + Sync, T: Teller + Sync, K: Sink>(
+    rt: &R,
+    alloc: Global,
+    gate: &G,
+    workers: &mut [Worker<T::Desk, Found>],
+    bytes: Bytes,
+    batch: &mut Batch<'a, T>,
+    sink: &mut K,
+) -> Result<bool, Stop>
+    requires short { length bytes < 2 ^ 32 - 1 }
+    requires some { 0 < length workers.old }
+    requires few { length workers.old < 2 ^ 32 }
+    requires room { batch.old.first + length batch.old.records < 2 ^ 64 - 1 }
+    ensures answered { AnswersFirst (T.manner batch.old.teller) batch.old.first (batch.old.records ++ bytes ∷ [])
+        batch.new.first batch.new.records result (K.taken sink.old) (K.taken sink.new) }
+    ensures teller { batch.new.teller ≡ batch.old.teller }
+    ensures workers { length workers.new ≡ length workers.old }
+    ensures fault { IsErrOf result Stop.WriteFault → Rose (K.faults sink.old) (K.faults sink.new) }
+    ensures later { K.faults sink.old ≤ K.faults sink.new }
+{
+    batch.push(bytes)?;
+    if !batch.is_full() {
+        return Ok(false);
+    }
+    answer_batch(rt, alloc, gate, workers, batch, sink)
+}
+
+/// Answers the records of a batch, writes the answers in the order of the records, and empties the batch. Says whether
+/// one of them is flagged.
+pub fn answer_batch<'a, R: Threads + Sync, G: Gate + Sync, T: Teller + Sync, K: Sink>(
+    rt: &R,
+    alloc: Global,
+    gate: &G,
+    workers: &mut [Worker<T::Desk, Found>],
+    batch: &mut Batch<'a, T>,
+    sink: &mut K,
+) -> Result<bool, Stop>
+    requires some { 0 < length workers.old }
+    requires few { length workers.old < 2 ^ 32 }
+    requires room { batch.old.first + length batch.old.records < 2 ^ 64 }
+    ensures answered { Answers (T.manner batch.old.teller) batch.old.first batch.old.records result
+        (K.taken sink.old) (K.taken sink.new) }
+    ensures emptied { OnOk result (batch.new ≡ record batch.old {
+      first = batch.old.first + length batch.old.records;
+      records = [];
+    }) }
+    ensures teller { batch.new.teller ≡ batch.old.teller }
+    ensures workers { length workers.new ≡ length workers.old }
+    ensures fault { IsErrOf result Stop.WriteFault → Rose (K.faults sink.old) (K.faults sink.new) }
+    ensures later { K.faults sink.old ≤ K.faults sink.new }
+{
+    let found = map_batch(rt, alloc, &batch.waiting, workers, gate)?;
+    let flagged = write_all(&found, sink)?;
+    batch.first += batch.waiting.len() as u64;
+    batch.waiting.clear();
+    batch.bytes = 0;
+    Ok(flagged)
+}
+
+// Writes what was found for records, one after the other.
+fn write_all<K: Sink>(found: &[Found], sink: &mut K) -> Result<bool, Stop>
+    ensures answered { (manner : Manner) (number : ℕ) (records : List (List ℕ))
+        → found.now ≡ told_from manner number records
+        → Answers manner number records result (K.taken sink.old) (K.taken sink.new) }
+    ensures fault { IsErrOf result Stop.WriteFault → Rose (K.faults sink.old) (K.faults sink.new) }
+    ensures later { K.faults sink.old ≤ K.faults sink.new }
+{
+    let mut flagged = false;
+    for one in found {
+        flagged |= write(one, sink)?;
+    }
+    Ok(flagged)
+}
+
+fn write<K: Sink>(found: &Found, sink: &mut K) -> Result<bool, Stop>
+    ensures answered { (manner : Manner) (number : ℕ) (bytes : List ℕ) → found.now ≡ telling manner number bytes
+        → Answers manner number (bytes ∷ []) result (K.taken sink.old) (K.taken sink.new) }
+    ensures fault { IsErrOf result Stop.WriteFault → Rose (K.faults sink.old) (K.faults sink.new) }
+    ensures later { K.faults sink.old ≤ K.faults sink.new }
+{
+    push_all(sink, &found.told.text).map_err(|_| Stop::WriteFault)?;
+    Ok(found.told.flagged)
+}
+
+/// Answers the last batch, into which a last record without its terminator line goes, and writes blank lines behind it
+/// where they are kept. Says whether one of its records is flagged.
+pub fn answer_tail<'a, R: Threads + Sync, G: Gate + Sync, T: Teller + Sync, K: Sink>(
+    rt: &R,
+    alloc: Global,
+    gate: &G,
+    workers: &mut [Worker<T::Desk, Found>],
+    tail: Tail,
+    batch: &mut Batch<'a, T>,
+    sink: &mut K,
+) -> Result<bool, Stop>
+    requires small { is_within (2 ^ 31) tail ≡ true }
+    requires some { 0 < length workers.old }
+    requires few { length workers.old < 2 ^ 32 }
+    requires room { batch.old.first + length batch.old.records < 2 ^ 64 - 1 }
+    ensures answered { (rest : List ℕ) → tail ≡ tail_of rest
+        → AnswersTail (T.manner batch.old.teller) batch.old.first batch.old.records rest result
+        (K.taken sink.old) (K.taken sink.new) }
+    ensures fault { IsErrOf result Stop.WriteFault → Rose (K.faults sink.old) (K.faults sink.new) }
+    ensures later { K.faults sink.old ≤ K.faults sink.new }
+{
+    match tail {
+        Tail::Nothing => answer_batch(rt, alloc, gate, workers, batch, sink),
+        Tail::Blank(bytes) => {
+            let flagged = answer_batch(rt, alloc, gate, workers, batch, sink)?;
+            write_blank(batch.teller.keeps_blank(), bytes.as_slice(), sink)?;
+            Ok(flagged)
+        }
+        Tail::Last(last) => {
+            batch.push(last.bytes)?;
+            answer_batch(rt, alloc, gate, workers, batch, sink)
+        }
+    }
+}
+
+// Writes blank lines where they are kept.
+fn write_blank<K: Sink>(kept: bool, bytes: &[u8], sink: &mut K) -> Result<(), Stop>
+    ensures whole { OnOk result (Appends (K.taken sink.old) (K.taken sink.new) (if kept then bytes.now else [])) }
+    ensures stopped { IfErr result (λ stop. (stop ≡ Stop.WriteFault)
+        × AppendsPrefix (K.taken sink.old) (K.taken sink.new) (if kept then bytes.now else [])) }
+    ensures fault { IsErrOf result Stop.WriteFault → Rose (K.faults sink.old) (K.faults sink.new) }
+    ensures later { K.faults sink.old ≤ K.faults sink.new }
+{
+    if !kept {
+        return Ok(());
+    }
+    push_all(sink, bytes).map_err(|_| Stop::WriteFault)
+}

@@ -1,0 +1,16 @@
+//! Streams of records, read within limits and answered in batches by whoever tells of each record.
+#![tactic(auto)]
+
+mod batch;
+mod limits;
+mod reading;
+mod stop;
+mod streaming;
+mod teller;
+#[cfg(test)]
+mod tests;
+
+pub use limits::{LIMITS, Limits};
+pub use stop::Stop;
+pub use streaming::answer_stream;
+pub use teller::{Teller, Told};

@@ -1,0 +1,94 @@
+// Answering a whole stream.
+ghost use Rattle.std.specs.Prelude.{◌≡◌, ◌<◌, ◌+◌, ◌^◌, IfOk, IfSome, IsErrOf, IsOk, length};
+ghost use Rattle.std.specs.Io.KnownBytes.{IsAtEnd};
+ghost use Rattle.cip_io.specs.Faults.{Rose};
+ghost use Rattle.cip_stream.specs.Endings.{EndsAs, AnswersTaken};
+ghost use Rattle.cip_stream.specs.Reading.{TakesAtMost};
+
+use crate::batch::{Batch, Found, answer_batch, answer_tail, answer_waiting};
+use crate::limits::Limits;
+use crate::reading::{Turn, feed_next, new_piece};
+use crate::stop::Stop;
+use crate::teller::Teller;
+use cip_batch::{Gate, Worker};
+use cip_frame::Framer;
+use cip_io::{Sink, Source};
+use std::alloc::{AllocError, Global};
+use std::thread::Threads;
+
+/// Reads the source to its end, or to the first byte past a limit, and writes what is told of its records, batch by
+/// batch. Says whether a record is flagged. The number of workers and the gate change nothing that is written.
+pub fn answer_stream<R: Threads + Sync, G: Gate + Sync, T: Teller + Sync, S: Source, K: Sink>(
+    rt: &R,
+    alloc: Global,
+    teller: &T,
+    limits: Limits,
+    workers: u8,
+    gate: &G,
+    source: &mut S,
+    sink: &mut K,
+) -> Result<bool, Stop>
+    requires record { limits.record < 2 ^ 31 }
+    requires input { limits.input < 2 ^ 63 }
+    requires some { 0 < workers }
+    ensures ended { IfSome (S.left source.old) (EndsAs (T.manner teller.now) limits result
+        (K.taken sink.old) (K.taken sink.new)) }
+    ensures whole { IsOk result → IsAtEnd (S.left source.new) }
+    ensures read_fault { IsErrOf result Stop.ReadFault → AnswersTaken (T.manner teller.now) limits
+        (S.left source.old) (S.left source.new) (K.taken sink.old) (K.taken sink.new) }
+    ensures bounded { TakesAtMost (limits.input + 1) (S.left source.old) (S.left source.new) }
+    ensures source_fault { IsErrOf result Stop.ReadFault → Rose (S.faults source.old) (S.faults source.new) }
+    ensures sink_fault { IsErrOf result Stop.WriteFault → Rose (K.faults sink.old) (K.faults sink.new) }
+{
+    let mut crew = new_crew(alloc, teller, workers)?;
+    let mut piece = new_piece(alloc)?;
+    let mut framer = Framer::new(alloc, limits.record);
+    let mut batch = Batch::new(alloc, teller, workers);
+    let mut room = limits.input;
+    let mut flagged = false;
+    loop {
+        match feed_next(source, &mut piece, &mut framer, room)? {
+            Turn::Piece(count) => {
+                flagged |= answer_waiting(
+                    rt,
+                    alloc,
+                    gate,
+                    &mut crew,
+                    &mut framer,
+                    &mut batch,
+                    sink,
+                )?;
+                room -= count;
+            }
+            Turn::End => {
+                let tail = framer.finish();
+                flagged |= answer_tail(rt, alloc, gate, &mut crew, tail, &mut batch, sink)?;
+                return Ok(flagged);
+            }
+            Turn::Fault => {
+                answer_batch(rt, alloc, gate, &mut crew, &mut batch, sink)?;
+                return Err(Stop::ReadFault);
+            }
+            Turn::Limit => {
+                answer_waiting(rt, alloc, gate, &mut crew, &mut framer, &mut batch, sink)?;
+                answer_batch(rt, alloc, gate, &mut crew, &mut batch, sink)?;
+                return Err(Stop::Limit);
+            }
+        }
+    }
+}
+
+// So many workers, each with a desk of its own.
+fn new_crew<T: Teller>(
+    alloc: Global,
+    teller: &T,
+    count: u8,
+) -> Result<Vec<Worker<T::Desk, Found>>, AllocError>
+    ensures { IfOk result (λ v. length v.items ≡ count) }
+{
+    let mut crew = Vec::with_capacity(alloc, count as usize)?;
+    while crew.len() < count as usize {
+        crew.push(Worker::new(alloc, teller.new_desk(alloc)?))?;
+    }
+    Ok(crew)
+}
