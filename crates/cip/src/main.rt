@@ -30,5 +30,5 @@ fn main(rt: HostRuntime) -> ExitCode {
         // Words that aren't text are refused, as an empty list of words is.
         Err(_) => Vec::new(rt.alloc()),
     };
-    ExitCode::from(run(rt.alloc(), &words, &mut source, &mut sink, &mut diag))
+    ExitCode::from(run(&rt, rt.alloc(), &words, &mut source, &mut sink, &mut diag))
 }

@@ -10,6 +10,7 @@ use cip_io::{Failed, Sink, StdSink, push_all};
 use std::alloc::Global;
 use std::process::ExitCode;
 use std::rt::Files;
+use std::thread::Threads;
 use std::{fs, io};
 
 // The rows, beside their input files.
@@ -24,12 +25,15 @@ fn main(rt: HostRuntime) -> ExitCode {
 }
 
 // Runs each row of the table.
-fn show_cases<R: Files + AllocGlobal, K: Sink>(rt: &R, out: &mut K) -> io::Result<()> {
+fn show_cases<R: Files + Threads + Sync + AllocGlobal, K: Sink>(
+    rt: &R,
+    out: &mut K,
+) -> io::Result<()> {
     let table = fs::read_to_string(rt, TABLE)?;
     for line in table.as_str().lines() {
         if let Some(case) = read_case(line) {
             let input = fs::read(rt, case.file)?;
-            let outcome = run_case(rt.alloc(), &case, input)?;
+            let outcome = run_case(rt, rt.alloc(), &case, input)?;
             if show(rt.alloc(), case.name, &outcome, out)?.is_err() {
                 return Err(io::Error::from(io::ErrorKind::Other));
             }

@@ -1,8 +1,9 @@
 // A case, run over memory.
 use crate::case::Case;
 use cip_io::{MemSink, MemSource};
-use cip_run::{Limits, run_limits};
+use cip_run::{Limits, Open, run_limits};
 use std::alloc::{AllocError, Global};
+use std::thread::Threads;
 
 /// What a run left behind.
 #[derive(Drop)]
@@ -13,18 +14,32 @@ pub struct Outcome {
 }
 
 /// Runs a case over this input. A number of the table that is too large is cut.
-pub fn run_case(alloc: Global, case: &Case<'_>, input: Vec<u8>) -> Result<Outcome, AllocError> {
+pub fn run_case<R: Threads + Sync>(
+    rt: &R,
+    alloc: Global,
+    case: &Case<'_>,
+    input: Vec<u8>,
+) -> Result<Outcome, AllocError> {
     let limits = Limits {
         record: case.limits.record.min(1 << 30),
         input: case.limits.input.min(1 << 62),
     };
     let piece = case.piece.clamp(1, 1 << 20) as usize;
-    let room = input.len().min(1 << 30) * 2 + 4_096;
+    let room = input.len().min(1 << 30) * 2 + 65_536;
     let words = words_of(alloc, case.words)?;
     let mut source = MemSource::new(input, piece, vec![in alloc; case.failing_pull]?);
     let mut sink = MemSink::with_room(alloc, piece, room, vec![in alloc; case.failing_push]?)?;
     let mut diag = MemSink::with_room(alloc, 1, 100, vec![in alloc; case.failing_note]?)?;
-    let status = run_limits(alloc, &words, limits, &mut source, &mut sink, &mut diag);
+    let status = run_limits(
+        rt,
+        alloc,
+        &words,
+        limits,
+        &Open,
+        &mut source,
+        &mut sink,
+        &mut diag,
+    );
     Ok(Outcome {
         status,
         written: sink.into_bytes(),

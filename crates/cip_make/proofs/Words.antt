@@ -8,12 +8,12 @@ use Rattle.rand_pcg.specs.Pcg.{pcg32}
 use Rattle.cip_make.specs.declared.chain.Branch.{Branch}
 use Rattle.cip_make.specs.Chains.{branch_of, with_branch, branches}
 
-first_word : (count : ℕ) (generator : Lcg) →
+pub first_word : (count : ℕ) (generator : Lcg) →
     first_words pcg32 (suc count) generator ≡ (pcg32 generator).0 ∷ first_words pcg32 count (pcg32 generator).1
 unfolding first_words
 first_word count generator = refl
 
-no_word : (generator : Lcg) → first_words pcg32 zero generator ≡ []
+pub no_word : (generator : Lcg) → first_words pcg32 zero generator ≡ []
 unfolding first_words
 no_word generator = refl
 

@@ -1,5 +1,5 @@
 // Made records.
-ghost use Rattle.std.specs.Prelude.{◌≡◌, ◌<◌, ◌≤◌, ◌+◌, ◌++◌, IfOk, OnOk, length, string_bytes};
+ghost use Rattle.std.specs.Prelude.{◌≡◌, ◌<◌, ◌≤◌, ◌+◌, ◌-◌, ◌^◌, ◌++◌, IfOk, OnOk, length, string_bytes};
 ghost use Rattle.cip_make.specs.Made.{name_lines, across, chain_atom, chain_atoms, branch_atom, branch_atoms, chain_bonds, branch_bonds, made};
 
 use crate::chain::{Branch, Element, Stereo, branches};
@@ -8,10 +8,18 @@ use rand_pcg::Lcg64Xsh32;
 use rand_pcg::rand_core::utils::NextWord;
 use std::alloc::{AllocError, Global};
 
-/// The made record of this number from 1, in the series that starts at a number.
-#[tactic(auto, unfolding(crate::specs::Made::made))]
+/// The made record of this number from 1, in the series that starts at a number. It is short.
+#[tactic(auto, using(crate::proofs::Lengths::made_short))]
 pub fn record(alloc: Global, start: u32, number: u32) -> Result<Vec<u8>, AllocError>
     requires { (1 ≤ number) × (number ≤ 100000) }
+    ensures made { IfOk result (λ text. text.items ≡ made start number) }
+    ensures few { IfOk result (λ text. length text.items < 2 ^ 32 - 1) }
+{
+    made(alloc, start, number)
+}
+
+#[tactic(auto, unfolding(crate::specs::Made::made))]
+fn made(alloc: Global, start: u32, number: u32) -> Result<Vec<u8>, AllocError>
     ensures { IfOk result (λ text. text.items ≡ made start number) }
 {
     let mut generator = Lcg64Xsh32::new(u64::from(start), u64::from(number));

@@ -1,58 +1,125 @@
 -- What each exit status of a run means. Own.
-use Rattle.std.specs.Prelude.{◌≡◌, ◌↔◌, ℕ, List, Bool, true, false, None, IfSome}
+use Rattle.std.specs.Prelude.{◌≡◌, ℕ, List, [], ◌∷◌, Bool, true, false, Some, None, IfSome, Contains}
 use Rattle.std.specs.declared.option.Option.{Option}
-use Rattle.std.specs.Io.KnownBytes.{IsAtEnd}
+use Rattle.std.specs.Io.KnownBytes.{Appends, IsAtEnd}
 use Rattle.cip_io.specs.Faults.{Rose}
 use Rattle.cip_io.specs.Growth.{AppendsPrefix}
-use Rattle.cip_run.specs.declared.limits.Limits.{Limits}
-use Rattle.cip_run.specs.declared.words.Settings.{Settings}
+use Rattle.cip_print.specs.declared.answer.Answer.{Answer}
+use Rattle.cip_stream.specs.declared.limits.Limits.{Limits}
+use Rattle.cip_stream.specs.Due.{due}
+use Rattle.cip_stream.specs.Endings.{AnswersTaken, Grew, GrewTo, IsLimited, IsWhole}
+use Rattle.cip_stream.specs.Limits.{answered}
+use Rattle.cip_stream.specs.Manner.{Manner}
+use Rattle.cip_words.specs.declared.settings.Settings.{Settings}
+use Rattle.cip_words.specs.declared.settings.Settings.TheVariants as asked
+use Rattle.cip_words.specs.Help.{help}
 use Rattle.cip_run.specs.declared.status.TheConstants.{DONE, FLAGGED, WORDS_REFUSED, READ_FAULT, WRITE_FAULT, OUT_OF_MEMORY, LIMIT}
-use Rattle.cip_run.specs.Due.{due}
-use Rattle.cip_run.specs.Endings.{AnswersTaken, Grew, GrewTo, IsLimited, IsWhole}
-use Rattle.cip_run.specs.Limits.{answered}
+use Rattle.cip_run.specs.Making.{GrewByMade, made_text}
+use Rattle.cip_run.specs.Telling.{annotating, explaining}
+use Rattle.cip_run.specs.Trying.{made_answers, some_flagged, summary}
 
--- The source and the sink of a run at one time: what the one has left and the other took, where they tell it, and how
--- many calls of each failed.
+-- A source or a sink at one time: the bytes that it has left or took, where it tells them, and how many of its calls
+-- failed.
+pub record Stream : Type 0 where
+  pub bytes : Option (List ℕ)
+  pub faults : ℕ
+
+abbrev pub stream : Option (List ℕ) → ℕ → Stream
+stream bytes faults = record { bytes = bytes; faults = faults }
+
+-- the source and the sink of a run at one time
 pub record Streams : Type 0 where
-  pub left : Option (List ℕ)
-  pub read_faults : ℕ
-  pub taken : Option (List ℕ)
-  pub write_faults : ℕ
+  pub source : Stream
+  pub sink : Stream
 
 abbrev pub streams : Option (List ℕ) → ℕ → Option (List ℕ) → ℕ → Streams
 streams left read_faults taken write_faults =
-    record { left = left; read_faults = read_faults; taken = taken; write_faults = write_faults }
+    record { source = stream left read_faults; sink = stream taken write_faults }
+
+-- a write failed, and the sink took a front of this text
+pub record BreaksOff (text : List ℕ) (old new : Stream) : Type 0 where
+  pub cause : Rose old.faults new.faults
+  pub written : AppendsPrefix old.bytes new.bytes text
+
+-- commands that read
 
 -- the whole source was taken, no limit is passed, and the sink grew by the text that is due
-pub record IsDone (limits : Limits) (flagged : Bool) (old new : Streams) : Type 0 where
-  pub end : IsAtEnd new.left
-  pub written : IfSome old.left (λ bytes. Grew (IsWhole limits flagged bytes) (due limits bytes) old.taken new.taken)
+pub record IsDone (manner : Manner) (limits : Limits) (flagged : Bool) (old new : Streams) : Type 0 where
+  pub end : IsAtEnd new.source.bytes
+  pub written : IfSome old.source.bytes
+      (λ bytes. Grew (IsWhole manner limits flagged bytes) (due manner limits bytes) old.sink.bytes new.sink.bytes)
 
 -- the source failed, within the limits, and the sink grew by the texts of the records that were closed before
-pub record IsReadFault (limits : Limits) (old new : Streams) : Type 0 where
-  pub cause : Rose old.read_faults new.read_faults
-  pub written : AnswersTaken limits old.left new.left old.taken new.taken
+pub record IsReadFault (manner : Manner) (limits : Limits) (old new : Streams) : Type 0 where
+  pub cause : Rose old.source.faults new.source.faults
+  pub written : AnswersTaken manner limits old.source.bytes new.source.bytes old.sink.bytes new.sink.bytes
 
 -- the sink failed, and took a front of the text that is due
-pub record IsWriteFault (limits : Limits) (old new : Streams) : Type 0 where
-  pub cause : Rose old.write_faults new.write_faults
-  pub written : IfSome old.left (λ bytes. AppendsPrefix old.taken new.taken (due limits bytes))
+pub record IsWriteFault (manner : Manner) (limits : Limits) (old new : Streams) : Type 0 where
+  pub cause : Rose old.sink.faults new.sink.faults
+  pub written : IfSome old.source.bytes
+      (λ bytes. AppendsPrefix old.sink.bytes new.sink.bytes (due manner limits bytes))
 
 -- the sink grew by the texts of the first records, however many
-abbrev pub IsOutOfMemory : Limits → Streams → Streams → Type 0
-IsOutOfMemory limits old new = IfSome old.left (λ bytes. GrewTo (answered limits bytes) old.taken new.taken)
+abbrev pub IsOutOfMemory : Manner → Limits → Streams → Streams → Type 0
+IsOutOfMemory manner limits old new =
+    IfSome old.source.bytes (λ bytes. GrewTo manner (answered limits bytes) old.sink.bytes new.sink.bytes)
 
 -- a limit is passed, and the sink grew by the texts of the records before it
-abbrev pub IsOverLimit : Limits → Streams → Streams → Type 0
-IsOverLimit limits old new =
-    IfSome old.left (λ bytes. Grew (IsLimited limits bytes) (due limits bytes) old.taken new.taken)
+abbrev pub IsOverLimit : Manner → Limits → Streams → Streams → Type 0
+IsOverLimit manner limits old new = IfSome old.source.bytes
+    (λ bytes. Grew (IsLimited limits bytes) (due manner limits bytes) old.sink.bytes new.sink.bytes)
 
--- What each exit status means: a line for each.
-pub record Means (settings : Option Settings) (limits : Limits) (status : ℕ) (old new : Streams) : Type 0 where
-  pub done : status ≡ DONE → IsDone limits false old new
-  pub flagged : status ≡ FLAGGED → IsDone limits true old new
-  pub words_refused : status ≡ WORDS_REFUSED ↔ (settings ≡ None)
-  pub read_fault : status ≡ READ_FAULT → IsReadFault limits old new
-  pub write_fault : status ≡ WRITE_FAULT → IsWriteFault limits old new
-  pub out_of_memory : status ≡ OUT_OF_MEMORY → IsOutOfMemory limits old new
-  pub limit : status ≡ LIMIT → IsOverLimit limits old new
+-- A line for each status, by what the words ask for.
+
+-- `annotate` and `explain`: what is told of the records of the source
+pub record MeansOfReading (manner : Manner) (limits : Limits) (status : ℕ) (old new : Streams) : Type 0 where
+  pub comes : Contains (DONE ∷ FLAGGED ∷ READ_FAULT ∷ WRITE_FAULT ∷ OUT_OF_MEMORY ∷ LIMIT ∷ []) status
+  pub done : status ≡ DONE → IsDone manner limits false old new
+  pub flagged : status ≡ FLAGGED → IsDone manner limits true old new
+  pub read_fault : status ≡ READ_FAULT → IsReadFault manner limits old new
+  pub write_fault : status ≡ WRITE_FAULT → IsWriteFault manner limits old new
+  pub out_of_memory : status ≡ OUT_OF_MEMORY → IsOutOfMemory manner limits old new
+  pub limit : status ≡ LIMIT → IsOverLimit manner limits old new
+
+-- `make`: the first so many records of a series
+pub record MeansOfMaking (start records status : ℕ) (old new : Stream) : Type 0 where
+  pub comes : Contains (DONE ∷ WRITE_FAULT ∷ OUT_OF_MEMORY ∷ []) status
+  pub done : status ≡ DONE → Appends old.bytes new.bytes (made_text start records)
+  pub write_fault : status ≡ WRITE_FAULT → BreaksOff (made_text start records) old new
+  pub out_of_memory : status ≡ OUT_OF_MEMORY → GrewByMade start records old.bytes new.bytes
+
+-- `trial`: the summary of these answers
+pub record MeansOfTrying (answers : List Answer) (status : ℕ) (old new : Stream) : Type 0 where
+  pub comes : Contains (DONE ∷ FLAGGED ∷ WRITE_FAULT ∷ OUT_OF_MEMORY ∷ []) status
+  pub done : status ≡ DONE → Grew (some_flagged answers ≡ false) (summary answers) old.bytes new.bytes
+  pub flagged : status ≡ FLAGGED → Grew (some_flagged answers ≡ true) (summary answers) old.bytes new.bytes
+  pub write_fault : status ≡ WRITE_FAULT → BreaksOff (summary answers) old new
+  pub out_of_memory : status ≡ OUT_OF_MEMORY → Appends old.bytes new.bytes []
+
+-- `help`: its text
+pub record MeansOfHelp (status : ℕ) (old new : Stream) : Type 0 where
+  pub comes : Contains (DONE ∷ WRITE_FAULT ∷ []) status
+  pub done : status ≡ DONE → Appends old.bytes new.bytes help
+  pub write_fault : status ≡ WRITE_FAULT → BreaksOff help old new
+
+-- What each exit status means: words are refused exactly where they ask for nothing.
+abbrev pub Means : Option Settings → Limits → ℕ → Streams → Streams → Type 0
+Means None limits status old new = status ≡ WORDS_REFUSED
+Means (Some (asked.Annotate nodes workers rules)) limits status old new =
+    MeansOfReading (annotating rules nodes) limits status old new
+Means (Some (asked.Explain nodes workers rules)) limits status old new =
+    MeansOfReading (explaining rules nodes) limits status old new
+Means (Some (asked.Make start records)) limits status old new = MeansOfMaking start records status old.sink new.sink
+Means (Some (asked.Trial start records nodes workers rules)) limits status old new =
+    MeansOfTrying (made_answers rules nodes start records) status old.sink new.sink
+Means (Some asked.Help) limits status old new = MeansOfHelp status old.sink new.sink
+
+-- whether the source is read
+abbrev pub reads : Option Settings → Bool
+reads None = false
+reads (Some (asked.Annotate nodes workers rules)) = true
+reads (Some (asked.Explain nodes workers rules)) = true
+reads (Some (asked.Make start records)) = false
+reads (Some (asked.Trial start records nodes workers rules)) = false
+reads (Some asked.Help) = false

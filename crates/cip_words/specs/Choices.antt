@@ -1,5 +1,5 @@
 -- What an option is set to by the words behind a command: names and values in turn. Own.
-use Rattle.std.specs.Prelude.{ℕ, List, [], ◌∷◌, Bool, true, false, ◌==◌, ◌&&◌, ◌||◌, nat_le, max, String, string_bytes, Some, None, if◌then◌else◌}
+use Rattle.std.specs.Prelude.{ℕ, List, [], ◌∷◌, Bool, true, false, ◌==◌, ◌&&◌, ◌||◌, nat_le, String, string_bytes, Some, None, if◌then◌else◌}
 use Rattle.std.specs.declared.option.Option.{Option}
 use Rattle.std.specs.declared.alloc.Global.{Global}
 use Rattle.std.specs.List.{list_any}
@@ -8,10 +8,6 @@ use Rattle.cip_words.specs.Numbers.{number_of}
 use Rattle.cip_words.specs.declared.forms.Choice.{Choice}
 use Rattle.cip_words.specs.declared.forms.Values.{Values}
 use Rattle.cip_words.specs.declared.forms.Values.TheVariants.{Between, Either}
-
-abbrev pub greatest : Values → ℕ
-greatest (Between least most) = most
-greatest (Either one other) = max one other
 
 abbrev pub allows : Values → ℕ → Bool
 allows (Between least most) number = nat_le least number && nat_le number most

@@ -1,4 +1,5 @@
 pub mod Choices
 pub mod Help
 pub mod Numbers
+pub mod Ranges
 pub mod Settings

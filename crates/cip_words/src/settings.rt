@@ -1,7 +1,8 @@
 // What the words of a command line ask for.
-ghost use Rattle.std.specs.Prelude.{◌≡◌, map};
+ghost use Rattle.std.specs.Prelude.{◌≡◌, IfSome, map};
 ghost use Rattle.std.specs.Option.{option_map};
 ghost use Rattle.cip_words.specs.Settings.{form_of, workers_of, rules_of, asked, settings_of};
+ghost use Rattle.cip_words.specs.Ranges.{AreWithin, IsBetween};
 
 use crate::forms::{Command, FORMS, Form, NODES, RECORDS, START, WORDING, WORKERS};
 use crate::values::{are_pairs, set_to};
@@ -42,7 +43,8 @@ pub enum Settings {
 /// What these words ask for. None where they are those of no command.
 #[tactic(auto, unfolding(crate::specs::Settings::settings_of))]
 pub fn read_words(words: &[String]) -> Option<Settings>
-    ensures { result ≡ settings_of words.now }
+    ensures meant { result ≡ settings_of words.now }
+    ensures within { IfSome result AreWithin }
 {
     let [name, rest @ ..] = words else {
         return None;
@@ -67,7 +69,8 @@ fn form_of(name: &[u8], forms: &[Form]) -> Option<Form>
 }
 
 fn asked(command: Command, words: &[String]) -> Option<Settings>
-    ensures { result ≡ asked command words.now }
+    ensures meant { result ≡ asked command words.now }
+    ensures within { IfSome result AreWithin }
 {
     match command {
         Command::Annotate => Some(Settings::Annotate {
@@ -96,7 +99,8 @@ fn asked(command: Command, words: &[String]) -> Option<Settings>
 }
 
 fn workers(words: &[String]) -> Option<u8>
-    ensures { result ≡ workers_of words.now }
+    ensures set { result ≡ workers_of words.now }
+    ensures between { IfSome result (IsBetween 1 16) }
 {
     Some(set_to(&WORKERS, words)? as u8)
 }

@@ -1,8 +1,9 @@
 // What an option is set to by the words behind a command.
-ghost use Rattle.std.specs.Prelude.{◌≡◌, ◌≤◌, IfSome, map};
+ghost use Rattle.std.specs.Prelude.{◌≡◌, IfSome, map, true};
 ghost use Rattle.std.specs.List.{list_any};
 ghost use Rattle.std.specs.Str.{bytes_eq};
-ghost use Rattle.cip_words.specs.Choices.{greatest, allows, is_given, are_pairs, allowed, set_to};
+ghost use Rattle.cip_words.specs.Choices.{allows, is_given, are_pairs, allowed, set_to};
+ghost use Rattle.cip_words.specs.Ranges.{IsOf};
 
 use crate::forms::{Named, Values};
 use crate::numbers::number;
@@ -35,9 +36,9 @@ fn is_name(choices: &[Named], word: &[u8]) -> bool
 /// What an option is set to by names and values in turn: by its default where it isn't given, by its value where it is
 /// given once.
 pub fn set_to(choice: &Named, words: &[String]) -> Option<u32>
-    requires { IfSome choice.now.1.default (λ number. number ≤ greatest choice.now.1.values) }
+    requires { IfSome choice.now.1.default (IsOf choice.now.1.values) }
     ensures set { result ≡ set_to choice.now.0.now choice.now.1 words.now }
-    ensures small { IfSome result (λ number. number ≤ greatest choice.now.1.values) }
+    ensures of { IfSome result (IsOf choice.now.1.values) }
 {
     let mut rest = words;
     while let [word, value, more @ ..] = rest {
@@ -68,7 +69,7 @@ fn is_given(name: &[u8], words: &[String]) -> bool
 // The number of a word, where it is one of these.
 fn allowed(values: Values, word: &[u8]) -> Option<u32>
     ensures set { result ≡ allowed values word.now }
-    ensures small { IfSome result (λ number. number ≤ greatest values) }
+    ensures of { IfSome result (IsOf values) }
 {
     let number = number(word)?;
     if allows(values, number) {
@@ -79,7 +80,8 @@ fn allowed(values: Values, word: &[u8]) -> Option<u32>
 }
 
 fn allows(values: Values, number: u64) -> bool
-    ensures { result ≡ allows values number }
+    ensures tested { result ≡ allows values number }
+    ensures of { result ≡ true → IsOf values number }
 {
     match values {
         Values::Between { least, most } => u64::from(least) <= number && number <= u64::from(most),

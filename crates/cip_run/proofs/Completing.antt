@@ -1,0 +1,66 @@
+-- Runs of which no call fails.
+use Rattle.std.proofs.Common.{◌≡◌, ℕ, List, [], ◌∷◌, true, false, Option, Some, None, refl, sym, ap, ◌∙◌, arith}
+use Rattle.std.specs.Prelude.{Contains, IfSome, IsSome}
+use Rattle.std.specs.Option.{is_some}
+use Rattle.cip_print.specs.declared.answer.Answer.{Answer}
+use Rattle.cip_stream.specs.declared.limits.Limits.{Limits}
+use Rattle.cip_stream.specs.Due.{due}
+use Rattle.cip_stream.specs.Endings.{Grew, IsLimited}
+use Rattle.cip_stream.specs.Limits.{limit_place}
+use Rattle.cip_stream.specs.Manner.{Manner}
+use Rattle.cip_words.specs.declared.settings.Settings.TheVariants as asked
+use Rattle.cip_run.specs.declared.status.TheConstants.{DONE, FLAGGED, OUT_OF_MEMORY}
+use Rattle.cip_run.specs.Completeness.{NeverFails, ReadsWell, RunsComplete}
+use Rattle.cip_run.specs.Statuses.{MeansOfHelp, MeansOfMaking, MeansOfReading, MeansOfTrying, Stream, Streams}
+use Rattle.cip_run.proofs.Meanings.{by_helping, by_making, by_reading, by_trying}
+
+abbrev Ends : ℕ → Type 0
+Ends status = Contains (DONE ∷ FLAGGED ∷ OUT_OF_MEMORY ∷ []) status
+
+-- no limit is passed where none is
+within_limits : (manner : Manner) (limits : Limits) (left old new : Option (List ℕ)) → IsSome left
+    → IfSome left (λ bytes. limit_place limits bytes ≡ None)
+    → IfSome left (λ bytes. Grew (IsLimited limits bytes) (due manner limits bytes) old new) → ⊥
+within_limits manner limits None old new told within over = absurd (cc)
+within_limits manner limits (Some bytes) old new told within over =
+    let passed : true ≡ false = sym over.holds ∙ ap is_some within in
+    absurd (cc)
+
+reading_completes : (manner : Manner) (limits : Limits) (status : ℕ) (old new : Streams)
+    → MeansOfReading manner limits status old new → NeverFails old.sink new.sink
+    → ReadsWell limits old.source new.source → Ends status
+reading_completes manner limits status old new meant written read =
+    by_reading (λ s. status ≡ s → Ends s) status (λ is. (0, omega arith, refl)) (λ is. (1, omega arith, refl))
+    (λ is. absurd (read.reads (meant.read_fault is).cause)) (λ is. absurd (written (meant.write_fault is).cause))
+    (λ is. (2, omega arith, refl))
+    (λ is. absurd (within_limits manner limits old.source.bytes old.sink.bytes new.sink.bytes read.told read.within
+    (meant.limit is)))
+    meant.comes refl
+
+making_completes : (start records status : ℕ) (old new : Stream) → MeansOfMaking start records status old new
+    → NeverFails old new → Contains (DONE ∷ OUT_OF_MEMORY ∷ []) status
+making_completes start records status old new meant written =
+    by_making (λ s. status ≡ s → Contains (DONE ∷ OUT_OF_MEMORY ∷ []) s) status (λ is. (0, omega arith, refl))
+    (λ is. absurd (written (meant.write_fault is).cause)) (λ is. (1, omega arith, refl)) meant.comes refl
+
+trying_completes : (answers : List Answer) (status : ℕ) (old new : Stream) → MeansOfTrying answers status old new
+    → NeverFails old new → Ends status
+trying_completes answers status old new meant written =
+    by_trying (λ s. status ≡ s → Ends s) status (λ is. (0, omega arith, refl)) (λ is. (1, omega arith, refl))
+    (λ is. absurd (written (meant.write_fault is).cause)) (λ is. (2, omega arith, refl)) meant.comes refl
+
+helping_completes : (status : ℕ) (old new : Stream) → MeansOfHelp status old new → NeverFails old new → status ≡ DONE
+helping_completes status old new meant written =
+    by_helping (λ s. status ≡ s → s ≡ DONE) status (λ is. refl) (λ is. absurd (written (meant.write_fault is).cause))
+    meant.comes refl
+
+pub complete : RunsComplete
+complete (asked.Annotate nodes workers rules) limits status old new meant written =
+    λ read. reading_completes _ limits status old new meant written read
+complete (asked.Explain nodes workers rules) limits status old new meant written =
+    λ read. reading_completes _ limits status old new meant written read
+complete (asked.Make start records) limits status old new meant written =
+    making_completes start records status old.sink new.sink meant written
+complete (asked.Trial start records nodes workers rules) limits status old new meant written =
+    trying_completes _ status old.sink new.sink meant written
+complete asked.Help limits status old new meant written = helping_completes status old.sink new.sink meant written

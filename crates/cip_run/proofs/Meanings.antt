@@ -1,0 +1,86 @@
+-- Which statuses a command ends with.
+use Rattle.std.proofs.Common.{◌≡◌, ◌<◌, ℕ, zero, suc, List, [], ◌∷◌, Option, Some, None, refl, sym, subst, arith, length}
+use Rattle.std.specs.Prelude.{◌↔◌, ⊤, Contains}
+use Rattle.std.specs.List.{slice_index_or}
+use Rattle.cip_stream.specs.declared.limits.Limits.{Limits}
+use Rattle.cip_words.specs.declared.settings.Settings.{Settings}
+use Rattle.cip_words.specs.declared.settings.Settings.TheVariants as asked
+use Rattle.cip_run.specs.declared.status.TheConstants.{DONE, FLAGGED, WORDS_REFUSED, READ_FAULT, WRITE_FAULT, OUT_OF_MEMORY, LIMIT}
+use Rattle.cip_run.specs.Runs.{IsStatus}
+use Rattle.cip_run.specs.Statuses.{Means, Streams}
+
+-- one of some statuses
+
+abbrev Each : (ℕ → Type 0) → List ℕ → Type 0
+Each P [] = ⊤
+Each P (x ∷ xs) = P x × Each P xs
+
+each_at : (P : ℕ → Type 0) (xs : List ℕ) (status k : ℕ) → Each P xs → k < length xs
+    → slice_index_or xs k status ≡ status → P status
+each_at P [] status k all within is = absurd (omega (arith, within))
+each_at P (x ∷ xs) status zero all within is = subst P is all.0
+each_at P (x ∷ xs) status (suc k) all within is = each_at P xs status k all.1 (omega (arith, within)) is
+
+each : (P : ℕ → Type 0) (xs : List ℕ) (status : ℕ) → Each P xs → Contains xs status → P status
+each P xs status all one = each_at P xs status one.0 all one.1 one.2
+
+-- by command
+
+pub by_reading : (P : ℕ → Type 0) (status : ℕ) → P DONE → P FLAGGED → P READ_FAULT → P WRITE_FAULT → P OUT_OF_MEMORY
+    → P LIMIT → Contains (DONE ∷ FLAGGED ∷ READ_FAULT ∷ WRITE_FAULT ∷ OUT_OF_MEMORY ∷ LIMIT ∷ []) status → P status
+by_reading P status done flagged read write memory limit =
+    each P (DONE ∷ FLAGGED ∷ READ_FAULT ∷ WRITE_FAULT ∷ OUT_OF_MEMORY ∷ LIMIT ∷ []) status
+    (done, (flagged, (read, (write, (memory, (limit, tt))))))
+
+pub by_making : (P : ℕ → Type 0) (status : ℕ) → P DONE → P WRITE_FAULT → P OUT_OF_MEMORY
+    → Contains (DONE ∷ WRITE_FAULT ∷ OUT_OF_MEMORY ∷ []) status → P status
+by_making P status done write memory =
+    each P (DONE ∷ WRITE_FAULT ∷ OUT_OF_MEMORY ∷ []) status (done, (write, (memory, tt)))
+
+pub by_trying : (P : ℕ → Type 0) (status : ℕ) → P DONE → P FLAGGED → P WRITE_FAULT → P OUT_OF_MEMORY
+    → Contains (DONE ∷ FLAGGED ∷ WRITE_FAULT ∷ OUT_OF_MEMORY ∷ []) status → P status
+by_trying P status done flagged write memory =
+    each P (DONE ∷ FLAGGED ∷ WRITE_FAULT ∷ OUT_OF_MEMORY ∷ []) status (done, (flagged, (write, (memory, tt))))
+
+pub by_helping : (P : ℕ → Type 0) (status : ℕ) → P DONE → P WRITE_FAULT → Contains (DONE ∷ WRITE_FAULT ∷ []) status
+    → P status
+by_helping P status done write = each P (DONE ∷ WRITE_FAULT ∷ []) status (done, (write, tt))
+
+pub by_end : (P : ℕ → Type 0) (status : ℕ) → P DONE → P FLAGGED → Contains (DONE ∷ FLAGGED ∷ []) status → P status
+by_end P status done flagged = each P (DONE ∷ FLAGGED ∷ []) status (done, (flagged, tt))
+
+by_command : (P : ℕ → Type 0) → P DONE → P FLAGGED → P READ_FAULT → P WRITE_FAULT → P OUT_OF_MEMORY → P LIMIT
+    → (settings : Settings) (limits : Limits) (status : ℕ) (old new : Streams)
+    → Means (Some settings) limits status old new → P status
+by_command P done flagged read write memory limit (asked.Annotate nodes workers rules) limits status old new meant =
+    by_reading P status done flagged read write memory limit meant.comes
+by_command P done flagged read write memory limit (asked.Explain nodes workers rules) limits status old new meant =
+    by_reading P status done flagged read write memory limit meant.comes
+by_command P done flagged read write memory limit (asked.Make start records) limits status old new meant =
+    by_making P status done write memory meant.comes
+by_command P done flagged read write memory limit (asked.Trial start records nodes workers rules) limits status old new
+    meant = by_trying P status done flagged write memory meant.comes
+by_command P done flagged read write memory limit asked.Help limits status old new meant =
+    by_helping P status done write meant.comes
+
+-- the statuses of a run
+
+pub is_status : (settings : Option Settings) (limits : Limits) (status : ℕ) (old new : Streams)
+    → Means settings limits status old new → IsStatus status
+is_status None limits status old new meant = subst IsStatus (sym meant) (2, omega arith, refl)
+is_status (Some settings) limits status old new meant =
+    by_command IsStatus (0, omega arith, refl) (1, omega arith, refl) (3, omega arith, refl) (4, omega arith, refl)
+    (5, omega arith, refl) (6, omega arith, refl) settings limits status old new meant
+
+accepted : (settings : Settings) (limits : Limits) (status : ℕ) (old new : Streams)
+    → Means (Some settings) limits status old new → status ≡ WORDS_REFUSED → ⊥
+accepted settings limits status old new meant =
+    by_command (λ s. s ≡ WORDS_REFUSED → ⊥) (λ is. omega (arith, is)) (λ is. omega (arith, is)) (λ is. omega (arith, is))
+    (λ is. omega (arith, is)) (λ is. omega (arith, is)) (λ is. omega (arith, is)) settings limits status old new meant
+
+-- words are refused exactly where they ask for nothing
+pub refused : (settings : Option Settings) (limits : Limits) (status : ℕ) (old new : Streams)
+    → Means settings limits status old new → status ≡ WORDS_REFUSED ↔ (settings ≡ None)
+refused None limits status old new meant = (λ is. refl, λ none. meant)
+refused (Some settings) limits status old new meant =
+    (λ is. absurd (accepted settings limits status old new meant is), λ none. absurd (cc))

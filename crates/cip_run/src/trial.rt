@@ -1,0 +1,160 @@
+// Made records that are labelled.
+ghost use Rattle.std.specs.Prelude.{◌≡◌, ◌≤◌, ◌<◌, ◌+◌, ◌^◌, ◌++◌, IfOk, IsErrOf, fold, length, map};
+ghost use Rattle.cip_io.specs.Faults.{Rose};
+ghost use Rattle.cip_run.specs.Trying.{made_answer, made_answers, answer_of, counted, with_one, Sums};
+
+use crate::desk::Desk;
+use crate::series::{Numbered, Trial};
+use cip_batch::{Gate, Job, Worker, map_batch};
+use cip_io::{Sink, push_all};
+use cip_make::record;
+use cip_print::{Answer, Tally};
+use cip_record::is_flagged;
+use cip_stream::Stop;
+use std::alloc::{AllocError, Global};
+use std::marker::Model;
+use std::thread::Threads;
+
+// How many records a batch has for each worker.
+const RECORDS: u32 = 8;
+
+impl Job for Numbered {
+    type Out = Answer;
+
+    type Desk = Desk;
+
+    ghost answer = { λ job. answer_of job };
+
+    #[tactic(auto, unfolding(crate::specs::Trying::made_answer))]
+    fn work(&self, desk: &mut Desk) -> Result<Answer, AllocError> {
+        let bytes = record(self.alloc, self.trial.start, self.number)?;
+        desk.fit(self.alloc, self.trial.nodes)?;
+        desk.answer(self.alloc, &bytes, self.trial.rules)
+    }
+}
+
+/// Labels the records in batches of eight for each worker, and writes the summary of their outcomes. Says whether a
+/// record is refused or a unit over the bound.
+pub fn write_summary<R: Threads + Sync, G: Gate + Sync, K: Sink>(
+    rt: &R,
+    alloc: Global,
+    trial: &Trial,
+    workers: u8,
+    gate: &G,
+    sink: &mut K,
+) -> Result<bool, Stop>
+    requires some { 1 ≤ workers }
+    ensures summed { Sums (made_answers trial.now.rules trial.now.nodes trial.now.start trial.now.records) result
+        (K.taken sink.old) (K.taken sink.new) }
+    ensures fault { IsErrOf result Stop.WriteFault → Rose (K.faults sink.old) (K.faults sink.new) }
+{
+    let count = count_made(rt, alloc, trial, workers, gate)?;
+    let line = count.tally.line(alloc)?;
+    push_all(sink, &line).map_err(|_| Stop::WriteFault)?;
+    Ok(count.flagged)
+}
+
+// How many units of the records so far have which outcome, and whether one of the records is flagged.
+#[derive(Drop)]
+struct Count {
+    tally: Tally,
+    flagged: bool,
+}
+
+impl Model for Count {
+    ghost use Rattle.cip_run.specs.Trying.{Counted};
+
+    ghost Value = { Counted };
+
+    ghost view = { λ count. record { counts = count.tally; flagged = count.flagged } };
+}
+
+impl Count {
+    fn add(&mut self, answer: &Answer)
+        requires few { self.old.counts.records < 2 ^ 31 }
+        ensures added { self.new ≡ with_one self.old answer.now }
+        ensures one { self.new.counts.records ≡ self.old.counts.records + 1 }
+    {
+        self.tally.count(answer);
+        self.flagged |= is_flagged(answer);
+    }
+
+    fn add_all(&mut self, answers: &[Answer])
+        requires few { self.old.counts.records + length answers.now < 2 ^ 31 }
+        ensures added { self.new ≡ fold with_one self.old answers.now }
+        ensures records { self.new.counts.records ≡ self.old.counts.records + length answers.now }
+    {
+        for answer in answers {
+            self.add(answer);
+        }
+    }
+}
+
+fn count_made<R: Threads + Sync, G: Gate + Sync>(
+    rt: &R,
+    alloc: Global,
+    trial: &Trial,
+    workers: u8,
+    gate: &G,
+) -> Result<Count, AllocError>
+    requires some { 1 ≤ workers }
+    ensures { IfOk result (λ count. count
+        ≡ counted (made_answers trial.now.rules trial.now.nodes trial.now.start trial.now.records)) }
+{
+    let mut clerks = new_clerks(alloc, trial.nodes, workers)?;
+    let mut count = Count {
+        tally: Tally::new(),
+        flagged: false,
+    };
+    let mut done = 0;
+    while done < trial.records {
+        let jobs = next_jobs(alloc, trial, done, workers)?;
+        let answers = map_batch(rt, alloc, &jobs, &mut clerks, gate)?;
+        count.add_all(&answers);
+        done += jobs.len() as u32;
+    }
+    Ok(count)
+}
+
+// So many workers, each with a desk of its own.
+fn new_clerks(
+    alloc: Global,
+    nodes: u32,
+    workers: u8,
+) -> Result<Vec<Worker<Desk, Answer>>, AllocError>
+    requires some { 1 ≤ nodes }
+    ensures { IfOk result (λ clerks. length clerks.items ≡ workers) }
+{
+    let mut clerks = Vec::with_capacity(alloc, workers as usize)?;
+    while clerks.len() < workers as usize {
+        clerks.push(Worker::new(alloc, Desk::reserve(alloc, nodes)?))?;
+    }
+    Ok(clerks)
+}
+
+// A batch of the records behind the first so many.
+fn next_jobs(
+    alloc: Global,
+    trial: &Trial,
+    done: u32,
+    workers: u8,
+) -> Result<Vec<Numbered>, AllocError>
+    requires within { done < trial.now.records }
+    requires some { 1 ≤ workers }
+    ensures jobs { IfOk result (λ jobs.
+        made_answers trial.now.rules trial.now.nodes trial.now.start done ++ map answer_of jobs.items
+        ≡ made_answers trial.now.rules trial.now.nodes trial.now.start (done + length jobs.items)) }
+    ensures some { IfOk result (λ jobs. 0 < length jobs.items) }
+    ensures within { IfOk result (λ jobs. done + length jobs.items ≤ trial.now.records) }
+{
+    let end = trial.records.min(done + RECORDS * u32::from(workers));
+    let mut jobs = Vec::with_capacity(alloc, (end - done) as usize)?;
+    for before in done..end {
+        jobs.push(Numbered {
+            alloc,
+            trial: *trial,
+            number: before + 1,
+        })?;
+    }
+    Ok(jobs)
+}
