@@ -1,0 +1,11 @@
+pub mod Along
+pub mod Boxed
+pub mod BoxedOrder
+pub mod BranchCode
+pub mod BranchKeys
+pub mod Branches
+pub mod Counted
+pub mod FlatTree
+pub mod InOrder
+pub mod Sizes
+pub mod Sorting
