@@ -1,10 +1,11 @@
 -- Rule 4b on the nodes of a tree by number, over earlier rank numbers. Own; what it says is P-92.5.
-use Rattle.std.specs.Prelude.{ℕ, ℤ, ◌+◌, ◌-◌, Bool, cond, List, map, length, None, nat_lt, take, drop}
+use Rattle.std.specs.Prelude.{◌≡◌, ◌<◌, ℕ, ℤ, ◌+◌, ◌-◌, Bool, false, cond, List, map, length, None, nat_lt, take, drop, slice_index}
 use Rattle.std.specs.declared.option.Option.{Option}
 use Rattle.std.specs.List.{slice_index_or}
 use Rattle.std.specs.Ordering.{is_lt, nat_cmp, int_cmp, then_cmp, on}
 use Rattle.std.specs.Cmp.Lexicographic.{slice_cmp}
 use Rattle.std.specs.declared.cmp.Ordering.{Ordering}
+use Rattle.cip_rank.specs.Calm.{is_stirred}
 use Rattle.cip_rank.specs.Comparison.{comparison}
 use Rattle.cip_rank.specs.Ranking.{by_number, OrdersAs}
 use Rattle.cip_rank.specs.Sets.{set_of}
@@ -63,6 +64,12 @@ pair_set parents numbers count number = set_of parents (half count numbers numbe
 abbrev pub next_readings : List ℕ → List ℕ → ℕ → ℕ → ℕ → Ordering
 next_readings parents numbers count =
     then_cmp (by_number numbers) (on (pair_set parents numbers count) (slice_cmp nat_cmp))
+
+-- readings that tie in a number that isn't stirred have the same sets
+pub record AreReadingsCalm (parents numbers : List ℕ) (stirred : List Bool) : Type 0 where
+  pub same : (a b : ℕ) → a < length parents + length parents → b < length parents + length parents
+      → slice_index numbers a ≡ slice_index numbers b → is_stirred stirred (slice_index numbers a) ≡ false
+      → pair_set parents numbers (length parents) a ≡ pair_set parents numbers (length parents) b
 
 -- the numbers order all nodes in both readings as they compare at a depth
 abbrev pub ReadingsRanked : List ℕ → List ℕ → List (Option Descriptor) → ℕ → List ℕ → Type 0

@@ -1,17 +1,19 @@
 // Rule 4b: branches in both readings, the higher one with the higher one, then the lower with the lower.
-ghost use Rattle.std.specs.Prelude.{◌≡◌, ◌<◌, ◌≤◌, ◌+◌, ◌^◌, ℕ, false, cond, length, slice_index, IfOk, IfSome, IsErr, IsNone};
+ghost use Rattle.std.specs.Prelude.{◌≡◌, ◌<◌, ◌≤◌, ◌+◌, ◌^◌, ℕ, false, cond, [], length, slice_index, IfOk};
+ghost use Rattle.std.specs.Prelude.{IfSome, IsErr, IsNone};
 ghost use Rattle.std.specs.Ordering.{is_lt};
 ghost use Rattle.cip_rank.specs.Tree.{height_of};
 ghost use Rattle.cip_rank.specs.Ranking.{OrdersAs, by_number};
 ghost use Rattle.cip_pairs.specs.Readings.{pair_at, first_readings, next_readings, look_at, pair_difference};
-ghost use Rattle.cip_pairs.specs.Readings.{ReadingsRanked};
+ghost use Rattle.cip_pairs.specs.Readings.{AreReadingsCalm, ReadingsRanked};
 ghost use Rattle.cip_pairs.specs.Partings.{parting};
 
 use crate::descriptors::Descriptors;
 use crate::readings::{ByLike, ByReadSets};
-use cip_rank::columns::fill_with_zeros;
-use cip_rank::sets::write_sets;
+use cip_rank::columns::{copy_numbers, fill_with_zeros};
+use cip_rank::sets::write_stirred_sets;
 use cip_rank::sorting::{assign_numbers, refine_and_number, sort_and_number};
+use cip_rank::stirring::{calm_numbers, stir_parents};
 use cip_rank::{Ranks, Table};
 use std::alloc::{AllocError, Global};
 use std::cmp::Ordering;
@@ -35,6 +37,8 @@ pub struct PairWork {
     // the readings, the lowest first, and their numbers to be
     sorted: Vec<u32>,
     new_numbers: Vec<u32>,
+    // by number, whether readings of that number may part at the next depth
+    stirred: Vec<bool>,
 }
 
 impl Model for PairWork {
@@ -66,6 +70,7 @@ impl PairWork {
             sets_s: Vec::with_capacity(alloc, room)?,
             sorted: Vec::with_capacity(alloc, room + room)?,
             new_numbers: Vec::with_capacity(alloc, room + room)?,
+            stirred: Vec::with_capacity(alloc, room + room)?,
         })
     }
 
@@ -75,6 +80,7 @@ impl PairWork {
         requires marks { count ≤ length marks.now.marks }
         ensures ranked { OrdersAs (count + count) (first_readings earlier.now.numbers marks.now.marks count)
             self.new.numbers }
+        ensures stirred { self.new.stirred ≡ [] }
         ensures bound { self.new.bound ≡ self.old.bound }
     {
         let _bound = self.bound;
@@ -88,32 +94,43 @@ impl PairWork {
         sort_and_number(&by, &mut self.sorted, &mut self.new_numbers);
         fill_with_zeros(&mut self.numbers, both);
         assign_numbers(&self.sorted, &self.new_numbers, &mut self.numbers);
+        self.stirred.clear();
     }
 
-    // Says whether any number changed.
+    // Says whether any number changed. Only readings of stirred numbers are looked at.
     fn rank_by_sets(&mut self, table: &Table) -> bool
         requires bound { length table.now.parents ≤ self.old.bound }
         requires len { length self.old.numbers ≡ length table.now.parents + length table.now.parents }
+        requires calm { AreReadingsCalm table.now.parents self.old.numbers self.old.stirred }
         ensures ranked { OrdersAs (length table.now.parents + length table.now.parents)
             (next_readings table.now.parents self.old.numbers (length table.now.parents)) self.new.numbers }
+        ensures calm { AreReadingsCalm table.now.parents self.new.numbers self.new.stirred }
         ensures same { result ≡ false → self.new.numbers ≡ self.old.numbers }
         ensures bound { self.new.bound ≡ self.old.bound }
     {
         let count = table.len();
         let _bound = self.bound;
         let both = count + count;
-        write_sets(table, &self.numbers[..count as usize], &mut self.sets_r);
-        write_sets(table, &self.numbers[count as usize..], &mut self.sets_s);
+        let half = count as usize;
+        write_stirred_sets(table, &self.numbers[..half], &self.stirred, &mut self.sets_r);
+        write_stirred_sets(table, &self.numbers[half..], &self.stirred, &mut self.sets_s);
         let by = ByReadSets {
             count,
             both,
             table,
             numbers: &self.numbers,
+            stirred: &self.stirred,
             sets_r: &self.sets_r,
             sets_s: &self.sets_s,
         };
         refine_and_number(&by, &self.numbers, &mut self.sorted, &mut self.new_numbers);
-        assign_numbers(&self.sorted, &self.new_numbers, &mut self.numbers)
+        copy_numbers(&self.numbers[..half], &mut self.sets_r);
+        copy_numbers(&self.numbers[half..], &mut self.sets_s);
+        let changed = assign_numbers(&self.sorted, &self.new_numbers, &mut self.numbers);
+        calm_numbers(&mut self.stirred, both);
+        stir_parents(table, &self.sets_r, &self.numbers[..half], &mut self.stirred);
+        stir_parents(table, &self.sets_s, &self.numbers[half..], &mut self.stirred);
+        changed
     }
 
     fn compare(&self, a: u32, b: u32) -> Ordering
@@ -137,7 +154,9 @@ impl PairWork {
         requires marks { length table.now.parents ≤ length marks.now.marks }
         requires before { (d : ℕ) → depth ≡ d + 1
             → ReadingsRanked table.now.parents earlier.now.numbers marks.now.marks d self.old.numbers }
+        requires calm { 0 < depth → AreReadingsCalm table.now.parents self.old.numbers self.old.stirred }
         ensures ranked { ReadingsRanked table.now.parents earlier.now.numbers marks.now.marks depth self.new.numbers }
+        ensures calm { AreReadingsCalm table.now.parents self.new.numbers self.new.stirred }
         ensures same { result ≡ false → (0 < depth) × (self.new.numbers ≡ self.old.numbers) }
         ensures bound { self.new.bound ≡ self.old.bound }
     {

@@ -1,13 +1,15 @@
 // Nodes in two readings, with R and with S as the reference, as one row of numbers.
-ghost use Rattle.std.specs.Prelude.{◌≡◌, ◌<◌, ◌≤◌, ◌+◌, ◌-◌, pos, nat_lt, cond, length, slice_index, take, drop};
-ghost use Rattle.cip_rank.specs.Sets.{HoldSets};
-ghost use Rattle.cip_pairs.specs.Readings.{pair_at, like_at, first_readings, next_readings, pair_set};
+ghost use Rattle.std.specs.Prelude.{◌≡◌, ◌<◌, ◌≤◌, ◌+◌, ◌-◌, pos, true, nat_lt, cond, length, slice_index, take};
+ghost use Rattle.std.specs.Prelude.{drop};
+ghost use Rattle.cip_rank.specs.Calm.{is_stirred, HoldStirredSets};
+ghost use Rattle.cip_pairs.specs.Readings.{AreReadingsCalm, pair_at, like_at, first_readings, next_readings, pair_set};
 
 use crate::descriptors::Descriptors;
 use crate::keys::compare_values;
 use crate::values::like_value;
 use cip_rank::sets::compare_sets;
 use cip_rank::sorting::NodeOrder;
+use cip_rank::stirring::is_stirred;
 use cip_rank::{Ranks, Table};
 use std::cmp::Ordering;
 
@@ -70,18 +72,24 @@ impl NodeOrder for ByLike<'_> {
         }
     }
 
+    fn may_part(&self, _node: u32) -> bool {
+        true
+    }
+
     ghost total = { λ by. on_total (pair_at by.count)
         (then_total (on_total (λ a. slice_index by.earlier.now.numbers a.0) nat_cmp_total)
         (on_total (like_at by.marks.now.marks) int_cmp_total)) };
 }
 
-/// By rank numbers, and where they tie by the sets of children in the same reading.
+/// By rank numbers, and where they tie by the sets of children in the same reading, which tie too where a number isn't
+/// stirred.
 #[derive(Drop)]
 pub struct ByReadSets<'a> {
     pub count: u32,
     pub both: u32,
     pub table: &'a Table,
     pub numbers: &'a [u32],
+    pub stirred: &'a [bool],
     pub sets_r: &'a [u32],
     pub sets_s: &'a [u32],
     ghost twice: { both ≡ count + count },
@@ -89,13 +97,15 @@ pub struct ByReadSets<'a> {
     ghost numbers_len: { length numbers.now ≡ both },
     ghost len_r: { length sets_r.now ≡ count },
     ghost len_s: { length sets_s.now ≡ count },
-    ghost hold_r: { HoldSets table.now.parents (take count numbers.now) sets_r.now },
-    ghost hold_s: { HoldSets table.now.parents (drop count numbers.now) sets_s.now },
+    ghost calm: { AreReadingsCalm table.now.parents numbers.now stirred.now },
+    ghost hold_r: { HoldStirredSets table.now.parents (take count numbers.now) stirred.now sets_r.now },
+    ghost hold_s: { HoldStirredSets table.now.parents (drop count numbers.now) stirred.now sets_s.now },
 }
 
 impl ByReadSets<'_> {
     fn set(&self, number: u32) -> &[u32]
-        requires { number < self.now.both }
+        requires below { number < self.now.both }
+        requires stirred { is_stirred self.now.stirred.now (slice_index self.now.numbers.now number) ≡ true }
         ensures { result.now ≡ pair_set self.now.table.now.parents self.now.numbers.now self.now.count number }
     {
         let (first, past) = self.table.children(node_of(self.count, number));
@@ -103,6 +113,19 @@ impl ByReadSets<'_> {
             &self.sets_r[first as usize..past as usize]
         } else {
             &self.sets_s[first as usize..past as usize]
+        }
+    }
+
+    fn compare_tied(&self, a: u32, b: u32) -> Ordering
+        requires first { a < self.now.both }
+        requires second { b < self.now.both }
+        requires tied { slice_index self.now.numbers.now a ≡ slice_index self.now.numbers.now b }
+        ensures { result ≡ next_readings self.now.table.now.parents self.now.numbers.now self.now.count a b }
+    {
+        if is_stirred(self.stirred, self.numbers[a as usize]) {
+            compare_sets(self.set(a), self.set(b))
+        } else {
+            Ordering::Equal
         }
     }
 }
@@ -121,8 +144,15 @@ impl NodeOrder for ByReadSets<'_> {
 
     fn compare_nodes(&self, a: u32, b: u32) -> Ordering {
         match self.numbers[a as usize].cmp(&self.numbers[b as usize]) {
-            Ordering::Equal => compare_sets(self.set(a), self.set(b)),
+            Ordering::Equal => self.compare_tied(a, b),
             decided => decided,
+        }
+    }
+
+    fn may_part(&self, number: u32) -> bool {
+        match self.numbers.get(number as usize) {
+            Some(number) => is_stirred(self.stirred, *number),
+            None => true,
         }
     }
 
