@@ -1,6 +1,7 @@
 // Ligands tried by rank numbers of their nodes.
 ghost use Rattle.std.specs.Prelude.{◌≡◌, ◌<◌, ◌≤◌, ◌-◌, ◌++◌, ◌∷◌, ℕ, false, List, [], pos, map, replicate, length};
 ghost use Rattle.std.specs.Prelude.{vec_capacity, IfOk};
+ghost use Rattle.cip_rank.specs.Calm.{AreCalm};
 ghost use Rattle.cip_rank.specs.Ranking.{comparison_at, OrdersAs};
 ghost use Rattle.cip_rank.specs.declared.rules.Rules.{Rules as Wording};
 ghost use Rattle.cip_mol.specs.declared.site.Unit.{Unit as AnyUnit};
@@ -249,9 +250,11 @@ fn refine_one(
 fn rank_by<K: Keyed>(table: &Table, keys: &K, prior: &Ranks, ranks: &mut Ranks, depth: u32)
     requires keyed { length table.now.parents ≤ K.nodes keys.now }
     requires prior { length prior.now.numbers ≡ length table.now.parents }
+    requires prior_calm { AreCalm table.now.parents prior.now.numbers prior.now.stirred }
     requires room { length table.now.parents ≤ ranks.old.bound }
     ensures ranked { OrdersAs (length table.now.parents) (comparison_at table.now.parents prior.now.numbers
         (K.key keys.now) depth) ranks.new.numbers }
+    ensures calm { AreCalm table.now.parents ranks.new.numbers ranks.new.stirred }
     ensures bound { ranks.new.bound ≡ ranks.old.bound }
 {
     rank_sphere(table, keys, prior, ranks, 0);
@@ -263,9 +266,11 @@ fn rank_by<K: Keyed>(table: &Table, keys: &K, prior: &Ranks, ranks: &mut Ranks, 
 // Ranks by Rule 1a.
 fn rank_atoms(arena: &Arena, level: &Ranks, ranks: &mut Ranks, depth: u32)
     requires level { length level.now.numbers ≡ length arena.now.nodes }
+    requires calm { AreCalm (parents_of arena.now.nodes) level.now.numbers level.now.stirred }
     requires room { length arena.now.nodes ≤ ranks.old.bound }
     ensures ranked { OrdersAs (length arena.now.nodes) (comparison_at (parents_of arena.now.nodes) level.now.numbers
         (map (λ told. pos told.atomic) arena.now.nodes) depth) ranks.new.numbers }
+    ensures calm { AreCalm (parents_of arena.now.nodes) ranks.new.numbers ranks.new.stirred }
     ensures bound { ranks.new.bound ≡ ranks.old.bound }
 {
     rank_by(arena.table(), &ByAtom { nodes: arena }, level, ranks, depth);
@@ -274,9 +279,11 @@ fn rank_atoms(arena: &Arena, level: &Ranks, ranks: &mut Ranks, depth: u32)
 // Ranks by Rule 1b over those by Rule 1a.
 fn rank_distances(arena: &Arena, rules: Rules, by_atom: &Ranks, ranks: &mut Ranks, depth: u32)
     requires earlier { length by_atom.now.numbers ≡ length arena.now.nodes }
+    requires calm { AreCalm (parents_of arena.now.nodes) by_atom.now.numbers by_atom.now.stirred }
     requires room { length arena.now.nodes ≤ ranks.old.bound }
     ensures ranked { OrdersAs (length arena.now.nodes) (comparison_at (parents_of arena.now.nodes) by_atom.now.numbers
         (map (λ told. lower_precedes (distance_told rules told)) arena.now.nodes) depth) ranks.new.numbers }
+    ensures calm { AreCalm (parents_of arena.now.nodes) ranks.new.numbers ranks.new.stirred }
     ensures bound { ranks.new.bound ≡ ranks.old.bound }
 {
     rank_by(
@@ -294,6 +301,7 @@ fn rank_distances(arena: &Arena, rules: Rules, by_atom: &Ranks, ranks: &mut Rank
 // Ranks by Rule 2 over those by Rule 1b.
 fn rank_masses(arena: &Arena, by_distance: &Ranks, ranks: &mut Ranks, depth: u32)
     requires earlier { length by_distance.now.numbers ≡ length arena.now.nodes }
+    requires calm { AreCalm (parents_of arena.now.nodes) by_distance.now.numbers by_distance.now.stirred }
     requires room { length arena.now.nodes ≤ ranks.old.bound }
     ensures ranked { OrdersAs (length arena.now.nodes) (comparison_at (parents_of arena.now.nodes)
         by_distance.now.numbers (map (λ told. pos told.mass) arena.now.nodes) depth) ranks.new.numbers }

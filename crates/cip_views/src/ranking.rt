@@ -1,6 +1,7 @@
 // Pairs of branches decided by one rule, depth by depth.
 ghost use Rattle.std.specs.Prelude.{◌≡◌, ◌<◌, ◌≤◌, ◌+◌, ◌-◌, false, length, min, map, All};
 ghost use Rattle.std.specs.List.{list_all};
+ghost use Rattle.cip_rank.specs.Calm.{AreCalm};
 ghost use Rattle.cip_rank.specs.Ranking.{OrdersAs, comparison_at};
 ghost use Rattle.cip_rank.specs.Tree.{height_of};
 ghost use Rattle.cip_views.specs.Asking.{AreWithin, is_decided, with_found};
@@ -24,6 +25,7 @@ pub fn rank_rule<K: Keyed>(
     requires depths { 0 < depths }
     requires keyed { length table.now.parents ≤ K.nodes keys.now }
     requires prior { length prior.now.numbers ≡ length table.now.parents }
+    requires calm { AreCalm table.now.parents prior.now.numbers prior.now.stirred }
     requires room { length table.now.parents ≤ out.old.bound }
     requires within { All (AreWithin (length table.now.parents)) asked.old }
     ensures asked { asked.new ≡ map (with_found
@@ -31,6 +33,7 @@ pub fn rank_rule<K: Keyed>(
     ensures all { result ≡ list_all is_decided asked.new }
     ensures ranked { result ≡ false → OrdersAs (length table.now.parents)
         (comparison_at table.now.parents prior.now.numbers (K.key keys.now) (depths - 1)) out.new.numbers }
+    ensures calm { AreCalm table.now.parents out.new.numbers out.new.stirred }
     ensures bound { out.new.bound ≡ out.old.bound }
 {
     for depth in 0..depths {

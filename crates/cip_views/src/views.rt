@@ -80,6 +80,7 @@ impl Views {
         ensures view { IsView (parents_of (N.nodes nodes.now)) node self.new.view }
         ensures kept { self.new ≡ record self.old { view = self.new.view } }
     {
+        self.ranks.stir_all();
         self.view.view(nodes.table(), node);
     }
 
@@ -94,6 +95,7 @@ impl Views {
         ensures bound { self.new.bound ≡ self.old.bound }
     {
         let table = nodes.table();
+        self.ranks.stir_all();
         self.view.view(table, node);
         place_marks(&self.view, table.len(), marks, &mut self.marks);
     }
@@ -109,6 +111,7 @@ impl Views {
         ensures bound { self.new.bound ≡ self.old.bound }
     {
         let table = nodes.table();
+        self.ranks.stir_all();
         self.view.view(table, node);
         mark_below(table, from, &mut self.below);
         place_below(&self.view, table.len(), marks, &self.below, &mut self.marks);
@@ -123,6 +126,7 @@ impl Views {
         ensures near { IsNear (N.nodes nodes.now) self.new.view }
         ensures bound { self.new.bound ≡ self.old.bound }
     {
+        self.ranks.stir_all();
         self.view.view_within(nodes.table(), node, spheres)
     }
 

@@ -17,6 +17,7 @@ loop-depth-init g c = record {
   within = c.requires.within;
   ranked = λ d e. absurd (omega (arith, e));
   undecided = λ h. absurd (omega (arith, h));
+  calm = λ h. absurd (omega (arith, h));
   bound = refl;
 }
 
@@ -44,6 +45,7 @@ loop-depth-preserved g c =
           (λ n. Rattle.cip_rank.specs.Ranking.OrdersAs (length parents) (comparison_at parents earlier keys n) numbers)
           same c.rank_sphere.ensures.ranked;
       undecided = λ h. sym c.are_decided.ensures ∙ c.if-are_decided.false;
+      calm = λ h. c.rank_sphere.ensures.calm;
       bound = c.rank_sphere.ensures.bound ∙ c.loop-depth.invariant.bound;
     }
 
@@ -120,5 +122,6 @@ returns-then-not-rank_sphere g c =
       ranked =
           λ e. settled_ranks parents earlier keys (depth - 1) c.loop-depth.out.numbers c.rank_sphere.new.out.numbers
           before now unchanged.1 (c.args.depths - 1) (omega arith);
+      calm = c.rank_sphere.ensures.calm;
       bound = c.rank_sphere.ensures.bound ∙ c.loop-depth.invariant.bound;
     }

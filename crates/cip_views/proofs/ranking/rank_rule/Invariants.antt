@@ -1,6 +1,7 @@
 use Rattle.std.proofs.Common.{◌≡◌, ◌<◌, ◌+◌, ℕ, false, length, map}
 use Rattle.std.specs.Prelude.{All}
 use Rattle.std.specs.List.{list_all}
+use Rattle.cip_rank.specs.Calm.{AreCalm}
 use Rattle.cip_rank.specs.Ranking.{OrdersAs, comparison_at}
 use Rattle.cip_views.specs.Asking.{is_decided, with_found}
 use Rattle.cip_views.specs.Finding.{found_within}
@@ -16,5 +17,6 @@ invariant-loop-depth g l = record {
       → OrdersAs (length l.table.parents) (comparison_at l.table.parents l.prior.numbers (g.K.Keyed.key l.keys) d)
       l.out.numbers;
   undecided : 0 < l.depth → list_all is_decided l.asked ≡ false;
+  calm : 0 < l.depth → AreCalm l.table.parents l.out.numbers l.out.stirred;
   bound : l.out.bound ≡ l.fn.out.bound;
 }
