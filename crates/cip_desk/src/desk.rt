@@ -1,5 +1,5 @@
 // The digraphs of roots, grown and ranked one after the other at one desk.
-ghost use Rattle.std.specs.Prelude.{◌≡◌, ◌≤◌, ◌∷◌, [], length, OnOk};
+ghost use Rattle.std.specs.Prelude.{◌≡◌, ◌≤◌, ◌∷◌, [], length, IfOk, OnOk};
 ghost use Rattle.cip_arena.specs.Growth.{Holds};
 ghost use Rattle.cip_constitution.specs.Settling.{SettledAs};
 ghost use Rattle.cip_digraph.specs.units.Ends.{end_at};
@@ -55,17 +55,11 @@ impl Digraphs for Desk {
     ghost standing = { λ desk. standing_of desk.standing };
 
     fn reserve(alloc: Global, nodes: u32) -> Result<Desk, AllocError> {
-        Ok(Desk {
-            bound: nodes,
-            arena: Arena::reserve(alloc, nodes)?,
-            work: Work::reserve(alloc, nodes)?,
-            sights: Sights {
-                views: Views::reserve(alloc, nodes)?,
-                pruner: Pruner::reserve(alloc, nodes)?,
-            },
-            marks: Descriptors::reserve(alloc, nodes)?,
-            branches: Branches::reserve(alloc)?,
-        })
+        // both readings of a node have a number each
+        if nodes >= 1 << 31 {
+            return Err(AllocError);
+        }
+        reserve_tables(alloc, nodes)
     }
 
     fn rank<L: Ledger>(
@@ -117,6 +111,28 @@ impl Digraphs for Desk {
     fn decide(&self, a: u32, b: u32, r_first: bool) -> Option<Decision> {
         self.branches.stand(a, b, r_first)
     }
+}
+
+fn reserve_sights(alloc: Global, nodes: u32) -> Result<Sights, AllocError>
+    ensures { IfOk result (λ sights. sights.views.bound ≡ nodes) }
+{
+    Ok(Sights {
+        views: Views::reserve(alloc, nodes)?,
+        pruner: Pruner::reserve(alloc, nodes)?,
+    })
+}
+
+fn reserve_tables(alloc: Global, nodes: u32) -> Result<Desk, AllocError>
+    ensures { IfOk result (λ desk. desk.bound ≡ nodes) }
+{
+    Ok(Desk {
+        bound: nodes,
+        arena: Arena::reserve(alloc, nodes)?,
+        work: Work::reserve(alloc, nodes)?,
+        sights: reserve_sights(alloc, nodes)?,
+        marks: Descriptors::reserve(alloc, nodes)?,
+        branches: Branches::reserve(alloc)?,
+    })
 }
 
 // Grows the digraph of a root until its ligands are settled.
