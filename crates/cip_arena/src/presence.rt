@@ -2,6 +2,8 @@
 ghost use Rattle.std.specs.Prelude.{◌≡◌, ◌≤◌, true, slice_index_or, vec_capacity};
 ghost use Rattle.cip_arena.specs.Walk.{with_mark};
 
+use cip_rank::columns::unset_flags;
+
 /// Whether a vertex may have a node: its flag is set, or stands beyond the column.
 pub fn may_stand(flags: &[bool], vertex: u32) -> bool
     ensures { result ≡ slice_index_or flags.now vertex true }
@@ -27,11 +29,5 @@ pub fn clear_flags(flags: &mut Vec<bool>, vertices: usize, room: u32)
     requires { room ≤ vec_capacity flags.old }
     ensures { vec_capacity flags.old ≤ vec_capacity flags.new }
 {
-    flags.clear();
-    for _ in 0..room {
-        if flags.len() == vertices {
-            return;
-        }
-        let _ = flags.push(false);
-    }
+    unset_flags(flags, vertices.min(room as usize) as u32);
 }

@@ -45,15 +45,15 @@ module _ (parents before numbers : List ℕ) (stirred : List Bool) (count : ℕ)
       (next_readings parents before (length parents)) numbers → AreReadingsCalm parents numbers stirred
   readings_calm nodes ordered = subst (λ n. OrdersAs (n + n) (next_readings parents before n) numbers
       → AreReadingsCalm parents numbers stirred) nodes (λ in_order. record {
-    same = λ a b of_a of_b tie calm.
-        let tied = numbers_tie (count + count) (next_readings parents before count) numbers in_order a b
-        (subst (λ n. a < n + n) (sym nodes) of_a) (subst (λ n. b < n + n) (sym nodes) of_b) tie in
-        let alike = tied_lists (pair_set parents before count a) (pair_set parents before count b)
-        (both_tie (by_number before a b) (slice_cmp nat_cmp (pair_set parents before count a)
-        (pair_set parents before count b)) tied).1 in
-        let here = reading_stays a calm ∙ alike ∙ sym (reading_stays b (ap (is_stirred stirred) (sym tie) ∙ calm)) in
-        subst (λ n. pair_set parents numbers n a ≡ pair_set parents numbers n b) nodes here;
-  }) ordered
+        same = λ a b of_a of_b tie calm.
+            let tied = numbers_tie (count + count) (next_readings parents before count) numbers in_order a b
+            (subst (λ n. a < n + n) (sym nodes) of_a) (subst (λ n. b < n + n) (sym nodes) of_b) tie in
+            let alike = tied_lists (pair_set parents before count a) (pair_set parents before count b)
+            (both_tie (by_number before a b) (slice_cmp nat_cmp (pair_set parents before count a)
+            (pair_set parents before count b)) tied).1 in
+            let here = reading_stays a calm ∙ alike ∙ sym (reading_stays b (ap (is_stirred stirred) (sym tie) ∙ calm)) in
+            subst (λ n. pair_set parents numbers n a ≡ pair_set parents numbers n b) nodes here;
+      }) ordered
 
 -- calm readings that tie go on to tie by their sets
 pub readings_tie : (parents numbers : List ℕ) (stirred : List Bool) → AreReadingsCalm parents numbers stirred

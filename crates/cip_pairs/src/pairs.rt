@@ -10,10 +10,10 @@ ghost use Rattle.cip_pairs.specs.Partings.{parting};
 
 use crate::descriptors::Descriptors;
 use crate::readings::{ByLike, ByReadSets};
-use cip_rank::columns::{copy_numbers, fill_with_zeros};
+use cip_rank::columns::{copy_numbers, fill_with_zeros, unset_flags};
 use cip_rank::sets::write_stirred_sets;
 use cip_rank::sorting::{assign_numbers, refine_and_number, sort_and_number};
-use cip_rank::stirring::{calm_numbers, stir_parents};
+use cip_rank::stirring::stir_parents;
 use cip_rank::{Ranks, Table};
 use std::alloc::{AllocError, Global};
 use std::cmp::Ordering;
@@ -112,8 +112,18 @@ impl PairWork {
         let _bound = self.bound;
         let both = count + count;
         let half = count as usize;
-        write_stirred_sets(table, &self.numbers[..half], &self.stirred, &mut self.sets_r);
-        write_stirred_sets(table, &self.numbers[half..], &self.stirred, &mut self.sets_s);
+        write_stirred_sets(
+            table,
+            &self.numbers[..half],
+            &self.stirred,
+            &mut self.sets_r,
+        );
+        write_stirred_sets(
+            table,
+            &self.numbers[half..],
+            &self.stirred,
+            &mut self.sets_s,
+        );
         let by = ByReadSets {
             count,
             both,
@@ -127,9 +137,19 @@ impl PairWork {
         copy_numbers(&self.numbers[..half], &mut self.sets_r);
         copy_numbers(&self.numbers[half..], &mut self.sets_s);
         let changed = assign_numbers(&self.sorted, &self.new_numbers, &mut self.numbers);
-        calm_numbers(&mut self.stirred, both);
-        stir_parents(table, &self.sets_r, &self.numbers[..half], &mut self.stirred);
-        stir_parents(table, &self.sets_s, &self.numbers[half..], &mut self.stirred);
+        unset_flags(&mut self.stirred, both);
+        stir_parents(
+            table,
+            &self.sets_r,
+            &self.numbers[..half],
+            &mut self.stirred,
+        );
+        stir_parents(
+            table,
+            &self.sets_s,
+            &self.numbers[half..],
+            &mut self.stirred,
+        );
         changed
     }
 

@@ -14,15 +14,6 @@ pub fn is_stirred(stirred: &[bool], number: u32) -> bool
     }
 }
 
-/// Lets so many numbers be calm.
-pub fn calm_numbers(stirred: &mut Vec<bool>, count: u32)
-    requires { count ≤ vec_capacity stirred.old }
-    ensures { vec_capacity stirred.old ≤ vec_capacity stirred.new }
-{
-    stirred.clear();
-    let _ = stirred.resize(count as usize, false);
-}
-
 fn stir(stirred: &mut Vec<bool>, number: u32)
     ensures stirred { is_stirred stirred.new.items number ≡ true }
     ensures stays { StaysStirred stirred.old.items stirred.new.items }
