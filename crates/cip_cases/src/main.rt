@@ -3,11 +3,14 @@
 
 mod case;
 mod running;
+mod turns;
+mod watched;
 
-use crate::case::read_case;
+use crate::case::{Case, read_case};
 use crate::running::{Outcome, run_case};
-use cip_io::{Failed, Sink, StdSink, push_all};
-use std::alloc::Global;
+use crate::turns::{run_in_turn, summary};
+use cip_io::{Sink, StdSink, push_all};
+use std::alloc::{AllocError, Global};
 use std::process::ExitCode;
 use std::rt::Files;
 use std::thread::Threads;
@@ -32,9 +35,8 @@ fn show_cases<R: Files + Threads + Sync + AllocGlobal, K: Sink>(
     let table = fs::read_to_string(rt, TABLE)?;
     for line in table.as_str().lines() {
         if let Some(case) = read_case(line) {
-            let input = fs::read(rt, case.file)?;
-            let outcome = run_case(rt, rt.alloc(), &case, input)?;
-            if show(rt.alloc(), case.name, &outcome, out)?.is_err() {
+            let text = text_of(rt, &case)?;
+            if push_all(out, &text).is_err() {
                 return Err(io::Error::from(io::ErrorKind::Other));
             }
         }
@@ -42,28 +44,28 @@ fn show_cases<R: Files + Threads + Sync + AllocGlobal, K: Sink>(
     Ok(())
 }
 
-// The name of a case and its exit status, its diagnostics, and the bytes that were written.
-fn show<K: Sink>(
-    alloc: Global,
-    name: &str,
-    outcome: &Outcome,
-    out: &mut K,
-) -> io::Result<Result<(), Failed>> {
-    let head = format!(in alloc; "=== {name}: status {}\n", outcome.status)?;
-    Ok(push_parts(
-        out,
-        &[
-            head.as_str().as_bytes(),
-            &outcome.said,
-            &outcome.written,
-            b"\n",
-        ],
-    ))
+// What is shown of a case: what its run leaves behind, or one line of the runs in which a call fails in turn.
+fn text_of<R: Files + Threads + Sync + AllocGlobal>(
+    rt: &R,
+    case: &Case<'_>,
+) -> io::Result<Vec<u8>> {
+    let alloc = rt.alloc();
+    let input = fs::read(rt, case.file)?;
+    let Some(calls) = case.in_turn else {
+        let outcome = run_case(rt, alloc, case, input)?;
+        return Ok(outcome_text(alloc, case.name, &outcome)?);
+    };
+    let runs = run_in_turn(rt, alloc, case, calls, &input)?;
+    let summary = summary(alloc, calls, &runs)?;
+    Ok(format!(in alloc; "=== {}: {summary}\n", case.name)?.into_bytes())
 }
 
-fn push_parts<K: Sink>(out: &mut K, parts: &[&[u8]]) -> Result<(), Failed> {
-    for part in parts {
-        push_all(out, part)?;
+// The name of a case and its exit status, its diagnostics, and the bytes that were written.
+fn outcome_text(alloc: Global, name: &str, outcome: &Outcome) -> Result<Vec<u8>, AllocError> {
+    let head = format!(in alloc; "=== {name}: status {}\n", outcome.status)?;
+    let mut text = head.into_bytes();
+    for part in [outcome.said.as_slice(), &outcome.written, b"\n"] {
+        text.extend_from_slice(part)?;
     }
-    Ok(())
+    Ok(text)
 }

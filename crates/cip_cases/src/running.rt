@@ -1,16 +1,20 @@
 // A case, run over memory.
+ghost use Rattle.std.specs.Prelude.{◌<◌};
+
 use crate::case::Case;
+use crate::watched::Watched;
 use cip_io::{MemSink, MemSource};
 use cip_run::{Limits, Open, run_limits};
 use std::alloc::{AllocError, Global};
 use std::thread::Threads;
 
-/// What a run left behind.
+/// What a run left behind, and whether a call on the sink or the diagnostics failed.
 #[derive(Drop)]
 pub struct Outcome {
     pub status: u8,
     pub written: Vec<u8>,
     pub said: Vec<u8>,
+    pub has_failed: bool,
 }
 
 /// Runs a case over this input. A number of the table that is too large is cut.
@@ -24,12 +28,15 @@ pub fn run_case<R: Threads + Sync>(
         record: case.limits.record.min(1 << 30),
         input: case.limits.input.min(1 << 62),
     };
-    let piece = case.piece.clamp(1, 1 << 20) as usize;
     let room = input.len().min(1 << 30) * 2 + 65_536;
     let words = words_of(alloc, case.words)?;
-    let mut source = MemSource::new(input, piece, vec![in alloc; case.failing_pull]?);
-    let mut sink = MemSink::with_room(alloc, piece, room, vec![in alloc; case.failing_push]?)?;
-    let mut diag = MemSink::with_room(alloc, 1, 100, vec![in alloc; case.failing_note]?)?;
+    let mut source = MemSource::new(
+        input,
+        piece_of(case.pull_piece),
+        vec![in alloc; case.failing_pull]?,
+    );
+    let mut sink = sink_of(alloc, case.push_piece, room, case.failing_push)?;
+    let mut diag = sink_of(alloc, case.note_piece, 100, case.failing_note)?;
     let status = run_limits(
         rt,
         alloc,
@@ -42,9 +49,29 @@ pub fn run_case<R: Threads + Sync>(
     );
     Ok(Outcome {
         status,
-        written: sink.into_bytes(),
-        said: diag.into_bytes(),
+        written: sink.sink.into_bytes(),
+        said: diag.sink.into_bytes(),
+        has_failed: sink.has_failed || diag.has_failed,
     })
+}
+
+fn sink_of(
+    alloc: Global,
+    piece: u64,
+    room: usize,
+    failing: u64,
+) -> Result<Watched<MemSink>, AllocError> {
+    let sink = MemSink::with_room(alloc, piece_of(piece), room, vec![in alloc; failing]?)?;
+    Ok(Watched {
+        sink,
+        has_failed: false,
+    })
+}
+
+fn piece_of(number: u64) -> usize
+    ensures { 0 < result }
+{
+    number.clamp(1, 1 << 20) as usize
 }
 
 fn words_of(alloc: Global, text: &str) -> Result<Vec<String>, AllocError> {
