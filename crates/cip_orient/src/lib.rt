@@ -3,6 +3,8 @@
 
 mod axis;
 mod bond;
+#[cfg(test)]
+mod cases;
 mod centre;
 mod drawing;
 mod drawn;
