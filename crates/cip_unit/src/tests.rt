@@ -31,13 +31,19 @@ fn atom(symbol: u8) -> Atom
     }
 }
 
-fn bond(a: u32, b: u32, double: bool) -> Bond
+// The bond of a word as `0-1`, which is single, or `0=1`, which is double.
+fn bond(word: &str) -> Bond
     ensures { IsBond result }
 {
+    let (ends, order) = match word.split_once('=') {
+        Some(ends) => (Some(ends), 2),
+        None => (word.split_once('-'), 1),
+    };
+    let (a, b) = ends.unwrap_or(("", ""));
     Bond {
-        a,
-        b,
-        order: if double { 2 } else { 1 },
+        a: a.parse().unwrap_or(0),
+        b: b.parse().unwrap_or(0),
+        order,
         mark: Mark::Plain,
     }
 }
@@ -50,29 +56,22 @@ fn atoms_of(alloc: Global, symbols: &[u8]) -> Result<Vec<Atom>, AllocError>
     symbols.iter().map(|symbol| atom(*symbol)).collect(alloc)
 }
 
-fn bonds_of(alloc: Global, ends: &[(u32, u32, bool)]) -> Result<Vec<Bond>, AllocError>
-    requires { length ends.now ≤ 32768 }
+fn bonds_of(alloc: Global, words: &[&str]) -> Result<Vec<Bond>, AllocError>
+    requires { length words.now ≤ 32768 }
     ensures few { IfOk result (λ bonds. length bonds.items ≤ 32768) }
     ensures each { IfOk result (λ bonds. All IsBond bonds.items) }
 {
-    ends.iter()
-        .map(|&(a, b, double)| bond(a, b, double))
-        .collect(alloc)
+    words.iter().map(|word| bond(word)).collect(alloc)
 }
 
 // How many vertices and edges a molecule's graph has, the positions of an atom, how many atoms the smallest ring
 // through its first bond has, and its units.
-fn told(
-    alloc: Global,
-    symbols: &[u8],
-    ends: &[(u32, u32, bool)],
-    atom: u32,
-) -> Result<String, AllocError>
+fn told(alloc: Global, symbols: &[u8], words: &[&str], atom: u32) -> Result<String, AllocError>
     requires atoms { length symbols.now ≤ 16384 }
-    requires bonds { length ends.now ≤ 32768 }
+    requires bonds { length words.now ≤ 32768 }
 {
     let atoms = atoms_of(alloc, symbols)?;
-    let bonds = bonds_of(alloc, ends)?;
+    let bonds = bonds_of(alloc, words)?;
     let Ok(molecule) = Molecule::new(alloc, atoms, bonds) else {
         return Ok(String::new(alloc));
     };
@@ -168,121 +167,106 @@ fn listed(alloc: Global, ligands: &Ligands) -> Result<String, AllocError> {
     Ok(text)
 }
 
+// A molecule by its atoms and bonds, an atom of it, and what is told of them.
+#[derive(Clone, Copy)]
+struct Case {
+    name: &'static str,
+    atoms: &'static str,
+    bonds: &'static [&'static str],
+    atom: u32,
+    told: &'static str,
+}
+
+const CASES: &[Case] = &[
+    Case {
+        name: "ethyl methyl sulfoxide",
+        atoms: "SOCCC",
+        bonds: &["0=1", "0-2", "0-3", "3-4"],
+        atom: 0,
+        told: "13 12; 0; 0; 0(1 2 3 e )",
+    },
+    Case {
+        name: "but-2-ene",
+        atoms: "CCCC",
+        bonds: &["0-1", "1=2", "2-3"],
+        atom: 1,
+        told: "12 11; 2 36; 0; 1=2(0 7 )(3 8 )",
+    },
+    Case {
+        name: "an allene",
+        atoms: "CCCLL",
+        bonds: &["0=1", "1=2", "0-3", "2-4"],
+        atom: 0,
+        told: "7 6; 1 36; 0; 0=1=2(3 5 )(4 6 )",
+    },
+    Case {
+        name: "an allene whose ends are joined",
+        atoms: "CCCCC",
+        bonds: &["0=1", "1=2", "2-0", "0-3", "2-4"],
+        atom: 1,
+        told: "11 11; 0; 3; ",
+    },
+    Case {
+        name: "cyclohexene",
+        atoms: "CCCCCC",
+        bonds: &["0=1", "1-2", "2-3", "3-4", "4-5", "5-0"],
+        atom: 0,
+        told: "16 16; 1 36; 6; ",
+    },
+    Case {
+        name: "cyclooctene",
+        atoms: "CCCCCCCC",
+        bonds: &["0=1", "1-2", "2-3", "3-4", "4-5", "5-6", "6-7", "7-0"],
+        atom: 0,
+        told: "22 22; 1 36; 8; 0=1(7 8 )(2 9 )",
+    },
+    Case {
+        name: "benzene",
+        atoms: "CCCCCC",
+        bonds: &["0=1", "1-2", "2=3", "3-4", "4=5", "5-0"],
+        atom: 0,
+        told: "12 12; 1 5 36; 6; ",
+    },
+    Case {
+        name: "phenyl pyridinyl methanol",
+        atoms: "COCCNCCCCCCCCC",
+        bonds: &[
+            "0-1", "0-2", "0-8", "2=3", "3-4", "4=5", "5-6", "6=7", "2-7", "8=9", "9-10", "10=11",
+            "11-12", "12=13", "8-13",
+        ],
+        atom: 3,
+        told: "25 26; 2 4 39; 0; 0(1 2 8 14 )",
+    },
+    Case {
+        name: "biphenyl",
+        atoms: "CCCCCCCCCCCC",
+        bonds: &[
+            "0-6", "0=1", "1-2", "2=3", "3-4", "4=5", "5-0", "6=7", "7-8", "8=9", "9-10", "10=11",
+            "11-6",
+        ],
+        atom: 0,
+        told: "22 23; 1 5 36; 0; ",
+    },
+    Case {
+        name: "phenylpropene",
+        atoms: "CCCCCCCCC",
+        bonds: &[
+            "0=1", "1-2", "2=3", "3-4", "4=5", "5-0", "0-6", "6=7", "7-8",
+        ],
+        atom: 6,
+        told: "19 19; 7 36; 6; 6=7(0 14 )(8 15 )",
+    },
+];
+
 #[test]
 fn small_molecules_have_their_graphs_rings_positions_and_units(
     rt: HostRuntime,
 ) -> Result<(), Fail> {
-    let alloc = rt.alloc();
-    let sulfoxide = [(0, 1, true), (0, 2, false), (0, 3, false), (3, 4, false)];
-    let butene = [(0, 1, false), (1, 2, true), (2, 3, false)];
-    let allene = [(0, 1, true), (1, 2, true), (0, 3, false), (2, 4, false)];
-    let joined_allene = [
-        (0, 1, true),
-        (1, 2, true),
-        (2, 0, false),
-        (0, 3, false),
-        (2, 4, false),
-    ];
-    let cyclohexene = [
-        (0, 1, true),
-        (1, 2, false),
-        (2, 3, false),
-        (3, 4, false),
-        (4, 5, false),
-        (5, 0, false),
-    ];
-    let cyclooctene = [
-        (0, 1, true),
-        (1, 2, false),
-        (2, 3, false),
-        (3, 4, false),
-        (4, 5, false),
-        (5, 6, false),
-        (6, 7, false),
-        (7, 0, false),
-    ];
-    let benzene = [
-        (0, 1, true),
-        (1, 2, false),
-        (2, 3, true),
-        (3, 4, false),
-        (4, 5, true),
-        (5, 0, false),
-    ];
-    let biphenyl = [
-        (0, 6, false),
-        (0, 1, true),
-        (1, 2, false),
-        (2, 3, true),
-        (3, 4, false),
-        (4, 5, true),
-        (5, 0, false),
-        (6, 7, true),
-        (7, 8, false),
-        (8, 9, true),
-        (9, 10, false),
-        (10, 11, true),
-        (11, 6, false),
-    ];
-    let phenylpropene = [
-        (0, 1, true),
-        (1, 2, false),
-        (2, 3, true),
-        (3, 4, false),
-        (4, 5, true),
-        (5, 0, false),
-        (0, 6, false),
-        (6, 7, true),
-        (7, 8, false),
-    ];
-    let phenyl_pyridinyl_methanol = [
-        (0, 1, false),
-        (0, 2, false),
-        (0, 8, false),
-        (2, 3, true),
-        (3, 4, false),
-        (4, 5, true),
-        (5, 6, false),
-        (6, 7, true),
-        (2, 7, false),
-        (8, 9, true),
-        (9, 10, false),
-        (10, 11, true),
-        (11, 12, false),
-        (12, 13, true),
-        (8, 13, false),
-    ];
-    let cases: [(&str, &[(u32, u32, bool)], u32, &str); 10] = [
-        ("SOCCC", &sulfoxide, 0, "13 12; 0; 0; 0(1 2 3 e )"),
-        ("CCCC", &butene, 1, "12 11; 2 36; 0; 1=2(0 7 )(3 8 )"),
-        ("CCCLL", &allene, 0, "7 6; 1 36; 0; 0=1=2(3 5 )(4 6 )"),
-        ("CCCCC", &joined_allene, 1, "11 11; 0; 3; "),
-        ("CCCCCC", &cyclohexene, 0, "16 16; 1 36; 6; "),
-        (
-            "CCCCCCCC",
-            &cyclooctene,
-            0,
-            "22 22; 1 36; 8; 0=1(7 8 )(2 9 )",
-        ),
-        ("CCCCCC", &benzene, 0, "12 12; 1 5 36; 6; "),
-        (
-            "COCCNCCCCCCCCC",
-            &phenyl_pyridinyl_methanol,
-            3,
-            "25 26; 2 4 39; 0; 0(1 2 8 14 )",
-        ),
-        ("CCCCCCCCCCCC", &biphenyl, 0, "22 23; 1 5 36; 0; "),
-        (
-            "CCCCCCCCC",
-            &phenylpropene,
-            6,
-            "19 19; 7 36; 6; 6=7(0 14 )(8 15 )",
-        ),
-    ];
-    for (symbols, ends, atom, want) in cases {
-        let symbols = symbols.as_bytes();
-        assert!(rt; symbols.len() <= 16_384 && ends.len() <= 32_768);
-        assert_eq!(rt; told(alloc, symbols, ends, atom)?.as_str(), want);
+    for case in CASES {
+        let (atoms, bonds) = (case.atoms.as_bytes(), case.bonds);
+        assert!(rt; atoms.len() <= 16_384 && bonds.len() <= 32_768);
+        let told = told(rt.alloc(), atoms, bonds, case.atom)?;
+        assert_eq!(rt; told.as_str(), case.told, "{}", case.name);
     }
     Ok(())
 }
