@@ -7,8 +7,8 @@ use std::thread::Threads;
 // More runs than any case has.
 const MOST: u64 = 10_000;
 
-/// The runs of a case in which the first call of a kind fails, the second one, and so on, and behind them the one without
-/// a failing call.
+/// The runs of a case in which the first call of a kind fails, the second one, and so on, and behind them the run in
+/// which none fails.
 pub fn run_in_turn<R: Threads + Sync>(
     rt: &R,
     alloc: Global,
