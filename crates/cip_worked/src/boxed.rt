@@ -1,0 +1,162 @@
+// Worked digraphs in boxes: how many nodes they have, and how two ligands stand by constitution.
+ghost use Rattle.std.specs.Prelude.{◌≤◌, length};
+
+use crate::molecules::graph;
+use cip_digraph::Nodes;
+use cip_mancude::positions;
+use cip_rank::Rules;
+use cip_tree::{Flat, PlainTree, plain_order, plain_tree};
+use std::alloc::{AllocError, Global};
+use std::cmp::Ordering;
+use std::test::Fail;
+
+type Ends<'a> = &'a [(u32, u32, u8)];
+
+// The digraph of atom 0 up to a sphere.
+fn boxed(
+    alloc: Global,
+    symbols: &[u8],
+    ends: Ends<'_>,
+    sphere: u32,
+) -> Result<Option<PlainTree>, AllocError>
+    requires atoms { length symbols.now ≤ 16384 }
+    requires bonds { length ends.now ≤ 32768 }
+{
+    let Some(graph) = graph(alloc, symbols, ends)? else {
+        return Ok(None);
+    };
+    let positions = positions(alloc, &graph)?;
+    Ok(Some(plain_tree(alloc, &graph, &positions, 0, sphere)?))
+}
+
+// The place of a vertex among the children of the root.
+fn place_of(nodes: &Flat, vertex: u32) -> Option<u32> {
+    let table = nodes.table();
+    if table.len() == 0 {
+        return None;
+    }
+    let (first, past) = table.children(0);
+    for node in first..past {
+        if nodes.vertex(node) == Some(vertex) {
+            return Some(node - first);
+        }
+    }
+    None
+}
+
+// How many nodes there are, and how two neighbours of the root stand.
+fn told(
+    alloc: Global,
+    tree: &PlainTree,
+    rules: Rules,
+    vertices: (u32, u32),
+) -> Result<String, AllocError> {
+    let Some(count) = tree.node_count() else {
+        return format!(in alloc; "too many nodes");
+    };
+    let nodes = tree.flat()?;
+    let (Some(a), Some(b)) = (place_of(&nodes, vertices.0), place_of(&nodes, vertices.1)) else {
+        return format!(in alloc; "no neighbours");
+    };
+    let neighbours = tree.children().len();
+    if a as usize >= neighbours || b as usize >= neighbours {
+        return format!(in alloc; "no children");
+    }
+    match plain_order(alloc, tree, rules, a, b)? {
+        None => format!(in alloc; "{count} nodes, a tie"),
+        Some(decision) => {
+            let side = if decision.side == Ordering::Greater {
+                "higher"
+            } else {
+                "lower"
+            };
+            format!(in alloc;
+                "{count} nodes, {side} by Rule {} in sphere {}",
+                decision.rule, decision.sphere
+            )
+        }
+    }
+}
+
+#[test]
+fn digraphs_in_boxes_decide_by_constitution(rt: HostRuntime) -> Result<(), Fail> {
+    let alloc = rt.alloc();
+    let glyceraldehyde = [(0, 1, 1), (1, 2, 2), (0, 3, 1), (0, 4, 1), (4, 5, 1)];
+    let methylcyclopropane = [(0, 1, 1), (0, 2, 1), (1, 2, 1), (0, 3, 1)];
+    // an anion of oxirane carbaldehyde, of whose ligands two differ by Rule 1b alone
+    let oxirane = [
+        (0, 1, 1),
+        (0, 2, 1),
+        (1, 2, 1),
+        (2, 3, 1),
+        (0, 4, 1),
+        (4, 5, 2),
+    ];
+    let tetrahedrane = [
+        (0, 1, 1),
+        (0, 2, 1),
+        (0, 3, 1),
+        (1, 2, 1),
+        (1, 3, 1),
+        (2, 3, 1),
+    ];
+    // atoms and bonds, the last sphere, two neighbours of atom 0
+    let cases: [(&[u8], Ends<'_>, u32, (u32, u32), &str); 11] = [
+        (
+            b"CCOOCO",
+            &glyceraldehyde,
+            2,
+            (1, 4),
+            "12 nodes, higher by Rule 1a in sphere 2",
+        ),
+        (
+            b"CCOOCO",
+            &glyceraldehyde,
+            2,
+            (4, 1),
+            "12 nodes, lower by Rule 1a in sphere 2",
+        ),
+        (b"CCOOCO", &glyceraldehyde, 1, (1, 4), "5 nodes, a tie"),
+        (
+            b"CCOOCO",
+            &glyceraldehyde,
+            1,
+            (3, 4),
+            "5 nodes, higher by Rule 1a in sphere 1",
+        ),
+        (b"CCCC", &methylcyclopropane, 3, (1, 2), "20 nodes, a tie"),
+        (b"CCCC", &methylcyclopropane, 9, (1, 2), "20 nodes, a tie"),
+        (
+            b"CCCC",
+            &methylcyclopropane,
+            2,
+            (1, 3),
+            "14 nodes, higher by Rule 1a in sphere 2",
+        ),
+        (
+            b"COC-CO",
+            &oxirane,
+            3,
+            (2, 4),
+            "17 nodes, higher by Rule 1b in sphere 3",
+        ),
+        // a duplicate has no mass
+        (
+            b"COC-CO",
+            &oxirane,
+            2,
+            (2, 4),
+            "12 nodes, higher by Rule 2 in sphere 2",
+        ),
+        (b"CCCC", &tetrahedrane, 4, (1, 2), "50 nodes, a tie"),
+        (b"C", &[], 1, (1, 2), "5 nodes, a tie"),
+    ];
+    for (symbols, ends, sphere, vertices, want) in cases {
+        let Some(tree) = boxed(alloc, symbols, ends, sphere)? else {
+            panic!(rt; "no molecule");
+        };
+        let answer = told(alloc, &tree, Rules::Wording2013, vertices)?;
+        assert_eq!(rt; answer.as_str(), want, "{want}");
+    }
+    Ok(())
+}
