@@ -85,3 +85,75 @@ fn jobs_meet(rt: HostRuntime) -> Result<(), Fail> {
     }
     Ok(())
 }
+
+// A gate that counts those that come, and adds up their places.
+#[derive(Drop)]
+struct Counted {
+    begun: AtomicU64,
+    places: AtomicU64,
+}
+
+impl Counted {
+    fn new() -> Counted {
+        Counted {
+            begun: AtomicU64::new(0),
+            places: AtomicU64::new(0),
+        }
+    }
+}
+
+impl Gate for Counted {
+    fn enter(&self, place: u64) {
+        self.begun.fetch_add(1, Ordering::SeqCst);
+        self.places.fetch_add(place, Ordering::SeqCst);
+    }
+}
+
+// A job that turns so often before it answers its number.
+#[derive(Drop)]
+struct Long {
+    number: u32,
+    turns: u32,
+}
+
+impl Job for Long {
+    type Out = u32;
+
+    type Desk = u32;
+
+    ghost answer = { λ job. job.number };
+
+    fn work(&self, _desk: &mut u32) -> Result<u32, AllocError> {
+        for _ in 0..self.turns {
+            std::hint::spin_loop();
+        }
+        Ok(self.number)
+    }
+}
+
+// Jobs of very unlike length are all answered, in their order, and each enters the gate once.
+#[test]
+fn unlike_jobs_are_answered_in_order(rt: HostRuntime) -> Result<(), Fail> {
+    let alloc = rt.alloc();
+    for count in [1u32, 3, 16] {
+        let mut jobs = Vec::new(alloc);
+        for number in 0..100u32 {
+            let turns = if number % 17 == 3 { 1_000_000 } else { number };
+            jobs.push(Long { number, turns })?;
+        }
+        let mut workers = Vec::new(alloc);
+        for _ in 0..count {
+            workers.push(Worker::new(alloc, 0u32))?;
+        }
+        let counted = Counted::new();
+        assert!(rt; 0 < workers.len() && workers.len() <= 16);
+        let answers = map_batch(&rt, alloc, &jobs, &mut workers, &counted)?;
+        assert_eq!(rt; answers.len(), 100);
+        for place in 0..100u32 {
+            assert_eq!(rt; answers.get(place as usize), Some(&place));
+        }
+        assert_eq!(rt; counted.begun.load(Ordering::SeqCst), 100);
+        assert_eq!(rt; counted.places.load(Ordering::SeqCst), 4950);
+    }
+    Ok(())
+}

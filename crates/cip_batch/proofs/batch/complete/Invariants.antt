@@ -1,0 +1,9 @@
+use Rattle.std.proofs.Common.{◌≡◌, map, take}
+use Rattle.cip_batch.specs.Entries.{ArePlaced}
+use Rattle.cip_batch.proofs.batch.complete.Given as goal
+
+abbrev pub invariant-loop-place : goal.invariant-loop-place
+invariant-loop-place g l = record {
+  found : ArePlaced g.J.Job.answer l.jobs l.found;
+  answers : l.answers.items ≡ map g.J.Job.answer (take l.place l.jobs);
+}
