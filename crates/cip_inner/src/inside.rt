@@ -169,7 +169,7 @@ fn drawn(alloc: Global, bytes: &[u8]) -> Result<Option<Molecule>, AllocError>
     }
 }
 
-// The same from a record, whose atoms count from 1.
+// What stands inside the digraph of an atom of a record, whose atoms count from 1.
 fn told_of(alloc: Global, bytes: &[u8], atom: u32) -> Result<String, AllocError>
     requires atom { 0 < atom }
     requires few { length bytes.now < 2 ^ 32 - 1 }
