@@ -1,7 +1,7 @@
 // Worked digraphs in boxes: how many nodes they have, and how two ligands stand by constitution.
 ghost use Rattle.std.specs.Prelude.{◌≤◌, length};
 
-use crate::molecules::graph;
+use crate::molecules::{Ends, GLYCERALDEHYDE, METHYLCYCLOPROPANE, OXIRANE, TETRAHEDRANE, graph};
 use cip_digraph::Nodes;
 use cip_mancude::positions;
 use cip_rank::Rules;
@@ -9,8 +9,6 @@ use cip_tree::{Flat, PlainTree, plain_order, plain_tree};
 use std::alloc::{AllocError, Global};
 use std::cmp::Ordering;
 use std::test::Fail;
-
-type Ends<'a> = &'a [(u32, u32, u8)];
 
 // The digraph of atom 0 up to a sphere.
 fn boxed(
@@ -81,61 +79,42 @@ fn told(
 #[test]
 fn digraphs_in_boxes_decide_by_constitution(rt: HostRuntime) -> Result<(), Fail> {
     let alloc = rt.alloc();
-    let glyceraldehyde = [(0, 1, 1), (1, 2, 2), (0, 3, 1), (0, 4, 1), (4, 5, 1)];
-    let methylcyclopropane = [(0, 1, 1), (0, 2, 1), (1, 2, 1), (0, 3, 1)];
-    // an anion of oxirane carbaldehyde, of whose ligands two differ by Rule 1b alone
-    let oxirane = [
-        (0, 1, 1),
-        (0, 2, 1),
-        (1, 2, 1),
-        (2, 3, 1),
-        (0, 4, 1),
-        (4, 5, 2),
-    ];
-    let tetrahedrane = [
-        (0, 1, 1),
-        (0, 2, 1),
-        (0, 3, 1),
-        (1, 2, 1),
-        (1, 3, 1),
-        (2, 3, 1),
-    ];
     // atoms and bonds, the last sphere, two neighbours of atom 0
     let cases: [(&[u8], Ends<'_>, u32, (u32, u32), &str); 11] = [
         (
             b"CCOOCO",
-            &glyceraldehyde,
+            &GLYCERALDEHYDE,
             2,
             (1, 4),
             "12 nodes, higher by Rule 1a in sphere 2",
         ),
         (
             b"CCOOCO",
-            &glyceraldehyde,
+            &GLYCERALDEHYDE,
             2,
             (4, 1),
             "12 nodes, lower by Rule 1a in sphere 2",
         ),
-        (b"CCOOCO", &glyceraldehyde, 1, (1, 4), "5 nodes, a tie"),
+        (b"CCOOCO", &GLYCERALDEHYDE, 1, (1, 4), "5 nodes, a tie"),
         (
             b"CCOOCO",
-            &glyceraldehyde,
+            &GLYCERALDEHYDE,
             1,
             (3, 4),
             "5 nodes, higher by Rule 1a in sphere 1",
         ),
-        (b"CCCC", &methylcyclopropane, 3, (1, 2), "20 nodes, a tie"),
-        (b"CCCC", &methylcyclopropane, 9, (1, 2), "20 nodes, a tie"),
+        (b"CCCC", &METHYLCYCLOPROPANE, 3, (1, 2), "20 nodes, a tie"),
+        (b"CCCC", &METHYLCYCLOPROPANE, 9, (1, 2), "20 nodes, a tie"),
         (
             b"CCCC",
-            &methylcyclopropane,
+            &METHYLCYCLOPROPANE,
             2,
             (1, 3),
             "14 nodes, higher by Rule 1a in sphere 2",
         ),
         (
             b"COC-CO",
-            &oxirane,
+            &OXIRANE,
             3,
             (2, 4),
             "17 nodes, higher by Rule 1b in sphere 3",
@@ -143,12 +122,12 @@ fn digraphs_in_boxes_decide_by_constitution(rt: HostRuntime) -> Result<(), Fail>
         // a duplicate has no mass
         (
             b"COC-CO",
-            &oxirane,
+            &OXIRANE,
             2,
             (2, 4),
             "12 nodes, higher by Rule 2 in sphere 2",
         ),
-        (b"CCCC", &tetrahedrane, 4, (1, 2), "50 nodes, a tie"),
+        (b"CCCC", &TETRAHEDRANE, 4, (1, 2), "50 nodes, a tie"),
         (b"C", &[], 1, (1, 2), "5 nodes, a tie"),
     ];
     for (symbols, ends, sphere, vertices, want) in cases {

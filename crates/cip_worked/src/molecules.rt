@@ -8,6 +8,37 @@ use cip_mol::{Atom, Bond, Mark, Molecule};
 use cip_num::Vec3;
 use std::alloc::{AllocError, Global};
 
+/// The ends and orders of bonds; atoms count from 0.
+pub type Ends<'a> = &'a [(u32, u32, u8)];
+
+pub const GLYCERALDEHYDE: [(u32, u32, u8); 5] = [
+    (0, 1, 1),
+    (1, 2, 2),
+    (0, 3, 1),
+    (0, 4, 1),
+    (4, 5, 1),
+];
+
+pub const METHYLCYCLOPROPANE: [(u32, u32, u8); 4] = [(0, 1, 1), (0, 2, 1), (1, 2, 1), (0, 3, 1)];
+/// An anion of oxirane carbaldehyde, of whose ligands two differ by Rule 1b alone.
+pub const OXIRANE: [(u32, u32, u8); 6] = [
+    (0, 1, 1),
+    (0, 2, 1),
+    (1, 2, 1),
+    (2, 3, 1),
+    (0, 4, 1),
+    (4, 5, 2),
+];
+
+pub const TETRAHEDRANE: [(u32, u32, u8); 6] = [
+    (0, 1, 1),
+    (0, 2, 1),
+    (0, 3, 1),
+    (1, 2, 1),
+    (1, 3, 1),
+    (2, 3, 1),
+];
+
 // An atom by its symbol; - is an oxygen with a negative charge.
 fn atom(symbol: u8) -> Atom
     ensures { IsAtom result }

@@ -1,7 +1,7 @@
 // How far digraphs of worked molecules are grown.
 ghost use Rattle.std.specs.Prelude.{◌≡◌, ◌<◌, ◌≤◌, length};
 
-use crate::molecules::graph;
+use crate::molecules::{Ends, GLYCERALDEHYDE, METHYLCYCLOPROPANE, OXIRANE, TETRAHEDRANE, graph};
 use cip_arena::{Arena, Grown};
 use cip_constitution::{MarkedUnits, Work, settle};
 use cip_digraph::{Graph, Positions};
@@ -13,8 +13,6 @@ use std::alloc::{AllocError, Global};
 use std::marker::Brand;
 use std::sync::ledger::{Blank, Ledger};
 use std::test::Fail;
-
-type Ends<'a> = &'a [(u32, u32, u8)];
 
 // A unit at an atom, whose geometry does not matter here.
 fn unit_at(alloc: Global, atom: u32) -> Unit {
@@ -107,23 +105,12 @@ fn told(
 #[test]
 fn digraphs_are_grown_as_far_as_needed(rt: HostRuntime) -> Result<(), Fail> {
     let alloc = rt.alloc();
-    let glyceraldehyde = [(0, 1, 1), (1, 2, 2), (0, 3, 1), (0, 4, 1), (4, 5, 1)];
-    let methylcyclopropane = [(0, 1, 1), (0, 2, 1), (1, 2, 1), (0, 3, 1)];
-    // an anion of oxirane carbaldehyde, of whose ligands two differ by Rule 1b alone
-    let oxirane = [
-        (0, 1, 1),
-        (0, 2, 1),
-        (1, 2, 1),
-        (2, 3, 1),
-        (0, 4, 1),
-        (4, 5, 2),
-    ];
     let ring = [1, 2, 3, 4];
     let around = [1, 2, 4, 6];
     let cases: [(&[u8], Ends<'_>, &[u32], Option<u32>, u32, &str); 7] = [
         (
             b"CCOOCO",
-            &glyceraldehyde,
+            &GLYCERALDEHYDE,
             &[1, 3, 4, 6],
             None,
             100_000,
@@ -131,7 +118,7 @@ fn digraphs_are_grown_as_far_as_needed(rt: HostRuntime) -> Result<(), Fail> {
         ),
         (
             b"CCCC",
-            &methylcyclopropane,
+            &METHYLCYCLOPROPANE,
             &ring,
             None,
             20,
@@ -139,7 +126,7 @@ fn digraphs_are_grown_as_far_as_needed(rt: HostRuntime) -> Result<(), Fail> {
         ),
         (
             b"CCCC",
-            &methylcyclopropane,
+            &METHYLCYCLOPROPANE,
             &ring,
             None,
             19,
@@ -147,7 +134,7 @@ fn digraphs_are_grown_as_far_as_needed(rt: HostRuntime) -> Result<(), Fail> {
         ),
         (
             b"CCCC",
-            &methylcyclopropane,
+            &METHYLCYCLOPROPANE,
             &ring,
             Some(1),
             20,
@@ -155,7 +142,7 @@ fn digraphs_are_grown_as_far_as_needed(rt: HostRuntime) -> Result<(), Fail> {
         ),
         (
             b"COC-CO",
-            &oxirane,
+            &OXIRANE,
             &around,
             Some(2),
             17,
@@ -163,7 +150,7 @@ fn digraphs_are_grown_as_far_as_needed(rt: HostRuntime) -> Result<(), Fail> {
         ),
         (
             b"COC-CO",
-            &oxirane,
+            &OXIRANE,
             &around,
             Some(2),
             16,
@@ -206,15 +193,7 @@ fn spheres<L: Ledger>(
 #[test]
 fn cages_close_their_rings_on_every_way(rt: HostRuntime) -> Result<(), Fail> {
     let alloc = rt.alloc();
-    let cage = [
-        (0, 1, 1),
-        (0, 2, 1),
-        (0, 3, 1),
-        (1, 2, 1),
-        (1, 3, 1),
-        (2, 3, 1),
-    ];
-    let Some(graph) = graph(alloc, b"CCCC", &cage)? else {
+    let Some(graph) = graph(alloc, b"CCCC", &TETRAHEDRANE)? else {
         panic!(rt; "no molecule");
     };
     let positions = positions(alloc, &graph)?;
