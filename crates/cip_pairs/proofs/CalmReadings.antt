@@ -1,14 +1,15 @@
 -- Readings whose children's numbers stay have the sets that they had.
-use Rattle.std.proofs.Common.{◌≡◌, ℕ, ◌+◌, ◌-◌, ◌<◌, ◌≤◌, Bool, true, false, cond, inl, inr, List, length, slice_index, nat_lt, take, drop, refl, sym, ap, ◌∙◌, subst, arith}
-use Rattle.std.specs.declared.cmp.Ordering.TheVariants.{Equal}
+use Rattle.std.proofs.Common.{◌≡◌, ℕ, ◌+◌, ◌-◌, ◌<◌, Bool, true, false, cond, inl, inr, List, length, slice_index, nat_lt, take, drop, refl, sym, ap, ◌∙◌, subst, arith}
+use Rattle.std.specs.declared.cmp.Ordering.TheVariants.{Less, Equal, Greater}
 use Rattle.std.specs.Cmp.Lexicographic.{slice_cmp}
 use Rattle.std.specs.Ordering.{nat_cmp, ordering_then}
 use Rattle.std.proofs.lemmas.Bool.{cases_lt, lt-ltb, le-ltb}
 use Rattle.std.proofs.lemmas.Cmp.{tied_itself, nat_cmp_total, lists_total}
-use Rattle.std.proofs.lemmas.List.{get_or-take, get_or-drop, length-drop, take_all}
-use Rattle.cip_rank.specs.Calm.{is_stirred, StaysStirred, StirsParents}
+use Rattle.std.proofs.lemmas.List.{get_or-take, get_or-drop, length-take, length-drop, take_all}
+use Rattle.cip_rank.specs.Calm.{is_stirred, NoneStirred, StaysStirred, StirsParents}
 use Rattle.cip_rank.specs.Ranking.{OrdersAs, by_number}
 use Rattle.cip_rank.proofs.CalmRanks.{both_tie, tied_lists, set_stays, numbers_tie}
+use Rattle.cip_rank.proofs.NumberedNodes.{equal_is}
 use Rattle.cip_digraph.specs.rules.Kinds.{Kind, KindR, KindS}
 use Rattle.cip_pairs.specs.Readings.{AreReadingsCalm, half, pair_at, pair_set, next_readings}
 
@@ -68,6 +69,44 @@ readings_tie parents numbers stirred calm a b of_a of_b tie still =
     (tied_itself nat_cmp_total (slice_index numbers b))
     ∙ ap (λ ns. slice_cmp nat_cmp ns (pair_set parents numbers count b)) (calm.same a b of_a of_b tie still)
     ∙ tied_itself (lists_total nat_cmp_total) (pair_set parents numbers count b)
+
+-- where neither part of a row has a number that is stirred, the row has none
+none_in_row : (numbers : List ℕ) (stirred : List Bool) (count : ℕ) → length numbers ≡ count + count
+    → NoneStirred (take count numbers) stirred → NoneStirred (drop count numbers) stirred → NoneStirred numbers stirred
+none_in_row numbers stirred count len in_r in_s = record {
+  each = λ number below. elim (cases_lt number count) [
+    | inl less ↦ ap (is_stirred stirred) (sym (get_or-take count numbers number 0 less))
+        ∙ in_r.each number (let short = length-take count numbers in omega (arith, short, len, less))
+    | inr more ↦
+        let place : count + (number - count) ≡ number = omega (arith, more) in
+        ap (is_stirred stirred) (sym (get_or-drop count numbers (number - count) 0 ∙ ap (slice_index numbers) place))
+        ∙ in_s.each (number - count) (let short = length-drop count numbers in omega (arith, short, len, more, below))
+  ];
+}
+
+-- numbers of which none is stirred order the readings by their sets too
+pub readings_still : (parents numbers : List ℕ) (stirred : List Bool) (count : ℕ) → count ≡ length parents
+    → length numbers ≡ count + count → AreReadingsCalm parents numbers stirred
+    → NoneStirred (take count numbers) stirred → NoneStirred (drop count numbers) stirred
+    → OrdersAs (length parents + length parents) (next_readings parents numbers (length parents)) numbers
+readings_still parents numbers stirred count nodes len calm in_r in_s =
+    let none = none_in_row numbers stirred count len in_r in_s in
+    let both : length numbers ≡ length parents + length parents = omega (arith, nodes, len) in
+    record {
+      len = both;
+      each = λ a b of_a of_b.
+          let sets = slice_cmp nat_cmp (pair_set parents numbers (length parents) a)
+          (pair_set parents numbers (length parents) b) in
+          elim (by_number numbers a b) as (λ r. by_number numbers a b ≡ r → r ≡ ordering_then r sets) [
+            | Less ↦ λ _. refl
+            | Equal ↦ λ is.
+                let tie = equal_is (slice_index numbers a) (slice_index numbers b) is in
+                let still = none.each a (omega (arith, both, of_a)) in
+                sym (readings_tie parents numbers stirred calm a b of_a of_b tie still)
+                ∙ ap (λ r. ordering_then r sets) is
+            | Greater ↦ λ _. refl
+          ] refl;
+    }
 
 -- what isn't stirred at last never was
 pub stay_stirred : (old new : List Bool) → StaysStirred old new → (number : ℕ) → is_stirred new number ≡ false

@@ -1,5 +1,5 @@
 -- Rule 4b on the nodes of a tree by number, over earlier rank numbers. Own; what it says is P-92.5.
-use Rattle.std.specs.Prelude.{◌≡◌, ◌<◌, ℕ, ℤ, ◌+◌, ◌-◌, Bool, false, cond, List, map, length, None, nat_lt, take, drop, slice_index}
+use Rattle.std.specs.Prelude.{◌≡◌, ◌<◌, ℕ, ℤ, ◌+◌, ◌-◌, Bool, false, cond, List, [], ◌∷◌, map, length, None, nat_lt, take, drop, slice_index}
 use Rattle.std.specs.declared.option.Option.{Option}
 use Rattle.std.specs.List.{slice_index_or}
 use Rattle.std.specs.Ordering.{is_lt, nat_cmp, int_cmp, then_cmp, on}
@@ -48,6 +48,10 @@ pair_difference parents earlier marks a b =
 -- Both readings of so many nodes as one row of numbers: those with R as the reference, then those with S.
 abbrev pub pair_at : ℕ → ℕ → ℕ × Kind
 pair_at count number = cond (nat_lt number count) (number, KindR) (number - count, KindS)
+
+-- both readings of a node by their numbers
+abbrev pub both_of : ℕ → ℕ → List ℕ
+both_of count node = node ∷ (count + node) ∷ []
 
 -- the part of the row that belongs to a number's reading
 abbrev pub half : ℕ → List ℕ → ℕ → List ℕ

@@ -9,10 +9,10 @@ ghost use Rattle.cip_pairs.specs.Readings.{AreReadingsCalm, ReadingsRanked};
 ghost use Rattle.cip_pairs.specs.Partings.{parting};
 
 use crate::descriptors::Descriptors;
-use crate::readings::{ByLike, ByReadSets};
-use cip_rank::columns::{copy_numbers, fill_with_zeros, unset_flags};
+use crate::readings::{ByLike, ByReadSets, take_both, write_twice};
+use cip_rank::columns::{copy_numbers, unset_flags};
 use cip_rank::sets::write_stirred_sets;
-use cip_rank::sorting::{assign_numbers, refine_and_number, sort_and_number};
+use cip_rank::sorting::{assign_numbers, refine_and_number};
 use cip_rank::stirring::stir_parents;
 use cip_rank::{Ranks, Table};
 use std::alloc::{AllocError, Global};
@@ -91,8 +91,9 @@ impl PairWork {
             earlier,
             marks,
         };
-        sort_and_number(&by, &mut self.sorted, &mut self.new_numbers);
-        fill_with_zeros(&mut self.numbers, both);
+        take_both(count, earlier.sorted(), &mut self.sorted);
+        write_twice(earlier.numbers(), &mut self.numbers);
+        refine_and_number(&by, &self.numbers, &mut self.sorted, &mut self.new_numbers);
         assign_numbers(&self.sorted, &self.new_numbers, &mut self.numbers);
         self.stirred.clear();
     }
@@ -112,18 +113,21 @@ impl PairWork {
         let _bound = self.bound;
         let both = count + count;
         let half = count as usize;
-        write_stirred_sets(
+        let any_r = write_stirred_sets(
             table,
             &self.numbers[..half],
             &self.stirred,
             &mut self.sets_r,
         );
-        write_stirred_sets(
+        let any_s = write_stirred_sets(
             table,
             &self.numbers[half..],
             &self.stirred,
             &mut self.sets_s,
         );
+        if !any_r && !any_s {
+            return false;
+        }
         let by = ByReadSets {
             count,
             both,

@@ -1,12 +1,15 @@
 // Nodes in two readings, with R and with S as the reference, as one row of numbers.
 ghost use Rattle.std.specs.Prelude.{◌≡◌, ◌<◌, ◌≤◌, ◌+◌, ◌-◌, pos, true, nat_lt, cond, length, slice_index, take};
-ghost use Rattle.std.specs.Prelude.{drop};
+ghost use Rattle.std.specs.Prelude.{◌^◌, ◌++◌, drop, flat_map, vec_capacity, All};
 ghost use Rattle.cip_rank.specs.Calm.{is_stirred, HoldStirredSets};
-ghost use Rattle.cip_pairs.specs.Readings.{AreReadingsCalm, pair_at, like_at, first_readings, next_readings, pair_set};
+ghost use Rattle.cip_rank.specs.Numbering.{AreAll};
+ghost use Rattle.cip_pairs.specs.Readings.{AreReadingsCalm, pair_at, both_of, like_at, first_readings, next_readings};
+ghost use Rattle.cip_pairs.specs.Readings.{pair_set};
 
 use crate::descriptors::Descriptors;
 use crate::keys::compare_values;
 use crate::values::like_value;
+use cip_rank::columns::{fit, push_reserved};
 use cip_rank::sets::compare_sets;
 use cip_rank::sorting::NodeOrder;
 use cip_rank::stirring::is_stirred;
@@ -34,6 +37,49 @@ fn value_of(marks: &Descriptors, count: u32, number: u32) -> u8
     } else {
         like_value(marks.get(number - count), true)
     }
+}
+
+// Both readings of each node, behind what a column holds.
+fn push_both(count: u32, nodes: &[u32], column: &mut Vec<u32>)
+    requires few { count + count < 2 ^ 32 }
+    requires nodes { All (λ node. node < count) nodes.now }
+    requires room { length column.old.items + length nodes.now + length nodes.now ≤ vec_capacity column.old }
+    ensures pushed { column.new.items ≡ column.old.items ++ flat_map (both_of count) nodes.now }
+    ensures room { vec_capacity column.old ≤ vec_capacity column.new }
+{
+    let mut rest = nodes;
+    while let [node, others @ ..] = rest {
+        push_reserved(column, *node);
+        push_reserved(column, count + *node);
+        rest = others;
+    }
+}
+
+/// Takes over another column's nodes, each in both readings, where they are so many.
+pub fn take_both(count: u32, nodes: &[u32], column: &mut Vec<u32>)
+    requires few { count + count < 2 ^ 32 }
+    requires nodes { AreAll nodes.now }
+    requires column { AreAll column.old.items }
+    requires room { count + count ≤ vec_capacity column.old }
+    ensures all { AreAll column.new.items }
+    ensures room { vec_capacity column.old ≤ vec_capacity column.new }
+{
+    if nodes.len() == count as usize {
+        column.clear();
+        push_both(count, nodes, column);
+    }
+}
+
+/// Makes a column these numbers twice, for both readings.
+pub fn write_twice(numbers: &[u32], column: &mut Vec<u32>)
+    requires { length numbers.now + length numbers.now ≤ vec_capacity column.old }
+    ensures len { length column.new.items ≡ length numbers.now + length numbers.now }
+    ensures room { vec_capacity column.old ≤ vec_capacity column.new }
+{
+    fit(column, numbers.len() + numbers.len());
+    let (in_r, in_s) = column.as_mut_slice().split_at_mut(numbers.len());
+    in_r.copy_from_slice(numbers);
+    in_s.copy_from_slice(numbers);
 }
 
 /// By earlier rank numbers, and where they tie by what is like the reference.

@@ -1,18 +1,16 @@
 -- Numbers that order nodes by the sets of their children leave sets alike where no child's number changed.
-use Rattle.std.proofs.Common.{◌≡◌, ℕ, ◌<◌, Bool, true, false, List, [], ◌∷◌, map, length, slice_index, sym, ap, ◌∙◌, refl, subst}
-use Rattle.std.proofs.Common.{arith}
+use Rattle.std.proofs.Common.{◌≡◌, ℕ, ◌<◌, Bool, true, false, List, [], ◌∷◌, length, slice_index, sym, ap, ◌∙◌, refl, subst}
 use Rattle.std.specs.declared.cmp.Ordering.{Ordering}
 use Rattle.std.specs.declared.cmp.Ordering.TheVariants.{Less, Equal, Greater}
 use Rattle.std.specs.Cmp.Lexicographic.{slice_cmp}
-use Rattle.std.specs.List.{AllByRecursion}
 use Rattle.std.specs.Ordering.{nat_cmp, then_cmp, ordering_then}
 use Rattle.std.proofs.lemmas.Cmp.{tied_itself, nat_cmp_total, lists_total}
-use Rattle.cip_rank.specs.Calm.{is_stirred, AreCalm, StirsAgain, StirsParents}
+use Rattle.cip_rank.specs.Calm.{is_stirred, AreCalm, NoneStirred, StirsAgain, StirsParents}
 use Rattle.cip_rank.specs.Comparison.{sorted_down}
 use Rattle.cip_rank.specs.Ranking.{by_number, OrdersAs}
 use Rattle.cip_rank.specs.Sets.{set_of, by_sets}
 use Rattle.cip_rank.specs.Tree.{children_of}
-use Rattle.cip_rank.proofs.Children.{IsChild, children_are}
+use Rattle.cip_rank.proofs.Children.{children_are}
 use Rattle.cip_rank.proofs.Descending.{all_by}
 use Rattle.cip_rank.proofs.NumberedNodes.{equal_is}
 use Rattle.cip_rank.proofs.Parts.{map_alike}
@@ -107,3 +105,22 @@ calm_tie parents numbers stirred calm a b of_a of_b tie still =
     (tied_itself nat_cmp_total (slice_index numbers b))
     ∙ ap (λ ns. slice_cmp nat_cmp ns (set_of parents numbers b)) same
     ∙ tied_itself (lists_total nat_cmp_total) (set_of parents numbers b)
+
+-- numbers of which none is stirred order the nodes by their sets too
+pub still_ordered : (parents numbers : List ℕ) (stirred : List Bool) → length numbers ≡ length parents
+    → AreCalm parents numbers stirred → NoneStirred numbers stirred
+    → OrdersAs (length parents) (by_sets parents numbers) numbers
+still_ordered parents numbers stirred len calm none = record {
+  len = len;
+  each = λ a b of_a of_b.
+      let sets = slice_cmp nat_cmp (set_of parents numbers a) (set_of parents numbers b) in
+      elim (by_number numbers a b) as (λ r. by_number numbers a b ≡ r → r ≡ ordering_then r sets) [
+        | Less ↦ λ _. refl
+        | Equal ↦ λ is.
+            let tie = equal_is (slice_index numbers a) (slice_index numbers b) is in
+            let still = none.each a (subst (λ n. a < n) (sym len) of_a) in
+            sym (calm_tie parents numbers stirred calm a b of_a of_b tie still)
+            ∙ ap (λ r. ordering_then r sets) is
+        | Greater ↦ λ _. refl
+      ] refl;
+}

@@ -28,6 +28,10 @@ pub record StirsParents (parents before numbers : List ℕ) (stirred : List Bool
       → is_stirred stirred (slice_index numbers (slice_index parents node)) ≡ false
       → slice_index before node ≡ slice_index numbers node
 
+-- no node has a number that is stirred
+pub record NoneStirred (numbers : List ℕ) (stirred : List Bool) : Type 0 where
+  pub each : (node : ℕ) → node < length numbers → is_stirred stirred (slice_index numbers node) ≡ false
+
 -- a column holds the set of each node whose number is stirred, at the places of its children
 pub record HoldStirredSets (parents numbers : List ℕ) (stirred : List Bool) (column : List ℕ) : Type 0 where
   pub each : (node : ℕ) → node < length parents → is_stirred stirred (slice_index numbers node) ≡ true
