@@ -116,10 +116,9 @@ impl Digraphs for Desk {
 fn reserve_sights(alloc: Global, nodes: u32) -> Result<Sights, AllocError>
     ensures { IfOk result (λ sights. sights.views.bound ≡ nodes) }
 {
-    Ok(Sights {
-        views: Views::reserve(alloc, nodes)?,
-        pruner: Pruner::reserve(alloc, nodes)?,
-    })
+    let pruner = Pruner::reserve(alloc, nodes)?;
+    let views = Views::reserve(alloc, nodes)?;
+    Ok(Sights { views, pruner })
 }
 
 fn reserve_tables(alloc: Global, nodes: u32) -> Result<Desk, AllocError>

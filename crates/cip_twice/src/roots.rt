@@ -11,9 +11,7 @@ use std::alloc::{AllocError, Global};
 use std::fmt;
 use std::sync::ledger::Ledger;
 
-// The most nodes of a digraph, and the last sphere that is made.
-const NODES: u32 = 3_000;
-
+// The last sphere that is made.
 const SPHERES: u32 = 6;
 // The last sphere from which branches are compared: boxes that tie take long.
 const COMPARED: u32 = 3;
