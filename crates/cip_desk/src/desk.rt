@@ -113,6 +113,16 @@ impl Digraphs for Desk {
     }
 }
 
+// Each function takes few tables, since a refused request gives back all that were taken before it.
+fn reserve_growing(alloc: Global, nodes: u32) -> Result<(Arena, Work), AllocError>
+    ensures arena { IfOk result (λ tables. tables.0.bound ≡ nodes) }
+    ensures work { IfOk result (λ tables. tables.1.bound ≡ nodes) }
+{
+    let arena = Arena::reserve(alloc, nodes)?;
+    let work = Work::reserve(alloc, nodes)?;
+    Ok((arena, work))
+}
+
 fn reserve_sights(alloc: Global, nodes: u32) -> Result<Sights, AllocError>
     ensures { IfOk result (λ sights. sights.views.bound ≡ nodes) }
 {
@@ -121,16 +131,28 @@ fn reserve_sights(alloc: Global, nodes: u32) -> Result<Sights, AllocError>
     Ok(Sights { views, pruner })
 }
 
+fn reserve_ranking(alloc: Global, nodes: u32) -> Result<(Sights, Descriptors), AllocError>
+    ensures sights { IfOk result (λ tables. tables.0.views.bound ≡ nodes) }
+    ensures marks { IfOk result (λ tables. tables.1.bound ≡ nodes) }
+{
+    let marks = Descriptors::reserve(alloc, nodes)?;
+    let sights = reserve_sights(alloc, nodes)?;
+    Ok((sights, marks))
+}
+
 fn reserve_tables(alloc: Global, nodes: u32) -> Result<Desk, AllocError>
     ensures { IfOk result (λ desk. desk.bound ≡ nodes) }
 {
+    let branches = Branches::reserve(alloc)?;
+    let (arena, work) = reserve_growing(alloc, nodes)?;
+    let (sights, marks) = reserve_ranking(alloc, nodes)?;
     Ok(Desk {
         bound: nodes,
-        arena: Arena::reserve(alloc, nodes)?,
-        work: Work::reserve(alloc, nodes)?,
-        sights: reserve_sights(alloc, nodes)?,
-        marks: Descriptors::reserve(alloc, nodes)?,
-        branches: Branches::reserve(alloc)?,
+        arena,
+        work,
+        sights,
+        marks,
+        branches,
     })
 }
 
