@@ -1,47 +1,18 @@
 -- Rank numbers by Rules 1a, 1b and 2 tell which closed ligands are alike.
-use Rattle.std.proofs.Common.{
-  ◌≡◌,
-  ◌<◌,
-  ◌-◌,
-  ◌==◌,
-  ◌&&◌,
-  ◌||◌,
-  ℕ,
-  ℤ,
-  zero,
-  suc,
-  pos,
-  Bool,
-  true,
-  false,
-  cond,
-  not,
-  List,
-  [],
-  ◌∷◌,
-  map,
-  length,
-  None,
-  Some,
-  slice_index,
-  refl,
-  sym,
-  ap,
-  ◌∙◌,
-  subst,
-  arith,
-}
+use Rattle.std.proofs.Common.{◌≡◌, ◌<◌, ◌-◌, ◌==◌, ◌&&◌, ◌||◌, ℕ, ℤ, zero, suc, pos, Bool, true, false, not, List, [], ◌∷◌, map, length, None, Some, slice_index, refl, sym, ap, ◌∙◌, subst, arith}
 use Rattle.std.specs.declared.option.Option.{Option}
 use Rattle.std.specs.declared.cmp.Ordering.{Ordering}
 use Rattle.std.specs.declared.cmp.Ordering.TheVariants.{Less, Equal, Greater}
 use Rattle.std.specs.Cmp.{IsTotalOrder}
 use Rattle.std.specs.Cmp.Lexicographic.{slice_cmp}
 use Rattle.std.specs.List.{AllByRecursion, list_any}
-use Rattle.std.specs.Ordering.{is_eq, ordering_then}
+use Rattle.std.specs.Ordering.{is_eq, int_cmp, ordering_then}
 use Rattle.std.proofs.lemmas.Bool.{and_parts, or_parts, or_from, false_from_ne_true, both_ways}
+use Rattle.cip_rank.specs.Comparison.{sets, comparison}
 use Rattle.cip_rank.specs.Ranking.{by_number, comparison_at, OrdersAs}
 use Rattle.cip_rank.specs.declared.rules.Rules.{Rules}
 use Rattle.cip_rank.specs.declared.rules.Rules.TheVariants.{Wording2013, Wording2018}
+use Rattle.cip_rank.proofs.CalmRanks.{both_tie}
 use Rattle.cip_rank.proofs.TotalOrder.{comparison_total}
 use Rattle.cip_mol.specs.declared.site.Ligand.{Ligand}
 use Rattle.cip_mol.specs.declared.site.Ligand.TheVariants.{Vertex, LonePair}
@@ -81,12 +52,41 @@ use Rattle.cip_constitution.proofs.SeenRules.{
 }
 use Rattle.cip_digraph.proofs.SettledTies.{both_all, none_left}
 use Rattle.cip_arena.specs.Growth.{Growth, Holds}
-use Rattle.cip_constitution.specs.Alike.{is_closed_ligand, has_closed_pair, alike_told}
+use Rattle.cip_constitution.specs.Alike.{is_closed_ligand, alike_told}
+use Rattle.cip_constitution.specs.Following.{OrdersSphere}
 use Rattle.cip_constitution.specs.Standing.{ligand_number, have_other_ranks, differ_told}
 use Rattle.cip_constitution.proofs.Closed.{seen_below}
-use Rattle.cip_constitution.proofs.DifferTold.{eq_by_cmp, IsFirst, LigandAt, ligand_at}
+use Rattle.cip_constitution.proofs.DifferTold.{eq_by_cmp, IsFirst, LigandAt, ligand_at, ranks_tell}
 use Rattle.cip_constitution.proofs.NodeKeys.{keys_at}
 use Rattle.cip_constitution.proofs.Under.{none_ended}
+
+any_less : {X Y : Type 0} (f : X → Y) (p : Y → Bool) (q : X → Bool) → ((x : X) → p (f x) ≡ true → q x ≡ true)
+    → (xs : List X) → list_any q xs ≡ false → list_any p (map f xs) ≡ false
+any_less f p q implies [] none = refl
+any_less f p q implies (x ∷ xs) none =
+    let parts = or_parts (q x) (list_any q xs) none in
+    or_from (p (f x)) (list_any p (map f xs))
+    (false_from_ne_true (p (f x)) (λ is. both_ways (q x) parts.0 (implies x is)))
+    (any_less f p q implies xs parts.1)
+
+-- where no two pass one test, no two pass a stricter one
+some_less : {X Y : Type 0} (f : X → Y) (p : Y → Y → Bool) (q : X → X → Bool)
+    → ((x y : X) → p (f x) (f y) ≡ true → q x y ≡ true)
+    → (xs : List X) → some_pair q xs ≡ false → some_pair p (map f xs) ≡ false
+some_less f p q implies [] none = refl
+some_less f p q implies (x ∷ xs) none =
+    let parts = or_parts (list_any (q x) xs) (some_pair q xs) none in
+    or_from (list_any (p (f x)) (map f xs)) (some_pair p (map f xs))
+    (any_less f (p (f x)) (q x) (implies x) xs parts.0) (some_less f p q implies xs parts.1)
+
+-- nodes that tie at a depth tie in the order before
+earlier_tie : {N : Type 0} (below : N → List N) (earlier : N → N → Ordering) (key : N → ℤ) (depth : ℕ) (a b : N)
+    → comparison below earlier key depth a b ≡ Equal → earlier a b ≡ Equal
+unfolding comparison
+earlier_tie below earlier key zero a b tie = (both_tie (earlier a b) (int_cmp (key a) (key b)) tie).0
+earlier_tie below earlier key (suc depth) a b tie =
+    earlier_tie below earlier key depth a b
+    (both_tie (comparison below earlier key depth a b) (sets below (comparison below earlier key depth) a b) tie).0
 
 any_by : {X Y : Type 0} (f : X → Y) (p : Y → Bool) (q : X → Bool) → ((x : X) → q x ≡ p (f x)) → (xs : List X)
     → list_any q xs ≡ list_any p (map f xs)
@@ -150,22 +150,14 @@ module _ (rules : Rules) (g : Graph) (positions : List (List ℕ)) (all : List u
       (both_all (IsFurther g positions a.root) (EndsWithin view k) (children g positions node)
       (below_further g positions a.root node p) (subst (AllByRecursion (EndsWithin view k)) same e))
 
-  -- alike ligands are closed
-  alike_closed : (e f u v t : Bool) → test_of (e && f) (t && not (u || v)) ≡ true
-      → ((e && not u) ≡ true) × ((f && not v) ≡ true)
-  alike_closed true true false false t h = (refl, refl)
-  alike_closed true true false true t h = absurd (false_and t h)
-    where
-      false_and : (b : Bool) → (b && false) ≡ true → ⊥
-      false_and true e = let bad : false ≡ true = e in cc
-      false_and false e = let bad : false ≡ true = e in cc
-  alike_closed true true true v t h = absurd (false_and t h)
-    where
-      false_and : (b : Bool) → (b && false) ≡ true → ⊥
-      false_and true e = let bad : false ≡ true = e in cc
-      false_and false e = let bad : false ≡ true = e in cc
-  alike_closed true false u v t h = let bad : false ≡ true = h in cc
-  alike_closed false f u v t h = let bad : false ≡ true = h in cc
+  -- alike ligands are closed and tie
+  alike_parts : (e f u v t : Bool) → test_of (e && f) (t && not (u || v)) ≡ true
+      → ((e && not u) ≡ true) × (((f && not v) ≡ true) × (t ≡ true))
+  alike_parts true true false false t h = (refl, (refl, (and_parts t true h).0))
+  alike_parts true true false true t h = absurd (both_ways false refl (and_parts t false h).1)
+  alike_parts true true true v t h = absurd (both_ways false refl (and_parts t false h).1)
+  alike_parts true false u v t h = let bad : false ≡ true = h in cc
+  alike_parts false f u v t h = let bad : false ≡ true = h in cc
 
   abbrev stand : Ligand → List Node
   stand = ligand_node (view (real_node a.root []))
@@ -173,58 +165,131 @@ module _ (rules : Rules) (g : Graph) (positions : List (List ℕ)) (all : List u
   abbrev closed_one : Ligand → Bool
   closed_one = is_closed_ligand rules g positions all a
 
-  both_closed : (ligands : List Ligand) (x y : Ligand) → are_alike_within rules g positions all (end_at a.root ligands)
+  abbrev rule : Node → Node → Ordering
+  rule = rule_2 (seen_at rules g positions all a.root) high
+
+  closed_tie : (ligands : List Ligand) (x y : Ligand) → are_alike_within rules g positions all (end_at a.root ligands)
       a.sphere (stand x) (stand y) ≡ true
-      → (closed_one x ≡ true) × (closed_one y ≡ true)
-  both_closed ligands x y e =
-      alike_closed (is_empty (nodes_below view a.sphere (stand x))) (is_empty (nodes_below view a.sphere (stand y)))
+      → (closed_one x ≡ true) × ((closed_one y ≡ true) × (is_eq (slice_cmp rule (stand x) (stand y)) ≡ true))
+  closed_tie ligands x y e =
+      alike_parts (is_empty (nodes_below view a.sphere (stand x))) (is_empty (nodes_below view a.sphere (stand y)))
       (list_any (is_in_unit rules g positions all) (nodes_within view a.sphere (stand x)))
       (list_any (is_in_unit rules g positions all) (nodes_within view a.sphere (stand y)))
-      (is_eq (slice_cmp (rule_2 (seen_at rules g positions all a.root) high) (stand x) (stand y))) e
+      (is_eq (slice_cmp rule (stand x) (stand y))) e
 
-  none_alike : (test : List Node → List Node → Bool) → ((x y : Ligand) → test (stand x) (stand y) ≡ true
-      → (closed_one x ≡ true) × (closed_one y ≡ true))
-      → (x : Ligand) (xs : List Ligand) → (closed_one x ≡ true → list_any closed_one xs ≡ false)
-      → list_any (test (stand x)) (map stand xs) ≡ false
-  none_alike test implies x [] none = refl
-  none_alike test implies x (y ∷ ys) none =
-      or_from (test (stand x) (stand y)) (list_any (test (stand x)) (map stand ys))
-      (false_from_ne_true (test (stand x) (stand y)) (λ e.
-      let c = implies x y e in
-      both_ways (closed_one y) (or_parts (closed_one y) (list_any closed_one ys) (none c.0)).0 c.1))
-      (none_alike test implies x ys (λ c. (or_parts (closed_one y) (list_any closed_one ys) (none c)).1))
+  abbrev First : ℕ → Type 0
+  First = IsFirst g positions a h some sound
 
-  none_closed_by : (test : List Node → List Node → Bool) → ((x y : Ligand) → test (stand x) (stand y) ≡ true
-      → (closed_one x ≡ true) × (closed_one y ≡ true))
-      → (b : Bool) (x : Ligand) (xs : List Ligand) → closed_one x ≡ b → cond b (list_any closed_one xs)
-      (has_closed_pair rules g positions all a xs) ≡ false
-      → (closed_one x ≡ true → list_any closed_one xs ≡ false) × (has_closed_pair rules g positions all a xs ≡ false)
-  none_closed_by test implies true x xs is e = ((λ _. e), none_behind xs e)
-    where
-      none_behind : (ys : List Ligand) → list_any closed_one ys ≡ false → has_closed_pair rules g positions all a
-          ys ≡ false
-      none_behind [] h = refl
-      none_behind (y ∷ ys) h =
-          let t = or_parts (closed_one y) (list_any closed_one ys) h in
-          ap (λ c. cond c (list_any closed_one ys) (has_closed_pair rules g positions all a ys)) t.0
-          ∙ none_behind ys t.1
-  none_closed_by test implies false x xs is e = ((λ c. absurd (both_ways (closed_one x) is c)), e)
+  abbrev no_further : List Node → Bool
+  no_further stand = is_empty (nodes_below view a.sphere stand)
 
-  none_pair : (test : List Node → List Node → Bool) → ((x y : Ligand) → test (stand x) (stand y) ≡ true
-      → (closed_one x ≡ true) × (closed_one y ≡ true))
-      → (xs : List Ligand) → has_closed_pair rules g positions all a xs ≡ false → some_pair test (map stand xs) ≡ false
-  none_pair test implies [] e = refl
-  none_pair test implies (x ∷ xs) e =
-      let t = none_closed_by test implies (closed_one x) x xs refl e in
-      or_from (list_any (test (stand x)) (map stand xs)) (some_pair test (map stand xs)) (none_alike test implies x xs
-      t.0) (none_pair test implies xs t.1)
+  -- a ligand's node that has ended
+  ended_at : (n : ℕ) → First n → no_further (node_at nodes n ∷ []) ≡ true → EndsWithin (children g positions) d
+      (node_at nodes n)
+  ended_at n p e =
+      let next : suc d ≡ a.sphere = omega (arith, some) in
+      none_ended (children g positions) d (node_at nodes n)
+      (ap (λ s. nodes_below (children g positions) s (node_at nodes n ∷ [])) next
+      ∙ sym (seen_below rules g positions all a h some n p.behind p.low p.within p.further a.sphere)
+      ∙ none_left (nodes_below view a.sphere (node_at nodes n ∷ [])) e)
 
-  -- where no two ligands are closed, none are alike
-  pub none_are_alike : (ligands : List Ligand) → has_closed_pair rules g positions all a ligands ≡ false
-      → some_pair (are_alike_within rules g positions all (end_at a.root ligands) a.sphere) (map stand ligands) ≡ false
-  none_are_alike ligands e = none_pair (are_alike_within rules g positions all (end_at a.root ligands) a.sphere)
-      (both_closed ligands) ligands e
+  record HasEnd (node : Node) : Type 0 where
+    path : EndsAt a.root node.path
+    ends : EndsWithin view high node
 
+  abbrev around : List Node
+  around = view (real_node a.root [])
+
+  around_has : AllByRecursion HasEnd around
+  around_has =
+      all_by (λ (node : Node). EndsAt a.root node.path × EndsWithin view high node) HasEnd
+      (λ node q. record { path = q.0; ends = q.1 }) around
+      (both_all (λ (node : Node). EndsAt a.root node.path) (EndsWithin view high) around
+      (subst (AllByRecursion (λ (node : Node). EndsAt a.root node.path)) (sym (at_root g positions a.root))
+      (below_ends g positions a.root (real_node a.root []) refl))
+      (ligands_end g positions a.root sound inside rules (auxiliary rules g positions all)))
+
+  ligand_has : (ligand : Ligand) → AllByRecursion HasEnd (ligand_node around ligand)
+  ligand_has LonePair = tt
+  ligand_has (Vertex vertex) = all_filtered HasEnd (stands_for vertex) around around_has
+
+  ended_node : (n : ℕ) → First n → HasEnd (node_at nodes n) → no_further (node_at nodes n ∷ []) ≡ true
+      → IsEnded g positions a.root d high (node_at nodes n)
+  ended_node n p has e = record {
+    further = p.further;
+    at = has.path;
+    within = ended_at n p e;
+    high = ends_seen high
+        (node_at nodes n) p.further has.ends;
+  }
+
+  then_equal : (r : Ordering) → is_eq (ordering_then r Equal) ≡ is_eq r
+  then_equal Less = refl
+  then_equal Equal = refl
+  then_equal Greater = refl
+
+  -- rank numbers by Rule 1a alone
+  module _ (ranks : List ℕ) (ranked : OrdersSphere g positions a.root a.sphere ranks 1 (a.sphere - 1)) where
+    tied_1a : (n m : ℕ) → First n → First m → IsEnded g positions a.root d high (node_at nodes n)
+        → IsEnded g positions a.root d high (node_at nodes m) → rule (node_at nodes n) (node_at nodes m) ≡ Equal
+        → by_number ranks n m ≡ Equal
+    tied_1a n m p q e f tie =
+        let x = node_at nodes n in
+        let y = node_at nodes m in
+        let by_mass = sym (ended_2 g positions a.root d high rules (auxiliary rules g positions all) refl x y e f)
+        ∙ tie in
+        let by_distance = earlier_tie (children g positions) (by_distances g positions a.root d high rules)
+        (λ node. pos (mass_key g node)) d x y by_mass in
+        ranks_tell g positions a h some sound ranks ranked n m p q
+        ∙ earlier_tie (children g positions) (by_atoms g positions a.root d high)
+        (λ node. lower_precedes (distance_key rules sphere_in_digraph node)) d x y by_distance
+
+    equal_from : (r : Ordering) → is_eq r ≡ true → r ≡ Equal
+    equal_from Less e = let bad : false ≡ true = e in cc
+    equal_from Equal e = refl
+    equal_from Greater e = let bad : false ≡ true = e in cc
+
+    tied_by : (x y : Option ℕ) (xs ys : List Node) → LigandAt g positions a h some sound x xs
+        → LigandAt g positions a h some sound y ys → AllByRecursion HasEnd xs → AllByRecursion HasEnd ys
+        → no_further xs ≡ true → no_further ys ≡ true → is_eq (slice_cmp rule xs ys) ≡ true
+        → have_other_ranks ranks x y ≡ false
+    tied_by None None xs ys p q s t e f tie = refl
+    tied_by None (Some m) xs ys p q s t e f tie =
+        sym tie ∙ ap (λ l. is_eq (slice_cmp rule l ys)) p ∙ ap (λ l. is_eq (slice_cmp rule [] l)) q.0
+    tied_by (Some n) None xs ys p q s t e f tie =
+        sym tie ∙ ap (λ l. is_eq (slice_cmp rule l ys)) p.0
+        ∙ ap (λ l. is_eq (slice_cmp rule (node_at nodes n ∷ []) l)) q
+    tied_by (Some n) (Some m) xs ys p q s t e f tie =
+        let nodes_tie = sym (then_equal (rule (node_at nodes n) (node_at nodes m)))
+        ∙ sym (ap (λ l. is_eq (slice_cmp rule (node_at nodes n ∷ []) l)) q.0)
+        ∙ sym (ap (λ l. is_eq (slice_cmp rule l ys)) p.0) ∙ tie in
+        let numbers_tie = tied_1a n m p.1 q.1
+        (ended_node n p.1 (subst (AllByRecursion HasEnd) p.0 s).0 (sym (ap no_further p.0) ∙ e))
+        (ended_node m q.1 (subst (AllByRecursion HasEnd) q.0 t).0 (sym (ap no_further q.0) ∙ f))
+        (equal_from (rule (node_at nodes n) (node_at nodes m)) nodes_tie) in
+        ap not (sym (eq_by_cmp (slice_index ranks n) (slice_index ranks m)) ∙ ap is_eq numbers_tie)
+
+    alike_tied : (ligands : List Ligand) (x y : Ligand) → are_alike_within rules g positions all (end_at a.root ligands)
+        a.sphere (stand x) (stand y) ≡ true → alike_told rules g positions all a ranks x y ≡ true
+    alike_tied ligands x y alike =
+        let parts = closed_tie ligands x y alike in
+        let ended = λ (ligand : Ligand) (closed : closed_one ligand ≡ true). (and_parts (no_further (stand ligand))
+        (not (list_any (is_in_unit rules g positions all) (nodes_within view a.sphere (stand ligand)))) closed).0 in
+        let differ = tied_by (ligand_number a.nodes x) (ligand_number a.nodes y) (stand x) (stand y)
+        (ligand_at g positions a h some sound x) (ligand_at g positions a h some sound y) (ligand_has x) (ligand_has y)
+        (ended x parts.0) (ended y parts.1.0) parts.1.1 in
+        ap (λ b. b && (closed_one y && not (differ_told ranks a.nodes x y))) parts.0
+        ∙ ap (λ b. b && not (differ_told ranks a.nodes x y)) parts.1.0 ∙ ap not differ
+
+    -- where Rule 1a tells each two closed ligands apart, none are alike
+    pub none_are_alike : (ligands : List Ligand) → some_pair (alike_told rules g positions all a ranks) ligands ≡ false
+        → some_pair (are_alike_within rules g positions all (end_at a.root ligands) a.sphere) (map stand ligands)
+        ≡ false
+    none_are_alike ligands =
+        some_less stand (are_alike_within rules g positions all (end_at a.root ligands) a.sphere)
+        (alike_told rules g positions all a ranks) (alike_tied ligands) ligands
+
+  -- rank numbers by all three rules
   module _ (level r1 r2 r3 : List ℕ) (flat : (x y : ℕ) → by_number level x y ≡ Equal)
       (ranked_1 : OrdersAs (length a.nodes) (comparison_at (parents_of a.nodes) level
       (map (λ (told : Told). pos told.atomic) a.nodes) d) r1)
@@ -237,9 +302,6 @@ module _ (rules : Rules) (g : Graph) (positions : List (List ℕ)) (all : List u
 
     count : length a.nodes ≡ size g positions a.root a.sphere
     count = h.tells.len ∙ sym (count_is g positions a.root a.sphere)
-
-    carried : (before keys : List ℕ) → Unit {0}
-    carried before keys = tt
 
     moved : (before : List ℕ) (keys : List ℤ) (ranks : List ℕ) → OrdersAs (length a.nodes)
         (comparison_at (parents_of a.nodes) before keys d) ranks
@@ -299,22 +361,6 @@ module _ (rules : Rules) (g : Graph) (positions : List (List ℕ)) (all : List u
         (λ n lt. ap (λ k. pos k) (h.tells.each n lt).mass)) r2 r3
         told_2 d (moved r2 (map (λ (told : Told). pos told.mass) a.nodes) r3 ranked_3) n m p q
 
-    abbrev First : ℕ → Type 0
-    First = IsFirst g positions a h some sound
-
-    abbrev no_further : List Node → Bool
-    no_further stand = is_empty (nodes_below view a.sphere stand)
-
-    -- a ligand's node that has ended
-    ended_at : (n : ℕ) → First n → no_further (node_at nodes n ∷ []) ≡ true → EndsWithin (children g positions) d
-        (node_at nodes n)
-    ended_at n p e =
-        let next : suc d ≡ a.sphere = omega (arith, some) in
-        none_ended (children g positions) d (node_at nodes n)
-        (ap (λ s. nodes_below (children g positions) s (node_at nodes n ∷ [])) next
-        ∙ sym (seen_below rules g positions all a h some n p.behind p.low p.within p.further a.sphere)
-        ∙ none_left (nodes_below view a.sphere (node_at nodes n ∷ [])) e)
-
     whole_at : (n : ℕ) → First n → EndsWithin (children g positions) d (node_at nodes n) → W n
     whole_at n p e =
         let one : 1 ≡ a.sphere - d = omega (arith, some) in
@@ -339,44 +385,6 @@ module _ (rules : Rules) (g : Graph) (positions : List (List ℕ)) (all : List u
         ∙ ap (λ x. by_masses g positions a.root d high rules x (node_at nodes m)) at_n
         ∙ ap (by_masses g positions a.root d high rules (at n)) at_m
         ∙ sym (told_3 n m (whole_at n p e.within) (whole_at m q f.within))
-
-    record HasEnd (node : Node) : Type 0 where
-      path : EndsAt a.root node.path
-      ends : EndsWithin view high node
-
-    abbrev around : List Node
-    around = view (real_node a.root [])
-
-    around_has : AllByRecursion HasEnd around
-    around_has =
-        all_by (λ (node : Node). EndsAt a.root node.path × EndsWithin view high node) HasEnd
-        (λ node q. record { path = q.0; ends = q.1 }) around
-        (both_all (λ (node : Node). EndsAt a.root node.path) (EndsWithin view high) around
-        (subst (AllByRecursion (λ (node : Node). EndsAt a.root node.path)) (sym (at_root g positions a.root))
-        (below_ends g positions a.root (real_node a.root []) refl))
-        (ligands_end g positions a.root sound inside rules (auxiliary rules g positions all)))
-
-    ligand_has : (ligand : Ligand) → AllByRecursion HasEnd (ligand_node around ligand)
-    ligand_has LonePair = tt
-    ligand_has (Vertex vertex) = all_filtered HasEnd (stands_for vertex) around around_has
-
-    ended_node : (n : ℕ) → First n → HasEnd (node_at nodes n) → no_further (node_at nodes n ∷ []) ≡ true
-        → IsEnded g positions a.root d high (node_at nodes n)
-    ended_node n p has e = record {
-      further = p.further;
-      at = has.path;
-      within = ended_at n p e;
-      high = ends_seen high
-          (node_at nodes n) p.further has.ends;
-    }
-
-    abbrev rule : Node → Node → Ordering
-    rule = rule_2 (seen_at rules g positions all a.root) high
-
-    then_equal : (r : Ordering) → is_eq (ordering_then r Equal) ≡ is_eq r
-    then_equal Less = refl
-    then_equal Equal = refl
-    then_equal Greater = refl
 
     not_not : (b : Bool) → b ≡ not (not b)
     not_not true = refl

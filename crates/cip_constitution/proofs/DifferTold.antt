@@ -214,7 +214,7 @@ module _ (g : Graph) (positions : List (List ℕ)) (a : Growth) (h : Holds g pos
       (Vertex vertex))))
 
   module _ (ranks : List ℕ) (ranked : OrdersSphere g positions a.root a.sphere ranks 1 (a.sphere - 1)) where
-    ranks_tell : (n m : ℕ) → IsFirst n → IsFirst m
+    pub ranks_tell : (n m : ℕ) → IsFirst n → IsFirst m
         → by_number ranks n m ≡ comparison (children g positions) all_tie (λ node. pos (atomic_key g positions node))
         (a.sphere - 1) (node_at nodes n) (node_at nodes m)
     ranks_tell n m p q = ranked.each n m p.behind (omega (arith, p.low, count_is g positions a.root 1)) q.behind

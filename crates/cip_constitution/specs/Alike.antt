@@ -1,5 +1,5 @@
 -- Ligands that are alike, by closed branches and rank numbers. Own.
-use Rattle.std.specs.Prelude.{◌&&◌, ℕ, Bool, false, cond, not, List, [], ◌∷◌}
+use Rattle.std.specs.Prelude.{◌&&◌, ℕ, Bool, not, List, [], ◌∷◌}
 use Rattle.std.specs.List.{list_any}
 use Rattle.cip_rank.specs.declared.rules.Rules.{Rules}
 use Rattle.cip_mol.specs.declared.site.Ligand.{Ligand}
@@ -20,14 +20,6 @@ is_closed_ligand rules graph positions all growth ligand =
     let nodes = ligand_node (view (real_node growth.root [])) ligand in
     is_empty (nodes_below view growth.sphere nodes)
     && not (list_any (is_in_unit rules graph positions all) (nodes_within view growth.sphere nodes))
-
--- a first closed ligand has another one behind it
-abbrev pub has_closed_pair : Rules → Graph → List (List ℕ) → List units.Unit → Growth → List Ligand → Bool
-has_closed_pair rules graph positions all growth [] = false
-has_closed_pair rules graph positions all growth (ligand ∷ others) =
-    cond (is_closed_ligand rules graph positions all growth ligand)
-    (list_any (is_closed_ligand rules graph positions all growth) others)
-    (has_closed_pair rules graph positions all growth others)
 
 abbrev pub alike_told : Rules → Graph → List (List ℕ) → List units.Unit → Growth → List ℕ → Ligand → Ligand → Bool
 alike_told rules graph positions all growth ranks a b =

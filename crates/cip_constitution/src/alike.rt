@@ -1,9 +1,9 @@
 // Ligands that are alike: their branches have ended, hold no atom of a unit and tie.
-ghost use Rattle.std.specs.Prelude.{◌≡◌, ◌<◌, ◌≤◌, ◌&&◌, ℕ, length, vec_capacity};
+ghost use Rattle.std.specs.Prelude.{◌≡◌, ◌<◌, ◌≤◌, ℕ, length, vec_capacity};
 ghost use Rattle.std.specs.List.{list_any};
 ghost use Rattle.cip_digraph.specs.units.Ranked.{some_pair};
 ghost use Rattle.cip_arena.specs.Growth.{Holds};
-ghost use Rattle.cip_constitution.specs.Alike.{is_closed_ligand, has_closed_pair, alike_told};
+ghost use Rattle.cip_constitution.specs.Alike.{is_closed_ligand, alike_told};
 
 use crate::closing::is_closed;
 use crate::differing::differ;
@@ -58,15 +58,13 @@ fn are_alike(
         b.now }
     ensures room { vec_capacity under.old ≤ vec_capacity under.new }
 {
-    let first = is_closed_at(arena, graph, positions, rules, units, under, a);
-    let second = is_closed_at(arena, graph, positions, rules, units, under, b);
-    all_three(first, second, !differ(arena, ranks, a, b))
-}
-
-fn all_three(a: bool, b: bool, c: bool) -> bool
-    ensures { result ≡ (a && (b && c)) }
-{
-    a && (b && c)
+    if differ(arena, ranks, a, b) {
+        return false;
+    }
+    if !is_closed_at(arena, graph, positions, rules, units, under, a) {
+        return false;
+    }
+    is_closed_at(arena, graph, positions, rules, units, under, b)
 }
 
 fn alike_from(
@@ -127,59 +125,6 @@ pub fn alike_each(
             arena, graph, positions, rules, units, ranks, under, ligand, others,
         ) {
             return true;
-        }
-        rest = others;
-    }
-    false
-}
-
-fn closed_from(
-    arena: &Arena,
-    graph: &Graph,
-    positions: &Positions,
-    rules: Rules,
-    units: &MarkedUnits<'_>,
-    under: &mut Vec<bool>,
-    others: &[Ligand],
-) -> bool
-    requires holds { Holds graph.now positions.now arena.now }
-    requires some { 0 < arena.now.sphere }
-    requires nodes { 0 < length arena.now.nodes }
-    requires room { length arena.now.nodes ≤ vec_capacity under.old }
-    ensures closed { result ≡ list_any (is_closed_ligand rules graph.now positions.now units.now arena.now) others.now }
-    ensures room { vec_capacity under.old ≤ vec_capacity under.new }
-{
-    let mut rest = others;
-    while let [other, more @ ..] = rest {
-        if is_closed_at(arena, graph, positions, rules, units, under, other) {
-            return true;
-        }
-        rest = more;
-    }
-    false
-}
-
-/// Whether some two are closed: only such ligands can be alike.
-pub fn closed_pair(
-    arena: &Arena,
-    graph: &Graph,
-    positions: &Positions,
-    rules: Rules,
-    units: &MarkedUnits<'_>,
-    under: &mut Vec<bool>,
-    ligands: &[Ligand],
-) -> bool
-    requires holds { Holds graph.now positions.now arena.now }
-    requires some { 0 < arena.now.sphere }
-    requires nodes { 0 < length arena.now.nodes }
-    requires room { length arena.now.nodes ≤ vec_capacity under.old }
-    ensures closed { result ≡ has_closed_pair rules graph.now positions.now units.now arena.now ligands.now }
-    ensures room { vec_capacity under.old ≤ vec_capacity under.new }
-{
-    let mut rest = ligands;
-    while let [ligand, others @ ..] = rest {
-        if is_closed_at(arena, graph, positions, rules, units, under, ligand) {
-            return closed_from(arena, graph, positions, rules, units, under, others);
         }
         rest = others;
     }

@@ -13,7 +13,7 @@ ghost use Rattle.cip_constitution.specs.Following.{TellFirsts, Follows, Refined}
 ghost use Rattle.cip_constitution.specs.Settling.{setting_of, differs, has_alike};
 ghost use Rattle.cip_constitution.specs.Tops.{TopsUpTo};
 
-use crate::alike::{alike_each, closed_pair};
+use crate::alike::alike_each;
 use crate::columns::push_reserved;
 use crate::differing::differ_each;
 use crate::ending::{extend_tops, some_end_here};
@@ -152,6 +152,8 @@ impl Work {
         requires some { 0 < arena.now.sphere }
         requires root { arena.now.root < length graph.now.vertices }
         requires room { arena.now.bound ≤ self.old.bound }
+        requires followed { Follows graph.now positions.now arena.now.root arena.now.sphere self.old.firsts
+            self.old.numbers }
         requires tops { TopsUpTo graph.now positions.now arena.now.root arena.now.sphere self.old.tops }
         requires before { 1 < arena.now.sphere
             → has_alike (setting_of rules graph.now positions.now units.now ligands.now) arena.now.root
@@ -165,12 +167,14 @@ impl Work {
         if arena.sphere() > 1 && !some_end_here(arena, graph, positions, &self.tops, ligands) {
             return false;
         }
-        if !closed_pair(
+        // Rule 1a, whose numbers stand already, tells most ligands apart
+        if !alike_each(
             arena,
             graph,
             positions,
             rules,
             units,
+            &self.diagonal,
             &mut self.under,
             ligands,
         ) {

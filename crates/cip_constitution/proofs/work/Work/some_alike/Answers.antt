@@ -1,4 +1,4 @@
-use Rattle.std.proofs.Common.{◌≡◌, ◌<◌, ◌-◌, replicate, length, sym, ap, ◌∙◌, subst, arith, pos, map}
+use Rattle.std.proofs.Common.{◌≡◌, ◌<◌, ◌-◌, ℕ, List, replicate, length, sym, ap, ◌∙◌, subst, arith, pos, map}
 use Rattle.cip_rank.specs.Ranking.{Standing, OrdersAs, comparison_at, by_number}
 use Rattle.cip_digraph.specs.declared.nodes.Told.{Told}
 use Rattle.cip_digraph.specs.rules.Keys.{lower_precedes}
@@ -6,6 +6,8 @@ use Rattle.cip_digraph.specs.digraph.NodeList.{parents_of, distance_told}
 use Rattle.cip_digraph.proofs.Numbered.{some_nodes}
 use Rattle.cip_constitution.proofs.AlikeTold.{alike_is, none_are_alike}
 use Rattle.cip_constitution.proofs.DifferTold.{all_level}
+use Rattle.cip_digraph.specs.units.Ranked.{some_pair}
+use Rattle.cip_constitution.specs.Alike.{alike_told}
 use Rattle.cip_constitution.specs.Following.{Trying}
 use Rattle.cip_constitution.specs.Tops.{TopsUpTo}
 use Rattle.cip_constitution.proofs.EndedBefore.{none_anew}
@@ -18,17 +20,22 @@ alike_each-requires-clause-nodes c =
     let len = c.requires.holds.tells.len in
     omega (arith, some, len)
 
-pub closed_pair-requires-clause-nodes : goal.closed_pair-requires-clause-nodes
-closed_pair-requires-clause-nodes c =
+pub alike_each-requires-2-clause-nodes : goal.alike_each-requires-2-clause-nodes
+alike_each-requires-2-clause-nodes c =
     let some = some_nodes c.args.graph.now c.args.positions.now c.args.arena.now.root c.args.arena.now.sphere in
     let len = c.requires.holds.tells.len in
     omega (arith, some, len)
 
-pub returns-then-not-closed_pair-clause-result : goal.returns-then-not-closed_pair-clause-result
-returns-then-not-closed_pair-clause-result c =
-    sym (none_are_alike c.args.rules c.args.graph.now c.args.positions.now c.args.units.now c.args.arena.now
-    c.requires.holds c.requires.some c.vertices-vertices.ensures.sound c.requires.root c.args.ligands.now
-    (sym c.closed_pair.ensures.closed ∙ c.if-not-closed_pair.true))
+pub returns-then-not-alike_each-clause-result : goal.returns-then-not-alike_each-clause-result
+returns-then-not-alike_each-clause-result c =
+    let a = c.args.arena.now in
+    let numbers = ap (λ (w : Trying). w.numbers) c.self.view_is in
+    let none = sym (c.alike_each.ensures.alike
+    ∙ ap (λ (ns : List ℕ). some_pair (alike_told c.args.rules c.args.graph.now c.args.positions.now c.args.units.now a
+    ns) c.args.ligands.now) numbers) ∙ c.if-not-alike_each.true in
+    sym (none_are_alike c.args.rules c.args.graph.now c.args.positions.now c.args.units.now a c.requires.holds
+    c.requires.some c.vertices-vertices.ensures.sound c.requires.root c.args.self.now.numbers
+    (c.requires.followed.each 1 (omega arith) (omega (arith, c.requires.some))) c.args.ligands.now none)
 
 pub returns-clause-result : goal.returns-clause-result
 returns-clause-result c =
@@ -37,7 +44,7 @@ returns-clause-result c =
     let zeros : level ≡ replicate (length c.table.result.now.parents) 0 = ap (λ (s : Standing). s.numbers)
     c.level.ensures in
     let depth : c.sphere-depth.result - 1 ≡ a.sphere - 1 = ap (λ n. n - 1) c.sphere-depth.ensures in
-    c.alike_each.ensures.alike
+    c.alike_each-2.ensures.alike
     ∙ alike_is c.args.rules c.args.graph.now c.args.positions.now c.args.units.now a c.requires.holds c.requires.some
     c.vertices-vertices.ensures.sound c.requires.root
     level c.rank_atoms.new.ranks.numbers c.rank_distances.new.ranks.numbers c.rank_masses.new.ranks.numbers
