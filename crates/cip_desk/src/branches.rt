@@ -1,5 +1,5 @@
 // How the branches at the neighbours of a root stand.
-ghost use Rattle.std.specs.Prelude.{◌≡◌, ◌<◌, ◌≤◌, ◌++◌, true, false, length, map, flat_map, All, OnOk};
+ghost use Rattle.std.specs.Prelude.{◌≡◌, ◌<◌, ◌≤◌, ◌++◌, [], true, false, length, map, flat_map, All, IfOk, OnOk};
 ghost use Rattle.cip_views.specs.Asking.{AreWithin};
 ghost use Rattle.cip_views.specs.RuleKeys.{IsReady};
 ghost use Rattle.cip_desk.specs.Standing.{pair_with, pairs_at, pairs_of, found_of, standing_of, number_at, asked_by};
@@ -41,7 +41,9 @@ impl Model for Branches {
 
 impl Branches {
     /// No pairs, with room for those of four ligands.
-    pub fn reserve(alloc: Global) -> Result<Branches, AllocError> {
+    pub fn reserve(alloc: Global) -> Result<Branches, AllocError>
+        ensures { IfOk result (λ made. made ≡ record { pairs = []; natural = []; turned = [] }) }
+    {
         Ok(Branches {
             pairs: Vec::with_capacity(alloc, MOST_PAIRS)?,
             natural: Vec::with_capacity(alloc, MOST_PAIRS)?,
