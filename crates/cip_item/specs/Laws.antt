@@ -1,12 +1,13 @@
 -- What holds of a label item that is put in or taken out. Own.
-use Rattle.std.specs.Prelude.{◌≡◌, ◌++◌, ℕ, List, [], ◌∷◌, ◌+◌, Bool, true, false, ◌&&◌, nat_le, nat_lt, if◌then◌else◌}
-use Rattle.std.specs.List.{concat, list_all, list_any}
-use Rattle.cip_text.specs.Lines.{lines_of}
+use Rattle.std.specs.Prelude.{◌≡◌, ◌++◌, ℕ, List, [], ◌∷◌, ◌+◌, Bool, true, false, ◌&&◌, not, ◌==◌, nat_le, nat_lt, if◌then◌else◌}
+use Rattle.std.specs.List.{concat, list_all, list_any, take_while}
+use Rattle.cip_text.specs.Kinds.{is_blank, is_molecule_end}
+use Rattle.cip_text.specs.Lines.{line_feed, carriage_return, has_last, lines_of}
 use Rattle.cip_item.specs.Items.{items_of}
 use Rattle.cip_text.specs.Bodies.{body_lines}
 use Rattle.cip_item.specs.Parts.{without_label_items, has_label_item}
 use Rattle.cip_text.specs.Bodies.{body, closing}
-use Rattle.cip_item.specs.Putting.{with_item, prepared, is_value}
+use Rattle.cip_item.specs.Putting.{has_returns, needs_gap, with_item, prepared, is_value}
 use Rattle.cip_item.specs.declared.items.Item.{Item}
 
 -- an item that was put in is taken out whole: the record is as before, up to the line ends that the item needed
@@ -37,6 +38,37 @@ lines_left items number (line ∷ lines) =
 abbrev pub OnlyLabelItemsGo : Type 0
 OnlyLabelItemsGo = (bytes : List ℕ) →
     without_label_items bytes ≡ concat (lines_left (items_of bytes) 0 (body_lines (lines_of bytes))) ++ closing bytes
+
+-- a record without its label items has none
+abbrev pub NoLabelItemStays : Type 0
+NoLabelItemStays = (bytes : List ℕ) → has_label_item (without_label_items bytes) ≡ false
+
+-- with no label item in it, a record stays as it is
+abbrev pub OthersStay : Type 0
+OthersStay = (bytes : List ℕ) → has_label_item bytes ≡ false → without_label_items bytes ≡ bytes
+
+-- an item has the line ends of the record's first line: CRLF where the bytes before its LF end in CR, LF otherwise;
+-- where the record has no LF, all its bytes are that line
+abbrev pub LineEndsAreOfTheFirstLine : Type 0
+LineEndsAreOfTheFirstLine = (bytes : List ℕ) →
+    has_returns false bytes ≡ has_last carriage_return (take_while (λ b. not (b == line_feed)) bytes)
+
+-- the last of some lines isn't blank
+abbrev pub ends_filled : List (List ℕ) → Bool
+ends_filled [] = false
+ends_filled (content ∷ []) = not (is_blank content)
+ends_filled (content ∷ next ∷ contents) = ends_filled (next ∷ contents)
+
+-- the lines behind the first `M  END` line
+abbrev pub behind_molecule : List (List ℕ) → List (List ℕ)
+behind_molecule [] = []
+behind_molecule (content ∷ contents) = if is_molecule_end content then contents else behind_molecule contents
+
+-- an item has an empty line before it where the last line behind the molecule isn't blank: there another item would
+-- go on
+abbrev pub GapsFollowOtherItems : Type 0
+GapsFollowOtherItems = (contents : List (List ℕ)) →
+    needs_gap false false contents ≡ ends_filled (behind_molecule contents)
 
 -- a record is its body with its closing behind it, and with an item it begins with its body
 pub record BodiesStay : Type 0 where

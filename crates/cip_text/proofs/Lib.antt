@@ -2,7 +2,10 @@ pub mod Contents
 pub mod Ended
 pub mod Ends
 pub mod Firsts
+pub mod GivenLines
 pub mod Halves
 pub mod LastBytes
 pub mod LineLengths
+pub mod Positions
+pub mod Spaces
 pub mod Standing

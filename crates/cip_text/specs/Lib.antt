@@ -6,3 +6,4 @@ pub mod Lines
 pub mod Numbers
 pub mod Places
 pub mod Slices
+pub mod Writing

@@ -10,6 +10,7 @@ mod numbers;
 mod splitting;
 #[cfg(test)]
 mod tests;
+mod writing;
 
 pub use bodies::{RecordLines, body_contents, split_body_line};
 pub use bytes::Bytes;
@@ -18,3 +19,4 @@ pub use kinds::{is_blank, is_molecule_end, is_terminator};
 pub use laws::{contents_stand_at_places, lines_are_cut, lines_are_ended, lines_join};
 pub use numbers::{NumberFault, decimal4, integer};
 pub use splitting::{Line, Lines, begins_with, content, has_last, lines, split_line, without_end};
+pub use writing::{coordinate, push_right};
