@@ -1,6 +1,7 @@
 pub mod AlternatingWays
 pub mod Apart
 pub mod BranchesEnd
+pub mod CentreBonds
 pub mod Children
 pub mod Cut
 pub mod DrawnSound
@@ -11,6 +12,7 @@ pub mod Ended
 pub mod ExchangedKeys
 pub mod ExchangedOrders
 pub mod Hanging
+pub mod Inversions
 pub mod Joined
 pub mod LeastSphere
 pub mod LigandNodes

@@ -2,6 +2,9 @@ pub mod Allenes
 pub mod Centres
 pub mod Descriptors
 pub mod DoubleBonds
+pub mod DrawnUnits
 pub mod Ends
+pub mod Inverted
+pub mod InversionLaws
 pub mod Ranked
 pub mod Units

@@ -1,7 +1,10 @@
 // The stereogenic units of a molecule.
-ghost use Rattle.std.specs.Prelude.{◌≡◌, ◌++◌, ◌∷◌, [], OnOk, OnErr};
+ghost use Rattle.std.specs.Prelude.{◌≡◌, ◌++◌, ◌∷◌, [], IfOk, OnOk, OnErr};
+ghost use Rattle.cip_digraph.specs.rings.Alternating.{is_in};
+ghost use Rattle.cip_digraph.specs.units.Descriptors.{opposite};
+ghost use Rattle.cip_digraph.specs.units.Inverted.{inverted, inverted_unit, is_centre_among, turned_geometry};
 
-use cip_mol::Unit;
+use cip_mol::{Geometry, Sense, Site, Unit};
 use std::alloc::{AllocError, Global};
 use std::marker::Model;
 
@@ -44,5 +47,91 @@ impl Units {
         ensures { result.now ≡ self.now }
     {
         &self.units
+    }
+
+    /// The same units once more.
+    pub fn copy(&self, alloc: Global) -> Result<Units, AllocError>
+        ensures { IfOk result (λ units. units ≡ self.now) }
+    {
+        let units = copied(alloc, self.list())?;
+        Ok(Units { units })
+    }
+
+    /// The units with the centres at these atoms turned: what is known of each is the other sense.
+    pub fn inverted(&self, alloc: Global, atoms: &[u32]) -> Result<Units, AllocError>
+        ensures { IfOk result (λ units. units ≡ inverted atoms.now self.now) }
+    {
+        let mut units = self.copy(alloc)?;
+        units.invert(atoms);
+        Ok(units)
+    }
+
+    /// Turns the centres at these atoms. A second call turns them back.
+    pub fn invert(&mut self, atoms: &[u32])
+        ensures { self.new ≡ inverted atoms.now self.old }
+    {
+        invert_all(&mut self.units, atoms);
+    }
+}
+
+fn copied(alloc: Global, all: &[Unit]) -> Result<Vec<Unit>, AllocError>
+    ensures { IfOk result (λ units. units.items ≡ all.now) }
+{
+    let mut units = Vec::new(alloc);
+    for unit in all {
+        units.push(Unit {
+            site: unit.site.copy(alloc),
+            geometry: unit.geometry,
+        })?;
+    }
+    Ok(units)
+}
+
+fn invert_all(units: &mut [Unit], atoms: &[u32])
+    ensures { units.new ≡ inverted atoms.now units.old }
+{
+    for unit in units.iter_mut() {
+        invert_unit(unit, atoms);
+    }
+}
+
+fn invert_unit(unit: &mut Unit, atoms: &[u32])
+    ensures { unit.new ≡ inverted_unit atoms.now unit.old }
+{
+    if is_centre_among(atoms, &unit.site) {
+        unit.geometry = turned(unit.geometry);
+    }
+}
+
+fn is_centre_among(atoms: &[u32], site: &Site) -> bool
+    ensures { result ≡ is_centre_among atoms.now site.now }
+{
+    match site {
+        Site::Centre { at, .. } => is_in(*at, atoms),
+        Site::Bond { .. } | Site::Axis { .. } => false,
+    }
+}
+
+fn is_in(vertex: u32, vertices: &[u32]) -> bool
+    ensures { result ≡ is_in vertex vertices.now }
+{
+    vertices.iter().any(|other| *other == vertex)
+}
+
+fn turned(geometry: Geometry) -> Geometry
+    ensures { result ≡ turned_geometry geometry }
+{
+    match geometry {
+        Geometry::Known(sense) => Geometry::Known(opposite(sense)),
+        Geometry::Unknown(cause) => Geometry::Unknown(cause),
+    }
+}
+
+fn opposite(sense: Sense) -> Sense
+    ensures { result ≡ opposite sense }
+{
+    match sense {
+        Sense::Plus => Sense::Minus,
+        Sense::Minus => Sense::Plus,
     }
 }

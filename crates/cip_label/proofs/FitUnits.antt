@@ -44,7 +44,7 @@ use Rattle.cip_elem.specs.Electrons.{outer_of}
 use Rattle.cip_mol.specs.declared.site.Ligand.{Ligand}
 use Rattle.cip_mol.specs.declared.site.Ligand.TheVariants.{Vertex, LonePair}
 use Rattle.cip_mol.specs.declared.site.Unit as units
-use Rattle.cip_mol.specs.declared.site.Site.TheVariants.{Centre}
+use Rattle.cip_mol.specs.declared.site.Site.TheVariants.{Centre, Bond, Axis}
 use Rattle.cip_digraph.specs.units.Allenes.{axis_site, axis_sites, is_axis_end, is_axis_unit, doubles}
 use Rattle.cip_digraph.specs.rings.Alternating.{is_in}
 use Rattle.cip_digraph.specs.units.Centres.{centre_ligands, drawn_neighbours, is_centre, is_quadriligant}
@@ -294,8 +294,15 @@ module _ (graph : Graph) (sound : IsSound graph) where
   there : (v : ℕ) (e : Edge) → IsEdgeAt v e → is_in (other_end v e) (neighbours graph v) ≡ true
   there v e h = h.leads v (other_end v e) h.touch refl
 
-  away : (v : ℕ) → AllByRecursion (λ n. n ≢ v) (neighbours graph v)
+  pub away : (v : ℕ) → AllByRecursion (λ n. n ≢ v) (neighbours graph v)
   away v = all_mapped (λ n. n ≢ v) (other_end v) (edges_at graph v) (edges_away graph sound v)
+
+  -- each neighbour has the vertex among its own
+  pub beside_each : (v : ℕ) → AllByRecursion (λ n. is_in v (neighbours graph n) ≡ true) (neighbours graph v)
+  beside_each v =
+      all_mapped (λ n. is_in v (neighbours graph n) ≡ true) (other_end v) (edges_at graph v)
+      (all_by (IsEdgeAt v) (λ e. is_in v (neighbours graph (other_end v e)) ≡ true) (back v) (edges_at graph v)
+      (edges_known v))
 
   -- ligands from some of the neighbours
   fit_of : (v : ℕ) (ns : List ℕ) (has : Bool) → Pairwise ◌≢◌ ns →
@@ -408,6 +415,56 @@ module _ (graph : Graph) (sound : IsSound graph) where
       by true = omega (arith, o)
       by false = omega (arith, o)
 
+  length_of_end : (unit : List ℕ) (v : ℕ) (has : Bool) →
+      length (outer_neighbours graph unit v) + length (lone has) ≡ 2 →
+      length (map Vertex (outer_neighbours graph unit v) ++ lone has) ≤ 2
+  length_of_end unit v has two =
+      let counted : length (map Vertex (outer_neighbours graph unit v) ++ lone has) ≡ length
+      (outer_neighbours graph unit v) + length (lone has) =
+      length-append (map Vertex (outer_neighbours graph unit v)) (lone has)
+      ∙ ap (λ n. n + length (lone has)) (length-map (outer_neighbours graph unit v) Vertex) in
+      omega (arith, counted, two)
+
+  abbrev FitEnds : List End → Type 0
+  FitEnds ends = All (λ end. IsFit graph end.at end.ligands) ends
+
+  few_in_two : (first second : List Ligand) → length first ≤ 2 → length second ≤ 2 →
+      length (first ++ (second ++ [])) ≤ 4
+  few_in_two first second p q =
+      let counted : length (first ++ (second ++ [])) ≡ length first + length second =
+      length-append first (second ++ []) ∙ ap (λ ls. length first + length ls) (append-nil second) in
+      omega (arith, counted, p, q)
+
+  ends_fit : (a b : ℕ) (first second : List Ligand) → IsFit graph a first → IsFit graph b second →
+      FitEnds (end_at a first ∷ end_at b second ∷ [])
+  ends_fit a b first second p q = All-from_recursion (λ end. IsFit graph end.at end.ligands)
+      (end_at a first ∷ end_at b second ∷ []) (p, (q, tt))
+
+  -- an end with three bonds, two of them to neighbours outside the unit
+  pub three_end_fit : (unit : List ℕ) (v : ℕ) → length (edges_at graph v) ≡ 3 →
+      length (outer_neighbours graph unit v) ≡ 2 →
+      (length (end_ligands graph unit v) ≤ 2) × IsFit graph v (end_ligands graph unit v)
+  three_end_fit unit v three out =
+      let atom = vertex_at graph v in
+      let edges = length (edges_at graph v) in
+      let two : length (outer_neighbours graph unit v) + length (lone ((atom.z == 7) && (edges == 2))) ≡ 2 =
+      axis_counted atom.z edges (length (outer_neighbours graph unit v)) (edges == 2) refl three out in
+      (length_of_end unit v ((atom.z == 7) && (edges == 2)) two, outer_fit unit v ((atom.z == 7) && (edges == 2)) two)
+
+  -- a bond or an axis between two such ends
+  pub two_ended_fit : (flat : Bool) (a b : ℕ) (first second : List Ligand) →
+      (length first ≤ 2) × IsFit graph a first →
+      (length second ≤ 2) × IsFit graph b second →
+      IsFitSite graph (cond flat (Bond a b first second) (Axis a a b first second))
+  two_ended_fit true a b first second p q = record {
+    ends = ends_fit a b first second p.1 q.1;
+    four = few_in_two first second p.0 q.0;
+  }
+  two_ended_fit false a b first second p q = record {
+    ends = ends_fit a b first second p.1 q.1;
+    four = few_in_two first second p.0 q.0;
+  }
+
   axis_end_fit : (unit : List ℕ) (v : ℕ) → is_axis_end graph unit v ≡ true →
       (length (outer_neighbours graph unit v) + length
       (lone (((vertex_at graph v).z == 7) && (length (edges_at graph v) == 2))) ≡ 2) × IsFit graph v
@@ -431,31 +488,6 @@ module _ (graph : Graph) (sound : IsSound graph) where
     ends = All-from_recursion (λ end. IsFit graph end.at end.ligands) (end_at v ligands ∷ []) (fit, tt);
     four = subst (λ ls. length ls ≤ 4) (sym (append-nil ligands)) fit.few;
   }
-
-  abbrev FitEnds : List End → Type 0
-  FitEnds ends = All (λ end. IsFit graph end.at end.ligands) ends
-
-  few_in_two : (first second : List Ligand) → length first ≤ 2 → length second ≤ 2 →
-      length (first ++ (second ++ [])) ≤ 4
-  few_in_two first second p q =
-      let counted : length (first ++ (second ++ [])) ≡ length first + length second =
-      length-append first (second ++ []) ∙ ap (λ ls. length first + length ls) (append-nil second) in
-      omega (arith, counted, p, q)
-
-  ends_fit : (a b : ℕ) (first second : List Ligand) → IsFit graph a first → IsFit graph b second →
-      FitEnds (end_at a first ∷ end_at b second ∷ [])
-  ends_fit a b first second p q = All-from_recursion (λ end. IsFit graph end.at end.ligands)
-      (end_at a first ∷ end_at b second ∷ []) (p, (q, tt))
-
-  length_of_end : (unit : List ℕ) (v : ℕ) (has : Bool) →
-      length (outer_neighbours graph unit v) + length (lone has) ≡ 2 →
-      length (map Vertex (outer_neighbours graph unit v) ++ lone has) ≤ 2
-  length_of_end unit v has two =
-      let counted : length (map Vertex (outer_neighbours graph unit v) ++ lone has) ≡ length
-      (outer_neighbours graph unit v) + length (lone has) =
-      length-append (map Vertex (outer_neighbours graph unit v)) (lone has)
-      ∙ ap (λ n. n + length (lone has)) (length-map (outer_neighbours graph unit v) Vertex) in
-      omega (arith, counted, two)
 
   abbrev has_lone : ℕ → Bool
   has_lone v = ((vertex_at graph v).z == 7) && (length (edges_at graph v) == 2)

@@ -1,11 +1,11 @@
 -- What the search for alternating rings reaches, a walk reaches too.
-use Rattle.std.proofs.Common.{◌≡◌, ◌⊎◌, ℕ, zero, suc, inl, inr, Bool, true, false, cond, not, ◌==◌, List, ◌∷◌, refl, sym, ◌∙◌, subst, eqb-true}
+use Rattle.std.proofs.Common.{◌≡◌, ◌⊎◌, ℕ, zero, suc, inl, inr, Bool, true, false, not, ◌==◌, List, ◌∷◌, refl, sym, ◌∙◌, subst, eqb-true}
 use Rattle.std.specs.Prelude.{flat_map}
 use Rattle.std.specs.List.{list_any}
 use Rattle.std.proofs.lemmas.Bool.{and_parts, eq-eqb}
 use Rattle.cip_digraph.specs.rings.Alternating.{goes_on, is_in, partner, reaches, singles}
 use Rattle.cip_digraph.specs.graph.Graph.{Graph}
-use Rattle.cip_digraph.proofs.AlternatingWays.{any_gives, either, or_left}
+use Rattle.cip_digraph.proofs.AlternatingWays.{any_gives, either, if_goes, or_left}
 use Rattle.cip_digraph.proofs.Reached.{flat_gives, flat_takes, new_gives, new_keeps, new_takes}
 use Rattle.cip_ring.specs.Steps.{within}
 use Rattle.cip_mancude.specs.Partners.{goes_through}
@@ -46,10 +46,6 @@ module _ (step : ℕ → List ℕ) where
       by (inr g) rest =
           let f = flat_gives step target (within step head steps) g in
           one_on at (f.0) target (suc steps) (rest (f.0) f.1.0) f.1.1
-
-if_goes : (goes found : Bool) → cond goes found false ≡ true → (goes ≡ true) × (found ≡ true)
-if_goes true found e = (refl, e)
-if_goes false found e = let bad : false ≡ true = e in cc
 
 -- a step of the search is one of the walk
 onward_in : (graph : Graph) (path : List ℕ) (next : ℕ) → goes_on graph path next ≡ true

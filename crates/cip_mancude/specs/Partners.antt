@@ -1,6 +1,5 @@
 -- The other ends of the double bonds of alternating atoms, and how a search goes on through them. Own.
 use Rattle.std.specs.Prelude.{ℕ, Bool, false, cond, List, [], ◌∷◌, Some, None, filter, map, not, ◌==◌, ◌||◌, ◌&&◌}
-use Rattle.std.specs.List.{list_any}
 use Rattle.std.specs.declared.option.Option.{Option}
 use Rattle.cip_digraph.specs.declared.graph.Edge.{Edge}
 use Rattle.cip_digraph.specs.rings.Alternating.{closes_ring, goes_on, is_alternating, is_in, partner, reaches, singles}
@@ -34,8 +33,3 @@ goes_through graph target more path next =
 abbrev pub positions_along : Graph → ℕ → List Edge → List ℕ
 positions_along graph vertex edges =
     filter (λ other. (other == partner graph vertex) || closes_ring graph vertex other) (map (other_end vertex) edges)
-
--- whether a search goes on along some edges and reaches the target
-abbrev pub goes_along : Graph → ℕ → ℕ → List ℕ → ℕ → List Edge → Bool
-goes_along graph target more path at edges =
-    list_any (goes_through graph target more path) (map (other_end at) (filter (λ edge. edge.order == 1) edges))

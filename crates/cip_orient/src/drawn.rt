@@ -6,7 +6,7 @@ use cip_mol::{AtMostFour, Ligand, Ligands, Molecule};
 use std::alloc::Global;
 
 /// The atoms among ligands, in their order.
-pub(crate) fn drawn_of(alloc: Global, molecule: &Molecule, ligands: &Ligands) -> AtMostFour<u32>
+pub fn drawn_of(alloc: Global, molecule: &Molecule, ligands: &Ligands) -> AtMostFour<u32>
     ensures value { result ≡ drawn (length molecule.now.atoms) ligands.now }
     ensures within { All (λ number. number < length molecule.now.atoms) result }
 {

@@ -16,4 +16,6 @@ mod site;
 #[cfg(test)]
 mod tests;
 
+pub use drawn::drawn_of;
+pub use marks::is_crossed;
 pub use site::orient;

@@ -6,6 +6,7 @@ use Rattle.cip_mol.specs.declared.refusal.ReadCause.TheVariants.{Short}
 use Rattle.cip_mol.specs.declared.refusal.ReadFault.{ReadFault}
 use Rattle.cip_mol.specs.declared.refusal.ReadRefusal.{ReadRefusal}
 use Rattle.cip_mol.specs.declared.refusal.ReadRefusal.TheVariants as refusals
+use Rattle.cip_reading.specs.Refusals.{FailsBy, GivesBy}
 
 -- what follows is read only where nothing before it was refused
 infixl 10 ◌>>=◌
@@ -46,10 +47,12 @@ in_turn read = through (pushing read)
 -- what a reader answers, seen in this way, is what was to be read, and its fault is the one there; want of memory
 -- says nothing
 
+abbrev pub fault_in : ReadRefusal → Option ReadFault
+fault_in (refusals.Fault fault) = Some fault
+fault_in refusals.Memory = None
+
 abbrev pub Fails : {B : Type 0} → ReadRefusal → Result B ReadFault → Type 0
-Fails (refusals.Fault fault) read = read ≡ Err fault
-Fails refusals.Memory read = Unit {0}
+Fails refusal read = FailsBy (fault_in refusal) read
 
 abbrev pub Gives : {A B : Type 0} → (A → B) → Result A ReadRefusal → Result B ReadFault → Type 0
-Gives view (Ok x) read = read ≡ Ok (view x)
-Gives view (Err refusal) read = Fails refusal read
+Gives view answer read = GivesBy fault_in view answer read

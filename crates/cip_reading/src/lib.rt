@@ -4,7 +4,9 @@
 mod causes;
 mod fields;
 mod places;
+mod spaces;
 
 pub use causes::{checked, coordinate, order};
 pub use fields::{number, number_stated, place_named, signed, signed_stated};
 pub use places::{numbered, short};
+pub use spaces::spaced_words;

@@ -5,6 +5,7 @@ use Rattle.std.specs.List.{range_with_len}
 use Rattle.std.proofs.lemmas.List.{flat_map_more, map-append, map-id, drop_more}
 use Rattle.std.proofs.lemmas.List.FromFn.{map-range_with_len_more}
 use Rattle.cip_mol.specs.Drawing.{Drawing}
+use Rattle.cip_mol.specs.declared.site.Geometry.{Geometry}
 use Rattle.cip_mol.specs.declared.site.Site.{Site}
 use Rattle.cip_mol.specs.declared.site.Unit as units
 use Rattle.cip_mol.specs.Geometry.{geometry_of}
@@ -37,7 +38,7 @@ range_more n =
     sym (map-id (range_with_len 0 (n + 1))) ∙ map-range_with_len_more (λ (k : ℕ). k) 0 n n (omega arith)
     ∙ ap (λ ns. ns ++ n ∷ []) (map-id (range_with_len 0 n))
 
-flat_more : {Y : Type 0} (f : ℕ → List Y) (n : ℕ)
+pub flat_more : {Y : Type 0} (f : ℕ → List Y) (n : ℕ)
     → flat_map f (range_with_len 0 (n + 1)) ≡ flat_map f (range_with_len 0 n) ++ f n
 flat_more f n = ap (flat_map f) (range_more n) ∙ sym (flat_map_more f [] (range_with_len 0 n) n)
 
@@ -92,3 +93,12 @@ units_are drawing graph positions count none first second third same e f g h =
     let more : second ≡ units_at drawing (centres ++ bonds) = g
     ∙ rw (begun, same) (sym (map-append unit centres bonds)) in
     h ∙ rw (more, same) (sym (map-append unit (centres ++ bonds) axes))
+
+-- the sites of units are those of which they were made
+abbrev pub unit_of : (Site → Geometry) → Site → units.Unit
+unit_of geometry site = record { site = site; geometry = geometry site }
+
+pub sites_kept : (geometry : Site → Geometry) (sites : List Site) →
+    map (λ unit. unit.site) (map (unit_of geometry) sites) ≡ sites
+sites_kept geometry [] = refl
+sites_kept geometry (site ∷ sites) = ap (λ rest. site ∷ rest) (sites_kept geometry sites)

@@ -5,7 +5,8 @@ use Rattle.cip_mol.specs.declared.refusal.ReadFault.{ReadFault}
 use Rattle.cip_v2000.specs.declared.properties.Property.{Property}
 use Rattle.cip_v2000.specs.declared.statements.Pair.{Pair}
 use Rattle.cip_reading.specs.Fields.{number_in, place_named}
-use Rattle.cip_v2000.specs.PropertyLines.{pair_at, pair_row, pairs_of, counted_pairs, pairs_stated, pairs_with, words_of, property_of}
+use Rattle.cip_reading.specs.Spaces.{spaced_words_of}
+use Rattle.cip_v2000.specs.PropertyLines.{pair_at, pair_row, pairs_of, counted_pairs, pairs_stated, pairs_with, property_of}
 use Rattle.cip_reading.specs.Reading.{◌>>=◌, in_turn, through, pushing}
 
 abbrev pub OnlyFails : {A : Type 0} → ReadFault → Result A ReadFault → Type 0
@@ -46,7 +47,7 @@ stated_fail : (fault : ReadFault) (property : Option Property) (atoms : ℕ) (be
     → OnlyFails fault (pairs_stated fault property atoms before line)
 stated_fail fault None atoms before line other e = absurd cc
 stated_fail fault (Some property) atoms before line other e =
-    counted_fail fault property atoms before (words_of (drop 6 line)) other e
+    counted_fail fault property atoms before (spaced_words_of (drop 6 line)) other e
 
 pub pairs_with_fails : (fault : ReadFault) (atoms : ℕ) (before : List Pair) (line : List ℕ)
     → OnlyFails fault (pairs_with fault atoms before line)

@@ -1,9 +1,8 @@
 -- The property lines of a molfile that state charges, radicals and isotopes. CTfile Formats; that words are split at
 -- spaces, and that words past the pairs aren't read, is own.
-use Rattle.std.specs.Prelude.{ℕ, List, [], ◌∷◌, ◌+◌, ◌*◌, ◌==◌, Some, None, Result, Ok, Err, codes, length, take, drop, filter, slice_get, nat_lt, if◌then◌else◌}
+use Rattle.std.specs.Prelude.{ℕ, List, [], ◌∷◌, ◌+◌, ◌*◌, ◌==◌, Some, None, Result, Ok, Err, codes, length, take, drop, slice_get, if◌then◌else◌}
 use Rattle.std.specs.declared.option.Option.{Option}
 use Rattle.std.specs.Option.{ok_or, option_map}
-use Rattle.std.specs.List.{slice_split}
 use Rattle.std.specs.Str.{bytes_eq}
 use Rattle.cip_mol.specs.declared.refusal.ReadFault.{ReadFault}
 use Rattle.cip_v2000.specs.declared.properties.Property.{Property}
@@ -13,10 +12,7 @@ use Rattle.cip_v2000.specs.declared.statements.Statement.TheVariants.{Charge, Ra
 use Rattle.cip_v2000.specs.declared.statements.Pair.{Pair}
 use Rattle.cip_reading.specs.Fields.{number_in, signed_in, place_named}
 use Rattle.cip_reading.specs.Reading.{◌>>=◌, in_turn}
-
--- what stands between spaces
-unfoldable pub words_of : List ℕ → List (List ℕ)
-words_of text = filter (λ word. nat_lt 0 (length word)) (slice_split (λ b. b == 32) text)
+use Rattle.cip_reading.specs.Spaces.{spaced_words_of}
 
 -- the first six columns say what a property line states
 abbrev pub property_of : List ℕ → Option Property
@@ -66,7 +62,7 @@ counted_pairs fault property atoms before (count ∷ words) = do
 abbrev pub pairs_stated : ReadFault → Option Property → ℕ → List Pair → List ℕ → Result (List Pair) ReadFault
 pairs_stated fault None atoms before line = Ok before
 pairs_stated fault (Some property) atoms before line =
-    counted_pairs fault property atoms before (words_of (drop 6 line))
+    counted_pairs fault property atoms before (spaced_words_of (drop 6 line))
 
 -- the pairs of a line behind those before them; a line that states something else is passed over
 unfoldable pub pairs_with : ReadFault → ℕ → List Pair → List ℕ → Result (List Pair) ReadFault

@@ -1,14 +1,14 @@
 // Property lines.
 ghost use Rattle.std.specs.Prelude.{◌≡◌, ◌≤◌, [], All, length, IfOk, IfSome, OnOk};
 ghost use Rattle.cip_text.specs.Slices.{texts};
-ghost use Rattle.cip_v2000.specs.PropertyLines.{words_of, property_of, statement_of, pair_of, pair_at, pair_row, pairs_of, pairs_with};
+ghost use Rattle.cip_v2000.specs.PropertyLines.{property_of, statement_of, pair_of, pair_at, pair_row, pairs_of, pairs_with};
 ghost use Rattle.cip_reading.specs.Reading.{Gives};
 ghost use Rattle.cip_v2000.specs.Statements.{IsStatement, IsPair};
 
 use crate::statements::{Pair, Statement};
 use cip_mol::{ReadFault, ReadRefusal};
-use cip_reading::{number, place_named, signed};
-use std::alloc::{AllocError, Global};
+use cip_reading::{number, place_named, signed, spaced_words};
+use std::alloc::Global;
 
 /// What a property line states.
 #[derive(Clone, Copy)]
@@ -35,7 +35,7 @@ pub fn push_stated(
     let Some(property) = property_in(line) else {
         return Ok(());
     };
-    let words = words(alloc, &line[6..])?;
+    let words = spaced_words(alloc, &line[6..])?;
     let [count, words @ ..] = words.as_slice() else {
         return Err(ReadRefusal::Fault(fault));
     };
@@ -60,16 +60,6 @@ fn property_in(line: &[u8]) -> Option<Property>
     } else {
         None
     }
-}
-
-// What stands between spaces.
-#[tactic(auto, unfolding(crate::specs::PropertyLines::words_of))]
-fn words(alloc: Global, text: &[u8]) -> Result<Vec<&[u8]>, AllocError>
-    ensures { IfOk result (λ words. texts words.items ≡ words_of text.now) }
-{
-    text.split(|byte| *byte == b' ')
-        .filter(|word| !word.is_empty())
-        .collect(alloc)
 }
 
 // Reads so many pairs, and puts them behind those before them.

@@ -3,6 +3,7 @@ pub mod InOrder
 pub mod Joined
 pub mod JoinedInOrder
 pub mod LineCauses
-pub mod Over
+pub mod Soundness
+pub mod Tables
 pub mod WordSteps
 pub mod WorkedLines

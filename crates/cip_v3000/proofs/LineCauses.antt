@@ -18,7 +18,8 @@ use Rattle.cip_v3000.specs.declared.keys.AtomKeys.{AtomKeys}
 use Rattle.cip_v3000.specs.AtomLine.{word_at, unless_known, new_index, is_number, isotope_of, atom_of}
 use Rattle.cip_v3000.specs.BondLine.{mark_of, with_mark, place_named, bond_of}
 use Rattle.cip_v3000.specs.CountsLine.{is_counts, count_at, counts_of}
-use Rattle.cip_v3000.specs.Keys.{valence_of, with_value, with_key, over}
+use Rattle.cip_reading.specs.Turns.{over}
+use Rattle.cip_v3000.specs.Keys.{valence_of, with_value, with_key}
 use Rattle.cip_v3000.specs.Words.{keyed}
 
 cond_is : {A : Type 0} (test : Bool) {one other : Result A ReadCause} → IsOfLine one → IsOfLine other

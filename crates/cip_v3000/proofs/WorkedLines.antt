@@ -13,7 +13,8 @@ use Rattle.cip_v3000.specs.Frames.{is_frame}
 use Rattle.cip_v3000.specs.Grammar.{read_at, molecule_in, molecule_of}
 use Rattle.cip_v3000.specs.JoinedLines.{JoinedLine, JoinedLines, joined_from, joined_lines}
 use Rattle.cip_v3000.specs.Joining.{with_before}
-use Rattle.cip_v3000.specs.Keys.{with_key, over}
+use Rattle.cip_reading.specs.Turns.{over}
+use Rattle.cip_v3000.specs.Keys.{with_key}
 use Rattle.cip_v3000.specs.Words.{words_of, keyed}
 use Rattle.cip_v3000.specs.Worked.{alanine_atoms, alanine_bonds, alanine, drawn_alanine}
 

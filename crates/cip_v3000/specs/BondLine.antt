@@ -18,7 +18,7 @@ use Rattle.cip_reading.specs.Fields.{number_stated}
 use Rattle.cip_reading.specs.Reading.{◌>>=◌}
 use Rattle.cip_v3000.specs.declared.bonds.BondLine.{BondLine}
 use Rattle.cip_v3000.specs.AtomLine.{new_index, word_at}
-use Rattle.cip_v3000.specs.Keys.{over}
+use Rattle.cip_reading.specs.Turns.{over}
 use Rattle.cip_v3000.specs.Words.{keyed}
 
 -- the value of CFG of a single, a double or a triple bond

@@ -1,12 +1,13 @@
 -- The keys of an atom line. CTfile Formats, V3000; that every other key is passed over, and that of a repeated key the
 -- last one holds, is own.
-use Rattle.std.specs.Prelude.{◌≤◌, ℕ, ℤ, pos, negsuc, unsigned_abs, List, [], ◌∷◌, Result, Ok, codes, if◌then◌else◌}
+use Rattle.std.specs.Prelude.{◌≤◌, ℕ, ℤ, pos, negsuc, unsigned_abs, List, Result, Ok, codes, if◌then◌else◌}
 use Rattle.std.specs.Option.{ok_or}
 use Rattle.std.specs.Str.{bytes_eq}
 use Rattle.cip_mol.specs.declared.refusal.ReadCause.{ReadCause}
 use Rattle.cip_mol.specs.declared.refusal.ReadCause.TheVariants.{KeyValue}
 use Rattle.cip_reading.specs.Fields.{number_stated, signed_stated}
 use Rattle.cip_reading.specs.Reading.{◌>>=◌}
+use Rattle.cip_reading.specs.Turns.{over}
 use Rattle.cip_v3000.specs.declared.keys.AtomKeys.{AtomKeys}
 use Rattle.cip_v3000.specs.Words.{keyed}
 
@@ -32,13 +33,6 @@ unfoldable pub with_key : AtomKeys → List ℕ → Result AtomKeys ReadCause
 with_key keys word = do
   parts ← ok_or (keyed word) KeyValue
   with_value keys parts
-
--- each item in turn changes what was read, up to the first that is refused
-unfoldable pub over : {A X E : Type 0} → (A → X → Result A E) → A → List X → Result A E
-over read before [] = Ok before
-over read before (x ∷ xs) = do
-  now ← read before x
-  over read now xs
 
 abbrev pub keys_from : AtomKeys → List (List ℕ) → Result AtomKeys ReadCause
 keys_from keys words = over with_key keys words

@@ -8,5 +8,7 @@ pub mod JoinedLines
 pub mod Joining
 pub mod Keys
 pub mod Laws
+pub mod Soundness
+pub mod Tables
 pub mod Words
 pub mod Worked

@@ -4,7 +4,7 @@ ghost use Rattle.cip_text.specs.Slices.{texts};
 ghost use Rattle.cip_mol.specs.declared.molecule.Mark.TheVariants.{Plain};
 ghost use Rattle.cip_reading.specs.Fields.{number_stated};
 ghost use Rattle.cip_v3000.specs.BondLine.{mark_of, marked, with_mark, place_named, bond_of, IsBondLine, IsMark};
-ghost use Rattle.cip_v3000.specs.Keys.{over};
+ghost use Rattle.cip_reading.specs.Turns.{over};
 
 use crate::indices::{GREATEST, Indices, new_index};
 use crate::splitting::{behind, key_and_value, word};
@@ -43,9 +43,9 @@ pub fn bond_in(
     Ok(BondLine { index, bond })
 }
 
-// The place, from 0, of the atom that a word names.
+/// The place, from 0, of the atom that a word names by its index.
 #[tactic(auto, unfolding(crate::specs::BondLine::place_named))]
-fn place_named(indices: &Indices, word: &[u8]) -> Option<u32>
+pub fn place_named(indices: &Indices, word: &[u8]) -> Option<u32>
     requires { length indices.now ≤ 1000000000 }
     ensures value { result ≡ place_named indices.now word.now }
     ensures within { IfSome result (λ place. place < length indices.now) }

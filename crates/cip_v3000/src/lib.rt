@@ -13,8 +13,15 @@ mod laws;
 mod reading;
 mod rows;
 mod splitting;
+mod table;
 #[cfg(test)]
 mod tests;
 
-pub use laws::{lines_decide_in_order, worked_records_are_read};
+pub use bonds::place_named;
+pub use frames::{FrameLine, is_frame};
+pub use indices::Indices;
+pub use joining::{JoinedLine, Text, text_of};
+pub use laws::{lines_decide_in_order, readings_are_sound, worked_records_are_read};
 pub use reading::{read, read_lines};
+pub use splitting::words;
+pub use table::{Table, read_table};

@@ -8,14 +8,15 @@ use Rattle.cip_v2000.specs.BondLine.{bond_of}
 use Rattle.cip_v2000.specs.CountsLine.{counts_of}
 use Rattle.cip_reading.specs.Fields.{number_in, signed_in}
 use Rattle.cip_v2000.specs.Grammar.{molecule_of, pairs_from}
-use Rattle.cip_v2000.specs.PropertyLines.{words_of, pair_of, pair_at, pairs_with}
+use Rattle.cip_reading.specs.Spaces.{spaced_words_of}
+use Rattle.cip_v2000.specs.PropertyLines.{pair_of, pair_at, pairs_with}
 use Rattle.cip_reading.specs.Reading.{read_at, through, in_turn}
 use Rattle.cip_v2000.specs.Statements.{settled}
 use Rattle.cip_v2000.specs.Worked.{AreRefused}
 use Rattle.cip_v2000.proofs.laws.worked_records_are_read.Goals as goal
 
 are_refused : AreRefused
-unfolding molecule_of pairs_from read_at through in_turn counts_of atom_of bond_of pairs_with words_of pair_of pair_at settled number_in signed_in integer_of decimal4_of element_of reference_mass_of cause_of
+unfolding molecule_of pairs_from read_at through in_turn counts_of atom_of bond_of pairs_with spaced_words_of pair_of pair_at settled number_in signed_in integer_of decimal4_of element_of reference_mass_of cause_of
 are_refused = record {
   version = refl;
   symbol = refl;
@@ -31,7 +32,7 @@ are_refused = record {
 }
 
 pub returns : goal.returns
-unfolding molecule_of pairs_from read_at through in_turn counts_of atom_of bond_of pairs_with words_of pair_of pair_at settled number_in signed_in integer_of decimal4_of element_of reference_mass_of cause_of
+unfolding molecule_of pairs_from read_at through in_turn counts_of atom_of bond_of pairs_with spaced_words_of pair_of pair_at settled number_in signed_in integer_of decimal4_of element_of reference_mass_of cause_of
 returns c = record {
   whole = refl;
   refusals = are_refused;

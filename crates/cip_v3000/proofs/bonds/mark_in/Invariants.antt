@@ -2,7 +2,7 @@ use Rattle.std.proofs.Common.{◌≡◌, drop}
 use Rattle.cip_mol.specs.declared.molecule.Mark.TheVariants.{Plain}
 use Rattle.cip_text.specs.Slices.{texts}
 use Rattle.cip_v3000.specs.BondLine.{with_mark, IsMark}
-use Rattle.cip_v3000.specs.Keys.{over}
+use Rattle.cip_reading.specs.Turns.{over}
 use Rattle.cip_v3000.proofs.bonds.mark_in.Given as goal
 
 abbrev pub invariant-loop-word : goal.invariant-loop-word

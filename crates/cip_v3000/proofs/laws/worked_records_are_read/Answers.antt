@@ -10,7 +10,8 @@ use Rattle.cip_v3000.specs.CountsLine.{count_at, counts_of}
 use Rattle.cip_v3000.specs.Frames.{is_frame}
 use Rattle.cip_v3000.specs.Grammar.{read_at, molecule_of}
 use Rattle.cip_v3000.specs.JoinedLines.{joined_lines}
-use Rattle.cip_v3000.specs.Keys.{with_key, over}
+use Rattle.cip_reading.specs.Turns.{over}
+use Rattle.cip_v3000.specs.Keys.{with_key}
 use Rattle.cip_v3000.specs.Words.{words_of, keyed}
 use Rattle.cip_v3000.proofs.WorkedLines.{alanine_read}
 use Rattle.cip_v3000.proofs.laws.worked_records_are_read.Goals as goal

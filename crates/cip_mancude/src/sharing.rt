@@ -1,0 +1,69 @@
+// Atoms that share an alternating ring.
+ghost use Rattle.std.specs.Prelude.{◌≡◌, ◌≤◌};
+ghost use Rattle.cip_digraph.specs.rings.Alternating.{partner};
+ghost use Rattle.cip_digraph.specs.graph.Graph.{edges_at};
+ghost use Rattle.cip_mancude.specs.SharedRings.{ring_along, ring_meets, share_ring};
+
+use crate::alternating::{alternating_partner, is_alternating};
+use crate::path::Path;
+use crate::ways::{Aim, MOST_DOUBLES, reaches_early};
+use cip_digraph::Graph;
+use std::alloc::Global;
+
+/// The double bond of an atom, by which a ring begins.
+#[derive(Clone, Copy)]
+struct Start {
+    vertex: u32,
+    next: u32,
+}
+
+/// Whether an alternating ring holds both atoms. It takes no memory.
+#[tactic(auto, unfolding(crate::specs::SharedRings::share_ring), using(crate::proofs::WaySteps::none_shared))]
+pub fn share_ring(alloc: Global, graph: &Graph, vertex: u32, third: u32) -> bool
+    ensures { result ≡ share_ring graph.now vertex third }
+{
+    if !is_alternating(graph, third) {
+        return false;
+    }
+    let Some(next) = alternating_partner(graph, vertex) else {
+        return false;
+    };
+    if !is_alternating(graph, next) {
+        return false;
+    }
+    let start = Start { vertex, next };
+    ring_along(alloc, graph, MOST_DOUBLES, third, start)
+}
+
+fn ring_along(alloc: Global, graph: &Graph, most: u32, third: u32, start: Start) -> bool
+    requires next { start.next ≡ partner graph.now start.vertex }
+    requires most { most ≤ 11 }
+    ensures { result ≡ ring_along graph.now most third start.vertex (edges_at graph.now start.vertex) }
+{
+    for edge in graph.edges_at(start.vertex) {
+        let other = edge.other_end(start.vertex);
+        if edge.order == 1 && ring_meets(alloc, graph, most, third, start, other) {
+            return true;
+        }
+    }
+    false
+}
+
+// Whether a ring over the double bond and along the single bond to another atom meets a third one.
+fn ring_meets(alloc: Global, graph: &Graph, most: u32, third: u32, start: Start, other: u32) -> bool
+    requires next { start.next ≡ partner graph.now start.vertex }
+    requires most { most ≤ 11 }
+    ensures { result ≡ ring_meets graph.now most third start.vertex other }
+{
+    if !is_alternating(graph, other) || other == start.next {
+        return false;
+    }
+    let mut path = Path::new(alloc);
+    path.push(start.vertex);
+    path.push(start.next);
+    let aim = Aim {
+        target: other,
+        third,
+    };
+    reaches_early(graph, aim, most, &mut path, start.next)
+}

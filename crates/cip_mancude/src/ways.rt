@@ -1,0 +1,82 @@
+// The search for ways by turns over a single and a double bond, as alternating rings go.
+ghost use Rattle.std.specs.Prelude.{◌≡◌, ◌≤◌, ◌+◌, ◌*◌, length};
+ghost use Rattle.cip_digraph.specs.graph.Graph.{edges_at};
+ghost use Rattle.cip_mancude.specs.SharedRings.{passes_along, passes_through, reaches_by};
+
+use crate::alternating::{alternating_partner, is_alternating};
+use crate::path::Path;
+use cip_digraph::Graph;
+
+/// How many further double bonds a ring has at most.
+pub const MOST_DOUBLES: u32 = 11;
+
+/// How many further double bonds a ring of six atoms has.
+const DOUBLES_OF_SIX: u32 = 2;
+
+/// Where ways have to lead, and an atom that they have to meet.
+#[derive(Clone, Copy)]
+pub struct Aim {
+    pub target: u32,
+    pub third: u32,
+}
+
+/// Whether a way over so many double bonds at most goes on from a path to the aim. Small rings are tried first, since
+/// most are small. From an atom at most two single bonds lead on, so at most 4,095 ways are followed over eleven double
+/// bonds.
+pub fn reaches_early(graph: &Graph, aim: Aim, more: u32, path: &mut Path, at: u32) -> bool
+    requires room { length path.old + 2 * more ≤ 24 }
+    ensures value { result ≡ reaches_by graph.now aim.third aim.target more path.old at }
+    ensures path { path.new ≡ path.old }
+{
+    let first = more.min(DOUBLES_OF_SIX);
+    reaches_by(graph, aim, first, path, at) || reaches_by(graph, aim, more, path, at)
+}
+
+#[cycle(reaches_by)]
+#[tactic(auto, using(crate::proofs::WaySteps::reaches_none, crate::proofs::WaySteps::reaches_some))]
+fn reaches_by(graph: &Graph, aim: Aim, more: u32, path: &mut Path, at: u32) -> bool
+    requires { length path.old + 2 * more ≤ 24 }
+    ensures value { result ≡ reaches_by graph.now aim.third aim.target more path.old at }
+    ensures path { path.new ≡ path.old }
+{
+    if at == aim.target && path.contains(aim.third) {
+        return true;
+    }
+    more > 0 && passes_along(graph, aim, more - 1, path, at)
+}
+
+// Whether the search goes on along a single bond and reaches its aim.
+#[cycle(reaches_by)]
+fn passes_along(graph: &Graph, aim: Aim, more: u32, path: &mut Path, at: u32) -> bool
+    requires { length path.old + 2 * more + 2 ≤ 24 }
+    ensures value { result ≡ passes_along graph.now aim.third aim.target more path.old at (edges_at graph.now at) }
+    ensures path { path.new ≡ path.old }
+{
+    for edge in graph.edges_at(at) {
+        if edge.order == 1 && passes_through(graph, aim, more, path, edge.other_end(at)) {
+            return true;
+        }
+    }
+    false
+}
+
+// Whether the search goes on through an atom and its partner and reaches its aim.
+#[cycle(reaches_by)]
+fn passes_through(graph: &Graph, aim: Aim, more: u32, path: &mut Path, next: u32) -> bool
+    requires { length path.old + 2 * more + 2 ≤ 24 }
+    ensures value { result ≡ passes_through graph.now aim.third aim.target more path.old next }
+    ensures path { path.new ≡ path.old }
+{
+    let Some(other) = alternating_partner(graph, next) else {
+        return false;
+    };
+    if !is_alternating(graph, other) || path.contains(next) || path.contains(other) {
+        return false;
+    }
+    path.push(next);
+    path.push(other);
+    let found = reaches_by(graph, aim, more, path, other);
+    path.pop();
+    path.pop();
+    found
+}
