@@ -1,0 +1,10 @@
+pub mod Fields
+pub mod Contents
+pub mod RowKinds
+pub mod EditedLines
+pub mod EditedItems
+pub mod Numbers
+pub mod CopiedColumns
+pub mod Written
+pub mod Lengths
+pub mod ColumnsStay

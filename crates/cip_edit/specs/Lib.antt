@@ -1,0 +1,4 @@
+pub mod Columns
+pub mod Edits
+pub mod Laws
+pub mod Rows

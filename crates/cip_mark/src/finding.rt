@@ -1,0 +1,80 @@
+// What is found of a centre.
+ghost use Rattle.std.specs.Prelude.{◌≡◌, ◌<◌, true, IfOk, Some, length, slice_get};
+ghost use Rattle.std.specs.List.{position};
+ghost use Rattle.cip_mol.specs.declared.site.Unit as units;
+ghost use Rattle.cip_label.specs.Settings.{outcome_in};
+ghost use Rattle.cip_mark.specs.FoundCentres.{found_at, is_centre_at};
+ghost use Rattle.cip_mark.specs.Marking.{has_centre};
+
+use cip_hydro::graph_of;
+use cip_label::{Digraphs, Labeller, Setting};
+use cip_mancude::positions;
+use cip_mol::{Molecule, Outcome, Site, Unit};
+use cip_rank::Rules;
+use cip_steps::Steps;
+use cip_unit::units;
+use std::alloc::{AllocError, Global};
+use std::marker::Brand;
+use std::sync::ledger::{Blank, Ledger};
+
+/// The place of the centre at an atom among units.
+pub fn centre_place(units: &[Unit], atom: u32) -> Option<usize>
+    ensures { result ≡ position (is_centre_at atom) units.now }
+{
+    units.iter().position(|unit| is_centre_at(unit, atom))
+}
+
+fn is_centre_at(unit: &Unit, atom: u32) -> bool
+    ensures { result ≡ is_centre_at atom unit.now }
+{
+    match &unit.site {
+        Site::Centre { at, .. } => *at == atom,
+        _ => false,
+    }
+}
+
+/// What is found of the centre at an atom.
+pub fn find<D: Digraphs>(
+    alloc: Global,
+    labeller: &mut Labeller<D>,
+    molecule: &Molecule,
+    atom: u32,
+    rules: Rules,
+) -> Result<Outcome, AllocError>
+    requires { has_centre molecule.now atom ≡ true }
+    ensures found { IfOk result (λ outcome. outcome ≡ found_at rules labeller.old molecule.now atom) }
+    ensures kept { labeller.new ≡ labeller.old }
+{
+    // Reading the atoms tells that there are few.
+    let _atoms = molecule.atoms();
+    let graph = graph_of(alloc, molecule)?;
+    let positions = positions(alloc, &graph)?;
+    let units = units(alloc, molecule, &graph, &positions)?;
+    let setting = Setting::new(alloc, &graph, &positions, units.list(), rules)?;
+    match centre_place(units.list(), atom) {
+        Some(place) => {
+            label_counted::<D, Brand>(alloc, labeller, &setting, place as u32, Blank::new(1))
+        }
+        None => unreachable!(),
+    }
+}
+
+// With a counter of steps.
+fn label_counted<D: Digraphs, L: Ledger>(
+    alloc: Global,
+    labeller: &mut Labeller<D>,
+    setting: &Setting<'_>,
+    place: u32,
+    blank: Blank,
+) -> Result<Outcome, AllocError>
+    requires name { blank.name ≡ L.name }
+    requires parts { blank.parts ≡ L.parts }
+    requires one { 0 < blank.parts }
+    requires place { place < length setting.now.units }
+    ensures outcome { IfOk result (λ outcome. (u : units.Unit) → slice_get setting.now.units place ≡ Some u →
+        outcome ≡ outcome_in setting.now labeller.old u) }
+    ensures kept { labeller.new ≡ labeller.old }
+{
+    let mut steps = Steps::<L>::open(blank);
+    labeller.label(alloc, setting, place, &mut steps)
+}

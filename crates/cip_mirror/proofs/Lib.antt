@@ -1,0 +1,10 @@
+pub mod BondRanges
+pub mod AtomLines
+pub mod BondLines
+pub mod Places
+pub mod Grammar
+pub mod FewRows
+pub mod Rewriting
+pub mod Mirrored
+pub mod MirrorReads
+pub mod ReplacedBonds

@@ -1,0 +1,5 @@
+pub mod Answers
+pub mod Changed
+pub mod Laws
+pub mod Mirror
+pub mod Rows
