@@ -1,0 +1,12 @@
+pub mod AtomLists
+pub mod Collections
+pub mod Grouping
+pub mod Laws
+pub mod Names
+pub mod Outcomes
+pub mod Places
+pub mod Reading
+pub mod Readings
+pub mod Telling
+pub mod Texts
+pub mod Worked

@@ -1,0 +1,180 @@
+// Collections, line after line.
+ghost use Rattle.std.specs.Prelude.{◌≡◌, ◌≤◌, ◌<◌, ◌-◌, ◌^◌, IfOk, Ok, Some, length, map};
+ghost use Rattle.cip_text.specs.Bodies.{body_contents};
+ghost use Rattle.cip_text.specs.Slices.{texts};
+ghost use Rattle.cip_v3000.specs.Grammar.{molecule_of};
+ghost use Rattle.cip_v3000.specs.Joining.{seen};
+ghost use Rattle.cip_v3000.specs.Tables.{seen_table};
+ghost use Rattle.cip_groups.specs.Collections.{nothing, with_kind, with_words, with_joined, ended, groups_from, groups_of, answer_by, IsAnswer};
+ghost use Rattle.cip_groups.specs.Reading.{Gives};
+
+use crate::atom_lists::{atoms_of, names_of, take_all};
+use crate::faults::{GroupCause, GroupFault, GroupRefusal, told_at};
+use crate::groups::{Groups, GroupsAnswer};
+use crate::kinds::{GroupKind, kind_of};
+use cip_mol::{Molecule, ReadRefusal};
+use cip_text::body_contents;
+use cip_v3000::{FrameLine, Indices, JoinedLine, Table, is_frame, read_table, text_of, words};
+use std::alloc::{AllocError, Global};
+
+/// What was read of the lines before: whether a collection is open, the atoms that stand in a group line, the groups.
+#[derive(Drop)]
+pub struct Found {
+    pub inside: bool,
+    pub taken: Indices,
+    pub groups: Groups,
+}
+
+/// The groups of a record from which this molecule is read, or the first line with a cause and its first one.
+pub fn read_groups(
+    alloc: Global,
+    bytes: &[u8],
+    molecule: &Molecule,
+) -> Result<GroupsAnswer, AllocError>
+    requires few { length bytes.now < 2 ^ 32 - 1 }
+    requires read { molecule_of (body_contents bytes.now) ≡ Ok molecule.now }
+    ensures { IfOk result (IsAnswer (body_contents bytes.now)) }
+{
+    let lines = body_contents(alloc, bytes)?;
+    match read_table(alloc, &lines) {
+        Ok(table) => table_answer(alloc, &table),
+        Err(ReadRefusal::Fault(_)) => unreachable!(),
+        Err(ReadRefusal::Memory) => Err(AllocError),
+    }
+}
+
+fn table_answer(alloc: Global, table: &Table<'_>) -> Result<GroupsAnswer, AllocError>
+    requires few { length table.now.indices ≤ 1000000000 }
+    ensures { IfOk result (λ answer. answer ≡ answer_by (groups_of (seen_table table.now))) }
+{
+    match groups_of(alloc, table) {
+        Ok(groups) => Ok(GroupsAnswer::Groups(groups)),
+        Err(GroupRefusal::Fault(fault)) => Ok(GroupsAnswer::Refused(fault)),
+        Err(GroupRefusal::Memory) => Err(AllocError),
+    }
+}
+
+/// The groups of a table.
+#[tactic(auto, unfolding(crate::specs::Collections::groups_of))]
+pub fn groups_of(alloc: Global, table: &Table<'_>) -> Result<Groups, GroupRefusal>
+    requires few { length table.now.indices ≤ 1000000000 }
+    ensures { Gives (λ groups. groups) result (groups_of (seen_table table.now)) }
+{
+    groups_from(alloc, &table.indices, table.rest())
+}
+
+fn groups_from(
+    alloc: Global,
+    indices: &Indices,
+    lines: &[JoinedLine<'_>],
+) -> Result<Groups, GroupRefusal>
+    requires few { length indices.now ≤ 1000000000 }
+    ensures { Gives (λ groups. groups) result (groups_from indices.now nothing (map seen lines.now)) }
+{
+    let mut found = nothing(alloc);
+    for line in lines {
+        let text = text_of(alloc, line)?;
+        let words = words(alloc, text.bytes())?;
+        if is_frame(FrameLine::EndTable, &words) {
+            return Ok(ended(line.number, found)?);
+        }
+        found = with_joined(alloc, indices, line.number, found, &words)?;
+    }
+    Ok(found.groups)
+}
+
+fn nothing(alloc: Global) -> Found
+    ensures { result ≡ nothing }
+{
+    Found {
+        inside: false,
+        taken: Indices::new(alloc),
+        groups: Groups::new(alloc),
+    }
+}
+
+fn ended(number: u32, found: Found) -> Result<Groups, GroupFault>
+    ensures { result ≡ ended number found }
+{
+    if found.inside {
+        return Err(GroupFault {
+            line: number,
+            cause: GroupCause::Frame,
+        });
+    }
+    Ok(found.groups)
+}
+
+// A line behind those before it; lines outside collections are passed over.
+#[tactic(auto, unfolding(crate::specs::Collections::with_joined))]
+fn with_joined(
+    alloc: Global,
+    indices: &Indices,
+    number: u32,
+    found: Found,
+    words: &[&[u8]],
+) -> Result<Found, GroupRefusal>
+    requires few { length indices.now ≤ 1000000000 }
+    ensures { Gives (λ now. now) result (with_joined indices.now number found (texts words.now)) }
+{
+    if !found.inside {
+        return Ok(Found {
+            inside: is_frame(FrameLine::BeginCollection, words),
+            ..found
+        });
+    }
+    if is_frame(FrameLine::EndCollection, words) {
+        return Ok(Found {
+            inside: false,
+            ..found
+        });
+    }
+    with_words(alloc, indices, number, found, words)
+}
+
+fn with_words(
+    alloc: Global,
+    indices: &Indices,
+    number: u32,
+    found: Found,
+    words: &[&[u8]],
+) -> Result<Found, GroupRefusal>
+    requires few { length indices.now ≤ 1000000000 }
+    ensures { Gives (λ now. now) result (with_words indices.now number found (texts words.now)) }
+{
+    match words {
+        [] => Ok(found),
+        [name, words @ ..] => match told_at(number, kind_of(name))? {
+            None => Ok(found),
+            Some(kind) => with_kind(alloc, indices, number, found, words, kind),
+        },
+    }
+}
+
+// The atoms of a group line put to those of its group.
+fn with_kind(
+    alloc: Global,
+    indices: &Indices,
+    number: u32,
+    found: Found,
+    words: &[&[u8]],
+    kind: GroupKind,
+) -> Result<Found, GroupRefusal>
+    requires few { length indices.now ≤ 1000000000 }
+    ensures { Gives (λ now. now) result (with_kind indices.now number found (texts words.now) (Some kind)) }
+{
+    let names = names_of(alloc, number, words)?;
+    let atoms = atoms_of(alloc, number, indices, &names)?;
+    let Found {
+        inside,
+        mut taken,
+        groups,
+    } = found;
+    take_all(number, &mut taken, &atoms)?;
+    let groups = groups.with_line(kind, number, atoms)?;
+    Ok(Found {
+        inside,
+        taken,
+        groups,
+    })
+}

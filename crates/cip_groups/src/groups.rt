@@ -1,0 +1,128 @@
+// Groups of centres.
+ghost use Rattle.std.specs.Prelude.{◌≡◌, ◌++◌, [], IfOk, OnOk};
+ghost use Rattle.cip_groups.specs.Grouping.{with_line};
+
+use crate::faults::GroupFault;
+use crate::kinds::GroupKind;
+use crate::names::Names;
+use std::alloc::{AllocError, Global};
+use std::marker::Model;
+
+/// Atoms, counted from 0. Contracts see the list of them.
+#[derive(Drop)]
+pub struct Vertices {
+    items: Vec<u32>,
+}
+
+impl Model for Vertices {
+    ghost use Rattle.std.specs.Prelude.{List, ℕ};
+
+    ghost Value = { List ℕ };
+
+    ghost view = { λ vertices. vertices.items.items };
+}
+
+impl Vertices {
+    /// The atoms of a list, which isn't copied.
+    pub fn from_vec(items: Vec<u32>) -> Vertices
+        ensures { result ≡ items.items }
+    {
+        Vertices { items }
+    }
+
+    /// The atoms in their order.
+    pub fn as_slice(&self) -> &[u32]
+        ensures { result.now ≡ self.now }
+    {
+        &self.items
+    }
+
+    /// Adds atoms at the end.
+    pub fn extend(&mut self, more: &[u32]) -> Result<(), AllocError>
+        ensures { OnOk result (self.new ≡ self.old ++ more.now) }
+    {
+        self.items.extend_from_slice(more)?;
+        Ok(())
+    }
+}
+
+/// A group: its name, the line, from 1, that names it first, and its atoms in order.
+#[derive(Drop)]
+pub struct Group {
+    pub kind: GroupKind,
+    pub line: u32,
+    pub atoms: Vertices,
+}
+
+/// Groups in the order of their first lines. Contracts see the list of them.
+#[derive(Drop)]
+pub struct Groups {
+    names: Names,
+    items: Vec<Group>,
+}
+
+impl Model for Groups {
+    ghost use Rattle.std.specs.Prelude.{◌≡◌, List};
+    ghost use Rattle.cip_groups.specs.declared.groups.Group.{Group as AnyGroup};
+    ghost use Rattle.cip_groups.specs.Grouping.{kinds_of};
+
+    ghost Value = { List AnyGroup };
+
+    ghost view = { λ groups. groups.items.items };
+
+    // A group is found by its name in a table, at its place.
+    ghost invariant = { λ groups. groups.names ≡ kinds_of groups.items.items };
+}
+
+impl Groups {
+    /// No group. It takes no memory.
+    pub fn new(alloc: Global) -> Groups
+        ensures { result ≡ [] }
+    {
+        Groups {
+            names: Names::new(alloc),
+            items: Vec::new(alloc),
+        }
+    }
+
+    /// The groups in their order.
+    pub fn as_slice(&self) -> &[Group]
+        ensures { result.now ≡ self.now }
+    {
+        &self.items
+    }
+
+    /// The groups with the atoms of a line put to the group of its name, which is new where there is none.
+    pub fn with_line(
+        self,
+        kind: GroupKind,
+        line: u32,
+        atoms: Vec<u32>,
+    ) -> Result<Groups, AllocError>
+        ensures { IfOk result (λ groups. groups ≡ with_line kind line atoms.items self) }
+    {
+        let Groups {
+            mut names,
+            mut items,
+        } = self;
+        match names.place(kind) {
+            Some(place) => {
+                items[place].atoms.extend(&atoms)?;
+                Ok(Groups { names, items })
+            }
+            None => {
+                names.push(kind)?;
+                let atoms = Vertices::from_vec(atoms);
+                items.push(Group { kind, line, atoms })?;
+                Ok(Groups { names, items })
+            }
+        }
+    }
+}
+
+/// The groups of a record, or why it has none.
+#[derive(Drop)]
+pub enum GroupsAnswer {
+    Groups(Groups),
+    Refused(GroupFault),
+}

@@ -1,0 +1,292 @@
+// What is told of the groups of a record.
+ghost use Rattle.std.specs.Prelude.{◌≡◌, ◌≤◌, ◌<◌, ◌-◌, ◌^◌, ◌++◌, ◌∷◌, [], IfOk, false, flat_map, length, string_bytes, true};
+ghost use Rattle.std.specs.List.{list_any};
+ghost use Rattle.cip_text.specs.Slices.{texts};
+ghost use Rattle.cip_v2000.specs.Grammar.{molecule_of};
+ghost use Rattle.cip_v2000.specs.Version.{is_v3000};
+ghost use Rattle.cip_v3000.specs.Tables.{seen_table, table_of};
+ghost use Rattle.cip_groups.specs.Collections.{groups_of};
+ghost use Rattle.cip_digraph.specs.graph.DrawnGraph.{graph_of};
+ghost use Rattle.cip_digraph.specs.rings.Positions.{positions_of};
+ghost use Rattle.cip_print.specs.Refusals.{refusal_line};
+ghost use Rattle.cip_groups.specs.Readings.{TellsRefusal};
+ghost use Rattle.cip_groups.specs.Texts.{outcome_text, both_text, line_text, is_over, some_over, fault_line, of_lines, of_groups, of_units, of_table, of_molecule, of_contents, told_without_items, told_of, with_number};
+
+use crate::collections::groups_of;
+use crate::faults::{GroupFault, GroupRefusal};
+use crate::groups::Groups;
+use crate::outcomes::{BothOutcomes, GroupLine, all_lines};
+use cip_desk::Desk;
+use cip_hydro::graph_of;
+use cip_item::without_label_items;
+use cip_label::{Labeller, Setting};
+use cip_mancude::positions;
+use cip_mol::{Molecule, Outcome, ReadFault, ReadRefusal};
+use cip_print::refusal;
+use cip_rank::Rules;
+use cip_text::{Bytes, RecordLines};
+use cip_unit::units;
+use cip_v2000::is_v3000;
+use cip_v3000::{Table, read_table};
+use std::alloc::{AllocError, Global};
+
+/// What is told of the groups of a record, and whether it is refused or a digraph is larger than the bound.
+#[derive(Drop)]
+pub struct GroupText {
+    pub text: Bytes,
+    pub flagged: bool,
+}
+
+/// What is told of the groups of the record of this number, whose label items are taken out first.
+pub fn group_text(
+    alloc: Global,
+    bytes: &[u8],
+    number: u64,
+    nodes: u32,
+    rules: Rules,
+) -> Result<GroupText, AllocError>
+    requires few { length bytes.now < 2 ^ 32 - 1 }
+    requires some { 1 ≤ nodes }
+    requires bounded { nodes ≤ 1000000 }
+    ensures { IfOk result (λ told. told ≡ told_of rules nodes number bytes.now) }
+{
+    let bare = without_label_items(alloc, bytes)?;
+    let lines = RecordLines::new(alloc, &bare)?;
+    tell_once(alloc, &lines, number, nodes, rules)
+}
+
+// In memory that is reserved for this record alone.
+fn tell_once(
+    alloc: Global,
+    lines: &RecordLines,
+    number: u64,
+    nodes: u32,
+    rules: Rules,
+) -> Result<GroupText, AllocError>
+    requires few { length lines.now < 2 ^ 32 - 1 }
+    requires some { 1 ≤ nodes }
+    ensures { IfOk result (λ told. told ≡ with_number number (told_without_items rules nodes lines.now)) }
+{
+    let mut labeller = Labeller::<Desk>::reserve(alloc, nodes)?;
+    group_text_within(alloc, &mut labeller, lines, number, rules)
+}
+
+/// What is told of the groups of a record that has no label items, in memory that was reserved before.
+#[tactic(auto, unfolding(crate::specs::Texts::told_without_items))]
+pub fn group_text_within(
+    alloc: Global,
+    labeller: &mut Labeller<Desk>,
+    lines: &RecordLines,
+    number: u64,
+    rules: Rules,
+) -> Result<GroupText, AllocError>
+    requires few { length lines.now < 2 ^ 32 - 1 }
+    ensures told { IfOk result (λ told. told ≡ with_number number (told_without_items rules labeller.old lines.now)) }
+    ensures kept { labeller.new ≡ labeller.old }
+{
+    let told = tell_contents(alloc, labeller, lines.contents(), rules)?;
+    let mut text = format!(in alloc; "record {number}\n")?.into_bytes();
+    text.extend_from_slice(told.text.as_slice())?;
+    Ok(GroupText {
+        text: Bytes::from_vec(text),
+        flagged: told.flagged,
+    })
+}
+
+fn tell_contents(
+    alloc: Global,
+    labeller: &mut Labeller<Desk>,
+    lines: &[&[u8]],
+    rules: Rules,
+) -> Result<GroupText, AllocError>
+    requires few { length lines.now < 2 ^ 32 - 1 }
+    ensures told { IfOk result (λ told. told ≡ of_contents rules labeller.old (texts lines.now)) }
+    ensures kept { labeller.new ≡ labeller.old }
+{
+    if is_v3000(lines) {
+        tell_extended(alloc, labeller, lines, rules)
+    } else {
+        tell_plain(alloc, lines)
+    }
+}
+
+fn tell_extended(
+    alloc: Global,
+    labeller: &mut Labeller<Desk>,
+    lines: &[&[u8]],
+    rules: Rules,
+) -> Result<GroupText, AllocError>
+    requires few { length lines.now < 2 ^ 32 - 1 }
+    ensures told { IfOk result (λ told. told ≡ of_table rules labeller.old (table_of (texts lines.now))) }
+    ensures kept { labeller.new ≡ labeller.old }
+{
+    match read_table(alloc, lines) {
+        Ok(table) => tell_table(alloc, labeller, &table, rules),
+        Err(refusal) => tell_refusal(alloc, refusal),
+    }
+}
+
+fn tell_plain(alloc: Global, lines: &[&[u8]]) -> Result<GroupText, AllocError>
+    requires few { length lines.now < 2 ^ 32 - 1 }
+    requires version { is_v3000 (texts lines.now) ≡ false }
+    ensures { IfOk result (λ told. told ≡ of_molecule (molecule_of (texts lines.now))) }
+{
+    match cip_v2000::read_lines(alloc, lines) {
+        Ok(_) => Ok(GroupText {
+            text: Bytes::from_vec(Vec::new(alloc)),
+            flagged: false,
+        }),
+        Err(refusal) => tell_refusal(alloc, refusal),
+    }
+}
+
+fn tell_refusal(alloc: Global, refusal: ReadRefusal) -> Result<GroupText, AllocError>
+    ensures { IfOk result (TellsRefusal refusal) }
+{
+    match refusal {
+        ReadRefusal::Fault(fault) => Ok(flagged(refused_line(alloc, fault)?)),
+        ReadRefusal::Memory => Err(AllocError),
+    }
+}
+
+fn refused_line(alloc: Global, fault: ReadFault) -> Result<Vec<u8>, AllocError>
+    ensures { IfOk result (λ text. text.items ≡ refusal_line fault ++ 10 ∷ []) }
+{
+    let line = refusal(alloc, fault)?;
+    Ok(format!(in alloc; "{line}\n")?.into_bytes())
+}
+
+fn flagged(text: Vec<u8>) -> GroupText
+    ensures { result ≡ record { text = text.items; flagged = true } }
+{
+    GroupText {
+        text: Bytes::from_vec(text),
+        flagged: true,
+    }
+}
+
+fn tell_table(
+    alloc: Global,
+    labeller: &mut Labeller<Desk>,
+    table: &Table<'_>,
+    rules: Rules,
+) -> Result<GroupText, AllocError>
+    requires few { length table.now.indices ≤ 1000000000 }
+    ensures told { IfOk result (λ told. told
+        ≡ of_groups rules labeller.old table.now.molecule (groups_of (seen_table table.now))) }
+    ensures kept { labeller.new ≡ labeller.old }
+{
+    match groups_of(alloc, table) {
+        Ok(groups) => tell_groups(alloc, labeller, &table.molecule, &groups, rules),
+        Err(GroupRefusal::Fault(fault)) => Ok(flagged(fault_line(alloc, fault)?)),
+        Err(GroupRefusal::Memory) => Err(AllocError),
+    }
+}
+
+fn fault_line(alloc: Global, fault: GroupFault) -> Result<Vec<u8>, AllocError>
+    ensures { IfOk result (λ text. text.items ≡ fault_line fault) }
+{
+    let line = fault.line;
+    let cause = fault.cause;
+    Ok(format!(in alloc; "groups {line} {cause}\n")?.into_bytes())
+}
+
+fn tell_groups(
+    alloc: Global,
+    labeller: &mut Labeller<Desk>,
+    molecule: &Molecule,
+    groups: &Groups,
+    rules: Rules,
+) -> Result<GroupText, AllocError>
+    ensures told { IfOk result (λ told. told
+        ≡ of_units rules labeller.old molecule.now (graph_of molecule.now) (positions_of (graph_of molecule.now))
+        groups.now) }
+    ensures kept { labeller.new ≡ labeller.old }
+{
+    // Reading the atoms tells that there are few.
+    let _atoms = molecule.atoms();
+    let graph = graph_of(alloc, molecule)?;
+    let positions = positions(alloc, &graph)?;
+    let units = units(alloc, molecule, &graph, &positions)?;
+    let setting = Setting::new(alloc, &graph, &positions, units.list(), rules)?;
+    let lines = all_lines(alloc, labeller, &setting, &units, groups.as_slice())?;
+    of_lines(alloc, &lines)
+}
+
+fn of_lines(alloc: Global, lines: &[GroupLine]) -> Result<GroupText, AllocError>
+    ensures { IfOk result (λ told. told ≡ of_lines lines.now) }
+{
+    Ok(GroupText {
+        text: Bytes::from_vec(lines_text(alloc, lines)?),
+        flagged: have_over(lines),
+    })
+}
+
+fn lines_text(alloc: Global, lines: &[GroupLine]) -> Result<Vec<u8>, AllocError>
+    ensures { IfOk result (λ text. text.items ≡ flat_map line_text lines.now) }
+{
+    let mut text = Vec::new(alloc);
+    for line in lines {
+        text.extend_from_slice(line_text(alloc, line)?.as_bytes())?;
+    }
+    Ok(text)
+}
+
+#[tactic(auto, unfolding(crate::specs::Texts::line_text))]
+fn line_text(alloc: Global, line: &GroupLine) -> Result<String, AllocError>
+    ensures { IfOk result (λ text. string_bytes text ≡ line_text line.now) }
+{
+    let kind = line.kind;
+    let number = u64::from(line.atom) + 1;
+    let both = both_text(alloc, &line.outcomes)?;
+    format!(in alloc; "{kind} a{number} {both}\n")
+}
+
+fn both_text(alloc: Global, outcomes: &Option<BothOutcomes>) -> Result<String, AllocError>
+    ensures { IfOk result (λ text. string_bytes text ≡ both_text outcomes.now) }
+{
+    match outcomes {
+        None => format!(in alloc; "-"),
+        Some(both) => {
+            let drawn = outcome_text(alloc, &both.drawn)?;
+            let turned = outcome_text(alloc, &both.turned)?;
+            format!(in alloc; "{drawn} {turned}")
+        }
+    }
+}
+
+// An outcome in a word.
+fn outcome_text(alloc: Global, outcome: &Outcome) -> Result<String, AllocError>
+    ensures { IfOk result (λ text. string_bytes text ≡ outcome_text outcome.now) }
+{
+    match outcome {
+        Outcome::Label(label) => {
+            let letter = label.letter;
+            format!(in alloc; "{letter}")
+        }
+        Outcome::Tie => format!(in alloc; "tie"),
+        Outcome::Over => format!(in alloc; "over"),
+        Outcome::NoGeometry(_) => format!(in alloc; "none"),
+    }
+}
+
+fn have_over(lines: &[GroupLine]) -> bool
+    ensures { result ≡ list_any (λ line. some_over line.outcomes) lines.now }
+{
+    lines.iter().any(|line| some_over(&line.outcomes))
+}
+
+fn some_over(outcomes: &Option<BothOutcomes>) -> bool
+    ensures { result ≡ some_over outcomes.now }
+{
+    match outcomes {
+        None => false,
+        Some(both) => is_over(&both.drawn) || is_over(&both.turned),
+    }
+}
+
+fn is_over(outcome: &Outcome) -> bool
+    ensures { result ≡ is_over outcome.now }
+{
+    matches!(outcome, Outcome::Over)
+}
