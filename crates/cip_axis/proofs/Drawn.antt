@@ -1,0 +1,91 @@
+-- Atoms of chains and of biaryl axes are drawn.
+use Rattle.std.proofs.Common.{◌≡◌, ◌<◌, ◌≤◌, ◌+◌, ◌⊎◌, inl, inr, ℕ, zero, suc, Bool, true, false, cond, not, ◌==◌, ◌&&◌, ◌||◌, List, [], ◌∷◌, length, get_or, map, refl, sym, ap, ◌∙◌, subst, arith, eqb-true, ltb-true, ltb-false, lt-ltb}
+use Rattle.std.specs.Prelude.{filter, nat_lt, slice_index_or}
+use Rattle.std.specs.List.{All, AllByRecursion, list_any, range_with_len}
+use Rattle.std.proofs.lemmas.Bool.{and_parts}
+use Rattle.std.proofs.lemmas.List.{length-map}
+use Rattle.std.proofs.lemmas.List.Elements.{All-from_recursion}
+use Rattle.cip_digraph.specs.declared.graph.Edge.{Edge}
+use Rattle.cip_digraph.specs.graph.Graph.{Graph, edges_at, neighbours, other_end, touches}
+use Rattle.cip_digraph.specs.units.Allenes.{doubles}
+use Rattle.cip_digraph.proofs.Lists.{all_by, all_filtered, all_mapped, by_recursion}
+use Rattle.cip_digraph.proofs.NeighbourOrder.{sorted_all}
+use Rattle.cip_unit.specs.Sites.{LeadsToAtom, LeadsToAtoms}
+use Rattle.cip_axis.specs.Cumulenes.{onward, leads_on, next_atom, chain_from, chain_over}
+
+if_passed : {X : Type 0} (P : X → Type 0) (test : X → Bool) (b : Bool) (x : X) (xs : List X) → test x ≡ b → P x
+    → AllByRecursion (λ x. (test x ≡ true) × P x) xs
+    → AllByRecursion (λ x. (test x ≡ true) × P x) (cond b (x ∷ xs) xs)
+if_passed P test true x xs e p all = ((e, p), all)
+if_passed P test false x xs e p all = all
+
+pub all_passed : {X : Type 0} (P : X → Type 0) (test : X → Bool) (xs : List X) → AllByRecursion P xs
+    → AllByRecursion (λ x. (test x ≡ true) × P x) (filter test xs)
+all_passed P test [] all = tt
+all_passed P test (x ∷ xs) all = if_passed P test (test x) x (filter test xs) refl all.0 (all_passed P test xs all.1)
+
+other_by : (drawn : ℕ) (edge : Edge) → LeadsToAtom drawn edge → edge.order ≡ 2 → (b : Bool)
+    → cond b edge.b edge.a < drawn
+other_by drawn edge leads e true = leads.b e
+other_by drawn edge leads e false = leads.a e
+
+first_below : (n d : ℕ) (ns : List ℕ) → d < n → AllByRecursion (λ m. m < n) ns → slice_index_or ns 0 d < n
+first_below n d [] lt all = lt
+first_below n d (m ∷ ns) lt all = all.0
+
+module _ (graph : Graph) (leads : LeadsToAtoms graph) where
+  abbrev AtVertex : ℕ → Edge → Type 0
+  AtVertex vertex edge = (touches vertex edge ≡ true) × LeadsToAtom graph.drawn edge
+
+  edges_lead : (vertex : ℕ) → AllByRecursion (AtVertex vertex) (edges_at graph vertex)
+  edges_lead vertex =
+      sorted_all (AtVertex vertex) vertex (filter (touches vertex) graph.edges)
+      (all_passed (LeadsToAtom graph.drawn) (touches vertex) graph.edges
+      (by_recursion (LeadsToAtom graph.drawn) graph.edges leads.each))
+
+  pub doubles_below : (vertex : ℕ) → AllByRecursion (λ other. other < graph.drawn) (doubles graph vertex)
+  doubles_below vertex =
+      all_mapped (λ other. other < graph.drawn) (other_end vertex)
+      (filter (λ edge. edge.order == 2) (edges_at graph vertex))
+      (all_by (λ (edge : Edge). ((edge.order == 2) ≡ true) × AtVertex vertex edge)
+      (λ edge. other_end vertex edge < graph.drawn)
+      (λ edge h. other_by graph.drawn edge h.1.1 (eqb-true edge.order 2 h.0) (edge.a == vertex))
+      (filter (λ edge. edge.order == 2) (edges_at graph vertex))
+      (all_passed (AtVertex vertex) (λ (edge : Edge). edge.order == 2) (edges_at graph vertex) (edges_lead vertex)))
+
+  if_below : (b : Bool) (ns : List ℕ) → AllByRecursion (λ m. m < graph.drawn) ns
+      → AllByRecursion (λ m. m < graph.drawn) (cond b ns [])
+  if_below true ns all = all
+  if_below false ns all = tt
+
+  pub next_below : (before at : ℕ) → at < graph.drawn → next_atom graph before at < graph.drawn
+  next_below before at lt =
+      first_below graph.drawn at (onward graph before at) lt
+      (all_filtered (λ m. m < graph.drawn) (λ other. not (other == before)) (doubles graph at) (doubles_below at))
+
+  from_below : (more before at : ℕ) → at < graph.drawn
+      → AllByRecursion (λ m. m < graph.drawn) (chain_from graph more before at)
+  from_below zero before at lt = tt
+  from_below (suc more) before at lt = (
+    lt,
+    if_below (leads_on graph before at) (chain_from graph more at (next_atom graph before at))
+        (from_below more at (next_atom graph before at) (next_below before at lt)),
+  )
+
+  pub chain_below : (a next : ℕ) → a < graph.drawn → next < graph.drawn
+      → AllByRecursion (λ m. m < graph.drawn) (chain_over graph a next)
+  chain_below a next lt on = (lt, from_below (length graph.vertices) a next on)
+
+  if_short : (b : Bool) (ns : List ℕ) (n : ℕ) → length ns ≤ n → length (cond b ns []) ≤ n
+  if_short true ns n le = le
+  if_short false ns n le = omega arith
+
+  from_short : (more before at : ℕ) → length (chain_from graph more before at) ≤ more
+  from_short zero before at = omega arith
+  from_short (suc more) before at =
+      let le = if_short (leads_on graph before at) (chain_from graph more at (next_atom graph before at)) more
+      (from_short more at (next_atom graph before at)) in
+      omega (arith, le)
+
+  pub chain_short : (a next : ℕ) → length (chain_over graph a next) ≤ length graph.vertices + 1
+  chain_short a next = let le = from_short (length graph.vertices) a next in omega (arith, le)

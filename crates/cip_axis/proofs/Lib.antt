@@ -1,0 +1,8 @@
+mod ChainRings
+mod Chained
+pub mod Drawn
+pub mod FewFurther
+pub mod FurtherFit
+mod Onward
+mod SmallRings
+pub mod Sited

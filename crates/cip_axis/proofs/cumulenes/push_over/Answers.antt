@@ -1,0 +1,57 @@
+use Rattle.std.proofs.Common.{◌≡◌, ◌∙◌, ◌<◌, ap, arith, length, subst, sym, true}
+use Rattle.std.specs.List.{All, AllByRecursion}
+use Rattle.std.proofs.lemmas.List.Elements.{All-from_recursion}
+use Rattle.cip_mol.specs.Sites.{IsSite}
+use Rattle.cip_ring.specs.AnyRings.{is_in_ring}
+use Rattle.cip_axis.specs.Cumulenes.{any_bond, is_cumulene}
+use Rattle.cip_axis.specs.Further.{cumulene_site}
+use Rattle.cip_axis.specs.Likeness.{like}
+use Rattle.cip_axis.specs.Listing.{first_in_ring}
+use Rattle.cip_axis.proofs.ChainRings.{chain_rings}
+use Rattle.cip_axis.proofs.Drawn.{chain_below, chain_short}
+use Rattle.cip_axis.proofs.Sited.{cumulene_shown}
+use Rattle.cip_axis.proofs.cumulenes.push_over.Goals as goal
+
+pub is_cumulene-requires : goal.is_cumulene-requires
+is_cumulene-requires c =
+    let source = c.args.source.now in
+    let graph = source.graph.now in
+    record {
+      rings = subst (λ chain. any_bond (is_in_ring graph) chain ≡ first_in_ring graph chain)
+          (sym (c.deref.ensures.value ∙ c.in_ok-chain.ensures))
+          (chain_rings graph c.requires.source.sound c.requires.source.leads c.args.a c.args.next c.requires.within c.requires.next);
+    }
+
+pub cumulene_unit-unit-requires-clause-shown : goal.cumulene_unit-unit-requires-clause-shown
+cumulene_unit-unit-requires-clause-shown c =
+    let source = c.args.source.now in
+    let graph = source.graph.now in
+    let items = c.in_ok-chain.chain.items in
+    let below : AllByRecursion (λ atom. atom < graph.drawn) items =
+    subst (AllByRecursion (λ atom. atom < graph.drawn)) (sym c.in_ok-chain.ensures)
+    (chain_below graph c.requires.source.leads c.args.a c.args.next c.requires.within c.requires.next) in
+    let is : is_cumulene graph items ≡ true =
+    ap (is_cumulene graph) (sym c.deref.ensures.value) ∙ sym c.in_ok-is_cumulene.ensures ∙ c.if-branch.true in
+    subst (λ chain. IsSite (length source.molecule.now.atoms) (like (cumulene_site graph chain)))
+    (sym c.deref-then-branch.ensures.value)
+    (cumulene_shown graph _ items c.requires.source.drawn below is)
+
+pub cumulene_unit-unit-requires-clause-within : goal.cumulene_unit-unit-requires-clause-within
+cumulene_unit-unit-requires-clause-within c =
+    let source = c.args.source.now in
+    let graph = source.graph.now in
+    let items = c.in_ok-chain.chain.items in
+    let below : AllByRecursion (λ atom. atom < graph.drawn) items =
+    subst (AllByRecursion (λ atom. atom < graph.drawn)) (sym c.in_ok-chain.ensures)
+    (chain_below graph c.requires.source.leads c.args.a c.args.next c.requires.within c.requires.next) in
+    subst (All (λ atom. atom < length source.molecule.now.atoms)) (sym c.deref-then-branch.ensures.value)
+    (subst (λ n. All (λ atom. atom < n) items) c.requires.source.drawn
+    (All-from_recursion (λ atom. atom < graph.drawn) items below))
+
+pub cumulene_unit-unit-requires-clause-few : goal.cumulene_unit-unit-requires-clause-few
+cumulene_unit-unit-requires-clause-few c =
+    let source = c.args.source.now in
+    let short = chain_short source.graph.now c.requires.source.leads c.args.a c.args.next in
+    let long = ap length (c.deref-then-branch.ensures.value ∙ c.in_ok-chain.ensures) in
+    let few = c.vertices-count.ensures.range.few_vertices in
+    omega (arith, short, long, few)

@@ -1,0 +1,37 @@
+use Rattle.std.proofs.Common.{◌≡◌, ◌∙◌, ap, length, sym}
+use Rattle.cip_mol.specs.Bonds as bonds
+use Rattle.cip_mol.specs.Drawing.{Drawing}
+use Rattle.cip_digraph.specs.graph.DrawnGraph.{graph_of}
+use Rattle.cip_digraph.specs.graph.Graph.{Graph}
+use Rattle.cip_digraph.proofs.DrawnSound.{drawn_sound}
+use Rattle.cip_unit.proofs.Leads.{drawn_is, drawn_leads}
+use Rattle.cip_axis.specs.Listing.{IsGraphOf}
+use Rattle.cip_axis.proofs.Chained.{units_are}
+use Rattle.cip_axis.proofs.listing.further.Goals as goal
+
+is_graph : (drawing : Drawing) (graph : Graph) → bonds.IsSound (length drawing.atoms) drawing.bonds
+    → graph ≡ graph_of drawing → IsGraphOf drawing graph
+is_graph drawing graph sound same =
+    rw same (record { drawn = drawn_is drawing; leads = drawn_leads drawing sound; sound = drawn_sound drawing sound })
+
+pub push_all_cumulenes-requires-clause-source : goal.push_all_cumulenes-requires-clause-source
+push_all_cumulenes-requires-clause-source c =
+    is_graph c.args.molecule.now c.args.graph.now c.atoms.ensures.sound c.requires
+
+pub push_all_biaryls-requires-clause-source : goal.push_all_biaryls-requires-clause-source
+push_all_biaryls-requires-clause-source c =
+    is_graph c.args.molecule.now c.args.graph.now c.atoms.ensures.sound c.requires
+
+pub push_all_cumulenes-requires-clause-atoms : goal.push_all_cumulenes-requires-clause-atoms
+push_all_cumulenes-requires-clause-atoms c = ap length c.atoms.ensures.value
+    ∙ sym (rw c.requires (drawn_is c.args.molecule.now))
+
+pub push_all_biaryls-requires-clause-atoms : goal.push_all_biaryls-requires-clause-atoms
+push_all_biaryls-requires-clause-atoms c = ap length c.atoms.ensures.value
+    ∙ sym (rw c.requires (drawn_is c.args.molecule.now))
+
+pub returns : goal.returns
+returns c =
+    units_are c.args.molecule.now c.args.graph.now c.args.positions.now _ _ _ _
+    (ap length c.atoms.ensures.value ∙ sym (rw c.requires (drawn_is c.args.molecule.now)))
+    c.new-units.ensures c.in_ok-push_all_cumulenes.ensures c.in_ok-push_all_biaryls.ensures

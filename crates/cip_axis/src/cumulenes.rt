@@ -1,0 +1,182 @@
+// Cumulenes: chains of at least three double bonds.
+ghost use Rattle.std.specs.Prelude.{◌≡◌, ◌<◌, ◌++◌, ◌≤◌, ◌∷◌, ◌^◌, All, IfOk, OnOk, length};
+ghost use Rattle.cip_mol.specs.Sites.{IsSite};
+ghost use Rattle.cip_digraph.specs.graph.Graph.{edges_at};
+ghost use Rattle.cip_ring.specs.AnyRings.{is_in_ring};
+ghost use Rattle.cip_axis.specs.Cumulenes.{any_bond, chain_over, first_atom, is_cumulene, last_atom};
+ghost use Rattle.cip_axis.specs.Further.{cumulene_geometry, cumulene_site, cumulene_unit, cumulenes_of, has_crossed};
+ghost use Rattle.cip_axis.specs.Likeness.{like};
+ghost use Rattle.cip_axis.specs.Listing.{IsGraphOf, can_be_cumulene, cumulenes_along, first_in_ring, one_cumulene};
+
+use crate::chains::chain_over;
+use crate::likeness::like;
+use crate::site::{FurtherSite, FurtherUnit};
+use crate::source::Source;
+use crate::units::FurtherUnits;
+use cip_digraph::Graph;
+use cip_mol::{Cause, Geometry, Molecule};
+use cip_orient::{is_crossed, orient};
+use cip_ring::{VertexSet, is_in_ring};
+use cip_unit::{end_ligands, is_axis_end};
+use std::alloc::{AllocError, Global};
+
+/// Adds the cumulenes of a first end. The set serves the search for rings.
+pub fn push_cumulenes(
+    alloc: Global,
+    source: &Source<'_>,
+    a: u32,
+    reached: &mut VertexSet,
+    units: &mut FurtherUnits,
+) -> Result<(), AllocError>
+    requires source { IsGraphOf source.now.molecule.now source.now.graph.now }
+    requires within { a < source.now.graph.now.drawn }
+    ensures { OnOk result (units.new ≡ units.old ++ cumulenes_of source.now.molecule.now source.now.graph.now a) }
+{
+    if source.graph.edges_at(a).len() == 3 {
+        push_from(alloc, source, a, reached, units)?;
+    }
+    Ok(())
+}
+
+// Along each of its double bonds.
+fn push_from(
+    alloc: Global,
+    source: &Source<'_>,
+    a: u32,
+    reached: &mut VertexSet,
+    units: &mut FurtherUnits,
+) -> Result<(), AllocError>
+    requires source { IsGraphOf source.now.molecule.now source.now.graph.now }
+    requires within { a < source.now.graph.now.drawn }
+    ensures { OnOk result
+        (units.new ≡ units.old
+        ++ cumulenes_along source.now.molecule.now source.now.graph.now a (edges_at source.now.graph.now a)) }
+{
+    for edge in source.graph.edges_at(a) {
+        if edge.order == 2 {
+            push_over(alloc, source, a, edge.other_end(a), reached, units)?;
+        }
+    }
+    Ok(())
+}
+
+// Adds the unit of the chain over a neighbour, where it is one.
+fn push_over(
+    alloc: Global,
+    source: &Source<'_>,
+    a: u32,
+    next: u32,
+    reached: &mut VertexSet,
+    units: &mut FurtherUnits,
+) -> Result<(), AllocError>
+    requires source { IsGraphOf source.now.molecule.now source.now.graph.now }
+    requires within { a < source.now.graph.now.drawn }
+    requires next { next < source.now.graph.now.drawn }
+    ensures { OnOk result
+        (units.new ≡ units.old
+        ++ one_cumulene source.now.molecule.now source.now.graph.now (chain_over source.now.graph.now a next)) }
+{
+    // Reading the vertices tells that there are few.
+    let _count = source.graph.vertices().len();
+    let chain = chain_over(alloc, source.graph, a, next)?;
+    if is_cumulene(source.graph, &chain, reached)? {
+        let unit = cumulene_unit(alloc, source.molecule, source.graph, &chain);
+        units.push(unit)?;
+    }
+    Ok(())
+}
+
+fn is_cumulene(graph: &Graph, chain: &[u32], reached: &mut VertexSet) -> Result<bool, AllocError>
+    requires rings { any_bond (is_in_ring graph.now) chain.now ≡ first_in_ring graph.now chain.now }
+    ensures { IfOk result (λ found. found ≡ is_cumulene graph.now chain.now) }
+{
+    if !can_be_cumulene(graph, chain) {
+        return Ok(false);
+    }
+    Ok(!lies_in_ring(graph, chain, reached)?)
+}
+
+// Whether a bond of a chain lies in a ring. One is asked: a ring through the first goes through all.
+fn lies_in_ring(graph: &Graph, chain: &[u32], reached: &mut VertexSet) -> Result<bool, AllocError>
+    requires some { 2 ≤ length chain.now }
+    requires rings { any_bond (is_in_ring graph.now) chain.now ≡ first_in_ring graph.now chain.now }
+    ensures { IfOk result (λ found. found ≡ any_bond (is_in_ring graph.now) chain.now) }
+{
+    is_in_ring(graph, chain[0], chain[1], reached)
+}
+
+// Whether a chain is a unit if it lies in no ring.
+fn can_be_cumulene(graph: &Graph, chain: &[u32]) -> bool
+    ensures { result ≡ can_be_cumulene graph.now chain.now }
+{
+    if chain.len() < 4 {
+        return false;
+    }
+    let a = chain[0];
+    let b = chain[chain.len() - 1];
+    a < b && is_axis_end(graph, chain, a) && is_axis_end(graph, chain, b)
+}
+
+fn cumulene_unit(alloc: Global, molecule: &Molecule, graph: &Graph, chain: &[u32]) -> FurtherUnit
+    requires some { 1 ≤ length chain.now }
+    requires shown { IsSite (length molecule.now.atoms) (like (cumulene_site graph.now chain.now)) }
+    requires within { All (λ atom. atom < length molecule.now.atoms) chain.now }
+    requires first { length (edges_at graph.now (first_atom chain.now)) ≤ 3 }
+    requires last { length (edges_at graph.now (last_atom chain.now)) ≤ 3 }
+    requires few { length chain.now ≤ 2 ^ 32 }
+    ensures { result ≡ cumulene_unit molecule.now graph.now chain.now }
+{
+    let a = chain[0];
+    let b = chain[chain.len() - 1];
+    let site = FurtherSite::Cumulene {
+        a,
+        b,
+        bonds: (chain.len() - 1) as u32,
+        first: end_ligands(alloc, graph, chain, a),
+        second: end_ligands(alloc, graph, chain, b),
+    };
+    let geometry = cumulene_geometry(alloc, molecule, chain, &site);
+    FurtherUnit { site, geometry }
+}
+
+fn cumulene_geometry(
+    alloc: Global,
+    molecule: &Molecule,
+    chain: &[u32],
+    site: &FurtherSite,
+) -> Geometry
+    requires shown { IsSite (length molecule.now.atoms) (like site.now) }
+    requires within { All (λ atom. atom < length molecule.now.atoms) chain.now }
+    ensures { result ≡ cumulene_geometry molecule.now chain.now site.now }
+{
+    if has_crossed(molecule, chain) {
+        return Geometry::Unknown(Cause::Either);
+    }
+    orient(alloc, molecule, &like(alloc, site))
+}
+
+// Whether a double bond of a chain is itself marked as undecided.
+fn has_crossed(molecule: &Molecule, chain: &[u32]) -> bool
+    requires { All (λ atom. atom < length molecule.now.atoms) chain.now }
+    ensures { result ≡ has_crossed molecule.now.bonds chain.now }
+{
+    match chain.split_first() {
+        Some((first, rest)) => has_crossed_behind(molecule, *first, rest),
+        None => false,
+    }
+}
+
+fn has_crossed_behind(molecule: &Molecule, first: u32, rest: &[u32]) -> bool
+    requires first { first < length molecule.now.atoms }
+    requires rest { All (λ atom. atom < length molecule.now.atoms) rest.now }
+    ensures { result ≡ has_crossed molecule.now.bonds (first ∷ rest.now) }
+{
+    let mut before = first;
+    for atom in rest {
+        if is_crossed(molecule, before, *atom) {
+            return true;
+        }
+        before = *atom;
+    }
+    false
+}

@@ -1,0 +1,22 @@
+//! Further stereogenic units, cumulenes of three double bonds or more and biaryl axes, and what is found of them.
+#![tactic(auto)]
+
+mod biaryls;
+mod chains;
+mod counting;
+mod cumulenes;
+mod hindrance;
+mod labels;
+mod laws;
+mod likeness;
+mod listing;
+mod site;
+mod source;
+mod units;
+
+pub use labels::label_further;
+pub use laws::{further_units_are_fit, worked_further_is_found};
+pub use likeness::like;
+pub use listing::further;
+pub use site::{FurtherSite, FurtherUnit};
+pub use units::FurtherUnits;

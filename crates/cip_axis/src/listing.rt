@@ -1,0 +1,77 @@
+// The further units of a molecule.
+ghost use Rattle.std.specs.Prelude.{◌≡◌, ◌++◌, flat_map, IfOk, OnOk};
+ghost use Rattle.std.specs.List.{range_with_len};
+ghost use Rattle.cip_digraph.specs.graph.DrawnGraph.{graph_of};
+ghost use Rattle.cip_axis.specs.Further.{biaryls_of, cumulenes_of, further_of};
+ghost use Rattle.cip_axis.specs.Listing.{IsGraphOf};
+
+use crate::biaryls::push_biaryls;
+use crate::cumulenes::push_cumulenes;
+use crate::source::Source;
+use crate::units::FurtherUnits;
+use cip_digraph::{Graph, Positions};
+use cip_mol::Molecule;
+use cip_ring::VertexSet;
+use std::alloc::{AllocError, Global};
+
+/// The further units of a molecule with this graph, with what the drawing shows of each.
+pub fn further(
+    alloc: Global,
+    molecule: &Molecule,
+    graph: &Graph,
+    positions: &Positions,
+) -> Result<FurtherUnits, AllocError>
+    requires { graph.now ≡ graph_of molecule.now }
+    ensures { IfOk result (λ units. units ≡ further_of molecule.now graph.now positions.now) }
+{
+    let source = Source {
+        molecule,
+        graph,
+        positions,
+    };
+    let atoms = molecule.atoms().len() as u32;
+    let mut reached = VertexSet::new(alloc, graph.vertices().len())?;
+    let mut units = FurtherUnits::new(alloc);
+    push_all_cumulenes(alloc, &source, atoms, &mut reached, &mut units)?;
+    push_all_biaryls(alloc, &source, atoms, &mut reached, &mut units)?;
+    Ok(units)
+}
+
+fn push_all_cumulenes(
+    alloc: Global,
+    source: &Source<'_>,
+    atoms: u32,
+    reached: &mut VertexSet,
+    units: &mut FurtherUnits,
+) -> Result<(), AllocError>
+    requires source { IsGraphOf source.now.molecule.now source.now.graph.now }
+    requires atoms { atoms ≡ source.now.graph.now.drawn }
+    ensures { OnOk result
+        (units.new ≡ units.old
+        ++ flat_map (cumulenes_of source.now.molecule.now source.now.graph.now) (range_with_len 0 atoms)) }
+{
+    for atom in 0..atoms {
+        push_cumulenes(alloc, source, atom, reached, units)?;
+    }
+    Ok(())
+}
+
+fn push_all_biaryls(
+    alloc: Global,
+    source: &Source<'_>,
+    atoms: u32,
+    reached: &mut VertexSet,
+    units: &mut FurtherUnits,
+) -> Result<(), AllocError>
+    requires source { IsGraphOf source.now.molecule.now source.now.graph.now }
+    requires atoms { atoms ≡ source.now.graph.now.drawn }
+    ensures { OnOk result
+        (units.new ≡ units.old
+        ++ flat_map (biaryls_of source.now.molecule.now source.now.graph.now source.now.positions.now)
+        (range_with_len 0 atoms)) }
+{
+    for atom in 0..atoms {
+        push_biaryls(alloc, source, atom, reached, units)?;
+    }
+    Ok(())
+}

@@ -1,0 +1,2 @@
+pub mod AxesTexts
+pub mod FurtherAnswers

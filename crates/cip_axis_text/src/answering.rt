@@ -1,0 +1,118 @@
+// The answer to a record by its further units.
+ghost use Rattle.std.specs.Prelude.{◌≡◌, ◌<◌, ◌-◌, ◌^◌, IfOk, length, map};
+ghost use Rattle.cip_text.specs.Slices.{texts};
+ghost use Rattle.cip_axis.specs.FurtherOutcomes.{AreFurtherFit};
+ghost use Rattle.cip_axis_text.specs.FurtherAnswers.{
+  further_answer,
+  further_name,
+  further_of_lines,
+  further_of_molecule,
+};
+
+use cip_axis::{FurtherSite, FurtherUnit, further, label_further, like};
+use cip_hydro::graph_of;
+use cip_label::Setting;
+use cip_mancude::positions;
+use cip_mol::{Molecule, ReadRefusal};
+use cip_molfile::read_molecule;
+use cip_print::{Answer, UnitAnswer, UnitAnswers, UnitName};
+use cip_rank::Rules;
+use cip_record::RecordLabeller;
+use cip_steps::Steps;
+use cip_unit::units;
+use std::alloc::{AllocError, Global};
+use std::marker::Brand;
+use std::sync::ledger::{Blank, Ledger};
+
+/// The answer to the lines of a record that has no label items, by its further units alone.
+#[tactic(auto, unfolding(crate::specs::FurtherAnswers::further_of_lines))]
+pub fn further_of_lines(
+    alloc: Global,
+    labeller: &mut RecordLabeller,
+    lines: &[&[u8]],
+    rules: Rules,
+) -> Result<Answer, AllocError>
+    requires { length lines.now < 2 ^ 32 - 1 }
+    ensures answer { IfOk result (λ answer. answer ≡ further_of_lines rules labeller.old (texts lines.now)) }
+    ensures kept { labeller.new ≡ labeller.old }
+{
+    match read_molecule(alloc, lines) {
+        Ok(molecule) => answer_molecule(alloc, labeller, &molecule, rules),
+        Err(ReadRefusal::Fault(fault)) => Ok(Answer::Refused(fault)),
+        Err(ReadRefusal::Memory) => Err(AllocError),
+    }
+}
+
+fn answer_molecule(
+    alloc: Global,
+    labeller: &mut RecordLabeller,
+    molecule: &Molecule,
+    rules: Rules,
+) -> Result<Answer, AllocError>
+    ensures answer { IfOk result (λ answer. answer ≡ further_of_molecule rules labeller.old molecule.now) }
+    ensures kept { labeller.new ≡ labeller.old }
+{
+    // Reading the atoms tells that there are few.
+    let _atoms = molecule.atoms();
+    let graph = graph_of(alloc, molecule)?;
+    let positions = positions(alloc, &graph)?;
+    let units = units(alloc, molecule, &graph, &positions)?;
+    let further = further(alloc, molecule, &graph, &positions)?;
+    let setting = Setting::new(alloc, &graph, &positions, units.list(), rules)?;
+    let answers = label_all(alloc, labeller, &setting, further.list())?;
+    Ok(Answer::Labelled(answers))
+}
+
+// Further units, each with its outcome.
+fn label_all(
+    alloc: Global,
+    labeller: &mut RecordLabeller,
+    setting: &Setting<'_>,
+    units: &[FurtherUnit],
+) -> Result<UnitAnswers, AllocError>
+    requires fit { AreFurtherFit setting.now.graph units.now }
+    requires few { length units.now < 2 ^ 32 }
+    ensures answers { IfOk result (λ answers. answers ≡ map (further_answer setting.now labeller.old) units.now) }
+    ensures kept { labeller.new ≡ labeller.old }
+{
+    label_counted::<Brand>(alloc, labeller, setting, units, Blank::new(1))
+}
+
+// The same with a counter of steps.
+fn label_counted<L: Ledger>(
+    alloc: Global,
+    labeller: &mut RecordLabeller,
+    setting: &Setting<'_>,
+    units: &[FurtherUnit],
+    blank: Blank,
+) -> Result<UnitAnswers, AllocError>
+    requires name { blank.name ≡ L.name }
+    requires parts { blank.parts ≡ L.parts }
+    requires one { 0 < blank.parts }
+    requires fit { AreFurtherFit setting.now.graph units.now }
+    requires few { length units.now < 2 ^ 32 }
+    ensures answers { IfOk result (λ answers. answers ≡ map (further_answer setting.now labeller.old) units.now) }
+    ensures kept { labeller.new ≡ labeller.old }
+{
+    let mut steps = Steps::<L>::open(blank);
+    let mut answers = UnitAnswers::new(alloc);
+    for unit in units {
+        let outcome = label_further(alloc, labeller, setting, unit, &mut steps)?;
+        answers.push(UnitAnswer {
+            name: further_name(&unit.site),
+            site: like(alloc, &unit.site),
+            drawn: setting.graph().drawn(),
+            outcome,
+        })?;
+    }
+    Ok(answers)
+}
+
+fn further_name(site: &FurtherSite) -> UnitName
+    ensures { result ≡ further_name site.now }
+{
+    match site {
+        FurtherSite::Cumulene { a, b, .. } => UnitName::Cumulene(*a, *b),
+        FurtherSite::Biaryl { a, b, .. } => UnitName::Biaryl(*a, *b),
+    }
+}

@@ -1,0 +1,9 @@
+//! What is told of the further units of a record, its cumulenes and biaryl axes.
+#![tactic(auto)]
+
+mod answering;
+#[cfg(test)]
+mod tests;
+mod text;
+
+pub use text::{AxesText, axes_text, axes_text_within};
