@@ -2,7 +2,7 @@
 #![tactic(auto)]
 
 use cip_io::{StdSink, StdSource, push_all};
-use cip_run::{run, status};
+use cip_run::{Ending, run};
 use std::io::ErrorKind;
 use std::process::ExitCode;
 use std::rt::Env;
@@ -24,8 +24,8 @@ fn main(rt: HostRuntime) -> ExitCode {
     let words = match words(&rt) {
         Ok(words) => words,
         Err(error) if error.kind() == ErrorKind::OutOfMemory => {
-            let _ = push_all(&mut diag, status::line(status::OUT_OF_MEMORY));
-            return ExitCode::from(status::OUT_OF_MEMORY);
+            let _ = push_all(&mut diag, Ending::OutOfMemory.line());
+            return ExitCode::from(Ending::OutOfMemory.status());
         }
         // Words that aren't text are refused, as an empty list of words is.
         Err(_) => Vec::new(rt.alloc()),

@@ -1,4 +1,4 @@
-use crate::{Gate, Job, Worker, map_batch};
+use crate::{Gate, Job, Open, Worker, map_batch};
 use std::alloc::{AllocError, Global};
 use std::sync::atomic::{AtomicU64, Ordering};
 use std::test::Fail;
@@ -6,13 +6,15 @@ use std::test::Fail;
 // How often a counter is looked at before the wait is given up: some tenths of a second.
 const TURNS: u64 = 100_000_000;
 
-// A job that answers its number.
+// A job that answers its number. The one whose work begins first, whichever it is, waits in it for the next one.
 #[derive(Drop)]
-struct Numbered {
+struct Held<'a> {
     number: u32,
+    begun: &'a AtomicU64,
+    missed: &'a AtomicU64,
 }
 
-impl Job for Numbered {
+impl<'a> Job for Held<'a> {
     type Out = u32;
 
     type Desk = u32;
@@ -21,67 +23,47 @@ impl Job for Numbered {
 
     fn work(&self, desk: &mut u32) -> Result<u32, AllocError> {
         *desk = desk.wrapping_add(1);
-        Ok(self.number)
-    }
-}
-
-// A gate at which the job that comes first waits for a second one. It knows the sum of the places of those that came.
-#[derive(Drop)]
-struct Meeting {
-    begun: AtomicU64,
-    places: AtomicU64,
-    missed: AtomicU64,
-}
-
-impl Meeting {
-    fn new() -> Meeting {
-        Meeting {
-            begun: AtomicU64::new(0),
-            places: AtomicU64::new(0),
-            missed: AtomicU64::new(0),
-        }
-    }
-}
-
-impl Gate for Meeting {
-    fn enter(&self, place: u64) {
-        self.places.fetch_add(place, Ordering::SeqCst);
         if self.begun.fetch_add(1, Ordering::SeqCst) > 0 {
-            return;
+            return Ok(self.number);
         }
         for _ in 0..TURNS {
             if self.begun.load(Ordering::SeqCst) > 1 {
-                return;
+                return Ok(self.number);
             }
             std::hint::spin_loop();
         }
         self.missed.store(1, Ordering::SeqCst);
+        Ok(self.number)
     }
 }
 
-// Two workers meet at the gate, which one thread alone can't; each of 16 jobs enters it once.
+// Two jobs are worked on at once, which one thread alone can't; all 16 are.
 #[test]
 fn jobs_meet(rt: HostRuntime) -> Result<(), Fail> {
     let alloc = rt.alloc();
     for count in [2u32, 16] {
-        let meeting = Meeting::new();
+        let begun = AtomicU64::new(0);
+        let missed = AtomicU64::new(0);
         let mut jobs = Vec::new(alloc);
         for number in 100..116u32 {
-            jobs.push(Numbered { number })?;
+            jobs.push(Held {
+                number,
+                begun: &begun,
+                missed: &missed,
+            })?;
         }
         let mut workers = Vec::new(alloc);
         for _ in 0..count {
             workers.push(Worker::new(alloc, 0u32))?;
         }
         assert!(rt; 0 < workers.len() && workers.len() <= 16);
-        let answers = map_batch(&rt, alloc, &jobs, &mut workers, &meeting)?;
+        let answers = map_batch(&rt, alloc, &jobs, &mut workers, &Open)?;
         assert_eq!(rt; answers.len(), 16);
         for place in 0..16u32 {
             assert_eq!(rt; answers.get(place as usize), Some(&(100 + place)));
         }
-        assert_eq!(rt; meeting.missed.load(Ordering::SeqCst), 0);
-        assert_eq!(rt; meeting.begun.load(Ordering::SeqCst), 16);
-        assert_eq!(rt; meeting.places.load(Ordering::SeqCst), 120);
+        assert_eq!(rt; missed.load(Ordering::SeqCst), 0);
+        assert_eq!(rt; begun.load(Ordering::SeqCst), 16);
     }
     Ok(())
 }

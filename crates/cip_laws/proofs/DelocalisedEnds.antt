@@ -1,5 +1,6 @@
 -- A double bond of an alternating ring is delocalised at both of its ends: the ring can be gone round the other way.
 use Rattle.std.proofs.Common.{◌≡◌, ◌≢◌, inl, inr, ◌<◌, ℕ, List, [], ◌∷◌, ◌++◌, length, filter, refl, sym, ap, subst, ◌∙◌, Bool, true, false, cond, ◌==◌, ◌||◌, nat_lt, nat_le, eqb-true, eq-eqb, lt-ltb, ltb-true, arith}
+use Rattle.std.specs.Prelude.{◌↔◌}
 use Rattle.std.specs.List.{AllByRecursion}
 use Rattle.std.specs.List.Sorted.{IsPermutation}
 use Rattle.std.proofs.lemmas.List.Sorted.{IsPermutation-refl, IsPermutation-cons, IsPermutation-trans, IsPermutation-sym, IsPermutation-append, IsPermutation-append_comm, IsPermutation-middle, length_permutation, All-permutation}
@@ -338,3 +339,16 @@ module _ (graph : Graph) (sound : IsSound graph) where
   delocalised_at_both a w h c o =
       same_truth (is_delocalised (positions_of graph) w.to) (is_delocalised (positions_of graph) a)
       (one_end w.to (back_way graph a w) (leads_back graph sound a w h).back c) (one_end a w h c)
+
+  -- an atom has several positions exactly where a ring goes on from it
+  pub several_in_rings : (v : ℕ) → v < length graph.vertices
+      → (is_delocalised (positions_of graph) v ≡ true)
+      ↔ ((other : ℕ) × (nexts : List ℕ) × IsAlternatingRing graph v other nexts)
+  several_in_rings v here = (
+    λ e. (
+        let c = closes_if v (sym (listed v here) ∙ e) in
+        let ring = ring_found graph sound v c.0 c.1 in
+        (c.0, ring.0, ring.1)
+        ),
+    λ ring. listed v here ∙ many_if v (ring.0, ring_finds graph sound v ring.0 (ring.1, ring.2)),
+  )

@@ -15,7 +15,8 @@ use Rattle.cip_make.specs.declared.chain.Element.TheVariants.{Carbon, Oxygen, Ni
 use Rattle.cip_make.specs.declared.chain.Stereo.{Stereo}
 use Rattle.cip_make.specs.declared.chain.Stereo.TheVariants.{Plain, Up, Down}
 use Rattle.cip_make.specs.Chains.{branch_of, branches, element_of, stereo_of, with_branch}
-use Rattle.cip_make.specs.Lines.{right, coordinate, four_digits, number_field, symbol, stereo_number, counts_line, atom_line, bond_line}
+use Rattle.cip_text.specs.Writing.{right, coordinate, four_digits}
+use Rattle.cip_make.specs.Lines.{number_field, symbol, stereo_number, counts_line, atom_line, bond_line}
 use Rattle.cip_make.specs.Made.{across, is_upper, chain_height, branch_height, chain_atom, chain_atoms, branch_atom, branch_atoms, chain_bonds, branch_bonds, name_lines, record_text, made, generator, chain_length}
 use Rattle.cip_make.proofs.Words.{first_word, no_word}
 

@@ -1,28 +1,13 @@
 -- Lines of V2000 records. CTfile Formats.
-use Rattle.std.specs.Prelude.{ℕ, ℤ, pos, List, [], ◌∷◌, ◌++◌, ◌-◌, ◌/◌, ◌%◌, codes, decimal, length, replicate, unsigned_abs, if◌then◌else◌}
-use Rattle.std.specs.Int.{is_negative}
+use Rattle.std.specs.Prelude.{ℕ, ℤ, pos, List, [], ◌∷◌, ◌++◌, codes, decimal}
+use Rattle.cip_text.specs.Writing.{right, coordinate}
 use Rattle.cip_make.specs.declared.chain.Element.{Element}
 use Rattle.cip_make.specs.declared.chain.Element.TheVariants.{Carbon, Oxygen, Nitrogen, Chlorine, Bromine, Fluorine}
 use Rattle.cip_make.specs.declared.chain.Stereo.{Stereo}
 use Rattle.cip_make.specs.declared.chain.Stereo.TheVariants.{Plain, Up, Down}
 
--- a text that ends in a column
-unfoldable pub right : ℕ → List ℕ → List ℕ
-right width text = replicate (width - length text) 32 ++ text
-
 abbrev pub number_field : ℕ → List ℕ
 number_field number = right 3 (decimal number)
-
--- the last four digits of a number
-abbrev pub four_digits : ℕ → List ℕ
-four_digits size =
-    decimal (size / 1000 % 10) ++ (decimal (size / 100 % 10) ++ (decimal (size / 10 % 10) ++ decimal (size % 10)))
-
--- ten-thousandths with four decimals
-unfoldable pub coordinate : ℤ → List ℕ
-coordinate value =
-    (if is_negative value then codes "-" else [])
-    ++ (decimal (unsigned_abs value / 10000) ++ (codes "." ++ four_digits (unsigned_abs value)))
 
 -- a space, and a symbol left in three columns
 abbrev pub symbol : Element → List ℕ

@@ -1,8 +1,10 @@
 // Lines of V2000 records.
-ghost use Rattle.std.specs.Prelude.{◌≡◌, ◌<◌, ◌≤◌, ◌++◌, IfOk, OnOk, length, string_bytes, unsigned_abs};
-ghost use Rattle.cip_make.specs.Lines.{right, coordinate, symbol, stereo_number, number_field, counts_line, atom_line, bond_line};
+ghost use Rattle.std.specs.Prelude.{◌≡◌, ◌++◌, IfOk, OnOk};
+ghost use Rattle.cip_text.specs.Writing.{coordinate, right};
+ghost use Rattle.cip_make.specs.Lines.{symbol, stereo_number, number_field, counts_line, atom_line, bond_line};
 
 use crate::chain::{Element, Stereo};
+use cip_text::{coordinate, push_right};
 use std::alloc::{AllocError, Global};
 
 /// The counts line of a molecule with so many atoms and bonds.
@@ -64,33 +66,6 @@ fn push_coordinate(alloc: Global, line: &mut Vec<u8>, value: i64) -> Result<(), 
 {
     let text = coordinate(alloc, value)?;
     push_right(line, 10, text.as_bytes())
-}
-
-// A number of ten-thousandths with four decimals.
-#[tactic(auto, unfolding(crate::specs::Lines::coordinate))]
-fn coordinate(alloc: Global, value: i64) -> Result<String, AllocError>
-    ensures { IfOk result (λ text. string_bytes text ≡ coordinate value) }
-{
-    let sign = if value < 0 { "-" } else { "" };
-    let size = value.unsigned_abs();
-    let whole = size / 10_000;
-    let tenths = size / 1_000 % 10;
-    let hundredths = size / 100 % 10;
-    let thousandths = size / 10 % 10;
-    let rest = size % 10;
-    format!(in alloc; "{sign}{whole}.{tenths}{hundredths}{thousandths}{rest}")
-}
-
-// Adds a text behind as many spaces as it needs to end in a column.
-#[tactic(auto, unfolding(crate::specs::Lines::right), using(crate::proofs::Texts::one_space))]
-fn push_right(line: &mut Vec<u8>, width: usize, text: &[u8]) -> Result<(), AllocError>
-    ensures { OnOk result (line.new.items ≡ line.old.items ++ right width text.now) }
-{
-    for column in text.len()..width {
-        line.push(b' ')?;
-    }
-    line.extend_from_slice(text)?;
-    Ok(())
 }
 
 fn symbol(element: Element) -> &'static [u8]

@@ -8,7 +8,7 @@ use Rattle.cip_print.specs.declared.answer.Answer.{Answer}
 use Rattle.cip_print.specs.declared.answer.Answer.TheVariants.{Labelled, Refused}
 use Rattle.cip_print.specs.declared.answer.UnitAnswer.{UnitAnswer}
 use Rattle.cip_print.specs.Labels.{ordered_label}
-use Rattle.cip_print.specs.Naming.{unit_name}
+use Rattle.cip_print.specs.Naming.{name_text}
 use Rattle.cip_print.specs.Refusals.{refusal_line}
 
 -- units
@@ -22,9 +22,9 @@ reason_text NoMark = codes "NoMark"
 
 abbrev pub told : UnitAnswer → Outcome → List ℕ
 told unit (outcomes.Label label) = ordered_label unit label
-told unit outcomes.Over = unit_name unit.site ++ codes " over"
-told unit outcomes.Tie = unit_name unit.site ++ codes " tie"
-told unit (outcomes.NoGeometry cause) = unit_name unit.site ++ (codes " none " ++ reason_text cause)
+told unit outcomes.Over = name_text unit.name ++ codes " over"
+told unit outcomes.Tie = name_text unit.name ++ codes " tie"
+told unit (outcomes.NoGeometry cause) = name_text unit.name ++ (codes " none " ++ reason_text cause)
 
 -- the line of a unit
 unfoldable pub told_line : UnitAnswer → List ℕ

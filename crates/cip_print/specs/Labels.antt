@@ -9,7 +9,7 @@ use Rattle.cip_mol.specs.declared.site.Site.{Site}
 use Rattle.cip_mol.specs.declared.site.Site.TheVariants.{Centre, Bond, Axis}
 use Rattle.cip_mol.specs.Letters.{letter_text, rule_text}
 use Rattle.cip_print.specs.declared.answer.UnitAnswer.{UnitAnswer}
-use Rattle.cip_print.specs.Naming.{number, unit_name}
+use Rattle.cip_print.specs.Naming.{number, name_text}
 
 -- an atom by its number; those from `drawn` on are implicit hydrogens
 abbrev pub ligand_name : ℕ → Ligand → List ℕ
@@ -46,4 +46,4 @@ label_line name label =
 -- a label with the ligands in the order that it rests on
 unfoldable pub ordered_label : UnitAnswer → Label → List ℕ
 ordered_label unit label =
-    label_line (unit_name unit.site) label ++ codes " order" ++ names_in_order unit.drawn unit.site label.order
+    label_line (name_text unit.name) label ++ codes " order" ++ names_in_order unit.drawn unit.site label.order

@@ -3,7 +3,7 @@ use Rattle.std.specs.Prelude.{ℕ, List, ◌++◌, ◌+◌, codes, decimal, min,
 use Rattle.cip_mol.specs.declared.site.Site.{Site}
 use Rattle.cip_mol.specs.declared.site.Site.TheVariants as sites
 use Rattle.cip_print.specs.declared.naming.UnitName.{UnitName}
-use Rattle.cip_print.specs.declared.naming.UnitName.TheVariants.{Centre, Bond, Axis}
+use Rattle.cip_print.specs.declared.naming.UnitName.TheVariants.{Centre, Bond, Axis, Cumulene, Biaryl}
 
 -- an atom counted from 1
 abbrev pub number : ℕ → List ℕ
@@ -17,9 +17,11 @@ abbrev pub name_text : UnitName → List ℕ
 name_text (Centre at) = codes "a" ++ number at
 name_text (Bond a b) = codes "b" ++ pair a b
 name_text (Axis a b) = codes "x" ++ pair a b
+name_text (Cumulene a b) = codes "c" ++ pair a b
+name_text (Biaryl a b) = codes "t" ++ pair a b
 
--- the name of a unit
-abbrev pub unit_name : Site → List ℕ
-unit_name (sites.Centre at ligands) = name_text (Centre at)
-unit_name (sites.Bond a b first second) = name_text (Bond a b)
-unit_name (sites.Axis a middle b first second) = name_text (Axis a b)
+-- the name of the centre, bond or axis unit at a site
+abbrev pub name_of : Site → UnitName
+name_of (sites.Centre at ligands) = Centre at
+name_of (sites.Bond a b first second) = Bond a b
+name_of (sites.Axis a middle b first second) = Axis a b

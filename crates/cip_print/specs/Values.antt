@@ -10,7 +10,7 @@ use Rattle.cip_print.specs.declared.answer.Answer.{Answer}
 use Rattle.cip_print.specs.declared.answer.Answer.TheVariants.{Labelled, Refused}
 use Rattle.cip_print.specs.declared.answer.UnitAnswer.{UnitAnswer}
 use Rattle.cip_print.specs.Labels.{ordered_label}
-use Rattle.cip_print.specs.Naming.{unit_name}
+use Rattle.cip_print.specs.Naming.{name_text}
 use Rattle.cip_print.specs.Refusals.{refusal_line}
 
 abbrev pub year_text : Rules → List ℕ
@@ -24,7 +24,7 @@ settings_line nodes rules = codes "cip 2 rule1b " ++ (year_text rules ++ (codes 
 -- the line of a unit; none where two ligands tie or the drawing shows no sense
 abbrev pub outcome_line : UnitAnswer → Outcome → Option (List ℕ)
 outcome_line unit (outcomes.Label label) = Some (ordered_label unit label)
-outcome_line unit outcomes.Over = Some (unit_name unit.site ++ codes " over")
+outcome_line unit outcomes.Over = Some (name_text unit.name ++ codes " over")
 outcome_line unit outcomes.Tie = None
 outcome_line unit (outcomes.NoGeometry cause) = None
 

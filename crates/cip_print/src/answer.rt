@@ -1,11 +1,14 @@
 // What is found of a record.
 
+use crate::naming::UnitName;
 use cip_list::Listing;
 use cip_mol::{Outcome, ReadFault, Site};
 
-/// A stereogenic unit of a record, with what is found of it. Ligands from the number `drawn` on are implicit hydrogens.
+/// A stereogenic unit of a record by its name, with what is found of it. Ligands from the number `drawn` on are implicit
+/// hydrogens.
 #[derive(Drop)]
 pub struct UnitAnswer {
+    pub name: UnitName,
     pub site: Site,
     pub drawn: u32,
     pub outcome: Outcome,

@@ -4,7 +4,6 @@ ghost use Rattle.cip_print.specs.Explaining.{reason_text, told, told_line, told_
 
 use crate::answer::{Answer, UnitAnswer, UnitAnswers};
 use crate::labels::ordered_label;
-use crate::naming::name_of;
 use crate::refusals::refusal;
 use cip_mol::{Cause, Outcome};
 use std::alloc::{AllocError, Global};
@@ -56,7 +55,7 @@ fn push_unit(alloc: Global, text: &mut Vec<u8>, unit: &UnitAnswer) -> Result<(),
 fn told(alloc: Global, unit: &UnitAnswer) -> Result<Vec<u8>, AllocError>
     ensures { IfOk result (λ text. text.items ≡ told unit.now unit.now.outcome) }
 {
-    let name = name_of(&unit.site);
+    let name = unit.name;
     match &unit.outcome {
         Outcome::Label(label) => ordered_label(alloc, unit, label),
         Outcome::Over => Ok(format!(in alloc; "{name} over")?.into_bytes()),

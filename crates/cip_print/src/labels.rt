@@ -3,7 +3,6 @@ ghost use Rattle.std.specs.Prelude.{◌≡◌, ◌++◌, IfOk, string_bytes, sli
 ghost use Rattle.cip_print.specs.Labels.{ligand_name, spaced_name, names_at, names_of_ends, names_in_order, label_line, ordered_label};
 
 use crate::answer::UnitAnswer;
-use crate::naming::name_of;
 use cip_mol::{Label, Ligand, Site};
 use std::alloc::{AllocError, Global};
 
@@ -12,7 +11,7 @@ use std::alloc::{AllocError, Global};
 pub fn ordered_label(alloc: Global, unit: &UnitAnswer, label: &Label) -> Result<Vec<u8>, AllocError>
     ensures { IfOk result (λ text. text.items ≡ ordered_label unit.now label.now) }
 {
-    let name = name_of(&unit.site);
+    let name = unit.name;
     let letter = label.letter;
     let rule = label.rule;
     let sphere = label.sphere;

@@ -4,6 +4,7 @@
 mod answer;
 mod explaining;
 mod labels;
+mod laws;
 mod naming;
 mod refusals;
 mod tally;
@@ -13,5 +14,8 @@ mod values;
 
 pub use answer::{Answer, UnitAnswer, UnitAnswers};
 pub use explaining::explain_text;
+pub use laws::values_are_fit;
+pub use naming::{UnitName, name_of};
+pub use refusals::refusal;
 pub use tally::Tally;
 pub use values::item_values;

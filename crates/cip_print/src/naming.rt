@@ -1,6 +1,6 @@
 // How units are named.
 ghost use Rattle.std.specs.Prelude.{◌≡◌, ◌+◌};
-ghost use Rattle.cip_print.specs.Naming.{unit_name, name_text};
+ghost use Rattle.cip_print.specs.Naming.{name_of, name_text};
 
 use cip_mol::Site;
 use std::fmt;
@@ -11,11 +11,13 @@ pub enum UnitName {
     Centre(u32),
     Bond(u32, u32),
     Axis(u32, u32),
+    Cumulene(u32, u32),
+    Biaryl(u32, u32),
 }
 
-/// The name of the unit at a site.
+/// The name of the centre, bond or axis unit at a site.
 pub fn name_of(site: &Site) -> UnitName
-    ensures { name_text result ≡ unit_name site.now }
+    ensures { result ≡ name_of site.now }
 {
     match site {
         Site::Centre { at, .. } => UnitName::Centre(*at),
@@ -34,6 +36,8 @@ impl fmt::Display for UnitName {
             UnitName::Centre(at) => write!(f, "a{}", number(at)),
             UnitName::Bond(a, b) => write!(f, "b{}-{}", number(a.min(b)), number(a.max(b))),
             UnitName::Axis(a, b) => write!(f, "x{}-{}", number(a.min(b)), number(a.max(b))),
+            UnitName::Cumulene(a, b) => write!(f, "c{}-{}", number(a.min(b)), number(a.max(b))),
+            UnitName::Biaryl(a, b) => write!(f, "t{}-{}", number(a.min(b)), number(a.max(b))),
         }
     }
 }

@@ -1,6 +1,6 @@
 ghost use Rattle.std.specs.Prelude.{◌≡◌, ◌<◌, ◌+◌, OnOk, length};
 
-use crate::{Answer, Tally, UnitAnswer, UnitAnswers, explain_text, item_values};
+use crate::{Answer, Tally, UnitAnswer, UnitAnswers, UnitName, explain_text, item_values, name_of};
 use cip_mol::{
     Cause, Descriptor, Label, Ligand, Ligands, Outcome, Places, ReadCause, ReadFault, Rule, Site,
 };
@@ -29,7 +29,21 @@ fn add(units: &mut UnitAnswers, site: Site, outcome: Outcome) -> Result<(), Allo
     requires few { length units.old < 100 }
     ensures one { OnOk result (length units.new ≡ length units.old + 1) }
 {
+    let name = name_of(&site);
+    add_named(units, name, site, outcome)
+}
+
+fn add_named(
+    units: &mut UnitAnswers,
+    name: UnitName,
+    site: Site,
+    outcome: Outcome,
+) -> Result<(), AllocError>
+    requires few { length units.old < 100 }
+    ensures one { OnOk result (length units.new ≡ length units.old + 1) }
+{
     units.push(UnitAnswer {
+        name,
         site,
         drawn: 12,
         outcome,
@@ -201,6 +215,38 @@ fn sulfoxide(alloc: Global) -> Result<Answer, AllocError> {
     )
 }
 
+// Hexa-2,3,4-triene, drawn as a double bond is, and a biaryl axis.
+fn further(alloc: Global) -> Result<Answer, AllocError> {
+    let mut units = UnitAnswers::new(alloc);
+    let chain = Site::Bond {
+        a: 1,
+        b: 4,
+        first: two(alloc, (Ligand::Vertex(0), HYDROGEN)),
+        second: two(alloc, (Ligand::Vertex(5), HYDROGEN)),
+    };
+    let axis = Site::Axis {
+        a: 0,
+        middle: 0,
+        b: 6,
+        first: two(alloc, (Ligand::Vertex(1), Ligand::Vertex(5))),
+        second: two(alloc, (Ligand::Vertex(7), Ligand::Vertex(11))),
+    };
+    let order = (0, 1, 0, 1);
+    add_named(
+        &mut units,
+        UnitName::Cumulene(1, 4),
+        chain,
+        ordered(alloc, Descriptor::Z, Rule::R1a, 1, order),
+    )?;
+    add_named(
+        &mut units,
+        UnitName::Biaryl(6, 0),
+        axis,
+        ordered(alloc, Descriptor::P, Rule::R1a, 2, order),
+    )?;
+    Ok(Answer::Labelled(units))
+}
+
 // But-2-ene, and 1,3-dichloropropadiene.
 fn ends(alloc: Global) -> Result<Answer, AllocError> {
     let mut units = UnitAnswers::new(alloc);
@@ -248,6 +294,9 @@ b2-3 Z 1a 1 order 1 H | 4 H
 x1-3 M 1a 1 order 4 H | 5 H
 a4 tie
 a5 over
+record 6
+c2-5 Z 1a 1 order 1 H | 6 H
+t1-7 P 1a 2 order 2 6 | 8 12
 ";
 
 #[test]
@@ -268,6 +317,7 @@ fn units_are_told_with_their_ligands_or_the_reason(rt: HostRuntime) -> Result<()
     text.extend_from_slice(&explain_text(alloc, &reentrant, 3)?)?;
     text.extend_from_slice(&explain_text(alloc, &refused, 4)?)?;
     text.extend_from_slice(&explain_text(alloc, &ends(alloc)?, u64::MAX)?)?;
+    text.extend_from_slice(&explain_text(alloc, &further(alloc)?, 6)?)?;
     assert_eq!(rt; text.as_slice(), EXPLAINED);
 
     let mut tally = Tally::new();

@@ -7,7 +7,6 @@ ghost use Rattle.cip_print.specs.Values.{year_text, settings_line, outcome_line,
 
 use crate::answer::{Answer, UnitAnswer, UnitAnswers};
 use crate::labels::ordered_label;
-use crate::naming::name_of;
 use crate::refusals::refusal;
 use cip_item::Texts;
 use cip_mol::Outcome;
@@ -97,7 +96,7 @@ fn value_of(alloc: Global, unit: &UnitAnswer) -> Result<Option<Vec<u8>>, AllocEr
     match &unit.outcome {
         Outcome::Label(label) => Ok(Some(ordered_label(alloc, unit, label)?)),
         Outcome::Over => {
-            let name = name_of(&unit.site);
+            let name = unit.name;
             Ok(Some(format!(in alloc; "{name} over")?.into_bytes()))
         }
         Outcome::Tie | Outcome::NoGeometry(_) => Ok(None),

@@ -10,7 +10,8 @@ use Rattle.cip_v2000.specs.BondLine.{bond_of}
 use Rattle.cip_v2000.specs.CountsLine.{counts_of}
 use Rattle.cip_reading.specs.Fields.{number_in, signed_in}
 use Rattle.cip_v2000.specs.Grammar.{molecule_of, pairs_from}
-use Rattle.cip_v2000.specs.PropertyLines.{words_of, pair_of, pair_at, pairs_with}
+use Rattle.cip_reading.specs.Spaces.{spaced_words_of}
+use Rattle.cip_v2000.specs.PropertyLines.{pair_of, pair_at, pairs_with}
 use Rattle.cip_reading.specs.Reading.{read_at, in_turn, through}
 use Rattle.cip_v2000.specs.Statements.{settled}
 use Rattle.cip_rank.specs.Comparison.{comparison, sets}
@@ -28,7 +29,7 @@ use Rattle.cip_record.specs.Worked.{AreAnswered}
 
 pub worked_answers : AreAnswered
 unfolding answer_without_items molecule_of pairs_from read_at in_turn through counts_of atom_of bond_of pairs_with
-    words_of pair_of pair_at settled number_in signed_in integer_of decimal4_of element_of reference_mass_of natural_half_of
+    spaced_words_of pair_of pair_at settled number_in signed_in integer_of decimal4_of element_of reference_mass_of natural_half_of
     valences_of cause_of graph_of positions_of sites_of real_children view_children comparison sets rule_1a rule_1b rule_2
     rule_3 rule_4a readings rule_4b_higher rule_4b_lower rule_4c rule_5 order marks_within outcome_of
 worked_answers = record {

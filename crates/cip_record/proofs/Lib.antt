@@ -1,4 +1,4 @@
 pub mod Answered
-pub mod FewUnits
+pub mod LinesBehind
 pub mod Overs
 pub mod UnitLists

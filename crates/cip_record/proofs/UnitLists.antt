@@ -1,13 +1,14 @@
 -- Units with their outcomes, one after the other.
-use Rattle.std.proofs.Common.{◌≡◌, ◌<◌, ◌^◌, ◌+◌, ◌-◌, ◌++◌, ◌∷◌, ◌∙◌, [], ℕ, zero, suc, List, Some, ap, arith, length, refl, sym, map, take, slice_get, slice_index_or}
+use Rattle.std.proofs.Common.{◌≡◌, ◌<◌, ◌^◌, ◌+◌, ◌-◌, ◌++◌, ◌∷◌, ◌∙◌, [], ℕ, zero, suc, List, Some, ap, arith, length, sym, map, take, slice_get, slice_index_or}
 use Rattle.std.proofs.lemmas.Grind.{common_steps}
 use Rattle.std.proofs.lemmas.List.{length-map, length-take, take_more, map-append}
 use Rattle.std.proofs.lemmas.Option.{get_or_from_slice_get, slice_get_within}
 use Rattle.cip_mol.specs.declared.outcome.Outcome.{Outcome}
-use Rattle.cip_mol.specs.declared.site.Geometry.{Geometry}
 use Rattle.cip_mol.specs.declared.site.Site.{Site}
 use Rattle.cip_mol.specs.declared.site.Unit.{Unit}
+use Rattle.cip_print.specs.Naming.{name_of}
 use Rattle.cip_print.specs.declared.answer.UnitAnswer.{UnitAnswer}
+use Rattle.cip_print.specs.declared.naming.UnitName.{UnitName}
 use Rattle.cip_label.specs.Settings.{Setting, outcome_in}
 use Rattle.cip_record.specs.Answers.{unit_answer}
 
@@ -49,28 +50,18 @@ module _ (setting : Setting) (bound : ℕ) where
 
   -- the next unit is the one whose place is the number of answers
   pub next_unit : (now count : ℕ) (answers : List UnitAnswer) (place : ℕ) (listed : List Unit) (unit : Unit)
-      (site : Site)
-      (drawn : ℕ) (outcome : Outcome) → answers ≡ map answered (take place setting.units) →
+      (name : UnitName) (site : Site) (drawn : ℕ) (outcome : Outcome) → answers ≡ map answered (take place setting.units) →
       place < length setting.units → listed ≡ setting.units → unit ≡ slice_index_or listed place unit →
-      count ≡ length answers → site ≡ unit.site → drawn ≡ setting.graph.drawn → now ≡ bound →
+      count ≡ length answers → name ≡ name_of unit.site → site ≡ unit.site → drawn ≡ setting.graph.drawn → now ≡ bound →
       ((u : Unit) → slice_get setting.units count ≡ Some u → outcome ≡ outcome_in setting now u) →
-      answers ++ record { site = site; drawn = drawn; outcome = outcome } ∷ []
+      answers ++ record { name = name; site = site; drawn = drawn; outcome = outcome } ∷ []
       ≡ map answered (take (place + 1) setting.units)
-  next_unit now count answers place listed unit site drawn outcome so_far within all is number same graph_drawn kept
-      found =
+  next_unit now count answers place listed unit name site drawn outcome so_far within all is number named same
+      graph_drawn kept found =
       let at : slice_get setting.units place ≡ Some unit =
       slice_get_from setting.units place unit within (is ∙ ap (λ us. slice_index_or us place unit) all) in
       let here : count ≡ place = number ∙ counted answered answers setting.units place so_far within in
       let outcomes : outcome ≡ outcome_in setting bound unit =
       found unit (ap (slice_get setting.units) here ∙ at) ∙ ap (λ n. outcome_in setting n unit) kept in
       one_more answered answers setting.units place unit _ so_far at
-      (λ k. record { site = same k; drawn = graph_drawn k; outcome = outcomes k })
-
--- the sites of units are those of which they were made
-abbrev unit_of : (Site → Geometry) → Site → Unit
-unit_of geometry site = record { site = site; geometry = geometry site }
-
-pub sites_kept : (geometry : Site → Geometry) (sites : List Site) →
-    map (λ unit. unit.site) (map (unit_of geometry) sites) ≡ sites
-sites_kept geometry [] = refl
-sites_kept geometry (site ∷ sites) = ap (λ rest. site ∷ rest) (sites_kept geometry sites)
+      (λ k. record { name = named k; site = same k; drawn = graph_drawn k; outcome = outcomes k })

@@ -19,12 +19,14 @@ use Rattle.cip_digraph.specs.units.Units.{units_of}
 use Rattle.cip_print.specs.declared.answer.Answer.{Answer}
 use Rattle.cip_print.specs.declared.answer.Answer.TheVariants.{Labelled, Refused}
 use Rattle.cip_print.specs.declared.answer.UnitAnswer.{UnitAnswer}
-use Rattle.cip_record.specs.Molecules.{read_molecule}
+use Rattle.cip_print.specs.Naming.{name_of}
+use Rattle.cip_molfile.specs.Molecules.{read_molecule}
 
 module _ (rules : Rules) (nodes : ℕ) where
   -- a unit of a graph with its outcome; `nodes` bounds each of its digraphs
   abbrev pub unit_answer : Graph → List (List ℕ) → List units.Unit → units.Unit → UnitAnswer
   unit_answer graph positions all unit = record {
+    name = name_of unit.site;
     site = unit.site;
     drawn = graph.drawn;
     outcome = outcome_of rules graph positions all nodes unit;

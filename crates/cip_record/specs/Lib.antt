@@ -1,5 +1,5 @@
 pub mod Answers
-pub mod Molecules
+pub mod Laws
 pub mod Worked
 pub mod WorkedLabels
 pub mod WorkedRecords

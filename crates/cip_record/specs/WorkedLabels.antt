@@ -9,7 +9,7 @@ use Rattle.cip_print.specs.declared.answer.Answer.{Answer}
 use Rattle.cip_print.specs.declared.answer.Answer.TheVariants.{Labelled, Refused}
 use Rattle.cip_print.specs.declared.answer.UnitAnswer.{UnitAnswer}
 use Rattle.cip_print.specs.Labels.{label_line}
-use Rattle.cip_print.specs.Naming.{unit_name}
+use Rattle.cip_print.specs.Naming.{name_text}
 use Rattle.cip_record.specs.Answers.{answer_by}
 use Rattle.cip_record.specs.WorkedRecords as records
 
@@ -18,7 +18,7 @@ abbrev pub label_of : UnitAnswer → Option (List ℕ)
 label_of unit = by_outcome unit.outcome
   where
     by_outcome : Outcome → Option (List ℕ)
-    by_outcome (Label label) = Some (label_line (unit_name unit.site) label)
+    by_outcome (Label label) = Some (label_line (name_text unit.name) label)
     by_outcome Tie = None
     by_outcome Over = None
     by_outcome (NoGeometry cause) = None

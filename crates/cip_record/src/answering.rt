@@ -2,8 +2,6 @@
 ghost use Rattle.std.specs.Prelude.{◌≡◌, ◌≤◌, ◌<◌, ◌-◌, ◌^◌, IfOk, length};
 ghost use Rattle.std.specs.List.{list_any};
 ghost use Rattle.cip_text.specs.Slices.{texts};
-ghost use Rattle.cip_reading.specs.Reading.{Gives};
-ghost use Rattle.cip_record.specs.Molecules.{read_molecule};
 ghost use Rattle.cip_record.specs.Answers.{
   answer_by,
   answer_lines,
@@ -20,11 +18,11 @@ use cip_item::without_label_items;
 use cip_label::{Labeller, Setting};
 use cip_mancude::positions;
 use cip_mol::{Molecule, Outcome, ReadRefusal};
+use cip_molfile::read_molecule;
 use cip_print::{Answer, UnitAnswers};
 use cip_rank::Rules;
 use cip_text::RecordLines;
 use cip_unit::units;
-use cip_v2000::is_v3000;
 use std::alloc::{AllocError, Global};
 
 /// Memory in which records are answered, one after the other.
@@ -91,18 +89,6 @@ fn answer_lines(
         Ok(molecule) => answer_molecule(alloc, labeller, &molecule, rules),
         Err(ReadRefusal::Fault(fault)) => Ok(Answer::Refused(fault)),
         Err(ReadRefusal::Memory) => Err(AllocError),
-    }
-}
-
-// The molecule of the lines, in either version.
-fn read_molecule(alloc: Global, lines: &[&[u8]]) -> Result<Molecule, ReadRefusal>
-    requires { length lines.now < 2 ^ 32 - 1 }
-    ensures { Gives (λ molecule. molecule) result (read_molecule (texts lines.now)) }
-{
-    if is_v3000(lines) {
-        cip_v3000::read_lines(alloc, lines)
-    } else {
-        cip_v2000::read_lines(alloc, lines)
     }
 }
 

@@ -8,4 +8,7 @@ mod tests;
 mod units;
 
 pub use answering::{RecordLabeller, is_flagged, label_record, label_within};
-pub use laws::{worked_records_are_answered, worked_records_have_labels};
+pub use cip_molfile::read_molecule;
+pub use laws::{
+    lines_behind_change_nothing, worked_records_are_answered, worked_records_have_labels,
+};

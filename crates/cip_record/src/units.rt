@@ -4,8 +4,7 @@ ghost use Rattle.cip_record.specs.Answers.{unit_answers};
 
 use crate::answering::RecordLabeller;
 use cip_label::Setting;
-use cip_mol::{Ligands, Site};
-use cip_print::{UnitAnswer, UnitAnswers};
+use cip_print::{UnitAnswer, UnitAnswers, name_of};
 use cip_steps::Steps;
 use std::alloc::{AllocError, Global};
 use std::marker::Brand;
@@ -48,55 +47,11 @@ fn label_counted<L: Ledger>(
     for unit in units {
         let outcome = labeller.label(alloc, setting, answers.len(), &mut steps)?;
         answers.push(UnitAnswer {
-            site: copy_site(alloc, &unit.site),
+            name: name_of(&unit.site),
+            site: unit.site.copy(alloc),
             drawn: setting.graph().drawn(),
             outcome,
         })?;
     }
     Ok(answers)
-}
-
-fn copy_site(alloc: Global, site: &Site) -> Site
-    ensures { result ≡ site.now }
-{
-    match site {
-        Site::Centre { at, ligands } => Site::Centre {
-            at: *at,
-            ligands: copy_ligands(alloc, ligands),
-        },
-        Site::Bond {
-            a,
-            b,
-            first,
-            second,
-        } => Site::Bond {
-            a: *a,
-            b: *b,
-            first: copy_ligands(alloc, first),
-            second: copy_ligands(alloc, second),
-        },
-        Site::Axis {
-            a,
-            middle,
-            b,
-            first,
-            second,
-        } => Site::Axis {
-            a: *a,
-            middle: *middle,
-            b: *b,
-            first: copy_ligands(alloc, first),
-            second: copy_ligands(alloc, second),
-        },
-    }
-}
-
-fn copy_ligands(alloc: Global, ligands: &Ligands) -> Ligands
-    ensures { result ≡ ligands.now }
-{
-    let mut copy = Ligands::new(alloc);
-    for ligand in ligands.as_slice() {
-        copy.push(*ligand);
-    }
-    copy
 }

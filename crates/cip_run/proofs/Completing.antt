@@ -9,16 +9,18 @@ use Rattle.cip_stream.specs.Endings.{Grew, IsLimited}
 use Rattle.cip_stream.specs.Limits.{limit_place}
 use Rattle.cip_stream.specs.Manner.{Manner}
 use Rattle.cip_words.specs.declared.settings.Settings.TheVariants as asked
-use Rattle.cip_run.specs.declared.status.TheConstants.{DONE, FLAGGED, OUT_OF_MEMORY}
+use Rattle.cip_run.specs.declared.status.TheConstants.{DONE, FLAGGED, OUT_OF_MEMORY, NOT_CHANGED}
+use Rattle.cip_run.specs.declared.asked.Task.{Task}
+use Rattle.cip_run.specs.declared.ending.Note.{Note}
 use Rattle.cip_run.specs.Completeness.{NeverFails, ReadsWell, RunsComplete}
-use Rattle.cip_run.specs.Statuses.{MeansOfHelp, MeansOfMaking, MeansOfReading, MeansOfTrying, Stream, Streams}
-use Rattle.cip_run.proofs.Meanings.{by_helping, by_making, by_reading, by_trying}
+use Rattle.cip_run.specs.Statuses.{MeansOfChanging, MeansOfHelp, MeansOfMaking, MeansOfReading, MeansOfTrying, Stream, Streams}
+use Rattle.cip_run.proofs.Meanings.{by_changing, by_helping, by_making, by_reading, by_trying}
 
 abbrev Ends : ℕ → Type 0
 Ends status = Contains (DONE ∷ FLAGGED ∷ OUT_OF_MEMORY ∷ []) status
 
 -- no limit is passed where none is
-within_limits : (manner : Manner) (limits : Limits) (left old new : Option (List ℕ)) → IsSome left
+within_limits : (manner : Manner Note) (limits : Limits) (left old new : Option (List ℕ)) → IsSome left
     → IfSome left (λ bytes. limit_place limits bytes ≡ None)
     → IfSome left (λ bytes. Grew (IsLimited limits bytes) (due manner limits bytes) old new) → ⊥
 within_limits manner limits None old new told within over = absurd (cc)
@@ -26,7 +28,7 @@ within_limits manner limits (Some bytes) old new told within over =
     let passed : true ≡ false = sym over.holds ∙ ap is_some within in
     absurd (cc)
 
-reading_completes : (manner : Manner) (limits : Limits) (status : ℕ) (old new : Streams)
+reading_completes : (manner : Manner Note) (limits : Limits) (status : ℕ) (old new : Streams)
     → MeansOfReading manner limits status old new → NeverFails old.sink new.sink
     → ReadsWell limits old.source new.source → Ends status
 reading_completes manner limits status old new meant written read =
@@ -36,6 +38,20 @@ reading_completes manner limits status old new meant written read =
     (λ is. absurd (within_limits manner limits old.source.bytes old.sink.bytes new.sink.bytes read.told read.within
     (meant.limit is)))
     meant.comes refl
+
+abbrev ChangesEnd : ℕ → Type 0
+ChangesEnd status = Contains (DONE ∷ FLAGGED ∷ OUT_OF_MEMORY ∷ NOT_CHANGED ∷ []) status
+
+changing_completes : (task : Task) (manner : Manner Note) (limits : Limits) (status : ℕ) (old new : Streams)
+    → MeansOfChanging task manner limits status old new → NeverFails old.sink new.sink
+    → ReadsWell limits old.source new.source → ChangesEnd status
+changing_completes task manner limits status old new meant written read =
+    by_changing (λ s. status ≡ s → ChangesEnd s) status (λ is. (0, omega arith, refl)) (λ is. (1, omega arith, refl))
+    (λ is. absurd (read.reads (meant.read_fault is).cause)) (λ is. absurd (written (meant.write_fault is).cause))
+    (λ is. (2, omega arith, refl))
+    (λ is. absurd (within_limits manner limits old.source.bytes old.sink.bytes new.sink.bytes read.told read.within
+    (meant.limit is)))
+    (λ is. (3, omega arith, refl)) meant.comes refl
 
 making_completes : (start records status : ℕ) (old new : Stream) → MeansOfMaking start records status old new
     → NeverFails old new → Contains (DONE ∷ OUT_OF_MEMORY ∷ []) status
@@ -63,4 +79,12 @@ complete (asked.Make start records) limits status old new meant written =
     making_completes start records status old.sink new.sink meant written
 complete (asked.Trial start records nodes workers rules) limits status old new meant written =
     trying_completes _ status old.sink new.sink meant written
+complete (asked.Set number atom letter nodes workers rules) limits status old new meant written =
+    λ read. changing_completes _ _ limits status old new meant written read
+complete (asked.Mirror nodes workers rules) limits status old new meant written =
+    λ read. changing_completes _ _ limits status old new meant written read
+complete (asked.Groups nodes workers rules) limits status old new meant written =
+    λ read. reading_completes _ limits status old new meant written read
+complete (asked.Axes nodes workers rules) limits status old new meant written =
+    λ read. reading_completes _ limits status old new meant written read
 complete asked.Help limits status old new meant written = helping_completes status old.sink new.sink meant written

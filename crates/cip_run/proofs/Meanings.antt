@@ -5,7 +5,7 @@ use Rattle.std.specs.List.{slice_index_or}
 use Rattle.cip_stream.specs.declared.limits.Limits.{Limits}
 use Rattle.cip_words.specs.declared.settings.Settings.{Settings}
 use Rattle.cip_words.specs.declared.settings.Settings.TheVariants as asked
-use Rattle.cip_run.specs.declared.status.TheConstants.{DONE, FLAGGED, WORDS_REFUSED, READ_FAULT, WRITE_FAULT, OUT_OF_MEMORY, LIMIT}
+use Rattle.cip_run.specs.declared.status.TheConstants.{DONE, FLAGGED, WORDS_REFUSED, READ_FAULT, WRITE_FAULT, OUT_OF_MEMORY, LIMIT, NOT_CHANGED}
 use Rattle.cip_run.specs.Runs.{IsStatus}
 use Rattle.cip_run.specs.Statuses.{Means, Streams}
 
@@ -32,6 +32,13 @@ by_reading P status done flagged read write memory limit =
     each P (DONE ∷ FLAGGED ∷ READ_FAULT ∷ WRITE_FAULT ∷ OUT_OF_MEMORY ∷ LIMIT ∷ []) status
     (done, (flagged, (read, (write, (memory, (limit, tt))))))
 
+pub by_changing : (P : ℕ → Type 0) (status : ℕ) → P DONE → P FLAGGED → P READ_FAULT → P WRITE_FAULT → P OUT_OF_MEMORY
+    → P LIMIT → P NOT_CHANGED
+    → Contains (DONE ∷ FLAGGED ∷ READ_FAULT ∷ WRITE_FAULT ∷ OUT_OF_MEMORY ∷ LIMIT ∷ NOT_CHANGED ∷ []) status → P status
+by_changing P status done flagged read write memory limit missed =
+    each P (DONE ∷ FLAGGED ∷ READ_FAULT ∷ WRITE_FAULT ∷ OUT_OF_MEMORY ∷ LIMIT ∷ NOT_CHANGED ∷ []) status
+    (done, (flagged, (read, (write, (memory, (limit, (missed, tt)))))))
+
 pub by_making : (P : ℕ → Type 0) (status : ℕ) → P DONE → P WRITE_FAULT → P OUT_OF_MEMORY
     → Contains (DONE ∷ WRITE_FAULT ∷ OUT_OF_MEMORY ∷ []) status → P status
 by_making P status done write memory =
@@ -46,37 +53,38 @@ pub by_helping : (P : ℕ → Type 0) (status : ℕ) → P DONE → P WRITE_FAUL
     → P status
 by_helping P status done write = each P (DONE ∷ WRITE_FAULT ∷ []) status (done, (write, tt))
 
-pub by_end : (P : ℕ → Type 0) (status : ℕ) → P DONE → P FLAGGED → Contains (DONE ∷ FLAGGED ∷ []) status → P status
-by_end P status done flagged = each P (DONE ∷ FLAGGED ∷ []) status (done, (flagged, tt))
+pub by_end : (P : ℕ → Type 0) (status : ℕ) → P DONE → P FLAGGED → P NOT_CHANGED
+    → Contains (DONE ∷ FLAGGED ∷ NOT_CHANGED ∷ []) status → P status
+by_end P status done flagged missed =
+    each P (DONE ∷ FLAGGED ∷ NOT_CHANGED ∷ []) status (done, (flagged, (missed, tt)))
 
 by_command : (P : ℕ → Type 0) → P DONE → P FLAGGED → P READ_FAULT → P WRITE_FAULT → P OUT_OF_MEMORY → P LIMIT
-    → (settings : Settings) (limits : Limits) (status : ℕ) (old new : Streams)
+    → P NOT_CHANGED → (settings : Settings) (limits : Limits) (status : ℕ) (old new : Streams)
     → Means (Some settings) limits status old new → P status
-by_command P done flagged read write memory limit (asked.Annotate nodes workers rules) limits status old new meant =
+by_command P done flagged read write memory limit missed (asked.Annotate nodes workers rules) limits status old new meant =
     by_reading P status done flagged read write memory limit meant.comes
-by_command P done flagged read write memory limit (asked.Explain nodes workers rules) limits status old new meant =
+by_command P done flagged read write memory limit missed (asked.Explain nodes workers rules) limits status old new meant =
     by_reading P status done flagged read write memory limit meant.comes
-by_command P done flagged read write memory limit (asked.Make start records) limits status old new meant =
+by_command P done flagged read write memory limit missed (asked.Make start records) limits status old new meant =
     by_making P status done write memory meant.comes
-by_command P done flagged read write memory limit (asked.Trial start records nodes workers rules) limits status old new
+by_command P done flagged read write memory limit missed (asked.Trial start records nodes workers rules) limits status old new
     meant = by_trying P status done flagged write memory meant.comes
-by_command P done flagged read write memory limit asked.Help limits status old new meant =
+by_command P done flagged read write memory limit missed (asked.Set number atom letter nodes workers rules) limits status
+    old new meant = by_changing P status done flagged read write memory limit missed meant.comes
+by_command P done flagged read write memory limit missed (asked.Mirror nodes workers rules) limits status old new meant =
+    by_changing P status done flagged read write memory limit missed meant.comes
+by_command P done flagged read write memory limit missed (asked.Groups nodes workers rules) limits status old new meant =
+    by_reading P status done flagged read write memory limit meant.comes
+by_command P done flagged read write memory limit missed (asked.Axes nodes workers rules) limits status old new meant =
+    by_reading P status done flagged read write memory limit meant.comes
+by_command P done flagged read write memory limit missed asked.Help limits status old new meant =
     by_helping P status done write meant.comes
-
--- the statuses of a run
-
-pub is_status : (settings : Option Settings) (limits : Limits) (status : ℕ) (old new : Streams)
-    → Means settings limits status old new → IsStatus status
-is_status None limits status old new meant = subst IsStatus (sym meant) (2, omega arith, refl)
-is_status (Some settings) limits status old new meant =
-    by_command IsStatus (0, omega arith, refl) (1, omega arith, refl) (3, omega arith, refl) (4, omega arith, refl)
-    (5, omega arith, refl) (6, omega arith, refl) settings limits status old new meant
 
 accepted : (settings : Settings) (limits : Limits) (status : ℕ) (old new : Streams)
     → Means (Some settings) limits status old new → status ≡ WORDS_REFUSED → ⊥
 accepted settings limits status old new meant =
     by_command (λ s. s ≡ WORDS_REFUSED → ⊥) (λ is. omega (arith, is)) (λ is. omega (arith, is)) (λ is. omega (arith, is))
-    (λ is. omega (arith, is)) (λ is. omega (arith, is)) (λ is. omega (arith, is)) settings limits status old new meant
+    (λ is. omega (arith, is)) (λ is. omega (arith, is)) (λ is. omega (arith, is)) (λ is. omega (arith, is)) settings limits status old new meant
 
 -- words are refused exactly where they ask for nothing
 pub refused : (settings : Option Settings) (limits : Limits) (status : ℕ) (old new : Streams)

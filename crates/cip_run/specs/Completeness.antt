@@ -5,7 +5,7 @@ use Rattle.cip_stream.specs.declared.limits.Limits.{Limits}
 use Rattle.cip_stream.specs.Limits.{limit_place}
 use Rattle.cip_words.specs.declared.settings.Settings.{Settings}
 use Rattle.cip_words.specs.declared.settings.Settings.TheVariants as asked
-use Rattle.cip_run.specs.declared.status.TheConstants.{DONE, FLAGGED, OUT_OF_MEMORY}
+use Rattle.cip_run.specs.declared.status.TheConstants.{DONE, FLAGGED, OUT_OF_MEMORY, NOT_CHANGED}
 use Rattle.cip_run.specs.Statuses.{Means, Stream, Streams}
 
 abbrev pub NeverFails : Stream → Stream → Type 0
@@ -26,6 +26,14 @@ Completes (asked.Explain nodes workers rules) limits status old new =
 Completes (asked.Make start records) limits status old new = Contains (DONE ∷ OUT_OF_MEMORY ∷ []) status
 Completes (asked.Trial start records nodes workers rules) limits status old new =
     Contains (DONE ∷ FLAGGED ∷ OUT_OF_MEMORY ∷ []) status
+Completes (asked.Set number atom letter nodes workers rules) limits status old new =
+    ReadsWell limits old.source new.source → Contains (DONE ∷ FLAGGED ∷ OUT_OF_MEMORY ∷ NOT_CHANGED ∷ []) status
+Completes (asked.Mirror nodes workers rules) limits status old new =
+    ReadsWell limits old.source new.source → Contains (DONE ∷ FLAGGED ∷ OUT_OF_MEMORY ∷ NOT_CHANGED ∷ []) status
+Completes (asked.Groups nodes workers rules) limits status old new =
+    ReadsWell limits old.source new.source → Contains (DONE ∷ FLAGGED ∷ OUT_OF_MEMORY ∷ []) status
+Completes (asked.Axes nodes workers rules) limits status old new =
+    ReadsWell limits old.source new.source → Contains (DONE ∷ FLAGGED ∷ OUT_OF_MEMORY ∷ []) status
 Completes asked.Help limits status old new = status ≡ DONE
 
 abbrev pub RunsComplete : Type 0

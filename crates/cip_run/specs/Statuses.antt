@@ -1,21 +1,28 @@
 -- What each exit status of a run means. Own.
-use Rattle.std.specs.Prelude.{◌≡◌, ℕ, List, [], ◌∷◌, Bool, true, false, Some, None, IfSome, Contains}
+use Rattle.std.specs.Prelude.{◌≡◌, ℕ, List, [], ◌∷◌, Bool, true, false, Some, None, IfSome, IsSome, Contains}
 use Rattle.std.specs.declared.option.Option.{Option}
 use Rattle.std.specs.Io.KnownBytes.{Appends, IsAtEnd}
 use Rattle.cip_io.specs.Faults.{Rose}
 use Rattle.cip_io.specs.Growth.{AppendsPrefix}
 use Rattle.cip_print.specs.declared.answer.Answer.{Answer}
 use Rattle.cip_stream.specs.declared.limits.Limits.{Limits}
-use Rattle.cip_stream.specs.Due.{due}
-use Rattle.cip_stream.specs.Endings.{AnswersTaken, Grew, GrewTo, IsLimited, IsWhole}
-use Rattle.cip_stream.specs.Limits.{answered}
+use Rattle.cip_stream.specs.Due.{due, verdict_of}
+use Rattle.cip_stream.specs.Endings.{AnswersTaken, Grew, GrewTo, IsLimited}
+use Rattle.cip_stream.specs.Limits.{answered, limit_place}
 use Rattle.cip_stream.specs.Manner.{Manner}
+use Rattle.cip_stream.specs.declared.verdict.Verdict.{Verdict}
 use Rattle.cip_words.specs.declared.settings.Settings.{Settings}
 use Rattle.cip_words.specs.declared.settings.Settings.TheVariants as asked
 use Rattle.cip_words.specs.Help.{help}
-use Rattle.cip_run.specs.declared.status.TheConstants.{DONE, FLAGGED, WORDS_REFUSED, READ_FAULT, WRITE_FAULT, OUT_OF_MEMORY, LIMIT}
+use Rattle.cip_run.specs.declared.status.TheConstants.{DONE, FLAGGED, WORDS_REFUSED, READ_FAULT, WRITE_FAULT, OUT_OF_MEMORY, LIMIT, NOT_CHANGED}
+use Rattle.cip_run.specs.declared.asked.Task.{Task}
+use Rattle.cip_run.specs.declared.asked.Task.TheVariants as tasks
+use Rattle.cip_run.specs.declared.ending.Ending.{Ending}
+use Rattle.cip_run.specs.declared.ending.Ending.TheVariants as endings
+use Rattle.cip_run.specs.declared.ending.Note.{Note}
+use Rattle.cip_run.specs.Endings.{ending_of, missed}
 use Rattle.cip_run.specs.Making.{GrewByMade, made_text}
-use Rattle.cip_run.specs.Telling.{annotating, explaining}
+use Rattle.cip_run.specs.Telling.{annotating, explaining, grouping, mirroring, seeking, setting}
 use Rattle.cip_run.specs.Trying.{made_answers, some_flagged, summary}
 
 -- A source or a sink at one time: the bytes that it has left or took, where it tells them, and how many of its calls
@@ -43,44 +50,82 @@ pub record BreaksOff (text : List ℕ) (old new : Stream) : Type 0 where
 
 -- commands that read
 
--- the whole source was taken, no limit is passed, and the sink grew by the text that is due
-pub record IsDone (manner : Manner) (limits : Limits) (flagged : Bool) (old new : Streams) : Type 0 where
+-- no limit is passed by these bytes, and this holds of what their records add to the end of a run
+pub record AllAdd (manner : Manner Note) (limits : Limits) (P : Verdict Note → Type 0) (bytes : List ℕ) : Type 0 where
+  pub unlimited : limit_place limits bytes ≡ None
+  pub holds : P (verdict_of manner (answered limits bytes))
+
+-- the whole source was taken, no limit is passed, and the sink grew by the text that is due; this holds of what the
+-- records add
+pub record IsDone (manner : Manner Note) (limits : Limits) (P : Verdict Note → Type 0) (old new : Streams) : Type 0 where
   pub end : IsAtEnd new.source.bytes
   pub written : IfSome old.source.bytes
-      (λ bytes. Grew (IsWhole manner limits flagged bytes) (due manner limits bytes) old.sink.bytes new.sink.bytes)
+      (λ bytes. Grew (AllAdd manner limits P bytes) (due manner limits bytes) old.sink.bytes new.sink.bytes)
+
+-- this says whether a record is flagged
+abbrev pub Flags : Bool → Verdict Note → Type 0
+Flags flagged verdict = verdict.flagged ≡ flagged
 
 -- the source failed, within the limits, and the sink grew by the texts of the records that were closed before
-pub record IsReadFault (manner : Manner) (limits : Limits) (old new : Streams) : Type 0 where
+pub record IsReadFault (manner : Manner Note) (limits : Limits) (old new : Streams) : Type 0 where
   pub cause : Rose old.source.faults new.source.faults
   pub written : AnswersTaken manner limits old.source.bytes new.source.bytes old.sink.bytes new.sink.bytes
 
 -- the sink failed, and took a front of the text that is due
-pub record IsWriteFault (manner : Manner) (limits : Limits) (old new : Streams) : Type 0 where
+pub record IsWriteFault (manner : Manner Note) (limits : Limits) (old new : Streams) : Type 0 where
   pub cause : Rose old.sink.faults new.sink.faults
   pub written : IfSome old.source.bytes
       (λ bytes. AppendsPrefix old.sink.bytes new.sink.bytes (due manner limits bytes))
 
 -- the sink grew by the texts of the first records, however many
-abbrev pub IsOutOfMemory : Manner → Limits → Streams → Streams → Type 0
+abbrev pub IsOutOfMemory : Manner Note → Limits → Streams → Streams → Type 0
 IsOutOfMemory manner limits old new =
     IfSome old.source.bytes (λ bytes. GrewTo manner (answered limits bytes) old.sink.bytes new.sink.bytes)
 
 -- a limit is passed, and the sink grew by the texts of the records before it
-abbrev pub IsOverLimit : Manner → Limits → Streams → Streams → Type 0
+abbrev pub IsOverLimit : Manner Note → Limits → Streams → Streams → Type 0
 IsOverLimit manner limits old new = IfSome old.source.bytes
     (λ bytes. Grew (IsLimited limits bytes) (due manner limits bytes) old.sink.bytes new.sink.bytes)
 
 -- A line for each status, by what the words ask for.
 
--- `annotate` and `explain`: what is told of the records of the source
-pub record MeansOfReading (manner : Manner) (limits : Limits) (status : ℕ) (old new : Streams) : Type 0 where
+-- `annotate`, `explain`, `groups` and `axes`: what is told of the records of the source
+pub record MeansOfReading (manner : Manner Note) (limits : Limits) (status : ℕ) (old new : Streams) : Type 0 where
   pub comes : Contains (DONE ∷ FLAGGED ∷ READ_FAULT ∷ WRITE_FAULT ∷ OUT_OF_MEMORY ∷ LIMIT ∷ []) status
-  pub done : status ≡ DONE → IsDone manner limits false old new
-  pub flagged : status ≡ FLAGGED → IsDone manner limits true old new
+  pub done : status ≡ DONE → IsDone manner limits (Flags false) old new
+  pub flagged : status ≡ FLAGGED → IsDone manner limits (Flags true) old new
   pub read_fault : status ≡ READ_FAULT → IsReadFault manner limits old new
   pub write_fault : status ≡ WRITE_FAULT → IsWriteFault manner limits old new
   pub out_of_memory : status ≡ OUT_OF_MEMORY → IsOutOfMemory manner limits old new
   pub limit : status ≡ LIMIT → IsOverLimit manner limits old new
+
+-- this is how a run ends that changes records
+abbrev pub EndsSo : Task → Ending → Verdict Note → Type 0
+EndsSo task ending verdict = ending_of task verdict ≡ ending
+
+-- `set` and `mirror`: the records of the source, changed; or not all that was to be changed was
+pub record MeansOfChanging (task : Task) (manner : Manner Note) (limits : Limits) (status : ℕ) (old new : Streams)
+    : Type 0 where
+  pub comes : Contains
+      (DONE ∷ FLAGGED ∷ READ_FAULT ∷ WRITE_FAULT ∷ OUT_OF_MEMORY ∷ LIMIT ∷ NOT_CHANGED ∷ []) status
+  pub done : status ≡ DONE → IsDone manner limits (EndsSo task endings.Done) old new
+  pub flagged : status ≡ FLAGGED → IsDone manner limits (EndsSo task endings.Flagged) old new
+  pub not_changed : status ≡ NOT_CHANGED
+      → IsDone manner limits (λ verdict. IsSome (missed task verdict.note)) old new
+  pub read_fault : status ≡ READ_FAULT → IsReadFault manner limits old new
+  pub write_fault : status ≡ WRITE_FAULT → IsWriteFault manner limits old new
+  pub out_of_memory : status ≡ OUT_OF_MEMORY → IsOutOfMemory manner limits old new
+  pub limit : status ≡ LIMIT → IsOverLimit manner limits old new
+
+-- by the task
+abbrev pub MeansOf : Task → Manner Note → Limits → ℕ → Streams → Streams → Type 0
+MeansOf tasks.Annotate manner limits status old new = MeansOfReading manner limits status old new
+MeansOf tasks.Explain manner limits status old new = MeansOfReading manner limits status old new
+MeansOf (tasks.Set named atom letter) manner limits status old new =
+    MeansOfChanging (tasks.Set named atom letter) manner limits status old new
+MeansOf tasks.Mirror manner limits status old new = MeansOfChanging tasks.Mirror manner limits status old new
+MeansOf tasks.Groups manner limits status old new = MeansOfReading manner limits status old new
+MeansOf tasks.Axes manner limits status old new = MeansOfReading manner limits status old new
 
 -- `make`: the first so many records of a series
 pub record MeansOfMaking (start records status : ℕ) (old new : Stream) : Type 0 where
@@ -113,6 +158,14 @@ Means (Some (asked.Explain nodes workers rules)) limits status old new =
 Means (Some (asked.Make start records)) limits status old new = MeansOfMaking start records status old.sink new.sink
 Means (Some (asked.Trial start records nodes workers rules)) limits status old new =
     MeansOfTrying (made_answers rules nodes start records) status old.sink new.sink
+Means (Some (asked.Set number atom letter nodes workers rules)) limits status old new =
+    MeansOfChanging (tasks.Set number atom letter) (setting rules nodes number atom letter) limits status old new
+Means (Some (asked.Mirror nodes workers rules)) limits status old new =
+    MeansOfChanging tasks.Mirror (mirroring rules nodes) limits status old new
+Means (Some (asked.Groups nodes workers rules)) limits status old new =
+    MeansOfReading (grouping rules nodes) limits status old new
+Means (Some (asked.Axes nodes workers rules)) limits status old new =
+    MeansOfReading (seeking rules nodes) limits status old new
 Means (Some asked.Help) limits status old new = MeansOfHelp status old.sink new.sink
 
 -- whether the source is read
@@ -122,4 +175,8 @@ reads (Some (asked.Annotate nodes workers rules)) = true
 reads (Some (asked.Explain nodes workers rules)) = true
 reads (Some (asked.Make start records)) = false
 reads (Some (asked.Trial start records nodes workers rules)) = false
+reads (Some (asked.Set number atom letter nodes workers rules)) = true
+reads (Some (asked.Mirror nodes workers rules)) = true
+reads (Some (asked.Groups nodes workers rules)) = true
+reads (Some (asked.Axes nodes workers rules)) = true
 reads (Some asked.Help) = false

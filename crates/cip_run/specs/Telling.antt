@@ -1,16 +1,22 @@
 -- What is told of a record, by what is asked. Own.
-use Rattle.std.specs.Prelude.{ℕ, List, Bool, true, false}
+use Rattle.std.specs.Prelude.{ℕ, List, Bool, true, false, None}
+use Rattle.cip_axis_text.specs.AxesTexts.{are_axes_flagged, axes_of}
+use Rattle.cip_groups.specs.Texts as groups
 use Rattle.cip_item.specs.Parts.{without_label_items}
 use Rattle.cip_item.specs.Putting.{with_item}
+use Rattle.cip_mol.specs.declared.centre_letter.CentreLetter.{CentreLetter}
 use Rattle.cip_print.specs.declared.answer.Answer.{Answer}
 use Rattle.cip_print.specs.Explaining as telling
 use Rattle.cip_print.specs.Values.{values_of}
 use Rattle.cip_rank.specs.declared.rules.Rules.{Rules}
 use Rattle.cip_record.specs.Answers.{answer_by, is_flagged}
 use Rattle.cip_stream.specs.Manner.{Manner}
+use Rattle.cip_stream.specs.declared.verdict.Verdict.{Verdict}
+use Rattle.cip_run.specs.Changing.{Change, reflected, with_letter}
 use Rattle.cip_run.specs.declared.asked.Asked.{Asked}
 use Rattle.cip_run.specs.declared.asked.Task.{Task}
-use Rattle.cip_run.specs.declared.asked.Task.TheVariants.{Annotate, Explain}
+use Rattle.cip_run.specs.declared.asked.Task.TheVariants.{Annotate, Explain, Set, Mirror, Groups, Axes}
+use Rattle.cip_run.specs.declared.ending.Note.{Note}
 
 -- a record without its label items, with the item of its answer
 abbrev pub with_answer : Rules → ℕ → List ℕ → Answer → List ℕ
@@ -28,30 +34,65 @@ explained rules nodes number bytes = telling.explained number (answer_by rules n
 unfoldable pub is_flagged_record : Rules → ℕ → List ℕ → Bool
 is_flagged_record rules nodes bytes = is_flagged (answer_by rules nodes bytes)
 
+-- without a note
+abbrev pub plainly : Bool → Verdict Note
+plainly flagged = record { flagged = flagged; note = None }
+
 -- by the task
 
--- the text for a record without its label items, with its answer
-abbrev pub text_by : Task → Rules → ℕ → ℕ → List ℕ → Answer → List ℕ
-text_by Annotate rules nodes number bare answer = with_answer rules nodes bare answer
-text_by Explain rules nodes number bare answer = telling.explained number answer
-
-abbrev pub annotating : Rules → ℕ → Manner
+abbrev pub annotating : Rules → ℕ → Manner Note
 annotating rules nodes = record {
   text = λ number bytes. annotated rules nodes bytes;
-  flagged = λ bytes. is_flagged_record rules nodes bytes;
+  verdict = λ number bytes. plainly (is_flagged_record rules nodes bytes);
   keeps_blank = true;
 }
 
-abbrev pub explaining : Rules → ℕ → Manner
+abbrev pub explaining : Rules → ℕ → Manner Note
 explaining rules nodes = record {
   text = λ number bytes. explained rules nodes number bytes;
-  flagged = λ bytes. is_flagged_record rules nodes bytes;
+  verdict = λ number bytes. plainly (is_flagged_record rules nodes bytes);
   keeps_blank = false;
 }
 
-abbrev pub manner_by : Task → Rules → ℕ → Manner
+-- each record is annotated once it is changed
+abbrev pub changing : Rules → ℕ → (ℕ → List ℕ → Change) → Manner Note
+changing rules nodes change = record {
+  text = λ number bytes. annotated rules nodes (change number bytes).bytes;
+  verdict = λ number bytes. record {
+    flagged = is_flagged_record rules nodes (change number bytes).bytes;
+    note = (change number bytes).note;
+  };
+  keeps_blank = true;
+}
+
+abbrev pub setting : Rules → ℕ → ℕ → ℕ → CentreLetter → Manner Note
+setting rules nodes named atom letter = changing rules nodes (with_letter rules nodes named atom letter)
+
+abbrev pub mirroring : Rules → ℕ → Manner Note
+mirroring rules nodes = changing rules nodes (λ number bytes. reflected bytes)
+
+abbrev pub grouping : Rules → ℕ → Manner Note
+grouping rules nodes = record {
+  text = λ number bytes. (groups.told_of rules nodes number bytes).text;
+  verdict = λ number bytes. plainly (groups.told_without_items rules nodes (without_label_items bytes)).flagged;
+  keeps_blank = false;
+}
+
+-- by further units
+abbrev pub seeking : Rules → ℕ → Manner Note
+seeking rules nodes = record {
+  text = λ number bytes. axes_of rules nodes number bytes;
+  verdict = λ number bytes. plainly (are_axes_flagged rules nodes bytes);
+  keeps_blank = false;
+}
+
+abbrev pub manner_by : Task → Rules → ℕ → Manner Note
 manner_by Annotate rules nodes = annotating rules nodes
 manner_by Explain rules nodes = explaining rules nodes
+manner_by (Set named atom letter) rules nodes = setting rules nodes named atom letter
+manner_by Mirror rules nodes = mirroring rules nodes
+manner_by Groups rules nodes = grouping rules nodes
+manner_by Axes rules nodes = seeking rules nodes
 
-abbrev pub manner_of : Asked → Manner
+abbrev pub manner_of : Asked → Manner Note
 manner_of asked = manner_by asked.task asked.rules asked.nodes

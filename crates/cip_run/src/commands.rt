@@ -1,14 +1,16 @@
-// What each command does. The answers are exit statuses.
+// What each command does, and how it ends.
 ghost use Rattle.std.specs.Prelude.{◌≡◌, ◌≤◌, ◌<◌, ◌+◌, ◌^◌};
 ghost use Rattle.cip_stream.specs.Reading.{TakesAtMost};
-ghost use Rattle.cip_run.specs.Statuses.{stream, streams, MeansOfReading, MeansOfMaking, MeansOfTrying, MeansOfHelp};
+ghost use Rattle.cip_run.specs.Endings.{status_of};
+ghost use Rattle.cip_run.specs.Runs.{IsMissed};
+ghost use Rattle.cip_run.specs.Statuses.{stream, streams, MeansOf, MeansOfMaking, MeansOfTrying, MeansOfHelp};
 ghost use Rattle.cip_run.specs.Telling.{manner_of};
 ghost use Rattle.cip_run.specs.Trying.{made_answers};
 
 use crate::asked::Asked;
+use crate::ending::Ending;
 use crate::making::write_made;
 use crate::series::Trial;
-use crate::status::{DONE, FLAGGED, LIMIT, OUT_OF_MEMORY, READ_FAULT, WRITE_FAULT};
 use crate::trial::write_summary;
 use cip_batch::Gate;
 use cip_io::{Sink, Source, push_all};
@@ -27,35 +29,30 @@ pub fn answer_records<R: Threads + Sync, G: Gate + Sync, S: Source, K: Sink>(
     gate: &G,
     source: &mut S,
     sink: &mut K,
-) -> u8
+) -> Ending
     requires record { limits.record < 2 ^ 31 }
     requires input { limits.input < 2 ^ 63 }
     requires some { 1 ≤ workers }
-    ensures meant { MeansOfReading (manner_of asked.now) limits result
+    ensures meant { MeansOf asked.now.task (manner_of asked.now) limits (status_of result)
         (streams (S.left source.old) (S.faults source.old) (K.taken sink.old) (K.faults sink.old))
         (streams (S.left source.new) (S.faults source.new) (K.taken sink.new) (K.faults sink.new)) }
+    ensures missed { IsMissed asked.now.task (manner_of asked.now) limits (S.left source.old) result }
     ensures bounded { TakesAtMost (limits.input + 1) (S.left source.old) (S.left source.new) }
 {
-    match answer_stream(rt, alloc, asked, limits, workers, gate, source, sink) {
-        Ok(false) => DONE,
-        Ok(true) => FLAGGED,
-        Err(Stop::ReadFault) => READ_FAULT,
-        Err(Stop::WriteFault) => WRITE_FAULT,
-        Err(Stop::Memory) => OUT_OF_MEMORY,
-        Err(Stop::Limit) => LIMIT,
-    }
+    let answered = answer_stream(rt, alloc, asked, limits, workers, gate, source, sink);
+    Ending::after(asked.task, answered)
 }
 
 /// Writes the first so many records of a series.
-pub fn make<K: Sink>(alloc: Global, start: u32, records: u32, sink: &mut K) -> u8
+pub fn make<K: Sink>(alloc: Global, start: u32, records: u32, sink: &mut K) -> Ending
     requires few { records ≤ 100000 }
-    ensures { MeansOfMaking start records result
+    ensures { MeansOfMaking start records (status_of result)
         (stream (K.taken sink.old) (K.faults sink.old)) (stream (K.taken sink.new) (K.faults sink.new)) }
 {
     match write_made(alloc, start, records, sink) {
-        Ok(()) => DONE,
-        Err(Stop::WriteFault) => WRITE_FAULT,
-        Err(_) => OUT_OF_MEMORY,
+        Ok(()) => Ending::Done,
+        Err(Stop::WriteFault) => Ending::WriteFault,
+        Err(_) => Ending::OutOfMemory,
     }
 }
 
@@ -67,26 +64,26 @@ pub fn try_made<R: Threads + Sync, G: Gate + Sync, K: Sink>(
     workers: u8,
     gate: &G,
     sink: &mut K,
-) -> u8
+) -> Ending
     requires some { 1 ≤ workers }
-    ensures { MeansOfTrying (made_answers trial.now.rules trial.now.nodes trial.now.start trial.now.records) result
+    ensures { MeansOfTrying (made_answers trial.now.rules trial.now.nodes trial.now.start trial.now.records) (status_of result)
         (stream (K.taken sink.old) (K.faults sink.old)) (stream (K.taken sink.new) (K.faults sink.new)) }
 {
     match write_summary(rt, alloc, trial, workers, gate, sink) {
-        Ok(false) => DONE,
-        Ok(true) => FLAGGED,
-        Err(Stop::WriteFault) => WRITE_FAULT,
-        Err(_) => OUT_OF_MEMORY,
+        Ok(false) => Ending::Done,
+        Ok(true) => Ending::Flagged,
+        Err(Stop::WriteFault) => Ending::WriteFault,
+        Err(_) => Ending::OutOfMemory,
     }
 }
 
 /// Writes the help text. It takes no memory.
-pub fn help<K: Sink>(sink: &mut K) -> u8
-    ensures { MeansOfHelp result
+pub fn help<K: Sink>(sink: &mut K) -> Ending
+    ensures { MeansOfHelp (status_of result)
         (stream (K.taken sink.old) (K.faults sink.old)) (stream (K.taken sink.new) (K.faults sink.new)) }
 {
     match push_all(sink, help_text().as_bytes()) {
-        Ok(()) => DONE,
-        Err(_) => WRITE_FAULT,
+        Ok(()) => Ending::Done,
+        Err(_) => Ending::WriteFault,
     }
 }

@@ -1,11 +1,18 @@
 // What a worker keeps from record to record.
 ghost use Rattle.std.specs.Prelude.{◌≡◌, ◌≤◌, ◌<◌, ◌-◌, ◌^◌, IfOk, OnOk, length};
+ghost use Rattle.cip_axis_text.specs.AxesTexts.{axes_without_items, is_flagged_without_items};
+ghost use Rattle.cip_groups.specs.Texts.{told_without_items, with_number};
 ghost use Rattle.cip_record.specs.Answers.{answer_by, answer_without_items};
+ghost use Rattle.cip_set.specs.SetAnswers.{set_without_items, IsFew};
 
+use cip_axis_text::{AxesText, axes_text_within};
+use cip_groups::{GroupText, group_text_within};
 use cip_item::without_label_items;
+use cip_mol::CentreLetter;
 use cip_print::Answer;
 use cip_rank::Rules;
 use cip_record::{RecordLabeller, label_within};
+use cip_set::{SetAnswer, set_within};
 use cip_text::RecordLines;
 use std::alloc::{AllocError, Global};
 use std::marker::Model;
@@ -61,6 +68,54 @@ impl Desk {
         ensures kept { self.new ≡ self.old }
     {
         label_within(alloc, &mut self.labeller, lines, rules)
+    }
+
+    /// A record without label items in which the centre at an atom, counted from 1, has the letter.
+    pub fn set(
+        &mut self,
+        alloc: Global,
+        lines: &RecordLines,
+        atom: u32,
+        letter: CentreLetter,
+        rules: Rules,
+    ) -> Result<SetAnswer, AllocError>
+        requires few { length lines.now < 2 ^ 32 - 1 }
+        ensures answer { IfOk result (λ answer. answer ≡ set_without_items rules self.old atom letter lines.now) }
+        ensures few { IfOk result (λ answer. IsFew lines.now answer) }
+        ensures kept { self.new ≡ self.old }
+    {
+        set_within(alloc, &mut self.labeller, lines, atom, letter, rules)
+    }
+
+    /// What is told of the stereo groups of a record without label items.
+    pub fn groups(
+        &mut self,
+        alloc: Global,
+        lines: &RecordLines,
+        number: u64,
+        rules: Rules,
+    ) -> Result<GroupText, AllocError>
+        requires few { length lines.now < 2 ^ 32 - 1 }
+        ensures told { IfOk result (λ told. told ≡ with_number number (told_without_items rules self.old lines.now)) }
+        ensures kept { self.new ≡ self.old }
+    {
+        group_text_within(alloc, &mut self.labeller, lines, number, rules)
+    }
+
+    /// What is told of the further units of a record without label items.
+    pub fn axes(
+        &mut self,
+        alloc: Global,
+        lines: &RecordLines,
+        number: u64,
+        rules: Rules,
+    ) -> Result<AxesText, AllocError>
+        requires few { length lines.now < 2 ^ 32 - 1 }
+        ensures text { IfOk result (λ axes. axes.text ≡ axes_without_items rules self.old number lines.now) }
+        ensures flagged { IfOk result (λ axes. axes.flagged ≡ is_flagged_without_items rules self.old lines.now) }
+        ensures kept { self.new ≡ self.old }
+    {
+        axes_text_within(alloc, &mut self.labeller, lines, number, rules)
     }
 
     /// The answer to a record.

@@ -1,21 +1,25 @@
 // What is told of a record, by what is asked.
-ghost use Rattle.std.specs.Prelude.{◌≡◌, ◌<◌, ◌-◌, ◌^◌, IfOk, length};
-ghost use Rattle.cip_item.specs.Putting.{with_item};
-ghost use Rattle.cip_print.specs.Explaining as telling;
-ghost use Rattle.cip_record.specs.Answers.{answer_without_items, is_flagged};
-ghost use Rattle.cip_run.specs.Telling.{manner_of, with_answer, annotated, explained, is_flagged_record, text_by};
+ghost use Rattle.std.specs.Prelude.{◌≡◌, ◌≤◌, ◌<◌, ◌-◌, ◌+◌, ◌^◌, IfOk, None, length};
+ghost use Rattle.cip_run.specs.Changing.{Change, unchanged};
+ghost use Rattle.cip_run.specs.Telling.{manner_of};
+ghost use Rattle.cip_run.specs.TellingBare.{annotate_change, axes_bare, explain_bare, groups_bare, mirror_bare, set_bare, told_bare};
 
 use crate::asked::{Asked, Task};
 use crate::desk::Desk;
+use crate::ending::{Missed, Note};
 use cip_item::{has_label_item, lines_with_item, without_label_items};
-use cip_print::{Answer, explain_text, item_values};
+use cip_mol::CentreLetter;
+use cip_print::{explain_text, item_values};
 use cip_record::is_flagged;
-use cip_stream::{Teller, Told};
+use cip_set::{MirrorAnswer, SetAnswer, mirror_lines};
+use cip_stream::{Teller, Told, Verdict};
 use cip_text::RecordLines;
 use std::alloc::{AllocError, Global};
 
 impl Teller for Asked {
     type Desk = Desk;
+
+    type Note = Note;
 
     ghost manner = { λ asked. manner_of asked };
 
@@ -29,30 +33,29 @@ impl Teller for Asked {
         desk: &mut Desk,
         number: u64,
         bytes: &[u8],
-    ) -> Result<Told, AllocError> {
+    ) -> Result<Told<Note>, AllocError> {
         desk.fit(alloc, self.nodes)?;
         self.tell_record(alloc, desk, number, bytes)
     }
 
     fn keeps_blank(&self) -> bool {
-        matches!(self.task, Task::Annotate)
+        matches!(self.task, Task::Annotate | Task::Set { .. } | Task::Mirror)
     }
 }
 
 impl Asked {
     // What is told of a record. A record is copied only where it has label items.
-    #[tactic(auto, unfolding(crate::specs::Telling::annotated, crate::specs::Telling::explained, crate::specs::Telling::is_flagged_record))]
     fn tell_record(
         &self,
         alloc: Global,
         desk: &mut Desk,
         number: u64,
         bytes: &[u8],
-    ) -> Result<Told, AllocError>
-        requires few { length bytes.now < 2 ^ 32 - 1 }
+    ) -> Result<Told<Note>, AllocError>
+        requires few { length bytes.now ≤ 2 ^ 31 }
         requires fit { desk.old ≡ self.now.nodes }
         ensures text { IfOk result (λ told. told.text.items ≡ (manner_of self.now).text number bytes.now) }
-        ensures flagged { IfOk result (λ told. told.flagged ≡ (manner_of self.now).flagged bytes.now) }
+        ensures verdict { IfOk result (λ told. told.verdict ≡ (manner_of self.now).verdict number bytes.now) }
     {
         let lines = RecordLines::new(alloc, bytes)?;
         if !has_label_item(&lines) {
@@ -70,37 +73,175 @@ impl Asked {
         desk: &mut Desk,
         number: u64,
         lines: &RecordLines,
-    ) -> Result<Told, AllocError>
+    ) -> Result<Told<Note>, AllocError>
+        requires few { length lines.now ≤ 2 ^ 31 }
+        requires fit { desk.old ≡ self.now.nodes }
+        ensures text { IfOk result (λ told. told.text.items
+            ≡ (told_bare self.now.rules self.now.nodes self.now.task number lines.now).text) }
+        ensures verdict { IfOk result (λ told. told.verdict
+            ≡ (told_bare self.now.rules self.now.nodes self.now.task number lines.now).verdict) }
+    {
+        match self.task {
+            Task::Annotate => self.annotate(alloc, desk, lines, None),
+            Task::Explain => self.explain(alloc, desk, number, lines),
+            Task::Set {
+                number: named,
+                atom,
+                letter,
+            } if number == u64::from(named) => self.set(alloc, desk, lines, atom, letter),
+            Task::Set { .. } => self.annotate(alloc, desk, lines, None),
+            Task::Mirror => self.mirror(alloc, desk, lines),
+            Task::Groups => self.group(alloc, desk, number, lines),
+            Task::Axes => self.seek(alloc, desk, number, lines),
+        }
+    }
+
+    // The record with its item, and a note on it.
+    fn annotate(
+        &self,
+        alloc: Global,
+        desk: &mut Desk,
+        lines: &RecordLines,
+        note: Option<Note>,
+    ) -> Result<Told<Note>, AllocError>
         requires few { length lines.now < 2 ^ 32 - 1 }
         requires fit { desk.old ≡ self.now.nodes }
         ensures text { IfOk result (λ told. told.text.items
-            ≡ text_by self.now.task self.now.rules self.now.nodes number lines.now
-            (answer_without_items self.now.rules self.now.nodes lines.now)) }
-        ensures flagged { IfOk result (λ told. told.flagged
-            ≡ is_flagged (answer_without_items self.now.rules self.now.nodes lines.now)) }
+            ≡ (annotate_change self.now.rules self.now.nodes (record { bytes = lines.now; note = note })).text) }
+        ensures verdict { IfOk result (λ told. told.verdict
+            ≡ (annotate_change self.now.rules self.now.nodes (record { bytes = lines.now; note = note })).verdict) }
     {
         let answer = desk.label(alloc, lines, self.rules)?;
-        let text = self.text(alloc, number, lines, &answer)?;
+        let values = item_values(alloc, &answer, self.nodes, self.rules)?;
+        let text = lines_with_item(alloc, lines, &values)?;
         let flagged = is_flagged(&answer);
-        Ok(Told { text, flagged })
+        Ok(Told {
+            text,
+            verdict: Verdict { flagged, note },
+        })
     }
 
-    fn text(
+    fn explain(
         &self,
         alloc: Global,
+        desk: &mut Desk,
         number: u64,
         lines: &RecordLines,
-        answer: &Answer,
-    ) -> Result<Vec<u8>, AllocError>
-        ensures { IfOk result (λ text. text.items
-            ≡ text_by self.now.task self.now.rules self.now.nodes number lines.now answer.now) }
+    ) -> Result<Told<Note>, AllocError>
+        requires few { length lines.now < 2 ^ 32 - 1 }
+        requires fit { desk.old ≡ self.now.nodes }
+        ensures text { IfOk result (λ told. told.text.items
+            ≡ (explain_bare self.now.rules self.now.nodes number lines.now).text) }
+        ensures verdict { IfOk result (λ told. told.verdict
+            ≡ (explain_bare self.now.rules self.now.nodes number lines.now).verdict) }
     {
-        match self.task {
-            Task::Annotate => {
-                let values = item_values(alloc, answer, self.nodes, self.rules)?;
-                lines_with_item(alloc, lines, &values)
+        let answer = desk.label(alloc, lines, self.rules)?;
+        let text = explain_text(alloc, &answer, number)?;
+        Ok(plain(text, is_flagged(&answer)))
+    }
+
+    // The record in which the centre at an atom has the letter, with its item.
+    fn set(
+        &self,
+        alloc: Global,
+        desk: &mut Desk,
+        lines: &RecordLines,
+        atom: u32,
+        letter: CentreLetter,
+    ) -> Result<Told<Note>, AllocError>
+        requires few { length lines.now ≤ 2 ^ 31 }
+        requires fit { desk.old ≡ self.now.nodes }
+        ensures text { IfOk result (λ told. told.text.items ≡ (annotate_change self.now.rules self.now.nodes
+            (set_bare self.now.rules self.now.nodes 0 atom letter 0 lines.now)).text) }
+        ensures verdict { IfOk result (λ told. told.verdict ≡ (annotate_change self.now.rules self.now.nodes
+            (set_bare self.now.rules self.now.nodes 0 atom letter 0 lines.now)).verdict) }
+    {
+        match desk.set(alloc, lines, atom, letter, self.rules)? {
+            SetAnswer::Written(text) => {
+                let changed = RecordLines::new(alloc, text.as_slice())?;
+                self.annotate(alloc, desk, &changed, Some(Note::Changed))
             }
-            Task::Explain => explain_text(alloc, answer, number),
+            SetAnswer::Refused(refusal) => {
+                let note = Note::Missing(Missed::NotSet(refusal));
+                self.annotate(alloc, desk, lines, Some(note))
+            }
         }
+    }
+
+    // The reflected record with its item.
+    fn mirror(
+        &self,
+        alloc: Global,
+        desk: &mut Desk,
+        lines: &RecordLines,
+    ) -> Result<Told<Note>, AllocError>
+        requires few { length lines.now ≤ 2 ^ 31 }
+        requires fit { desk.old ≡ self.now.nodes }
+        ensures text { IfOk result (λ told. told.text.items
+            ≡ (annotate_change self.now.rules self.now.nodes (mirror_bare self.now.rules self.now.nodes lines.now)).text) }
+        ensures verdict { IfOk result (λ told. told.verdict ≡ (annotate_change self.now.rules self.now.nodes
+            (mirror_bare self.now.rules self.now.nodes lines.now)).verdict) }
+    {
+        match mirror_lines(alloc, lines)? {
+            MirrorAnswer::Written(text) => {
+                let changed = RecordLines::new(alloc, text.as_slice())?;
+                self.annotate(alloc, desk, &changed, None)
+            }
+            MirrorAnswer::Refused(_) => {
+                let note = Note::Missing(Missed::NotMirrored);
+                self.annotate(alloc, desk, lines, Some(note))
+            }
+        }
+    }
+
+    fn group(
+        &self,
+        alloc: Global,
+        desk: &mut Desk,
+        number: u64,
+        lines: &RecordLines,
+    ) -> Result<Told<Note>, AllocError>
+        requires few { length lines.now < 2 ^ 32 - 1 }
+        requires fit { desk.old ≡ self.now.nodes }
+        ensures text { IfOk result (λ told. told.text.items
+            ≡ (groups_bare self.now.rules self.now.nodes number lines.now).text) }
+        ensures verdict { IfOk result (λ told. told.verdict
+            ≡ (groups_bare self.now.rules self.now.nodes number lines.now).verdict) }
+    {
+        let told = desk.groups(alloc, lines, number, self.rules)?;
+        Ok(plain(told.text.into_vec(), told.flagged))
+    }
+
+    // What is told of further units.
+    fn seek(
+        &self,
+        alloc: Global,
+        desk: &mut Desk,
+        number: u64,
+        lines: &RecordLines,
+    ) -> Result<Told<Note>, AllocError>
+        requires few { length lines.now < 2 ^ 32 - 1 }
+        requires fit { desk.old ≡ self.now.nodes }
+        ensures text { IfOk result (λ told. told.text.items
+            ≡ (axes_bare self.now.rules self.now.nodes number lines.now).text) }
+        ensures verdict { IfOk result (λ told. told.verdict
+            ≡ (axes_bare self.now.rules self.now.nodes number lines.now).verdict) }
+    {
+        let told = desk.axes(alloc, lines, number, self.rules)?;
+        Ok(plain(told.text.into_vec(), told.flagged))
+    }
+}
+
+// A text without a note.
+fn plain(text: Vec<u8>, flagged: bool) -> Told<Note>
+    ensures text { result.text ≡ text }
+    ensures verdict { result.verdict ≡ record { flagged = flagged; note = None } }
+{
+    Told {
+        text,
+        verdict: Verdict {
+            flagged,
+            note: None,
+        },
     }
 }

@@ -10,24 +10,26 @@ use Rattle.cip_stream.specs.declared.limits.Limits.{Limits}
 use Rattle.cip_stream.specs.declared.stop.Stop.{Stop}
 use Rattle.cip_stream.specs.declared.stop.Stop.TheVariants as stops
 use Rattle.cip_stream.specs.Limits.{limit_place, answered}
+use Rattle.cip_stream.specs.declared.verdict.Verdict.{Verdict}
 use Rattle.cip_stream.specs.Manner.{Manner}
-use Rattle.cip_stream.specs.Due.{are_flagged, texts_from, texts_of, due, tail_due}
+use Rattle.cip_stream.specs.Verdicts.{joined}
+use Rattle.cip_stream.specs.Due.{verdict_from, verdict_of, texts_from, texts_of, due, tail_due}
 use Rattle.cip_stream.specs.Endings.{AnswersTaken, EndsAs, GrewFrom}
 use Rattle.cip_stream.specs.Batches.{Advances, Answers, AnswersTail, blank_of}
 use Rattle.cip_stream.specs.Reading.{Brings, Ends, Overfeeds, Overflows, StandsStill, TakesAtMost}
 use Rattle.cip_stream.proofs.Answered.{no_place, all_answered, whole_first, input_passed, record_passed, IsPassed}
 use Rattle.cip_stream.proofs.Batches.{no_memory, gathers, advances_both, answers_both, same_next}
 use Rattle.cip_stream.proofs.Bounds.{consumes_both, takes_more}
-use Rattle.cip_stream.proofs.Growing.{appends_both, prefix_behind, prefix_longer, flagged_both, texts_both, joined_flags, answers_longer}
+use Rattle.cip_stream.proofs.Growing.{appends_both, prefix_behind, prefix_longer, verdict_both, texts_both, joined_result, answers_longer}
 use Rattle.cip_stream.proofs.Counting.{few_closed, fewer}
 use Rattle.cip_stream.proofs.Progressing.{Progress, Fed}
 
 -- a bound on what was taken
-pub bounded : (manner : Manner) (limits : Limits) (room : ℕ) (flagged : Bool)
+pub bounded : {N : Type 0} (manner : Manner N) (limits : Limits) (room : ℕ) (verdict : Verdict N)
     (left middle rest old new : Option (List ℕ)) (framer : Framing) (first : ℕ) (batch : List (List ℕ))
-    → Progress manner limits room flagged left middle old new framer first batch → TakesAtMost (room + 1) middle rest
+    → Progress manner limits room verdict left middle old new framer first batch → TakesAtMost (room + 1) middle rest
     → TakesAtMost (limits.input + 1) left rest
-bounded manner limits room flagged left middle rest old new framer first batch before takes =
+bounded manner limits room verdict left middle rest old new framer first batch before takes =
     takes_more (limits.input + 1) (room + 1) left middle rest before.fed before.taken takes
     (omega (arith, before.count))
 
@@ -48,7 +50,7 @@ told_whole (Some all) (Some more) bytes P taken end holds =
 
 -- records that stopped it
 
-ends_stopped : (manner : Manner) (limits : Limits) (bytes : List ℕ) (stop : Stop) (old new : Option (List ℕ))
+ends_stopped : {N : Type 0} (manner : Manner N) (limits : Limits) (bytes : List ℕ) (stop : Stop) (old new : Option (List ℕ))
     → Answers manner 1 (answered limits bytes) (Err stop) old new → EndsAs manner limits (Err stop) old new bytes
 ends_stopped manner limits bytes stops.WriteFault old new answers =
     prefix_longer old new (texts_of manner (answered limits bytes)) (tail_due manner limits bytes) answers
@@ -57,24 +59,24 @@ ends_stopped manner limits bytes stops.ReadFault old new answers = absurd answer
 ends_stopped manner limits bytes stops.Limit old new answers = absurd answers
 
 -- the closed records of what was fed stopped it
-pub stopped_fed : (manner : Manner) (limits : Limits) (room : ℕ) (flagged : Bool) (stop : Stop)
+pub stopped_fed : {N : Type 0} (manner : Manner N) (limits : Limits) (room : ℕ) (verdict : Verdict N) (stop : Stop)
     (left rest old half new : Option (List ℕ)) (framer : Framing) (first : ℕ) (gathered : List (List ℕ))
-    → Fed manner limits room flagged left rest old half framer first gathered
+    → Fed manner limits room verdict left rest old half framer first gathered
     → Answers manner first gathered (Err stop) half new → IfSome left (EndsAs manner limits (Err stop) old new)
-stopped_fed manner limits room flagged stop left rest old half new framer first gathered fed answers =
+stopped_fed manner limits room verdict stop left rest old half new framer first gathered fed answers =
     told left rest fed.fed (EndsAs manner limits (Err stop) old new) fed.taken (λ more.
     let front = whole_first limits fed.fed more (rw fed.limit at fed.holds.within) (omega (arith, fed.count)) in
     ends_stopped manner limits (fed.fed ++ more) stop old new
     (subst (λ records. Answers manner 1 records (Err stop) old new) (sym front.joined)
     (answers_longer manner 1 (cut_of fed.fed).whole front.more stop old new
-    (answers_both manner 1 first (cut_of fed.fed).whole gathered flagged (Err stop) old half new fed.came answers))))
+    (answers_both manner 1 first (cut_of fed.fed).whole gathered verdict (Err stop) old half new fed.came answers))))
 
 -- nothing was fed since
-pub still_fed : (manner : Manner) (limits : Limits) (room : ℕ) (flagged : Bool) (left rest old new : Option (List ℕ))
+pub still_fed : {N : Type 0} (manner : Manner N) (limits : Limits) (room : ℕ) (verdict : Verdict N) (left rest old new : Option (List ℕ))
     (framer : Framing) (first : ℕ) (batch : List (List ℕ))
-    → Progress manner limits room flagged left rest old new framer first batch
-    → Fed manner limits room flagged left rest old new framer first batch
-still_fed manner limits room flagged left rest old new framer first batch before = record {
+    → Progress manner limits room verdict left rest old new framer first batch
+    → Fed manner limits room verdict left rest old new framer first batch
+still_fed manner limits room verdict left rest old new framer first batch before = record {
   fed = before.fed;
   taken = before.taken;
   holds = record {
@@ -89,37 +91,37 @@ still_fed manner limits room flagged left rest old new framer first batch before
 }
 
 -- want of memory between two turns
-pub out_of_memory : (manner : Manner) (limits : Limits) (room : ℕ) (flagged : Bool)
+pub out_of_memory : {N : Type 0} (manner : Manner N) (limits : Limits) (room : ℕ) (verdict : Verdict N)
     (left rest old new : Option (List ℕ)) (framer : Framing) (first : ℕ) (batch : List (List ℕ))
-    → Progress manner limits room flagged left rest old new framer first batch
+    → Progress manner limits room verdict left rest old new framer first batch
     → IfSome left (EndsAs manner limits (Err stops.Memory) old new)
-out_of_memory manner limits room flagged left rest old new framer first batch before =
-    stopped_fed manner limits room flagged stops.Memory left rest old new new framer first batch
-    (still_fed manner limits room flagged left rest old new framer first batch before)
+out_of_memory manner limits room verdict left rest old new framer first batch before =
+    stopped_fed manner limits room verdict stops.Memory left rest old new new framer first batch
+    (still_fed manner limits room verdict left rest old new framer first batch before)
     (no_memory manner first batch new)
 
 -- a turn that failed
-pub turn_failed : (manner : Manner) (limits : Limits) (room : ℕ) (flagged : Bool) (stop : Stop)
+pub turn_failed : {N : Type 0} (manner : Manner N) (limits : Limits) (room : ℕ) (verdict : Verdict N) (stop : Stop)
     (left middle rest old new : Option (List ℕ)) (framer now : Framing) (first : ℕ) (batch : List (List ℕ))
-    → Progress manner limits room flagged left middle old new framer first batch
+    → Progress manner limits room verdict left middle old new framer first batch
     → Brings room (Err stop) middle rest framer now → IfSome left (EndsAs manner limits (Err stop) old new)
-turn_failed manner limits room flagged stops.ReadFault left middle rest old new framer now first batch before brought =
+turn_failed manner limits room verdict stops.ReadFault left middle rest old new framer now first batch before brought =
     absurd brought
-turn_failed manner limits room flagged stops.Memory left middle rest old new framer now first batch before brought =
-    out_of_memory manner limits room flagged left middle old new framer first batch before
-turn_failed manner limits room flagged stops.WriteFault left middle rest old new framer now first batch before brought =
+turn_failed manner limits room verdict stops.Memory left middle rest old new framer now first batch before brought =
+    out_of_memory manner limits room verdict left middle old new framer first batch before
+turn_failed manner limits room verdict stops.WriteFault left middle rest old new framer now first batch before brought =
     absurd brought
-turn_failed manner limits room flagged stops.Limit left middle rest old new framer now first batch before brought =
+turn_failed manner limits room verdict stops.Limit left middle rest old new framer now first batch before brought =
     absurd brought
 
 -- a read fault, after which the batch was answered
-pub read_fault : (manner : Manner) (limits : Limits) (room : ℕ) (flagged more : Bool)
+pub read_fault : {N : Type 0} (manner : Manner N) (limits : Limits) (room : ℕ) (verdict more : Verdict N)
     (left middle rest old half new : Option (List ℕ)) (framer now : Framing) (first : ℕ) (batch : List (List ℕ))
-    → Progress manner limits room flagged left middle old half framer first batch
+    → Progress manner limits room verdict left middle old half framer first batch
     → StandsStill middle rest framer now → Answers manner first batch (Ok more) half new
     → AnswersTaken manner limits left rest old new
-read_fault manner limits room flagged more left middle rest old half new framer now first batch before still answers =
-    let all = answers_both manner 1 first (cut_of before.fed).whole batch flagged (Ok more) old half new before.came
+read_fault manner limits room verdict more left middle rest old half new framer now first batch before still answers =
+    let all = answers_both manner 1 first (cut_of before.fed).whole batch verdict (Ok more) old half new before.came
     answers in
     record {
       taken = before.fed;
@@ -131,18 +133,18 @@ read_fault manner limits room flagged more left middle rest old half new framer 
 
 -- the end of the source
 
-tail_by : (manner : Manner) (limits : Limits) (fed : List ℕ) (k : Bool) → manner.keeps_blank ≡ k
+tail_by : {N : Type 0} (manner : Manner N) (limits : Limits) (fed : List ℕ) (k : Bool) → manner.keeps_blank ≡ k
     → limit_place limits fed ≡ None → tail_due manner limits fed ≡ blank_of manner (cut_of fed).rest
 tail_by manner limits fed true k unlimited = rw (unlimited, k) refl
 tail_by manner limits fed false k unlimited = rw (unlimited, k) refl
 
 -- the text that is due, by those that were answered and those that are gathered
-due_is : (manner : Manner) (limits : Limits) (fed : List ℕ) (first : ℕ) (gathered : List (List ℕ)) (flagged : Bool)
+due_is : {N : Type 0} (manner : Manner N) (limits : Limits) (fed : List ℕ) (first : ℕ) (gathered : List (List ℕ)) (verdict : Verdict N)
     (old half : Option (List ℕ)) → limit_place limits fed ≡ None → answered limits fed ≡ records_of fed
-    → (came : Advances manner 1 (records_of fed) first gathered flagged old half)
+    → (came : Advances manner 1 (records_of fed) first gathered verdict old half)
     → due manner limits fed ≡ texts_of manner came.answered
     ++ (texts_from manner first gathered ++ blank_of manner (cut_of fed).rest)
-due_is manner limits fed first gathered flagged old half unlimited all came =
+due_is manner limits fed first gathered verdict old half unlimited all came =
     let blank = blank_of manner (cut_of fed).rest in
     ap (λ tail. texts_of manner (answered limits fed) ++ tail)
     (tail_by manner limits fed manner.keeps_blank refl unlimited)
@@ -151,54 +153,55 @@ due_is manner limits fed first gathered flagged old half unlimited all came =
     ∙ ap (λ n. texts_of manner came.answered ++ texts_from manner n gathered) (sym came.next))
     ∙ append_assoc (texts_of manner came.answered) (texts_from manner first gathered) blank
 
-tail_answered : (manner : Manner) (limits : Limits) (fed : List ℕ) (first : ℕ) (batch : List (List ℕ)) (flagged : Bool)
-    (result : Result Bool Stop) (old half new : Option (List ℕ)) → limit_place limits fed ≡ None
+tail_answered : {N : Type 0} (manner : Manner N) (limits : Limits) (fed : List ℕ) (first : ℕ) (batch : List (List ℕ)) (verdict : Verdict N)
+    (result : Result (Verdict N) Stop) (old half new : Option (List ℕ)) → limit_place limits fed ≡ None
     → answered limits fed ≡ records_of fed
-    → Advances manner 1 (records_of fed) first (batch ++ last_of (cut_of fed).rest) flagged old half
+    → Advances manner 1 (records_of fed) first (batch ++ last_of (cut_of fed).rest) verdict old half
     → AnswersTail manner first batch (cut_of fed).rest result half new
-    → EndsAs manner limits (joined_flags flagged result) old new fed
-tail_answered manner limits fed first batch flagged (Ok last) old half new unlimited all came answers =
+    → EndsAs manner limits (joined_result verdict result) old new fed
+tail_answered manner limits fed first batch verdict (Ok last) old half new unlimited all came answers =
     let gathered = batch ++ last_of (cut_of fed).rest in
     record {
       holds = record {
         unlimited = unlimited;
-        told = ap (are_flagged manner) (all ∙ sym came.parts) ∙ flagged_both manner came.answered gathered
-            ∙ ap (λ b. b || are_flagged manner gathered) came.told ∙ ap (λ b. flagged || b) answers.holds;
+        told = ap (verdict_of manner) (all ∙ sym came.parts) ∙ verdict_both manner 1 came.answered gathered
+            ∙ ap (λ n. joined (verdict_of manner came.answered) (verdict_from manner n gathered)) (sym came.next)
+            ∙ ap (λ v. joined v (verdict_from manner first gathered)) came.told ∙ ap (joined verdict) answers.holds;
       };
       written = subst (Appends old new)
-          (sym (due_is manner limits fed first gathered flagged old half unlimited all came))
+          (sym (due_is manner limits fed first gathered verdict old half unlimited all came))
           (appends_both old half new (texts_of manner came.answered)
           (texts_from manner first gathered ++ blank_of manner (cut_of fed).rest) came.written answers.written);
     }
-tail_answered manner limits fed first batch flagged (Err stops.WriteFault) old half new unlimited all came answers =
+tail_answered manner limits fed first batch verdict (Err stops.WriteFault) old half new unlimited all came answers =
     let gathered = batch ++ last_of (cut_of fed).rest in
-    subst (AppendsPrefix old new) (sym (due_is manner limits fed first gathered flagged old half unlimited all came))
+    subst (AppendsPrefix old new) (sym (due_is manner limits fed first gathered verdict old half unlimited all came))
     (prefix_behind old half new (texts_of manner came.answered)
     (texts_from manner first gathered ++ blank_of manner (cut_of fed).rest) came.written answers)
-tail_answered manner limits fed first batch flagged (Err stops.Memory) old half new unlimited all came answers =
+tail_answered manner limits fed first batch verdict (Err stops.Memory) old half new unlimited all came answers =
     subst (λ records. GrewFrom manner 1 records old new) (sym all)
-    (answers_both manner 1 first (records_of fed) (batch ++ last_of (cut_of fed).rest) flagged (Err stops.Memory) old
+    (answers_both manner 1 first (records_of fed) (batch ++ last_of (cut_of fed).rest) verdict (Err stops.Memory) old
     half new came answers)
-tail_answered manner limits fed first batch flagged (Err stops.ReadFault) old half new unlimited all came answers =
+tail_answered manner limits fed first batch verdict (Err stops.ReadFault) old half new unlimited all came answers =
     absurd answers
-tail_answered manner limits fed first batch flagged (Err stops.Limit) old half new unlimited all came answers =
+tail_answered manner limits fed first batch verdict (Err stops.Limit) old half new unlimited all came answers =
     absurd answers
 
-pub ended : (manner : Manner) (limits : Limits) (room : ℕ) (flagged : Bool) (result : Result Bool Stop)
+pub ended : {N : Type 0} (manner : Manner N) (limits : Limits) (room : ℕ) (verdict : Verdict N) (result : Result (Verdict N) Stop)
     (left middle rest old half new : Option (List ℕ)) (framer now : Framing) (first : ℕ) (batch : List (List ℕ))
-    → (before : Progress manner limits room flagged left middle old half framer first batch)
+    → (before : Progress manner limits room verdict left middle old half framer first batch)
     → Ends middle rest framer now → AnswersTail manner first batch (cut_of before.fed).rest result half new
-    → IfSome left (EndsAs manner limits (joined_flags flagged result) old new)
-ended manner limits room flagged result left middle rest old half new framer now first batch before ends answers =
+    → IfSome left (EndsAs manner limits (joined_result verdict result) old new)
+ended manner limits room verdict result left middle rest old half new framer now first batch before ends answers =
     let fit = rw before.limit at before.holds.within in
     let few : length before.fed ≤ limits.input = omega (arith, before.count) in
     let taken : Consumes left rest before.fed =
     subst (Consumes left rest) (append-nil before.fed)
     (consumes_both left middle rest before.fed [] before.taken ends.still.source) in
-    told_whole left rest before.fed (EndsAs manner limits (joined_flags flagged result) old new) taken ends.end
-    (tail_answered manner limits before.fed first batch flagged result old half new
+    told_whole left rest before.fed (EndsAs manner limits (joined_result verdict result) old new) taken ends.end
+    (tail_answered manner limits before.fed first batch verdict result old half new
     (no_place limits before.fed fit few) (all_answered limits before.fed fit few)
-    (gathers manner 1 first (cut_of before.fed).whole batch (last_of (cut_of before.fed).rest) flagged old half
+    (gathers manner 1 first (cut_of before.fed).whole batch (last_of (cut_of before.fed).rest) verdict old half
     before.came) answers)
 
 -- a limit
@@ -214,12 +217,12 @@ regroup : (fed bytes more rest : List ℕ) → (fed ++ bytes) ++ (more ++ rest) 
 regroup fed bytes more rest = append_assoc fed bytes (more ++ rest)
     ∙ ap (λ xs. fed ++ xs) (sym (append_assoc bytes more rest)) ∙ sym (append_assoc fed (bytes ++ more) rest)
 
-pub over : (manner : Manner) (limits : Limits) (room : ℕ) (flagged : Bool) (left middle rest old half : Option (List ℕ))
+pub over : {N : Type 0} (manner : Manner N) (limits : Limits) (room : ℕ) (verdict : Verdict N) (left middle rest old half : Option (List ℕ))
     (framer now : Framing) (first : ℕ) (batch : List (List ℕ))
-    → (before : Progress manner limits room flagged left middle old half framer first batch)
+    → (before : Progress manner limits room verdict left middle old half framer first batch)
     → Overfeeds room middle rest framer now ⊎ Overflows room middle rest framer now → now.limit ≡ framer.limit
     → IsOver limits left rest ((cut_of before.fed).whole ++ now.waiting)
-over manner limits room flagged left middle rest old half framer now first batch before (inl feeds) limit =
+over manner limits room verdict left middle rest old half framer now first batch before (inl feeds) limit =
     let passed = feeds.fed (cut_of before.fed).whole before.fed before.holds in
     let all = before.fed ++ feeds.bytes in
     let same : now.limit ≡ limits.record = limit ∙ before.limit in
@@ -237,7 +240,7 @@ over manner limits room flagged left middle rest old half framer now first batch
       few = subst (λ xs. length xs ≤ limits.input) records
           (omega (arith, fewer (fits limits.record) (cut_of all).whole, few_closed all, few));
     }
-over manner limits room flagged left middle rest old half framer now first batch before (inr feeds) limit =
+over manner limits room verdict left middle rest old half framer now first batch before (inr feeds) limit =
     let holds = feeds.fed (cut_of before.fed).whole before.fed before.holds in
     let all = before.fed ++ feeds.bytes in
     let full : length all ≡ limits.input =
@@ -253,64 +256,64 @@ over manner limits room flagged left middle rest old half framer now first batch
     }
 
 -- the records before a limit that were answered, and those that are gathered
-pub record Met (manner : Manner) (limits : Limits) (flagged : Bool) (left rest old new : Option (List ℕ)) (first : ℕ)
+pub record Met {N : Type 0} (manner : Manner N) (limits : Limits) (verdict : Verdict N) (left rest old new : Option (List ℕ)) (first : ℕ)
     (gathered : List (List ℕ)) : Type 0 where
   pub records : List (List ℕ)
   pub over : IsOver limits left rest records
-  pub came : Advances manner 1 records first gathered flagged old new
+  pub came : Advances manner 1 records first gathered verdict old new
 
-pub limit_met : (manner : Manner) (limits : Limits) (room : ℕ) (flagged : Bool)
+pub limit_met : {N : Type 0} (manner : Manner N) (limits : Limits) (room : ℕ) (verdict : Verdict N)
     (left middle rest old half : Option (List ℕ)) (framer now : Framing) (first : ℕ) (batch : List (List ℕ))
-    → Progress manner limits room flagged left middle old half framer first batch
+    → Progress manner limits room verdict left middle old half framer first batch
     → Overfeeds room middle rest framer now ⊎ Overflows room middle rest framer now → now.limit ≡ framer.limit
-    → Met manner limits flagged left rest old half first (batch ++ now.waiting)
-limit_met manner limits room flagged left middle rest old half framer now first batch before brought limit = record {
+    → Met manner limits verdict left rest old half first (batch ++ now.waiting)
+limit_met manner limits room verdict left middle rest old half framer now first batch before brought limit = record {
   records = (cut_of before.fed).whole ++ now.waiting;
-  over = over manner limits room flagged left middle rest old half framer now first batch before brought limit;
-  came = gathers manner 1 first (cut_of before.fed).whole batch now.waiting flagged old half before.came;
+  over = over manner limits room verdict left middle rest old half framer now first batch before brought limit;
+  came = gathers manner 1 first (cut_of before.fed).whole batch now.waiting verdict old half before.came;
 }
 
-pub room_met : (manner : Manner) (limits : Limits) (flagged : Bool) (left rest old new : Option (List ℕ)) (first : ℕ)
-    (gathered : List (List ℕ)) → Met manner limits flagged left rest old new first gathered → limits.input < 2 ^ 63
+pub room_met : {N : Type 0} (manner : Manner N) (limits : Limits) (verdict : Verdict N) (left rest old new : Option (List ℕ)) (first : ℕ)
+    (gathered : List (List ℕ)) → Met manner limits verdict left rest old new first gathered → limits.input < 2 ^ 63
     → first + length gathered ≤ 2 ^ 63
-room_met manner limits flagged left rest old new first gathered met few =
-    let next = same_next manner 1 first met.records gathered flagged old new met.came in
+room_met manner limits verdict left rest old new first gathered met few =
+    let next = same_next manner 1 first met.records gathered verdict old new met.came in
     omega (arith, next, met.over.few, few)
 
 -- some of those that were gathered were answered
-pub met_further : (manner : Manner) (limits : Limits) (flagged more : Bool) (left rest old half new : Option (List ℕ))
+pub met_further : {N : Type 0} (manner : Manner N) (limits : Limits) (verdict more : Verdict N) (left rest old half new : Option (List ℕ))
     (first later : ℕ) (gathered batch : List (List ℕ))
-    → Met manner limits flagged left rest old half first gathered
+    → Met manner limits verdict left rest old half first gathered
     → Advances manner first gathered later batch more half new
-    → Met manner limits (flagged || more) left rest old new later batch
-met_further manner limits flagged more left rest old half new first later gathered batch met came = record {
+    → Met manner limits (joined verdict more) left rest old new later batch
+met_further manner limits verdict more left rest old half new first later gathered batch met came = record {
   records = met.records;
   over = met.over;
-  came = subst (λ records. Advances manner 1 met.records later records (flagged || more) old new) (append-nil batch)
-      (advances_both manner 1 first later met.records gathered [] batch flagged more old half new
-      (subst (λ records. Advances manner 1 met.records first records flagged old half) (sym (append-nil gathered))
+  came = subst (λ records. Advances manner 1 met.records later records (joined verdict more) old new) (append-nil batch)
+      (advances_both manner 1 first later met.records gathered [] batch verdict more old half new
+      (subst (λ records. Advances manner 1 met.records first records verdict old half) (sym (append-nil gathered))
       met.came) came);
 }
 
-pub stopped_at_limit : (manner : Manner) (limits : Limits) (flagged : Bool) (stop : Stop)
+pub stopped_at_limit : {N : Type 0} (manner : Manner N) (limits : Limits) (verdict : Verdict N) (stop : Stop)
     (left rest old half new : Option (List ℕ)) (first : ℕ) (gathered : List (List ℕ))
-    → Met manner limits flagged left rest old half first gathered
+    → Met manner limits verdict left rest old half first gathered
     → Answers manner first gathered (Err stop) half new → IfSome left (EndsAs manner limits (Err stop) old new)
-stopped_at_limit manner limits flagged stop left rest old half new first gathered met answers =
+stopped_at_limit manner limits verdict stop left rest old half new first gathered met answers =
     told left rest met.over.taken (EndsAs manner limits (Err stop) old new) met.over.consumed (λ more.
     ends_stopped manner limits (met.over.taken ++ more) stop old new
     (subst (λ records. Answers manner 1 records (Err stop) old new) (sym ((met.over.passed more).records))
-    (answers_both manner 1 first met.records gathered flagged (Err stop) old half new met.came answers)))
+    (answers_both manner 1 first met.records gathered verdict (Err stop) old half new met.came answers)))
 
-due_limited : (manner : Manner) (limits : Limits) (bytes : List ℕ) → is_some (limit_place limits bytes) ≡ true
+due_limited : {N : Type 0} (manner : Manner N) (limits : Limits) (bytes : List ℕ) → is_some (limit_place limits bytes) ≡ true
     → due manner limits bytes ≡ texts_of manner (answered limits bytes)
 due_limited manner limits bytes limited = rw limited (append-nil (texts_of manner (answered limits bytes)))
 
-pub limited : (manner : Manner) (limits : Limits) (flagged more : Bool) (left rest old half new : Option (List ℕ))
-    (first : ℕ) (gathered : List (List ℕ)) → Met manner limits flagged left rest old half first gathered
+pub limited : {N : Type 0} (manner : Manner N) (limits : Limits) (verdict more : Verdict N) (left rest old half new : Option (List ℕ))
+    (first : ℕ) (gathered : List (List ℕ)) → Met manner limits verdict left rest old half first gathered
     → Answers manner first gathered (Ok more) half new → IfSome left (EndsAs manner limits (Err stops.Limit) old new)
-limited manner limits flagged more left rest old half new first gathered met answers =
-    let all = answers_both manner 1 first met.records gathered flagged (Ok more) old half new met.came answers in
+limited manner limits verdict more left rest old half new first gathered met answers =
+    let all = answers_both manner 1 first met.records gathered verdict (Ok more) old half new met.came answers in
     told left rest met.over.taken (EndsAs manner limits (Err stops.Limit) old new) met.over.consumed (λ behind.
     let passed = met.over.passed behind in
     let here : is_some (limit_place limits (met.over.taken ++ behind)) ≡ true = ap is_some passed.passed in

@@ -1,14 +1,15 @@
 -- Records that are answered one after the other.
-use Rattle.std.proofs.Common.{Bool, Result, Ok, Err, ◌≡◌, ◌+◌, ℕ, suc, List, [], ◌∷◌, ◌++◌, length, Option, Some, None, refl, sym, ◌∙◌, ap, arith, add-zero, append_assoc, append-nil, length-append, take, ◌||◌}
+use Rattle.std.proofs.Common.{Bool, Result, Ok, Err, ◌≡◌, ◌+◌, ℕ, suc, List, [], ◌∷◌, ◌++◌, length, Option, Some, None, true, false, refl, sym, ◌∙◌, ap, arith, add-zero, append_assoc, append-nil, length-append, take, ◌||◌}
 use Rattle.std.proofs.lemmas.List.{take-append-le}
-use Rattle.std.proofs.lemmas.List.Folds.{list_any-append}
 use Rattle.std.proofs.Math.Seq.{take-append-add}
 use Rattle.std.specs.Io.KnownBytes.{Appends}
 use Rattle.cip_io.specs.Growth.{AppendsPrefix}
 use Rattle.cip_stream.specs.declared.stop.Stop.{Stop}
 use Rattle.cip_stream.specs.declared.stop.Stop.TheVariants as stops
+use Rattle.cip_stream.specs.declared.verdict.Verdict.{Verdict}
 use Rattle.cip_stream.specs.Manner.{Manner}
-use Rattle.cip_stream.specs.Due.{are_flagged, texts_from}
+use Rattle.cip_stream.specs.Verdicts.{first_note, joined}
+use Rattle.cip_stream.specs.Due.{verdict_from, texts_from}
 use Rattle.cip_stream.specs.Batches.{Answers, telling, told_from}
 
 -- what a sink took
@@ -45,11 +46,30 @@ prefix_longer old new text more front = (
 
 -- what is due for records, and for others behind them
 
-pub flagged_both : (manner : Manner) (xs ys : List (List ℕ))
-    → are_flagged manner (xs ++ ys) ≡ are_flagged manner xs || are_flagged manner ys
-flagged_both manner xs ys = list_any-append manner.flagged xs ys
+joined_notes : {N : Type 0} (one more behind : Option N)
+    → first_note (first_note one more) behind ≡ first_note one (first_note more behind)
+joined_notes (Some note) more behind = refl
+joined_notes None more behind = refl
 
-pub texts_both : (manner : Manner) (number : ℕ) (xs ys : List (List ℕ))
+joined_flags : (one more behind : Bool) → (one || more) || behind ≡ one || (more || behind)
+joined_flags true more behind = refl
+joined_flags false more behind = refl
+
+joined_all : {N : Type 0} (one more behind : Verdict N) → joined (joined one more) behind ≡ joined one (joined more behind)
+joined_all one more behind = rw (joined_flags one.flagged more.flagged behind.flagged, joined_notes one.note more.note behind.note) refl
+
+pub verdict_both : {N : Type 0} (manner : Manner N) (number : ℕ) (xs ys : List (List ℕ))
+    → verdict_from manner number (xs ++ ys)
+    ≡ joined (verdict_from manner number xs) (verdict_from manner (number + length xs) ys)
+verdict_both manner number [] ys = ap (λ n. verdict_from manner n ys) (sym (add-zero number))
+verdict_both manner number (x ∷ xs) ys =
+    let place : number + 1 + length xs ≡ number + suc (length xs) = omega arith in
+    ap (joined (manner.verdict number x)) (verdict_both manner (number + 1) xs ys
+    ∙ ap (λ n. joined (verdict_from manner (number + 1) xs) (verdict_from manner n ys)) place)
+    ∙ sym (joined_all (manner.verdict number x) (verdict_from manner (number + 1) xs)
+    (verdict_from manner (number + suc (length xs)) ys))
+
+pub texts_both : {N : Type 0} (manner : Manner N) (number : ℕ) (xs ys : List (List ℕ))
     → texts_from manner number (xs ++ ys)
     ≡ texts_from manner number xs ++ texts_from manner (number + length xs) ys
 texts_both manner number [] ys = ap (λ n. texts_from manner n ys) (sym (add-zero number))
@@ -60,7 +80,7 @@ texts_both manner number (x ∷ xs) ys =
     ∙ sym (append_assoc (manner.text number x) (texts_from manner (number + 1) xs)
     (texts_from manner (number + suc (length xs)) ys))
 
-pub told_both : (manner : Manner) (number : ℕ) (xs ys : List (List ℕ))
+pub told_both : {N : Type 0} (manner : Manner N) (number : ℕ) (xs ys : List (List ℕ))
     → told_from manner number (xs ++ ys) ≡ told_from manner number xs ++ told_from manner (number + length xs) ys
 told_both manner number [] ys = ap (λ n. told_from manner n ys) (sym (add-zero number))
 told_both manner number (x ∷ xs) ys =
@@ -71,12 +91,12 @@ told_both manner number (x ∷ xs) ys =
 -- how records were answered
 
 -- the same result with what came before
-abbrev pub joined_flags : Bool → Result Bool Stop → Result Bool Stop
-joined_flags flagged (Ok more) = Ok (flagged || more)
-joined_flags flagged (Err stop) = Err stop
+abbrev pub joined_result : {N : Type 0} → Verdict N → Result (Verdict N) Stop → Result (Verdict N) Stop
+joined_result verdict (Ok more) = Ok (joined verdict more)
+joined_result verdict (Err stop) = Err stop
 
 -- records that stopped it did so whatever follows them
-pub answers_longer : (manner : Manner) (number : ℕ) (stopped more : List (List ℕ)) (stop : Stop)
+pub answers_longer : {N : Type 0} (manner : Manner N) (number : ℕ) (stopped more : List (List ℕ)) (stop : Stop)
     (old new : Option (List ℕ)) → Answers manner number stopped (Err stop) old new
     → Answers manner number (stopped ++ more) (Err stop) old new
 answers_longer manner number stopped more stops.WriteFault old new answers =
@@ -96,22 +116,22 @@ answers_longer manner number stopped more stops.ReadFault old new answers = absu
 answers_longer manner number stopped more stops.Limit old new answers = absurd answers
 
 -- records were answered behind others
-pub answers_behind : (manner : Manner) (number : ℕ) (before records : List (List ℕ)) (flagged : Bool)
-    (result : Result Bool Stop) (old middle new : Option (List ℕ)) → are_flagged manner before ≡ flagged
+pub answers_behind : {N : Type 0} (manner : Manner N) (number : ℕ) (before records : List (List ℕ)) (verdict : Verdict N)
+    (result : Result (Verdict N) Stop) (old middle new : Option (List ℕ)) → verdict_from manner number before ≡ verdict
     → Appends old middle (texts_from manner number before)
     → Answers manner (number + length before) records result middle new
-    → Answers manner number (before ++ records) (joined_flags flagged result) old new
-answers_behind manner number before records flagged (Ok more) old middle new told written grew = record {
-  holds = rw (flagged_both manner before records, told, grew.holds) refl;
+    → Answers manner number (before ++ records) (joined_result verdict result) old new
+answers_behind manner number before records verdict (Ok more) old middle new told written grew = record {
+  holds = rw (verdict_both manner number before records, told, grew.holds) refl;
   written = rw (texts_both manner number before records)
       (appends_both old middle new (texts_from manner number before)
       (texts_from manner (number + length before) records) written grew.written);
 }
-answers_behind manner number before records flagged (Err stops.WriteFault) old middle new told written answers =
+answers_behind manner number before records verdict (Err stops.WriteFault) old middle new told written answers =
     rw (texts_both manner number before records)
     (prefix_behind old middle new (texts_from manner number before)
     (texts_from manner (number + length before) records) written answers)
-answers_behind manner number before records flagged (Err stops.Memory) old middle new told written answers = record {
+answers_behind manner number before records verdict (Err stops.Memory) old middle new told written answers = record {
   before = before ++ answers.before;
   front = record {
     more = answers.front.more;
@@ -122,7 +142,7 @@ answers_behind manner number before records flagged (Err stops.Memory) old middl
       (appends_both old middle new (texts_from manner number before)
       (texts_from manner (number + length before) answers.before) written answers.written);
 }
-answers_behind manner number before records flagged (Err stops.ReadFault) old middle new told written answers =
+answers_behind manner number before records verdict (Err stops.ReadFault) old middle new told written answers =
     absurd answers
-answers_behind manner number before records flagged (Err stops.Limit) old middle new told written answers =
+answers_behind manner number before records verdict (Err stops.Limit) old middle new told written answers =
     absurd answers

@@ -1,10 +1,12 @@
 -- What a run over a stream keeps from turn to turn.
-use Rattle.std.proofs.Common.{◌≡◌, ◌≤◌, ◌<◌, ◌+◌, ◌-◌, ◌^◌, ℕ, List, [], ◌++◌, length, false, Bool, ◌||◌, Option, Some, None, refl, sym, ◌∙◌, ap, arith, append-nil, length-append, subst}
+use Rattle.std.proofs.Common.{◌≡◌, ◌≤◌, ◌<◌, ◌+◌, ◌-◌, ◌^◌, ℕ, List, [], ◌++◌, length, Option, Some, None, refl, sym, ◌∙◌, ap, arith, append-nil, length-append, subst}
 use Rattle.std.specs.Io.KnownBytes.{Consumes, Keeps}
 use Rattle.cip_frame.specs.Records.{cut_of}
 use Rattle.cip_frame.specs.Framing.{Framing, Holds}
 use Rattle.cip_stream.specs.declared.limits.Limits.{Limits}
+use Rattle.cip_stream.specs.declared.verdict.Verdict.{Verdict}
 use Rattle.cip_stream.specs.Manner.{Manner}
+use Rattle.cip_stream.specs.Verdicts.{clear, joined}
 use Rattle.cip_stream.specs.Batches.{Advances}
 use Rattle.cip_stream.specs.Reading.{Feeds}
 use Rattle.cip_stream.proofs.Batches.{none_yet, gathers, advances_both, same_next}
@@ -13,7 +15,7 @@ use Rattle.cip_stream.proofs.Counting.{few_closed}
 
 -- At the head of a turn: what was taken was fed, its closed records were answered but for those that are gathered, and
 -- the framer holds none.
-pub record Progress (manner : Manner) (limits : Limits) (room : ℕ) (flagged : Bool)
+pub record Progress {N : Type 0} (manner : Manner N) (limits : Limits) (room : ℕ) (verdict : Verdict N)
     (left rest old new : Option (List ℕ)) (framer : Framing) (first : ℕ) (batch : List (List ℕ)) : Type 0 where
   pub fed : List ℕ
   pub taken : Consumes left rest fed
@@ -21,7 +23,7 @@ pub record Progress (manner : Manner) (limits : Limits) (room : ℕ) (flagged : 
   pub empty : framer.waiting ≡ []
   pub count : length fed + room ≡ limits.input
   pub limit : framer.limit ≡ limits.record
-  pub came : Advances manner 1 (cut_of fed).whole first batch flagged old new
+  pub came : Advances manner 1 (cut_of fed).whole first batch verdict old new
 
 -- nothing taken
 
@@ -34,9 +36,9 @@ keeps_is None rest same = tt
 keeps_is (Some bytes) None same = absurd same
 keeps_is (Some bytes) (Some others) same = sym same
 
-pub begun : (manner : Manner) (limits : Limits) (left old : Option (List ℕ)) (framer : Framing) → Holds [] [] framer
+pub begun : {N : Type 0} (manner : Manner N) (limits : Limits) (left old : Option (List ℕ)) (framer : Framing) → Holds [] [] framer
     → framer.waiting ≡ [] → framer.limit ≡ limits.record
-    → Progress manner limits limits.input false left left old old framer 1 []
+    → Progress manner limits limits.input clear left left old old framer 1 []
 begun manner limits left old framer holds empty limit = record {
   fed = [];
   taken = consumes_none left;
@@ -49,32 +51,32 @@ begun manner limits left old framer holds empty limit = record {
 
 -- the numbers of the records that are gathered
 
-pub room_between : (manner : Manner) (limits : Limits) (room : ℕ) (flagged : Bool)
+pub room_between : {N : Type 0} (manner : Manner N) (limits : Limits) (room : ℕ) (verdict : Verdict N)
     (left rest old new : Option (List ℕ)) (framer : Framing) (first : ℕ) (batch : List (List ℕ))
-    → Progress manner limits room flagged left rest old new framer first batch → limits.input < 2 ^ 63
+    → Progress manner limits room verdict left rest old new framer first batch → limits.input < 2 ^ 63
     → first + length batch ≤ 2 ^ 63
-room_between manner limits room flagged left rest old new framer first batch before few =
-    let next = same_next manner 1 first (cut_of before.fed).whole batch flagged old new before.came in
+room_between manner limits room verdict left rest old new framer first batch before few =
+    let next = same_next manner 1 first (cut_of before.fed).whole batch verdict old new before.came in
     omega (arith, next, few_closed before.fed, before.count, few)
 
 -- a turn that brought a piece
 
 -- the records that wait in the framer go on from those that are gathered
-pub record Fed (manner : Manner) (limits : Limits) (room : ℕ) (flagged : Bool) (left rest old new : Option (List ℕ))
+pub record Fed {N : Type 0} (manner : Manner N) (limits : Limits) (room : ℕ) (verdict : Verdict N) (left rest old new : Option (List ℕ))
     (framer : Framing) (first : ℕ) (gathered : List (List ℕ)) : Type 0 where
   pub fed : List ℕ
   pub taken : Consumes left rest fed
   pub holds : Holds (cut_of fed).whole fed (record framer { waiting = [] })
   pub count : length fed + room ≡ limits.input
   pub limit : framer.limit ≡ limits.record
-  pub came : Advances manner 1 (cut_of fed).whole first gathered flagged old new
+  pub came : Advances manner 1 (cut_of fed).whole first gathered verdict old new
 
-pub fed_piece : (manner : Manner) (limits : Limits) (room count : ℕ) (flagged : Bool)
+pub fed_piece : {N : Type 0} (manner : Manner N) (limits : Limits) (room count : ℕ) (verdict : Verdict N)
     (left middle rest old new : Option (List ℕ)) (framer now : Framing) (first : ℕ) (batch : List (List ℕ))
-    → Progress manner limits room flagged left middle old new framer first batch
+    → Progress manner limits room verdict left middle old new framer first batch
     → Feeds count room middle rest framer now → now.limit ≡ framer.limit
-    → Fed manner limits (room - count) flagged left rest old new now first (batch ++ now.waiting)
-fed_piece manner limits room count flagged left middle rest old new framer now first batch before feeds limit =
+    → Fed manner limits (room - count) verdict left rest old new now first (batch ++ now.waiting)
+fed_piece manner limits room count verdict left middle rest old new framer now first batch before feeds limit =
     let holds = feeds.fed (cut_of before.fed).whole before.fed before.holds in
     record {
       fed = before.fed ++ feeds.bytes;
@@ -87,24 +89,24 @@ fed_piece manner limits room count flagged left middle rest old new framer now f
       };
       count = rw (length-append before.fed feeds.bytes) (omega (arith, before.count, feeds.counted, feeds.few));
       limit = limit ∙ before.limit;
-      came = subst (λ records. Advances manner 1 records first (batch ++ now.waiting) flagged old new) holds.records
-          (gathers manner 1 first (cut_of before.fed).whole batch now.waiting flagged old new before.came);
+      came = subst (λ records. Advances manner 1 records first (batch ++ now.waiting) verdict old new) holds.records
+          (gathers manner 1 first (cut_of before.fed).whole batch now.waiting verdict old new before.came);
     }
 
-pub room_fed : (manner : Manner) (limits : Limits) (room : ℕ) (flagged : Bool) (left rest old new : Option (List ℕ))
+pub room_fed : {N : Type 0} (manner : Manner N) (limits : Limits) (room : ℕ) (verdict : Verdict N) (left rest old new : Option (List ℕ))
     (framer : Framing) (first : ℕ) (gathered : List (List ℕ))
-    → Fed manner limits room flagged left rest old new framer first gathered → limits.input < 2 ^ 63
+    → Fed manner limits room verdict left rest old new framer first gathered → limits.input < 2 ^ 63
     → first + length gathered ≤ 2 ^ 63
-room_fed manner limits room flagged left rest old new framer first gathered fed few =
-    let next = same_next manner 1 first (cut_of fed.fed).whole gathered flagged old new fed.came in
+room_fed manner limits room verdict left rest old new framer first gathered fed few =
+    let next = same_next manner 1 first (cut_of fed.fed).whole gathered verdict old new fed.came in
     omega (arith, next, few_closed fed.fed, fed.count, few)
 
-pub turned : (manner : Manner) (limits : Limits) (room : ℕ) (flagged more : Bool)
+pub turned : {N : Type 0} (manner : Manner N) (limits : Limits) (room : ℕ) (verdict more : Verdict N)
     (left rest old half new : Option (List ℕ)) (framer next : Framing) (first later : ℕ)
-    (gathered batch : List (List ℕ)) → Fed manner limits room flagged left rest old half framer first gathered
+    (gathered batch : List (List ℕ)) → Fed manner limits room verdict left rest old half framer first gathered
     → Advances manner first gathered later batch more half new → next ≡ record framer { waiting = [] }
-    → Progress manner limits room (flagged || more) left rest old new next later batch
-turned manner limits room flagged more left rest old half new framer next first later gathered batch fed came same =
+    → Progress manner limits room (joined verdict more) left rest old new next later batch
+turned manner limits room verdict more left rest old half new framer next first later gathered batch fed came same =
     record {
       fed = fed.fed;
       taken = fed.taken;
@@ -112,9 +114,9 @@ turned manner limits room flagged more left rest old half new framer next first 
       empty = ap (λ (f : Framing). f.waiting) same;
       count = fed.count;
       limit = ap (λ (f : Framing). f.limit) same ∙ fed.limit;
-      came = subst (λ records. Advances manner 1 (cut_of fed.fed).whole later records (flagged || more) old new)
+      came = subst (λ records. Advances manner 1 (cut_of fed.fed).whole later records (joined verdict more) old new)
           (append-nil batch)
-          (advances_both manner 1 first later (cut_of fed.fed).whole gathered [] batch flagged more old half new
-          (subst (λ records. Advances manner 1 (cut_of fed.fed).whole first records flagged old half)
+          (advances_both manner 1 first later (cut_of fed.fed).whole gathered [] batch verdict more old half new
+          (subst (λ records. Advances manner 1 (cut_of fed.fed).whole first records verdict old half)
           (sym (append-nil gathered)) fed.came) came);
     }

@@ -9,8 +9,9 @@ use Rattle.cip_frame.specs.Records.{is_blank_text, last_of, tail_of}
 use Rattle.cip_frame.specs.Framing.{is_within}
 use Rattle.cip_stream.specs.declared.stop.Stop.{Stop}
 use Rattle.cip_stream.specs.declared.stop.Stop.TheVariants as stops
+use Rattle.cip_stream.specs.declared.verdict.Verdict.{Verdict}
 use Rattle.cip_stream.specs.Manner.{Manner}
-use Rattle.cip_stream.specs.Due.{are_flagged, texts_from}
+use Rattle.cip_stream.specs.Due.{verdict_from, texts_from}
 use Rattle.cip_stream.specs.Batches.{Answers, AnswersTail, blank_of}
 use Rattle.cip_stream.proofs.Growing.{appends_both, prefix_behind, prefix_longer}
 
@@ -62,12 +63,12 @@ below limit (Last last) small within = grind (arith, small, within)
 
 -- a last record
 
-no_blank_by : (manner : Manner) (rest : List ℕ) (k : Bool) → manner.keeps_blank ≡ k → is_blank_text rest ≡ false
+no_blank_by : {N : Type 0} (manner : Manner N) (rest : List ℕ) (k : Bool) → manner.keeps_blank ≡ k → is_blank_text rest ≡ false
     → blank_of manner rest ≡ []
 no_blank_by manner rest true k none = rw (k, none) refl
 no_blank_by manner rest false k none = rw k refl
 
-stopped_so : (manner : Manner) (number : ℕ) (records : List (List ℕ)) (rest : List ℕ) (stop : Stop)
+stopped_so : {N : Type 0} (manner : Manner N) (number : ℕ) (records : List (List ℕ)) (rest : List ℕ) (stop : Stop)
     (old new : Option (List ℕ)) → Answers manner number (records ++ last_of rest) (Err stop) old new
     → AnswersTail manner number records rest (Err stop) old new
 stopped_so manner number records rest stops.WriteFault old new answers =
@@ -76,10 +77,10 @@ stopped_so manner number records rest stops.Memory old new answers = answers
 stopped_so manner number records rest stops.ReadFault old new answers = absurd answers
 stopped_so manner number records rest stops.Limit old new answers = absurd answers
 
-answered_so : (manner : Manner) (number : ℕ) (records : List (List ℕ)) (rest : List ℕ) (result : Result Bool Stop)
+answered_so : {N : Type 0} (manner : Manner N) (number : ℕ) (records : List (List ℕ)) (rest : List ℕ) (result : Result (Verdict N) Stop)
     (old new : Option (List ℕ)) → Answers manner number (records ++ last_of rest) result old new
     → blank_of manner rest ≡ [] → AnswersTail manner number records rest result old new
-answered_so manner number records rest (Ok flagged) old new grew none = record {
+answered_so manner number records rest (Ok verdict) old new grew none = record {
   holds = grew.holds;
   written = subst (Appends old new) (sym (ap (λ blank. texts_from manner number (records ++ last_of rest) ++ blank) none
       ∙ append-nil (texts_from manner number (records ++ last_of rest)))) grew.written;
@@ -87,8 +88,8 @@ answered_so manner number records rest (Ok flagged) old new grew none = record {
 answered_so manner number records rest (Err stop) old new answers none =
     stopped_so manner number records rest stop old new answers
 
-pub last_answered : (manner : Manner) (number : ℕ) (records : List (List ℕ)) (rest : List ℕ) (last : Record)
-    (result : Result Bool Stop) (old new : Option (List ℕ)) → Last last ≡ tail_of rest
+pub last_answered : {N : Type 0} (manner : Manner N) (number : ℕ) (records : List (List ℕ)) (rest : List ℕ) (last : Record)
+    (result : Result (Verdict N) Stop) (old new : Option (List ℕ)) → Last last ≡ tail_of rest
     → Answers manner number (records ++ last.bytes ∷ []) result old new
     → AnswersTail manner number records rest result old new
 last_answered manner number records rest last result old new is answers =
@@ -109,24 +110,24 @@ no_last : (records : List (List ℕ)) (rest bytes : List ℕ) → Blank bytes �
     → records ≡ records ++ last_of rest
 no_last records rest bytes is = rw (blank_lines rest bytes is) (sym (append-nil records))
 
-kept_lines : (manner : Manner) (rest bytes : List ℕ) → Blank bytes ≡ tail_of rest
+kept_lines : {N : Type 0} (manner : Manner N) (rest bytes : List ℕ) → Blank bytes ≡ tail_of rest
     → (if manner.keeps_blank then bytes else []) ≡ blank_of manner rest
 kept_lines manner rest bytes is = rw (blank_lines rest bytes is)
     (ap (λ xs. if manner.keeps_blank then xs else []) (ap bytes_of is ∙ bytes_are rest))
 
-pub blank_stopped : (manner : Manner) (number : ℕ) (records : List (List ℕ)) (rest bytes : List ℕ) (stop : Stop)
+pub blank_stopped : {N : Type 0} (manner : Manner N) (number : ℕ) (records : List (List ℕ)) (rest bytes : List ℕ) (stop : Stop)
     (old new : Option (List ℕ)) → Blank bytes ≡ tail_of rest → Answers manner number records (Err stop) old new
     → AnswersTail manner number records rest (Err stop) old new
 blank_stopped manner number records rest bytes stop old new is answers =
     stopped_so manner number records rest stop old new
     (subst (λ xs. Answers manner number xs (Err stop) old new) (no_last records rest bytes is) answers)
 
-pub blank_refused : (manner : Manner) (number : ℕ) (records : List (List ℕ)) (rest bytes : List ℕ) (flagged : Bool)
+pub blank_refused : {N : Type 0} (manner : Manner N) (number : ℕ) (records : List (List ℕ)) (rest bytes : List ℕ) (verdict : Verdict N)
     (stop : Stop) (old half new : Option (List ℕ)) → Blank bytes ≡ tail_of rest
-    → Answers manner number records (Ok flagged) old half → stop ≡ stops.WriteFault
+    → Answers manner number records (Ok verdict) old half → stop ≡ stops.WriteFault
     → AppendsPrefix half new (if manner.keeps_blank then bytes else [])
     → AnswersTail manner number records rest (Err stop) old new
-blank_refused manner number records rest bytes flagged stop old half new is grew fault front =
+blank_refused manner number records rest bytes verdict stop old half new is grew fault front =
     let text = texts_from manner number (records ++ last_of rest) in
     let written : Appends old half text =
     subst (λ xs. Appends old half (texts_from manner number xs)) (no_last records rest bytes is) grew.written in
@@ -134,16 +135,16 @@ blank_refused manner number records rest bytes flagged stop old half new is grew
     (prefix_behind old half new text (blank_of manner rest) written
     (subst (AppendsPrefix half new) (kept_lines manner rest bytes is) front))
 
-pub blank_written : (manner : Manner) (number : ℕ) (records : List (List ℕ)) (rest bytes : List ℕ) (flagged : Bool)
+pub blank_written : {N : Type 0} (manner : Manner N) (number : ℕ) (records : List (List ℕ)) (rest bytes : List ℕ) (verdict : Verdict N)
     (old half new : Option (List ℕ)) → Blank bytes ≡ tail_of rest
-    → Answers manner number records (Ok flagged) old half
+    → Answers manner number records (Ok verdict) old half
     → Appends half new (if manner.keeps_blank then bytes else [])
-    → AnswersTail manner number records rest (Ok flagged) old new
-blank_written manner number records rest bytes flagged old half new is grew blank =
+    → AnswersTail manner number records rest (Ok verdict) old new
+blank_written manner number records rest bytes verdict old half new is grew blank =
     let same = no_last records rest bytes is in
     let text = texts_from manner number (records ++ last_of rest) in
     record {
-      holds = subst (λ xs. are_flagged manner xs ≡ flagged) same grew.holds;
+      holds = subst (λ xs. verdict_from manner number xs ≡ verdict) same grew.holds;
       written = appends_both old half new text (blank_of manner rest)
           (subst (λ xs. Appends old half (texts_from manner number xs)) same grew.written)
           (subst (Appends half new) (kept_lines manner rest bytes is) blank);
@@ -151,12 +152,12 @@ blank_written manner number records rest bytes flagged old half new is grew blan
 
 -- answering has no read fault
 
-abbrev failed : Stop → Result Bool Stop
+abbrev failed : {N : Type 0} → Stop → Result (Verdict N) Stop
 failed stop = Err stop
 
-pub no_read_fault : (manner : Manner) (number : ℕ) (records : List (List ℕ)) (rest : List ℕ) (stop : Stop)
+pub no_read_fault : {N : Type 0} (manner : Manner N) (number : ℕ) (records : List (List ℕ)) (rest : List ℕ) (stop : Stop)
     (old new : Option (List ℕ)) → AnswersTail manner number records rest (Err stop) old new
-    → failed stop ≡ failed stops.ReadFault → ⊥
+    → failed {N = N} stop ≡ failed {N = N} stops.ReadFault → ⊥
 no_read_fault manner number records rest stops.ReadFault old new answers is = answers
 no_read_fault manner number records rest stops.Memory old new answers is = absurd (cc)
 no_read_fault manner number records rest stops.WriteFault old new answers is = absurd (cc)

@@ -1,5 +1,5 @@
 -- How answering ends, and what the sink took by then. Own.
-use Rattle.std.specs.Prelude.{◌≡◌, ℕ, List, Bool, Result, Ok, Err, None, ⊤, true}
+use Rattle.std.specs.Prelude.{◌≡◌, ℕ, List, Result, Ok, Err, None, ⊤, true}
 use Rattle.std.specs.declared.option.Option.{Option}
 use Rattle.std.specs.Option.{is_some}
 use Rattle.std.specs.Io.KnownBytes.{Appends, Consumes}
@@ -10,8 +10,9 @@ use Rattle.cip_stream.specs.declared.limits.Limits.{Limits}
 use Rattle.cip_stream.specs.declared.stop.Stop.{Stop}
 use Rattle.cip_stream.specs.declared.stop.Stop.TheVariants as stops
 use Rattle.cip_stream.specs.Limits.{limit_place, answered}
+use Rattle.cip_stream.specs.declared.verdict.Verdict.{Verdict}
 use Rattle.cip_stream.specs.Manner.{Manner}
-use Rattle.cip_stream.specs.Due.{are_flagged, texts_from, texts_of, due}
+use Rattle.cip_stream.specs.Due.{verdict_of, texts_from, texts_of, due}
 
 -- P holds, and the sink grew by this text
 pub record Grew (P : Type 0) (text : List ℕ) (old new : Option (List ℕ)) : Type 0 where
@@ -20,28 +21,28 @@ pub record Grew (P : Type 0) (text : List ℕ) (old new : Option (List ℕ)) : T
 
 -- the sink grew by the texts of the first of these records, which are numbered from this number on, and by no part of
 -- another
-pub record GrewFrom (manner : Manner) (number : ℕ) (records : List (List ℕ)) (old new : Option (List ℕ)) : Type 0 where
+pub record GrewFrom {N : Type 0} (manner : Manner N) (number : ℕ) (records : List (List ℕ)) (old new : Option (List ℕ)) : Type 0 where
   pub before : List (List ℕ)
   pub front : IsFrontOf before records
   pub written : Appends old new (texts_from manner number before)
 
 -- the same for the records of a stream
-abbrev pub GrewTo : Manner → List (List ℕ) → Option (List ℕ) → Option (List ℕ) → Type 0
+abbrev pub GrewTo : {N : Type 0} → Manner N → List (List ℕ) → Option (List ℕ) → Option (List ℕ) → Type 0
 GrewTo manner records old new = GrewFrom manner 1 records old new
 
--- no limit is passed, and this says whether a record is flagged
-pub record IsWhole (manner : Manner) (limits : Limits) (flagged : Bool) (bytes : List ℕ) : Type 0 where
+-- no limit is passed, and the records add this to the end of the run
+pub record IsWhole {N : Type 0} (manner : Manner N) (limits : Limits) (verdict : Verdict N) (bytes : List ℕ) : Type 0 where
   pub unlimited : limit_place limits bytes ≡ None
-  pub told : are_flagged manner (answered limits bytes) ≡ flagged
+  pub told : verdict_of manner (answered limits bytes) ≡ verdict
 
 -- a limit is passed
 abbrev pub IsLimited : Limits → List ℕ → Type 0
 IsLimited limits bytes = is_some (limit_place limits bytes) ≡ true
 
 -- a stream of these bytes was answered, with this result
-abbrev pub EndsAs : Manner → Limits → Result Bool Stop → Option (List ℕ) → Option (List ℕ) → List ℕ → Type 0
-EndsAs manner limits (Ok flagged) old new bytes =
-    Grew (IsWhole manner limits flagged bytes) (due manner limits bytes) old new
+abbrev pub EndsAs : {N : Type 0} → Manner N → Limits → Result (Verdict N) Stop → Option (List ℕ) → Option (List ℕ) → List ℕ → Type 0
+EndsAs manner limits (Ok verdict) old new bytes =
+    Grew (IsWhole manner limits verdict bytes) (due manner limits bytes) old new
 EndsAs manner limits (Err stops.Limit) old new bytes =
     Grew (IsLimited limits bytes) (due manner limits bytes) old new
 EndsAs manner limits (Err stops.WriteFault) old new bytes = AppendsPrefix old new (due manner limits bytes)
@@ -49,7 +50,7 @@ EndsAs manner limits (Err stops.Memory) old new bytes = GrewTo manner (answered 
 EndsAs manner limits (Err stops.ReadFault) old new bytes = ⊤
 
 -- no limit is passed by what was taken, and the sink grew by the texts of the records that are closed in it
-pub record AnswersTaken (manner : Manner) (limits : Limits) (left rest old new : Option (List ℕ)) : Type 0 where
+pub record AnswersTaken {N : Type 0} (manner : Manner N) (limits : Limits) (left rest old new : Option (List ℕ)) : Type 0 where
   pub taken : List ℕ
   pub consumed : Consumes left rest taken
   pub unlimited : limit_place limits taken ≡ None

@@ -10,6 +10,7 @@ ghost use Rattle.cip_stream.specs.Batches.{Answers, AnswersFirst, AnswersTail, t
 
 use crate::stop::Stop;
 use crate::teller::{Teller, Told};
+use crate::verdict::Verdict;
 use cip_batch::{Gate, Job, Worker, map_batch};
 use cip_frame::{Framer, Tail};
 use cip_io::{Sink, push_all};
@@ -26,16 +27,16 @@ const BYTES: u64 = 67_108_864;
 
 /// What a worker found for a record.
 #[derive(Drop)]
-pub struct Found {
-    told: Told,
+pub struct Found<N> {
+    told: Told<N>,
 }
 
-impl Model for Found {
+impl<N> Model for Found<N> {
     ghost use Rattle.cip_stream.specs.Batches.{Telling};
 
-    ghost Value = { Telling };
+    ghost Value = { Telling N };
 
-    ghost view = { λ found. record { text = found.told.text.items; flagged = found.told.flagged } };
+    ghost view = { λ found. record { text = found.told.text.items; verdict = found.told.verdict } };
 }
 
 /// A record that waits for its answer.
@@ -45,17 +46,17 @@ pub struct Waiting<'a, T: Teller> {
     alloc: Global,
     number: u64,
     bytes: Bytes,
-    ghost short: { length bytes < 2 ^ 32 - 1 },
+    ghost short: { length bytes ≤ 2 ^ 31 },
 }
 
 impl<'a, T: Teller> Job for Waiting<'a, T> {
-    type Out = Found;
+    type Out = Found<T::Note>;
 
     type Desk = T::Desk;
 
     ghost answer = { λ job. telling (T.manner job.teller.now) job.number job.bytes };
 
-    fn work(&self, desk: &mut T::Desk) -> Result<Found, AllocError> {
+    fn work(&self, desk: &mut T::Desk) -> Result<Found<T::Note>, AllocError> {
         let told = self
             .teller
             .tell(self.alloc, desk, self.number, self.bytes.as_slice())?;
@@ -111,7 +112,7 @@ impl<'a, T: Teller + Sync> Batch<'a, T> {
 
     // Puts a record behind the others.
     fn push(&mut self, bytes: Bytes) -> Result<(), AllocError>
-        requires short { length bytes < 2 ^ 32 - 1 }
+        requires short { length bytes ≤ 2 ^ 31 }
         requires room { self.old.first + length self.old.records < 2 ^ 64 - 1 }
         ensures pushed { OnOk result (self.new ≡ record self.old { records = self.old.records ++ bytes ∷ [] }) }
         ensures teller { self.new.teller ≡ self.old.teller }
@@ -128,17 +129,17 @@ impl<'a, T: Teller + Sync> Batch<'a, T> {
     }
 }
 
-/// Takes the records that wait in the framer, and answers each batch that is full. Says whether an answered record is
-/// flagged.
+/// Takes the records that wait in the framer, and answers each batch that is full. Says what the answered records add to
+/// the end of the run.
 pub fn answer_waiting<'a, R: Threads + Sync, G: Gate + Sync, T: Teller + Sync, K: Sink>(
     rt: &R,
     alloc: Global,
     gate: &G,
-    workers: &mut [Worker<T::Desk, Found>],
+    workers: &mut [Worker<T::Desk, Found<T::Note>>],
     framer: &mut Framer,
     batch: &mut Batch<'a, T>,
     sink: &mut K,
-) -> Result<bool, Stop>
+) -> Result<Verdict<T::Note>, Stop>
     requires limit { framer.old.limit < 2 ^ 31 }
     requires some { 0 < length workers.old }
     requires few { length workers.old < 2 ^ 32 }
@@ -152,11 +153,11 @@ pub fn answer_waiting<'a, R: Threads + Sync, G: Gate + Sync, T: Teller + Sync, K
     ensures fault { IsErrOf result Stop.WriteFault → Rose (K.faults sink.old) (K.faults sink.new) }
     ensures later { K.faults sink.old ≤ K.faults sink.new }
 {
-    let mut flagged = false;
+    let mut verdict = Verdict::clear();
     while let Some(next) = framer.next() {
-        flagged |= take_record(rt, alloc, gate, workers, next.bytes, batch, sink)?;
+        verdict = verdict.and(take_record(rt, alloc, gate, workers, next.bytes, batch, sink)?);
     }
-    Ok(flagged)
+    Ok(verdict)
 }
 
 // Puts a record into the batch, and answers the batch where it is full then.
@@ -164,12 +165,12 @@ fn take_record<'a, R: Threads + Sync, G: Gate + Sync, T: Teller + Sync, K: Sink>
     rt: &R,
     alloc: Global,
     gate: &G,
-    workers: &mut [Worker<T::Desk, Found>],
+    workers: &mut [Worker<T::Desk, Found<T::Note>>],
     bytes: Bytes,
     batch: &mut Batch<'a, T>,
     sink: &mut K,
-) -> Result<bool, Stop>
-    requires short { length bytes < 2 ^ 32 - 1 }
+) -> Result<Verdict<T::Note>, Stop>
+    requires short { length bytes ≤ 2 ^ 31 }
     requires some { 0 < length workers.old }
     requires few { length workers.old < 2 ^ 32 }
     requires room { batch.old.first + length batch.old.records < 2 ^ 64 - 1 }
@@ -182,21 +183,21 @@ fn take_record<'a, R: Threads + Sync, G: Gate + Sync, T: Teller + Sync, K: Sink>
 {
     batch.push(bytes)?;
     if !batch.is_full() {
-        return Ok(false);
+        return Ok(Verdict::clear());
     }
     answer_batch(rt, alloc, gate, workers, batch, sink)
 }
 
-/// Answers the records of a batch, writes the answers in the order of the records, and empties the batch. Says whether
-/// one of them is flagged.
+/// Answers the records of a batch, writes the answers in the order of the records, and empties the batch. Says what
+/// they add to the end of the run.
 pub fn answer_batch<'a, R: Threads + Sync, G: Gate + Sync, T: Teller + Sync, K: Sink>(
     rt: &R,
     alloc: Global,
     gate: &G,
-    workers: &mut [Worker<T::Desk, Found>],
+    workers: &mut [Worker<T::Desk, Found<T::Note>>],
     batch: &mut Batch<'a, T>,
     sink: &mut K,
-) -> Result<bool, Stop>
+) -> Result<Verdict<T::Note>, Stop>
     requires some { 0 < length workers.old }
     requires few { length workers.old < 2 ^ 32 }
     requires room { batch.old.first + length batch.old.records < 2 ^ 64 }
@@ -212,49 +213,49 @@ pub fn answer_batch<'a, R: Threads + Sync, G: Gate + Sync, T: Teller + Sync, K: 
     ensures later { K.faults sink.old ≤ K.faults sink.new }
 {
     let found = map_batch(rt, alloc, &batch.waiting, workers, gate)?;
-    let flagged = write_all(&found, sink)?;
+    let verdict = write_all(&found, sink)?;
     batch.first += batch.waiting.len() as u64;
     batch.waiting.clear();
     batch.bytes = 0;
-    Ok(flagged)
+    Ok(verdict)
 }
 
 // Writes what was found for records, one after the other.
-fn write_all<K: Sink>(found: &[Found], sink: &mut K) -> Result<bool, Stop>
-    ensures answered { (manner : Manner) (number : ℕ) (records : List (List ℕ))
+fn write_all<N: Copy, K: Sink>(found: &[Found<N>], sink: &mut K) -> Result<Verdict<N>, Stop>
+    ensures answered { (manner : Manner N) (number : ℕ) (records : List (List ℕ))
         → found.now ≡ told_from manner number records
         → Answers manner number records result (K.taken sink.old) (K.taken sink.new) }
     ensures fault { IsErrOf result Stop.WriteFault → Rose (K.faults sink.old) (K.faults sink.new) }
     ensures later { K.faults sink.old ≤ K.faults sink.new }
 {
-    let mut flagged = false;
+    let mut verdict = Verdict::clear();
     for one in found {
-        flagged |= write(one, sink)?;
+        verdict = verdict.and(write(one, sink)?);
     }
-    Ok(flagged)
+    Ok(verdict)
 }
 
-fn write<K: Sink>(found: &Found, sink: &mut K) -> Result<bool, Stop>
-    ensures answered { (manner : Manner) (number : ℕ) (bytes : List ℕ) → found.now ≡ telling manner number bytes
+fn write<N: Copy, K: Sink>(found: &Found<N>, sink: &mut K) -> Result<Verdict<N>, Stop>
+    ensures answered { (manner : Manner N) (number : ℕ) (bytes : List ℕ) → found.now ≡ telling manner number bytes
         → Answers manner number (bytes ∷ []) result (K.taken sink.old) (K.taken sink.new) }
     ensures fault { IsErrOf result Stop.WriteFault → Rose (K.faults sink.old) (K.faults sink.new) }
     ensures later { K.faults sink.old ≤ K.faults sink.new }
 {
     push_all(sink, &found.told.text).map_err(|_| Stop::WriteFault)?;
-    Ok(found.told.flagged)
+    Ok(found.told.verdict)
 }
 
 /// Answers the last batch, into which a last record without its terminator line goes, and writes blank lines behind it
-/// where they are kept. Says whether one of its records is flagged.
+/// where they are kept. Says what its records add to the end of the run.
 pub fn answer_tail<'a, R: Threads + Sync, G: Gate + Sync, T: Teller + Sync, K: Sink>(
     rt: &R,
     alloc: Global,
     gate: &G,
-    workers: &mut [Worker<T::Desk, Found>],
+    workers: &mut [Worker<T::Desk, Found<T::Note>>],
     tail: Tail,
     batch: &mut Batch<'a, T>,
     sink: &mut K,
-) -> Result<bool, Stop>
+) -> Result<Verdict<T::Note>, Stop>
     requires small { is_within (2 ^ 31) tail ≡ true }
     requires some { 0 < length workers.old }
     requires few { length workers.old < 2 ^ 32 }
@@ -268,9 +269,9 @@ pub fn answer_tail<'a, R: Threads + Sync, G: Gate + Sync, T: Teller + Sync, K: S
     match tail {
         Tail::Nothing => answer_batch(rt, alloc, gate, workers, batch, sink),
         Tail::Blank(bytes) => {
-            let flagged = answer_batch(rt, alloc, gate, workers, batch, sink)?;
+            let verdict = answer_batch(rt, alloc, gate, workers, batch, sink)?;
             write_blank(batch.teller.keeps_blank(), bytes.as_slice(), sink)?;
-            Ok(flagged)
+            Ok(verdict)
         }
         Tail::Last(last) => {
             batch.push(last.bytes)?;

@@ -2,6 +2,7 @@
 #![tactic(auto)]
 
 mod batch;
+mod laws;
 mod limits;
 mod reading;
 mod stop;
@@ -9,8 +10,11 @@ mod streaming;
 mod teller;
 #[cfg(test)]
 mod tests;
+mod verdict;
 
+pub use laws::streams_divide;
 pub use limits::{LIMITS, Limits};
 pub use stop::Stop;
 pub use streaming::answer_stream;
 pub use teller::{Teller, Told};
+pub use verdict::Verdict;

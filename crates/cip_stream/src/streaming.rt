@@ -10,6 +10,7 @@ use crate::limits::Limits;
 use crate::reading::{Turn, feed_next, new_piece};
 use crate::stop::Stop;
 use crate::teller::Teller;
+use crate::verdict::Verdict;
 use cip_batch::{Gate, Worker};
 use cip_frame::Framer;
 use cip_io::{Sink, Source};
@@ -17,7 +18,7 @@ use std::alloc::{AllocError, Global};
 use std::thread::Threads;
 
 /// Reads the source to its end, or to the first byte past a limit, and writes what is told of its records, batch by
-/// batch. Says whether a record is flagged. The number of workers and the gate change nothing that is written.
+/// batch. Says what the records add to the end of the run. The number of workers and the gate change nothing that is written.
 pub fn answer_stream<R: Threads + Sync, G: Gate + Sync, T: Teller + Sync, S: Source, K: Sink>(
     rt: &R,
     alloc: Global,
@@ -27,7 +28,7 @@ pub fn answer_stream<R: Threads + Sync, G: Gate + Sync, T: Teller + Sync, S: Sou
     gate: &G,
     source: &mut S,
     sink: &mut K,
-) -> Result<bool, Stop>
+) -> Result<Verdict<T::Note>, Stop>
     requires record { limits.record < 2 ^ 31 }
     requires input { limits.input < 2 ^ 63 }
     requires some { 0 < workers }
@@ -45,11 +46,11 @@ pub fn answer_stream<R: Threads + Sync, G: Gate + Sync, T: Teller + Sync, S: Sou
     let mut framer = Framer::new(alloc, limits.record);
     let mut batch = Batch::new(alloc, teller, workers);
     let mut room = limits.input;
-    let mut flagged = false;
+    let mut verdict = Verdict::clear();
     loop {
         match feed_next(source, &mut piece, &mut framer, room)? {
             Turn::Piece(count) => {
-                flagged |= answer_waiting(
+                verdict = verdict.and(answer_waiting(
                     rt,
                     alloc,
                     gate,
@@ -57,13 +58,15 @@ pub fn answer_stream<R: Threads + Sync, G: Gate + Sync, T: Teller + Sync, S: Sou
                     &mut framer,
                     &mut batch,
                     sink,
-                )?;
+                )?);
                 room -= count;
             }
             Turn::End => {
                 let tail = framer.finish();
-                flagged |= answer_tail(rt, alloc, gate, &mut crew, tail, &mut batch, sink)?;
-                return Ok(flagged);
+                verdict = verdict.and(answer_tail(
+                    rt, alloc, gate, &mut crew, tail, &mut batch, sink,
+                )?);
+                return Ok(verdict);
             }
             Turn::Fault => {
                 answer_batch(rt, alloc, gate, &mut crew, &mut batch, sink)?;
@@ -83,7 +86,7 @@ fn new_crew<T: Teller>(
     alloc: Global,
     teller: &T,
     count: u8,
-) -> Result<Vec<Worker<T::Desk, Found>>, AllocError>
+) -> Result<Vec<Worker<T::Desk, Found<T::Note>>>, AllocError>
     ensures { IfOk result (λ v. length v.items ≡ count) }
 {
     let mut crew = Vec::with_capacity(alloc, count as usize)?;

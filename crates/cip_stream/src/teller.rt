@@ -1,14 +1,15 @@
 // Who tells of the records of a stream.
-ghost use Rattle.std.specs.Prelude.{◌≡◌, ◌<◌, ◌-◌, ◌^◌, IfOk, length};
+ghost use Rattle.std.specs.Prelude.{◌≡◌, ◌≤◌, ◌^◌, IfOk, length};
 ghost use Rattle.cip_stream.specs.Manner.{Manner};
 
+use crate::verdict::Verdict;
 use std::alloc::{AllocError, Global};
 
-/// What is told of a record: the text that is due for it, and whether it is flagged.
+/// What is told of a record: the text that is due for it, and what it adds to the end of the run.
 #[derive(Drop)]
-pub struct Told {
+pub struct Told<N> {
     pub text: Vec<u8>,
-    pub flagged: bool,
+    pub verdict: Verdict<N>,
 }
 
 /// Who tells of each record of a stream.
@@ -16,8 +17,11 @@ pub trait Teller {
     /// What a worker keeps from record to record. It changes no answer.
     type Desk: Send + Drop;
 
+    /// What a run keeps of a record for its end, beside whether it is flagged.
+    type Note: Copy + Send;
+
     /// What is due for each record.
-    ghost manner: { Self → Manner };
+    ghost manner: { Self → Manner Self.Note };
 
     /// A desk for a worker. Only want of memory refuses it.
     fn new_desk(&self, alloc: Global) -> Result<Self::Desk, AllocError>;
@@ -29,10 +33,10 @@ pub trait Teller {
         desk: &mut Self::Desk,
         number: u64,
         bytes: &[u8],
-    ) -> Result<Told, AllocError>
-        requires few { length bytes.now < 2 ^ 32 - 1 }
+    ) -> Result<Told<Self::Note>, AllocError>
+        requires few { length bytes.now ≤ 2 ^ 31 }
         ensures text { IfOk result (λ told. told.text.items ≡ (manner self.now).text number bytes.now) }
-        ensures flagged { IfOk result (λ told. told.flagged ≡ (manner self.now).flagged bytes.now) };
+        ensures verdict { IfOk result (λ told. told.verdict ≡ (manner self.now).verdict number bytes.now) };
 
     /// Whether blank lines behind the last record are written as they are.
     fn keeps_blank(&self) -> bool

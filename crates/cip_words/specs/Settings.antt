@@ -5,20 +5,16 @@ use Rattle.std.specs.declared.option.Option.{Option}
 use Rattle.std.specs.declared.alloc.Global.{Global}
 use Rattle.std.specs.Option.{option_map}
 use Rattle.std.specs.Str.{bytes_eq}
+use Rattle.cip_mol.specs.declared.centre_letter.CentreLetter.{CentreLetter}
 use Rattle.cip_rank.specs.declared.rules.Rules.{Rules}
 use Rattle.cip_rank.specs.declared.rules.Rules.TheVariants.{Wording2013, Wording2018}
-use Rattle.cip_words.specs.Choices.{are_pairs, set_to}
+use Rattle.cip_words.specs.Choices.{◌>>=◌, are_pairs, once, set_to}
+use Rattle.cip_words.specs.Letters.{letter_named}
 use Rattle.cip_words.specs.declared.forms.Command.{Command}
 use Rattle.cip_words.specs.declared.forms.Command.TheVariants as commands
-use Rattle.cip_words.specs.declared.forms.TheConstants.{FORMS, NODES, RECORDS, START, WORDING, WORKERS}
+use Rattle.cip_words.specs.declared.forms.TheConstants.{ATOM, FORMS, LETTER, NODES, RECORD, RECORDS, START, WORDING, WORKERS}
 use Rattle.cip_words.specs.declared.settings.Settings.{Settings}
-use Rattle.cip_words.specs.declared.settings.Settings.TheVariants.{Annotate, Explain, Make, Trial, Help}
-
--- what follows is asked for only where everything before it is set
-infixl 10 ◌>>=◌
-abbrev pub ◌>>=◌ : {A B : Type 0} → Option A → (A → Option B) → Option B
-(Some x) >>= next = next x
-None >>= next = None
+use Rattle.cip_words.specs.declared.settings.Settings.TheVariants.{Annotate, Explain, Make, Trial, Set, Mirror, Groups, Axes, Help}
 
 -- a command's name, the command, and the names of its options
 abbrev pub Form : Type 0
@@ -43,6 +39,15 @@ start_of words = set_to START.0.now START.1 words
 
 abbrev pub records_of : List (String Global) → Option ℕ
 records_of words = set_to RECORDS.0.now RECORDS.1 words
+
+abbrev pub record_of : List (String Global) → Option ℕ
+record_of words = set_to RECORD.0.now RECORD.1 words
+
+abbrev pub atom_of : List (String Global) → Option ℕ
+atom_of words = set_to ATOM.0.now ATOM.1 words
+
+abbrev pub letter_of : List (String Global) → Option CentreLetter
+letter_of words = once LETTER.0.now words >>= letter_named
 
 abbrev pub nodes_of : List (String Global) → Option ℕ
 nodes_of words = set_to NODES.0.now NODES.1 words
@@ -76,6 +81,29 @@ asked commands.Trial words = do
   workers ← workers_of words
   rules ← rules_of words
   Some (Trial start records nodes workers rules)
+asked commands.Set words = do
+  number ← record_of words
+  atom ← atom_of words
+  letter ← letter_of words
+  nodes ← nodes_of words
+  workers ← workers_of words
+  rules ← rules_of words
+  Some (Set number atom letter nodes workers rules)
+asked commands.Mirror words = do
+  nodes ← nodes_of words
+  workers ← workers_of words
+  rules ← rules_of words
+  Some (Mirror nodes workers rules)
+asked commands.Groups words = do
+  nodes ← nodes_of words
+  workers ← workers_of words
+  rules ← rules_of words
+  Some (Groups nodes workers rules)
+asked commands.Axes words = do
+  nodes ← nodes_of words
+  workers ← workers_of words
+  rules ← rules_of words
+  Some (Axes nodes workers rules)
 asked commands.Help words = Some Help
 
 abbrev pub asked_by : Form → List (String Global) → Option Settings

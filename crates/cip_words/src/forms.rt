@@ -7,17 +7,22 @@ pub enum Command {
     Explain,
     Make,
     Trial,
+    Set,
+    Mirror,
+    Groups,
+    Axes,
     Help,
 }
 
-/// Which numbers an option takes: all in a range, or one of two.
+/// What an option takes: the numbers of a range, one of two numbers, or the letter of a centre.
 #[derive(Clone, Copy)]
 pub enum Values {
     Between { least: u32, most: u32 },
     Either { one: u32, other: u32 },
+    CentreLetter,
 }
 
-/// What an option takes: the letter that stands for its number in the help text, the numbers that it takes, and the one
+/// What an option takes: the letter that stands for its value in the help text, the values that it takes, and the number
 /// that holds where it isn't given. An option without such a one has to be given.
 #[derive(Clone, Copy)]
 pub struct Choice {
@@ -48,6 +53,42 @@ pub const RECORDS: Named = (
             least: 1,
             most: 100_000,
         },
+        default: None,
+    },
+);
+
+/// The number of the record that is changed.
+pub const RECORD: Named = (
+    b"--record",
+    Choice {
+        letter: b'N',
+        values: Values::Between {
+            least: 1,
+            most: 1_000_000_000,
+        },
+        default: None,
+    },
+);
+
+/// The number of the atom at which a centre stands.
+pub const ATOM: Named = (
+    b"--atom",
+    Choice {
+        letter: b'N',
+        values: Values::Between {
+            least: 1,
+            most: 1_000_000_000,
+        },
+        default: None,
+    },
+);
+
+/// The letter that is asked of a centre.
+pub const LETTER: Named = (
+    b"--letter",
+    Choice {
+        letter: b'L',
+        values: Values::CentreLetter,
         default: None,
     },
 );
@@ -95,7 +136,7 @@ pub type Named = (&'static [u8], Choice);
 pub type Form = (&'static [u8], Command, &'static [Named]);
 
 /// The commands in the order of the help text.
-pub const FORMS: [Form; 5] = [
+pub const FORMS: [Form; 9] = [
     (b"annotate", Command::Annotate, &[NODES, WORKERS, WORDING]),
     (b"explain", Command::Explain, &[NODES, WORKERS, WORDING]),
     (b"make", Command::Make, &[START, RECORDS]),
@@ -104,5 +145,13 @@ pub const FORMS: [Form; 5] = [
         Command::Trial,
         &[START, RECORDS, NODES, WORKERS, WORDING],
     ),
+    (
+        b"set",
+        Command::Set,
+        &[RECORD, ATOM, LETTER, NODES, WORKERS, WORDING],
+    ),
+    (b"mirror", Command::Mirror, &[NODES, WORKERS, WORDING]),
+    (b"groups", Command::Groups, &[NODES, WORKERS, WORDING]),
+    (b"axes", Command::Axes, &[NODES, WORKERS, WORDING]),
     (b"help", Command::Help, &[]),
 ];

@@ -10,5 +10,9 @@ pub fn help_text() -> &'static str
      cip explain [--nodes N] [--workers N] [--rule1b Y]\n\
      cip make --start N --records N\n\
      cip trial --start N --records N [--nodes N] [--workers N] [--rule1b Y]\n\
+     cip set --record N --atom N --letter L [--nodes N] [--workers N] [--rule1b Y]\n\
+     cip mirror [--nodes N] [--workers N] [--rule1b Y]\n\
+     cip groups [--nodes N] [--workers N] [--rule1b Y]\n\
+     cip axes [--nodes N] [--workers N] [--rule1b Y]\n\
      cip help\n"
 }

@@ -1,11 +1,15 @@
 // What the words of a command line ask for.
 ghost use Rattle.std.specs.Prelude.{◌≡◌, IfSome, map};
 ghost use Rattle.std.specs.Option.{option_map};
-ghost use Rattle.cip_words.specs.Settings.{form_of, workers_of, rules_of, asked, settings_of};
+ghost use Rattle.cip_words.specs.Settings.{form_of, letter_of, workers_of, rules_of, asked, settings_of};
+ghost use Rattle.cip_words.specs.Letters.{letter_named};
 ghost use Rattle.cip_words.specs.Ranges.{AreWithin, IsBetween};
 
-use crate::forms::{Command, FORMS, Form, NODES, RECORDS, START, WORDING, WORKERS};
-use crate::values::{are_pairs, set_to};
+use crate::forms::{
+    ATOM, Command, FORMS, Form, LETTER, NODES, RECORD, RECORDS, START, WORDING, WORKERS,
+};
+use crate::values::{are_pairs, once, set_to};
+use cip_mol::CentreLetter;
 use cip_rank::Rules;
 
 /// What a command line asks for: the numbers of its options, the bound on the nodes of a digraph among them.
@@ -32,6 +36,34 @@ pub enum Settings {
     Trial {
         start: u32,
         records: u32,
+        nodes: u32,
+        workers: u8,
+        rules: Rules,
+    },
+    /// The record of this number is written with the mark that gives the centre at an atom its letter. Records and atoms
+    /// count from 1.
+    Set {
+        number: u32,
+        atom: u32,
+        letter: CentreLetter,
+        nodes: u32,
+        workers: u8,
+        rules: Rules,
+    },
+    /// Each record is written reflected.
+    Mirror {
+        nodes: u32,
+        workers: u8,
+        rules: Rules,
+    },
+    /// Of each record its enhanced stereo groups are written, with the letters of both members.
+    Groups {
+        nodes: u32,
+        workers: u8,
+        rules: Rules,
+    },
+    /// Of each record its longer cumulenes and biaryl axes are written with what is found of them.
+    Axes {
         nodes: u32,
         workers: u8,
         rules: Rules,
@@ -94,7 +126,52 @@ fn asked(command: Command, words: &[String]) -> Option<Settings>
             workers: workers(words)?,
             rules: rules(words)?,
         }),
+        Command::Set => Some(Settings::Set {
+            number: set_to(&RECORD, words)?,
+            atom: set_to(&ATOM, words)?,
+            letter: letter(words)?,
+            nodes: set_to(&NODES, words)?,
+            workers: workers(words)?,
+            rules: rules(words)?,
+        }),
+        Command::Mirror => Some(Settings::Mirror {
+            nodes: set_to(&NODES, words)?,
+            workers: workers(words)?,
+            rules: rules(words)?,
+        }),
+        Command::Groups => Some(Settings::Groups {
+            nodes: set_to(&NODES, words)?,
+            workers: workers(words)?,
+            rules: rules(words)?,
+        }),
+        Command::Axes => Some(Settings::Axes {
+            nodes: set_to(&NODES, words)?,
+            workers: workers(words)?,
+            rules: rules(words)?,
+        }),
         Command::Help => Some(Settings::Help),
+    }
+}
+
+fn letter(words: &[String]) -> Option<CentreLetter>
+    ensures { result ≡ letter_of words.now }
+{
+    letter_named(once(LETTER.0, words)?)
+}
+
+fn letter_named(word: &[u8]) -> Option<CentreLetter>
+    ensures { result ≡ letter_named word.now }
+{
+    if word == b"R".as_slice() {
+        Some(CentreLetter::R)
+    } else if word == b"S".as_slice() {
+        Some(CentreLetter::S)
+    } else if word == b"r".as_slice() {
+        Some(CentreLetter::SmallR)
+    } else if word == b"s".as_slice() {
+        Some(CentreLetter::SmallS)
+    } else {
+        None
     }
 }
 

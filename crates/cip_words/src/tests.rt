@@ -1,4 +1,5 @@
 use crate::{Settings, help_text, read_words};
+use cip_mol::CentreLetter;
 use cip_rank::Rules;
 use clap::{Arg, ArgAction, ArgMatches, Command};
 use std::alloc::{AllocError, Global};
@@ -20,7 +21,16 @@ fn year(rules: Rules) -> u32 {
     }
 }
 
-// The settings as a line: the command, and the numbers of its options in the order of the help text.
+fn spelled(letter: CentreLetter) -> &'static str {
+    match letter {
+        CentreLetter::R => "R",
+        CentreLetter::S => "S",
+        CentreLetter::SmallR => "r",
+        CentreLetter::SmallS => "s",
+    }
+}
+
+// The settings as a line: the command, and the values of its options in the order of the help text.
 fn shown(alloc: Global, settings: Option<Settings>) -> Result<String, AllocError> {
     match settings {
         None => format!(in alloc; "refused"),
@@ -48,12 +58,49 @@ fn shown(alloc: Global, settings: Option<Settings>) -> Result<String, AllocError
                 rules,
             },
         ) => format!(in alloc; "trial {start} {records} {nodes} {workers} {}", year(rules)),
+        Some(
+            Settings::Set {
+                number,
+                atom,
+                letter,
+                nodes,
+                workers,
+                rules,
+            },
+        ) => {
+            let letter = spelled(letter);
+            format!(in alloc;
+                "set {number} {atom} {letter} {nodes} {workers} {}",
+                year(rules)
+            )
+        }
+        Some(
+            Settings::Mirror {
+                nodes,
+                workers,
+                rules,
+            },
+        ) => format!(in alloc; "mirror {nodes} {workers} {}", year(rules)),
+        Some(
+            Settings::Groups {
+                nodes,
+                workers,
+                rules,
+            },
+        ) => format!(in alloc; "groups {nodes} {workers} {}", year(rules)),
+        Some(
+            Settings::Axes {
+                nodes,
+                workers,
+                rules,
+            },
+        ) => format!(in alloc; "axes {nodes} {workers} {}", year(rules)),
         Some(Settings::Help) => format!(in alloc; "help"),
     }
 }
 
 // Lines of words, and what they ask for.
-const LINES: [(&str, &str); 54] = [
+const LINES: [(&str, &str); 69] = [
     ("annotate", "annotate 100000 1 2018"),
     ("annotate --nodes 1", "annotate 1 1 2018"),
     ("annotate --nodes 1000000", "annotate 1000000 1 2018"),
@@ -74,8 +121,35 @@ const LINES: [(&str, &str); 54] = [
         "trial --records 2 --start 1 --nodes 1000 --workers 3 --rule1b 2013",
         "trial 1 2 1000 3 2013",
     ),
+    (
+        "set --record 1 --atom 2 --letter R",
+        "set 1 2 R 100000 1 2018",
+    ),
+    (
+        "set --letter S --atom 1000000000 --record 1000000000",
+        "set 1000000000 1000000000 S 100000 1 2018",
+    ),
+    (
+        "set --nodes 7 --letter r --record 3 --workers 2 --atom 1 --rule1b 2013",
+        "set 3 1 r 7 2 2013",
+    ),
+    (
+        "set --record 1 --atom 1 --letter s",
+        "set 1 1 s 100000 1 2018",
+    ),
+    ("mirror --rule1b 2013", "mirror 100000 1 2013"),
+    ("groups --workers 3", "groups 100000 3 2018"),
+    ("axes --nodes 3", "axes 3 1 2018"),
     ("help", "help"),
     ("", "refused"),
+    ("set --record 1 --atom 1", "refused"),
+    ("set --record 0 --atom 1 --letter R", "refused"),
+    ("set --record 1 --atom 1000000001 --letter R", "refused"),
+    ("set --record 1 --atom 1 --letter Z", "refused"),
+    ("set --record 1 --atom 1 --letter RS", "refused"),
+    ("set --record 1 --atom 1 --letter R --letter R", "refused"),
+    ("set --atom 1 --letter S", "refused"),
+    ("mirror --record 1", "refused"),
     ("Annotate", "refused"),
     ("annotat", "refused"),
     ("annotate annotate", "refused"),
@@ -116,13 +190,21 @@ const LINES: [(&str, &str); 54] = [
     ("help --nodes 5", "refused"),
 ];
 
+// What the first line that asks for something else than its row says asks for.
+fn first_other(alloc: Global, rows: &[(&str, &str)]) -> Result<Option<String>, AllocError> {
+    for (line, want) in rows {
+        let found = shown(alloc, read_words(&words(alloc, line)?))?;
+        if found.as_str() != *want {
+            return Ok(Some(found));
+        }
+    }
+    Ok(None)
+}
+
 #[test]
 fn words_ask_for_settings_or_are_refused(rt: HostRuntime) -> Result<(), Fail> {
     let alloc = rt.alloc();
-    for (line, want) in LINES {
-        let found = shown(alloc, read_words(&words(alloc, line)?))?;
-        assert_eq!(rt; found.as_str(), want);
-    }
+    assert!(rt; first_other(alloc, &LINES)?.is_none());
     let found = shown(alloc, read_words(&[]))?;
     assert_eq!(rt; found.as_str(), "refused");
     Ok(())
@@ -132,7 +214,7 @@ fn words_ask_for_settings_or_are_refused(rt: HostRuntime) -> Result<(), Fail> {
 #[test]
 fn each_form_is_a_line_of_80_columns_at_most(rt: HostRuntime) {
     assert!(rt; help_text().lines().all(|line| line.len() <= 80));
-    assert_eq!(rt; help_text().lines().count(), 5);
+    assert_eq!(rt; help_text().lines().count(), 9);
 }
 
 // An option of a number in a range.
@@ -168,12 +250,29 @@ fn making<'a>(alloc: Global, command: Command<'a>) -> Result<Command<'a>, AllocE
         .arg(number(alloc, "records", 1, 100_000, None))
 }
 
+// A command over a centre of a record.
+fn setting<'a>(alloc: Global, command: Command<'a>) -> Result<Command<'a>, AllocError> {
+    command
+        .arg(number(alloc, "record", 1, 1_000_000_000, None))?
+        .arg(number(alloc, "atom", 1, 1_000_000_000, None))?
+        .arg(
+            Arg::new(alloc, "letter")
+                .long("letter")
+                .action(ArgAction::Set)
+                .required(true),
+        )
+}
+
 fn program<'a>(alloc: Global) -> Result<Command<'a>, AllocError> {
     Command::new(alloc, "cip")
         .subcommand(labelling(alloc, "annotate")?)?
         .subcommand(labelling(alloc, "explain")?)?
         .subcommand(making(alloc, Command::new(alloc, "make"))?)?
-        .subcommand(making(alloc, labelling(alloc, "trial")?)?)
+        .subcommand(making(alloc, labelling(alloc, "trial")?)?)?
+        .subcommand(setting(alloc, labelling(alloc, "set")?)?)?
+        .subcommand(labelling(alloc, "mirror")?)?
+        .subcommand(labelling(alloc, "groups")?)?
+        .subcommand(labelling(alloc, "axes")?)
 }
 
 // The subcommand with the numbers of its options, in the order of the help text.
@@ -181,8 +280,14 @@ fn seen(alloc: Global, matches: &ArgMatches<'_>) -> Result<String, AllocError> {
     let mut line = String::new(alloc);
     if let Some((name, inner)) = matches.subcommand() {
         line.push_str(name)?;
-        for option in ["start", "records", "nodes", "workers", "rule1b"] {
-            if inner.contains_id(option) {
+        for option in [
+            "start", "records", "record", "atom", "letter", "nodes", "workers", "rule1b",
+        ] {
+            if option == "letter" && inner.contains_id(option) {
+                if let Some(letter) = inner.get_str(option) {
+                    line.push_str(format!(in alloc; " {letter}")?.as_str())?;
+                }
+            } else if inner.contains_id(option) {
                 if let Some(number) = inner.get_one::<u32>(option) {
                     line.push_str(format!(in alloc; " {number}")?.as_str())?;
                 }
@@ -201,6 +306,10 @@ fn words_agree(rt: HostRuntime) -> Result<(), Fail> {
         "explain --workers 4",
         "make --start 7 --records 3",
         "trial --records 3 --start 7",
+        "set --record 4 --letter r --atom 7",
+        "mirror --workers 2",
+        "groups --nodes 12",
+        "axes --rule1b 2013",
     ] {
         let words = words(alloc, line)?;
         let mut all = vec![in alloc; String::from_str(alloc, "cip")?]?;

@@ -2,7 +2,8 @@
 ghost use Rattle.std.specs.Prelude.{◌≡◌, IfSome, map, true};
 ghost use Rattle.std.specs.List.{list_any};
 ghost use Rattle.std.specs.Str.{bytes_eq};
-ghost use Rattle.cip_words.specs.Choices.{allows, is_given, are_pairs, allowed, set_to};
+ghost use Rattle.std.specs.Option.{option_map};
+ghost use Rattle.cip_words.specs.Choices.{allows, first_given, is_given, are_pairs, allowed, once, set_to};
 ghost use Rattle.cip_words.specs.Ranges.{IsOf};
 
 use crate::forms::{Named, Values};
@@ -40,30 +41,41 @@ pub fn set_to(choice: &Named, words: &[String]) -> Option<u32>
     ensures set { result ≡ set_to choice.now.0.now choice.now.1 words.now }
     ensures of { IfSome result (IsOf choice.now.1.values) }
 {
-    let mut rest = words;
-    while let [word, value, more @ ..] = rest {
-        if word.as_bytes() == choice.0 {
-            if is_given(choice.0, more) {
-                return None;
-            }
-            return allowed(choice.1.values, value.as_bytes());
-        }
-        rest = more;
+    if !is_given(choice.0, words) {
+        return choice.1.default;
     }
-    choice.1.default
+    allowed(choice.1.values, once(choice.0, words)?)
+}
+
+/// The word behind a name that is given once.
+pub fn once<'a>(name: &[u8], words: &'a [String]) -> Option<&'a [u8]>
+    ensures { option_map (λ value. value.now) result ≡ once name.now words.now }
+{
+    let (value, more) = first_given(name, words)?;
+    if is_given(name, more) {
+        return None;
+    }
+    Some(value)
 }
 
 fn is_given(name: &[u8], words: &[String]) -> bool
     ensures { result ≡ is_given name.now words.now }
 {
+    first_given(name, words).is_some()
+}
+
+// The word behind a name where it stands first, and the words behind that.
+fn first_given<'a>(name: &[u8], words: &'a [String]) -> Option<(&'a [u8], &'a [String])>
+    ensures { option_map (λ given. (given.0.now, given.1.now)) result ≡ first_given name.now words.now }
+{
     let mut rest = words;
-    while let [word, _, more @ ..] = rest {
+    while let [word, value, more @ ..] = rest {
         if word.as_bytes() == name {
-            return true;
+            return Some((value.as_bytes(), more));
         }
         rest = more;
     }
-    false
+    None
 }
 
 // The number of a word, where it is one of these.
@@ -86,5 +98,6 @@ fn allows(values: Values, number: u64) -> bool
     match values {
         Values::Between { least, most } => u64::from(least) <= number && number <= u64::from(most),
         Values::Either { one, other } => number == u64::from(one) || number == u64::from(other),
+        Values::CentreLetter => false,
     }
 }

@@ -1,7 +1,9 @@
 // Worked digraphs in boxes: how many nodes they have, and how two ligands stand by constitution.
 ghost use Rattle.std.specs.Prelude.{◌≤◌, length};
 
-use crate::molecules::{Ends, GLYCERALDEHYDE, METHYLCYCLOPROPANE, OXIRANE, TETRAHEDRANE, graph};
+use crate::molecules::{
+    Ends, GLYCERALDEHYDE, METHYLCYCLOPROPANE, OXIRANE, PYRIDINE, TETRAHEDRANE, graph,
+};
 use cip_digraph::Nodes;
 use cip_mancude::positions;
 use cip_rank::Rules;
@@ -74,6 +76,35 @@ fn told(
             )
         }
     }
+}
+
+// The atom keys of the root's children, ascending, each six times an atomic number.
+fn children_keys(alloc: Global, nodes: &Flat) -> Result<Vec<u32>, AllocError> {
+    let mut keys = Vec::new(alloc);
+    let table = nodes.table();
+    if table.len() > 0 {
+        let (first, past) = table.children(0);
+        for node in first..past {
+            keys.push(nodes.atom_key(node))?;
+        }
+    }
+    keys.sort()?;
+    Ok(keys)
+}
+
+// The double bond at a carbon beside the nitrogen of pyridine can stand on either side: the mean of 7 and 6.
+#[test]
+fn a_duplicate_has_the_mean_of_its_places(rt: HostRuntime) -> Result<(), Fail> {
+    let alloc = rt.alloc();
+    let Some(tree) = boxed(alloc, b"CNCCCC", &PYRIDINE, 1)? else {
+        panic!(rt; "no molecule");
+    };
+    if tree.node_count().is_none() {
+        panic!(rt; "too many nodes");
+    }
+    let keys = children_keys(alloc, &tree.flat()?)?;
+    assert_eq!(rt; keys.as_slice(), [6, 36, 39, 42].as_slice());
+    Ok(())
 }
 
 #[test]

@@ -39,6 +39,15 @@ pub const TETRAHEDRANE: [(u32, u32, u8); 6] = [
     (2, 3, 1),
 ];
 
+pub const PYRIDINE: [(u32, u32, u8); 6] = [
+    (0, 1, 2),
+    (1, 2, 1),
+    (2, 3, 2),
+    (3, 4, 1),
+    (4, 5, 2),
+    (0, 5, 1),
+];
+
 // An atom by its symbol; - is an oxygen with a negative charge.
 fn atom(symbol: u8) -> Atom
     ensures { IsAtom result }
@@ -46,6 +55,7 @@ fn atom(symbol: u8) -> Atom
     Atom {
         z: match symbol {
             b'O' | b'-' => 8,
+            b'N' => 7,
             _ => 6,
         },
         isotope: 0,

@@ -3,8 +3,8 @@ use Rattle.cip_mol.specs.Geometry.{geometry_of}
 use Rattle.cip_mol.specs.declared.site.Unit as units
 use Rattle.cip_digraph.specs.units.Units.{sites_of}
 use Rattle.cip_label.specs.Settings.{Setting}
-use Rattle.cip_record.proofs.FewUnits.{few_units}
-use Rattle.cip_record.proofs.UnitLists.{sites_kept}
+use Rattle.cip_unit.proofs.FewUnits.{few_units}
+use Rattle.cip_unit.proofs.Kept.{sites_kept}
 use Rattle.cip_record.proofs.answering.answer_molecule.Goals as goal
 
 pub new-requires : goal.new-requires

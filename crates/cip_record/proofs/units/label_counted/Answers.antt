@@ -15,10 +15,10 @@ loop-unit-preserved g c = record {
   so_far =
       c.in_ok-push.ensures.added
       ∙ next_unit c.args.setting.now c.args.labeller.now c.loop-unit.labeller c.len.result c.loop-unit.answers
-      c.loop-unit.unit-index c.as_slice-units.result.now c.unit-item.result c.copy_site.result c.drawn.result
+      c.loop-unit.unit-index c.as_slice-units.result.now c.unit-item.result c.name_of.result c.copy.result c.drawn.result
       c.in_ok-outcome.outcome c.loop-unit.invariant.so_far
       (subst (λ units. c.loop-unit.unit-index < length units) c.loop-unit.invariant.all c.loop-unit-test.true)
-      c.loop-unit.invariant.all c.unit-item.is c.len.ensures.counted c.copy_site.ensures
+      c.loop-unit.invariant.all c.unit-item.is c.len.ensures.counted c.name_of.ensures c.copy.ensures
       (c.drawn.ensures.value ∙ ap (λ (graph : Graph). graph.drawn) c.graph.ensures.value) c.loop-unit.invariant.kept
       c.in_ok-outcome.ensures.outcome;
   all = c.loop-unit.invariant.all;

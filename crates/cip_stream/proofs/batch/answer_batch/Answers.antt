@@ -3,16 +3,16 @@ use Rattle.std.proofs.lemmas.Result.{err_from_is_err_and}
 use Rattle.cip_stream.specs.Batches.{telling, told_from}
 use Rattle.cip_stream.proofs.batch.answer_batch.Goals as goal
 
-pub returns-in_err-flagged-clause-answered : goal.returns-in_err-flagged-clause-answered
-returns-in_err-flagged-clause-answered g c =
-    let p = err_from_is_err_and c.from_residual-in_err-flagged.result c.from_residual-in_err-flagged.ensures.1 in
+pub returns-in_err-verdict-clause-answered : goal.returns-in_err-verdict-clause-answered
+returns-in_err-verdict-clause-answered g c =
+    let p = err_from_is_err_and c.from_residual-in_err-verdict.result c.from_residual-in_err-verdict.ensures.1 in
     let batch = c.args.batch.now in
     let manner = g.T.Teller.manner batch.teller in
     let told : c.deref-2.result.now ≡ told_from manner batch.first batch.records =
     c.deref-2.ensures.value ∙ c.in_ok-found.ensures.answers
     ∙ ap (map (λ w. telling (g.T.Teller.manner w.teller.now) w.number w.bytes)) c.deref.ensures.value
     ∙ c.batch.invariant ∙ ap (λ b. told_from (g.T.Teller.manner b.teller) b.first b.records) c.batch.view_is in
-    rw (p.1, p.2) (c.in_err-flagged.ensures.answered manner batch.first batch.records told)
+    rw (p.1, p.2) (c.in_err-verdict.ensures.answered manner batch.first batch.records told)
 
 pub returns-clause-answered : goal.returns-clause-answered
 returns-clause-answered g c =
@@ -22,4 +22,4 @@ returns-clause-answered g c =
     c.deref-2.ensures.value ∙ c.in_ok-found.ensures.answers
     ∙ ap (map (λ w. telling (g.T.Teller.manner w.teller.now) w.number w.bytes)) c.deref.ensures.value
     ∙ c.batch.invariant ∙ ap (λ b. told_from (g.T.Teller.manner b.teller) b.first b.records) c.batch.view_is in
-    c.in_ok-flagged.ensures.answered manner batch.first batch.records told
+    c.in_ok-verdict.ensures.answered manner batch.first batch.records told

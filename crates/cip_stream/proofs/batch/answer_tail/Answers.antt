@@ -6,13 +6,13 @@ use Rattle.cip_stream.specs.Batches.{Answers}
 use Rattle.cip_stream.proofs.Tails.{last_answered, blank_stopped, blank_refused, blank_written}
 use Rattle.cip_stream.proofs.batch.answer_tail.Goals as goal
 
-pub returns-in_err-flagged-in-Blank-clause-answered : goal.returns-in_err-flagged-in-Blank-clause-answered
-returns-in_err-flagged-in-Blank-clause-answered g c =
+pub returns-in_err-verdict-in-Blank-clause-answered : goal.returns-in_err-verdict-in-Blank-clause-answered
+returns-in_err-verdict-in-Blank-clause-answered g c =
     let p = err_from_is_err_and c.from_residual.result c.from_residual.ensures.1 in
     let batch = c.args.batch.now in
     λ rest is. rw (p.1, p.2) (blank_stopped (g.T.Teller.manner batch.teller) batch.first batch.records rest
-    c.in-Blank.bytes c.in_err-flagged-in-Blank.field-0.0 _ _ (sym c.in-Blank.is ∙ is)
-    c.in_err-flagged-in-Blank.ensures.answered)
+    c.in-Blank.bytes c.in_err-verdict-in-Blank.field-0.0 _ _ (sym c.in-Blank.is ∙ is)
+    c.in_err-verdict-in-Blank.ensures.answered)
 
 pub returns-in_err-write_blank-in-Blank-clause-answered : goal.returns-in_err-write_blank-in-Blank-clause-answered
 returns-in_err-write_blank-in-Blank-clause-answered g c =
@@ -28,8 +28,8 @@ returns-in_err-write_blank-in-Blank-clause-answered g c =
     ∙ ap (λ xs. if manner.keeps_blank then xs else []) bytes in
     let stopped = c.in_err-write_blank-in-Blank.ensures.stopped in
     λ rest is. rw (p.1, p.2) (blank_refused manner batch.first batch.records rest c.in-Blank.bytes
-    c.in_ok-flagged-in-Blank.flagged c.in_err-write_blank-in-Blank.field-0.0 _ _ _ (sym c.in-Blank.is ∙ is)
-    c.in_ok-flagged-in-Blank.ensures.answered stopped.0
+    c.in_ok-verdict-in-Blank.verdict c.in_err-write_blank-in-Blank.field-0.0 _ _ _ (sym c.in-Blank.is ∙ is)
+    c.in_ok-verdict-in-Blank.ensures.answered stopped.0
     (subst (AppendsPrefix (g.K.Sink.taken c.answer_batch-in-Blank.new.sink) (g.K.Sink.taken c.write_blank.new.sink))
     lines stopped.1))
 
@@ -43,8 +43,8 @@ returns-in_ok-write_blank-in-Blank-clause-answered g c =
     ≡ (if manner.keeps_blank then c.in-Blank.bytes else []) =
     ap (λ k. if k then c.as_slice.result.now else []) keeps
     ∙ ap (λ xs. if manner.keeps_blank then xs else []) bytes in
-    λ rest is. blank_written manner batch.first batch.records rest c.in-Blank.bytes c.in_ok-flagged-in-Blank.flagged
-    _ _ _ (sym c.in-Blank.is ∙ is) c.in_ok-flagged-in-Blank.ensures.answered
+    λ rest is. blank_written manner batch.first batch.records rest c.in-Blank.bytes c.in_ok-verdict-in-Blank.verdict
+    _ _ _ (sym c.in-Blank.is ∙ is) c.in_ok-verdict-in-Blank.ensures.answered
     (subst (Appends (g.K.Sink.taken c.answer_batch-in-Blank.new.sink) (g.K.Sink.taken c.write_blank.new.sink)) lines
     c.in_ok-write_blank-in-Blank.ensures.whole)
 

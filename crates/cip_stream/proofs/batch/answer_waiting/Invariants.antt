@@ -6,7 +6,7 @@ abbrev pub invariant-loop-next : goal.invariant-loop-next
 invariant-loop-next g l = record {
   so_far : Advances (g.T.Teller.manner l.initial.batch.teller) l.initial.batch.first
       (l.initial.batch.records ++ l.initial.framer.waiting) l.batch.first (l.batch.records ++ l.framer.waiting)
-      l.flagged (g.K.Sink.taken l.initial.sink) (g.K.Sink.taken l.sink);
+      l.verdict (g.K.Sink.taken l.initial.sink) (g.K.Sink.taken l.sink);
   room : l.batch.first + length (l.batch.records ++ l.framer.waiting) < 2 ^ 64;
   teller : l.batch.teller ≡ l.initial.batch.teller;
   rest : l.framer ≡ record l.initial.framer { waiting = l.framer.waiting };

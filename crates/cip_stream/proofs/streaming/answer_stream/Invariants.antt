@@ -4,7 +4,7 @@ use Rattle.cip_stream.proofs.streaming.answer_stream.Given as goal
 
 abbrev pub invariant-loop-batch : goal.invariant-loop-batch
 invariant-loop-batch g l = record {
-  progress : Progress (g.T.Teller.manner l.fn.teller) l.fn.limits l.room l.flagged
+  progress : Progress (g.T.Teller.manner l.fn.teller) l.fn.limits l.room l.verdict
       (g.S.Source.left l.fn.source) (g.S.Source.left l.source) (g.K.Sink.taken l.fn.sink) (g.K.Sink.taken l.sink)
       l.framer l.batch.first l.batch.records;
   teller : l.batch.teller ≡ l.fn.teller;
