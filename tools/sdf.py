@@ -1,0 +1,264 @@
+"""SDfiles as the bytes that they are: records, items, labels and drawings.
+
+Source: CTfile Formats, SDfile and molfiles; the form of a label item is README's. A line ends in LF or CRLF, and a CR
+that stands alone is content. A record ends behind its terminator line, `$$$$` with spaces at most behind it, or with
+the input. Nothing here keeps more than a record and a piece of the input."""
+import re
+from typing import NamedTuple, Optional
+
+LIMIT = 16 << 20
+PIECE = 1 << 20
+FARTHEST = 50_000
+LABEL_ITEM = b"CIP_LABELS"
+LETTERS = ("R", "S", "r", "s", "Z", "E", "seqCis", "seqTrans", "M", "P", "m", "p")
+RULES = ("1a", "1b", "2", "3", "4a", "4b", "4c", "5")
+V2000_CHARGES = (0, 3, 2, 1, 0, -1, -2, -3)
+V2000_MARKS = {(1, 1): "up", (1, 4): "either", (1, 6): "down", (2, 3): "either"}
+V3000_MARKS = {(1, 1): "up", (1, 2): "either", (1, 3): "down", (2, 2): "either"}
+
+TERMINATOR = re.compile(rb"\$\$\$\$ *\r?\n")
+MOLECULE_END = re.compile(rb"(?:^|\n)M  END *\r?(?:\n|$)")
+ITEM_HEAD = re.compile(rb">.*?<(.*?)>")
+UNIT = re.compile(r"[a-z](\d+)(?:-(\d+))?")
+WORD = re.compile(r'(?:\([^)]*\)?|"[^"]*"?|[^ ])+')
+
+
+class Fault(Exception):
+    """In one line, why an input can't be used."""
+
+
+class Item(NamedTuple):
+    """A data item: its name, and the contents of its value lines."""
+
+    name: bytes
+    values: list
+
+
+class Label(NamedTuple):
+    """A label of a unit: letter, rule, sphere, and for each end the names of its ligands, highest first."""
+
+    unit: str
+    letter: str
+    rule: str
+    sphere: int
+    order: list
+
+
+class Answer(NamedTuple):
+    """A label item: its line of settings, its labels, the units over the bound, and a refusal as line and cause."""
+
+    setting: str
+    labels: list
+    over: list
+    refused: Optional[tuple]
+
+
+class Atom(NamedTuple):
+    symbol: str
+    place: tuple
+    charge: int
+    isotope: int
+    radical: int
+
+
+class Bond(NamedTuple):
+    """A bond of two atoms, which count from 0: type, and mark (up, down, either or nothing) at the first of them."""
+
+    first: int
+    second: int
+    order: int
+    mark: str
+
+
+class Drawing(NamedTuple):
+    atoms: list
+    bonds: list
+
+
+def records(file):
+    """The records of a stream, one after the other; blank lines behind the last one are none."""
+    rest, searched, count = bytearray(), 0, 0
+    while piece := file.read(PIECE):
+        rest += piece
+        done = 0
+        for end in record_ends(rest, searched):
+            yield bytes(rest[done:end])
+            done, count = end, count + 1
+        del rest[:done]
+        if len(rest) > LIMIT:
+            raise Fault(f"not an SDfile: record {count + 1} is longer than 16 MiB")
+        # a terminator line may begin with the open line
+        searched = rest.rfind(b"\n") + 1
+    if rest.strip(b" \t\r\n"):
+        if not (count or is_closed(rest) or MOLECULE_END.search(rest) or LABEL_ITEM in rest):
+            raise Fault("not an SDfile: it has neither a line `$$$$` nor a line `M  END`")
+        yield bytes(rest)
+
+
+def record_ends(text, start=0):
+    """The places behind terminator lines that begin at a place or behind it."""
+    for found in TERMINATOR.finditer(text, start):
+        if found.start() == 0 or text[found.start() - 1] == 10:
+            yield found.end()
+
+
+def is_word(content, word):
+    return content.rstrip(b" ") == word
+
+
+def is_closed(record):
+    """Whether the last line of a record is a terminator line."""
+    return bool(record) and is_word(contents(record)[-1], b"$$$$")
+
+
+def contents(record):
+    """The contents of the lines of a record, without their line ends."""
+    *ended, last = record.split(b"\n")
+    lines = [line.removesuffix(b"\r") for line in ended]
+    return lines + [last] if last else lines
+
+
+def text(content):
+    """Bytes to show: UTF-8 where they are that, and else a character a byte."""
+    try:
+        return content.decode()
+    except UnicodeDecodeError:
+        return content.decode("latin-1")
+
+
+def name(record):
+    """The name line of a record."""
+    return text(contents(record)[0]) if record.strip(b"\r\n") else ""
+
+
+def items(record):
+    """The data items behind the first line `M  END`, or of the whole record where it has none."""
+    lines = contents(record)
+    if lines and is_word(lines[-1], b"$$$$"):
+        lines.pop()
+    begin = next((place + 1 for place, line in enumerate(lines) if is_word(line, b"M  END")), 0)
+    found, is_open = [], False
+    for line in lines[begin:]:
+        head = ITEM_HEAD.match(line)
+        is_label = line.startswith(b">") and b"<" + LABEL_ITEM + b">" in line
+        if is_label or head and not is_open:
+            found.append(Item(LABEL_ITEM if is_label else head[1], []))
+            is_open = True
+        elif is_open and line.strip(b" \t"):
+            found[-1].values.append(line)
+        else:
+            is_open = False
+    return found
+
+
+def answer(record):
+    """What the label item of a record says, or None where it has no such item."""
+    if LABEL_ITEM not in record:
+        return None
+    for item in items(record):
+        if item.name == LABEL_ITEM:
+            return answer_of([text(line) for line in item.values])
+    return None
+
+
+def answer_of(lines):
+    found = Answer(lines[0] if lines else "", [], [], None)
+    for line in lines[1:]:
+        words = line.split()
+        if words[0] == "refused" and len(words) == 3:
+            found = found._replace(refused=(int(words[1]), words[2]))
+        elif UNIT.fullmatch(words[0]) and words[1:] == ["over"]:
+            found.over.append(words[0])
+        elif UNIT.fullmatch(words[0]) and len(words) > 3 and words[1] in LETTERS and words[3].isdigit():
+            order = [end.split() for end in " ".join(words[5:]).split("|")]
+            found.labels.append(Label(words[0], words[1], words[2], int(words[3]), order))
+        elif words != ["none"]:
+            raise Fault(f"an item CIP_LABELS that `cip annotate` didn't write: {line!r}")
+    return found
+
+
+def atoms_of(unit):
+    """The atoms that a unit's name has, from 1."""
+    return [int(number) for number in UNIT.fullmatch(unit).groups() if number]
+
+
+def drawing(record):
+    """The molecule of a record as it is drawn, of either version, or None where it can't be."""
+    try:
+        lines = [line.decode("latin-1") for line in contents(record)]
+        return drawing_v3000(lines) if lines[3][33:39].strip() == "V3000" else drawing_v2000(lines)
+    except (ValueError, IndexError, KeyError):
+        return None
+
+
+def drawing_v2000(lines):
+    count, bond_count = int(lines[3][0:3] or 0), int(lines[3][3:6] or 0)
+    atoms, bonds = [], []
+    for line in lines[4:4 + count]:
+        place = tuple(coordinate(line[begin:begin + 10]) for begin in (0, 10, 20))
+        code = int(line[36:39].strip() or 0)
+        charge = V2000_CHARGES[code] if 0 <= code < 8 else 0
+        atoms.append(Atom(line[31:34].strip(), place, charge, 0, 2 if code == 4 else 0))
+    if len(atoms) < count:
+        raise ValueError("an atom line is missing")
+    for line in lines[4 + count:4 + count + bond_count]:
+        first, second, order = (int(line[begin:begin + 3]) for begin in (0, 3, 6))
+        mark = V2000_MARKS.get((order, int(line[9:12].strip() or 0)), "")
+        bonds.append(bond_within(count, first - 1, second - 1, order, mark))
+    stated = {"M  CHG": "charge", "M  RAD": "radical", "M  ISO": "isotope"}
+    properties = [line for line in lines[4 + count + bond_count:] if line[:6] in stated]
+    if any(line[:6] != "M  ISO" for line in properties):
+        atoms = [atom._replace(charge=0, radical=0) for atom in atoms]
+    for line in properties:
+        words = line[6:].split()
+        for number, value in zip(words[1::2], words[2::2]):
+            at = int(number) - 1
+            atoms[at] = atoms[at]._replace(**{stated[line[:6]]: int(value)})
+    return Drawing(atoms, bonds)
+
+
+def drawing_v3000(lines):
+    atoms, bonds, places, block = [], [], {}, ""
+    for line in joined_lines(lines):
+        words = WORD.findall(line)
+        if words[:1] == ["BEGIN"] or words[:1] == ["END"]:
+            block = words[1] if words[0] == "BEGIN" else ""
+        elif block == "ATOM":
+            keys = dict(word.split("=", 1) for word in words[6:] if "=" in word)
+            places[words[0]] = len(atoms)
+            place = tuple(coordinate(word) for word in words[2:5])
+            if len(place) < 3:
+                raise ValueError("a coordinate is missing")
+            atoms.append(Atom(words[1], place, *(int(keys.get(key, 0)) for key in ("CHG", "MASS", "RAD"))))
+        elif block == "BOND":
+            keys = dict(word.split("=", 1) for word in words[4:] if "=" in word)
+            mark = V3000_MARKS.get((int(words[1]), int(keys.get("CFG", 0))), "")
+            bonds.append(bond_within(len(atoms), places[words[2]], places[words[3]], int(words[1]), mark))
+    return Drawing(atoms, bonds)
+
+
+def coordinate(text):
+    value = float(text)
+    if not abs(value) <= FARTHEST:
+        raise ValueError("no coordinate of a drawing")
+    return value
+
+
+def joined_lines(lines):
+    """The contents of V3000 lines behind their first seven bytes, with those that are continued."""
+    begun = ""
+    for line in lines[4:]:
+        if not line.startswith("M  V30 "):
+            return
+        begun += line[7:].rstrip(" ")
+        if begun.endswith("-"):
+            begun = begun[:-1]
+        else:
+            yield begun
+            begun = ""
+
+
+def bond_within(count, first, second, order, mark):
+    if not (0 <= first < count and 0 <= second < count and first != second):
+        raise IndexError("a bond's end")
+    return Bond(first, second, order, mark)
