@@ -13,10 +13,10 @@ use Rattle.cip_views.specs.Asking.{AreWithin}
 use Rattle.cip_views.specs.RuleKeys.{IsReady}
 use Rattle.cip_views.proofs.WholeTold.{parents_len}
 use Rattle.cip_aux.specs.Inner.{Inner, Ready}
-use Rattle.cip_pruned.specs.Pruning.{Pruning, all_pruned, marks_kept}
-use Rattle.cip_pruned.proofs.KeptChildren.{kept_few}
-use Rattle.cip_pruned.proofs.PrunedKeys.{parents_are, pruned_len}
-use Rattle.cip_pruned.proofs.PrunedOrders.{ready_pruned}
+use Rattle.cip_inside.specs.Pruning.{Pruning, all_pruned, marks_kept}
+use Rattle.cip_inside.proofs.KeptChildren.{kept_few}
+use Rattle.cip_inside.proofs.PrunedKeys.{parents_are, pruned_len}
+use Rattle.cip_inside.proofs.PrunedOrders.{ready_pruned}
 use Rattle.cip_inside.specs.Below.{IsSeenBelow, place_below, placed}
 
 -- one map after two others

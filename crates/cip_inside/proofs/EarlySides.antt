@@ -15,9 +15,9 @@ use Rattle.cip_aux.specs.Early.{AreEarly}
 use Rattle.cip_aux.specs.Inner.{Inner, AgreesInside, Ready}
 use Rattle.cip_aux.specs.Sides.{found_side, pair_sides}
 use Rattle.cip_aux.specs.Sights.{Sight, seen_sides}
-use Rattle.cip_pruned.specs.Pruning.{Pruning, IsBelow, StandsAbove, AreMarksBelow, all_pruned, place_seen}
-use Rattle.cip_pruned.proofs.PrunedMarks.{mark_kept}
-use Rattle.cip_pruned.proofs.PrunedOrders.{order_below}
+use Rattle.cip_inside.specs.Pruning.{Pruning, IsBelow, StandsAbove, AreMarksBelow, all_pruned, place_seen}
+use Rattle.cip_inside.proofs.PrunedMarks.{mark_kept}
+use Rattle.cip_inside.proofs.PrunedOrders.{order_below}
 use Rattle.cip_inside.specs.Asking.{asked_between, near_pairs, side_at}
 use Rattle.cip_inside.specs.Below.{near_numbered, AreNear, is_child, is_told_below, place_below, IsSeenBelow, below_side}
 use Rattle.cip_inside.proofs.BelowTables.{view_below}

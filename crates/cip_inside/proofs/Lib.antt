@@ -1,8 +1,17 @@
+pub mod Ascending
 pub mod AskedPairs
 pub mod BelowTables
 pub mod EarlySides
+pub mod Grown
+pub mod KeptChildren
 pub mod MappedPairs
 pub mod MarksBelow
 pub mod NearSides
+pub mod PrunedKeys
+pub mod PrunedMarks
+pub mod PrunedOrders
+pub mod PrunedSpheres
 pub mod SidesInTable
+pub mod TallerOrders
 pub mod TiesItself
+pub mod Ways

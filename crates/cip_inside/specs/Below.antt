@@ -6,7 +6,7 @@ use Rattle.cip_mol.specs.declared.descriptor.Descriptor.{Descriptor}
 use Rattle.cip_digraph.specs.digraph.NodeList.{parents_of}
 use Rattle.cip_aux.specs.Inner.{Inner}
 use Rattle.cip_aux.specs.Sights.{Sight}
-use Rattle.cip_pruned.specs.Pruning.{Pruning, IsPruned, all_pruned, marks_kept, place_seen}
+use Rattle.cip_inside.specs.Pruning.{Pruning, IsPruned, all_pruned, marks_kept, place_seen}
 use Rattle.cip_reroot.specs.View.{View, IsView, IsCut}
 use Rattle.cip_views.specs.Asking.{is_decided, with_found}
 use Rattle.cip_views.specs.Finding.{found_by_all}

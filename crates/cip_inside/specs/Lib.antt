@@ -1,2 +1,6 @@
 pub mod Asking
 pub mod Below
+pub mod Growing
+pub mod Laws
+pub mod PrunerColumns
+pub mod Pruning

@@ -4,7 +4,7 @@ ghost use Rattle.std.specs.List.{list_all};
 ghost use Rattle.cip_views.specs.Asking.{AreWithin, is_decided};
 ghost use Rattle.cip_inside.specs.Below.{numbered, is_child, is_told_below, place_below, placed};
 
-use cip_pruned::Pruner;
+use crate::pruner::Pruner;
 use cip_rank::Table;
 use cip_views::{Asked, Views};
 

@@ -4,8 +4,7 @@ ghost use Rattle.cip_item.specs.Items.{items_of};
 ghost use Rattle.cip_item.specs.Splitting.{items_with, closed_before, begun};
 
 use crate::part::Part;
-use cip_list::Listing;
-use cip_text::RecordLines;
+use cip_text::{Listing, RecordLines};
 use std::alloc::{AllocError, Global};
 
 /// An item by the numbers of its first line and of the line behind its last one, counted from 0.

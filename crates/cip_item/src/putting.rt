@@ -6,8 +6,7 @@ ghost use Rattle.cip_text.specs.Slices.{texts};
 ghost use Rattle.cip_item.specs.Putting.{has_returns, line_end_for, missing_end, needs_gap, heading, item, with_item};
 ghost use Rattle.cip_item.specs.Room.{room_of};
 
-use cip_list::Listing;
-use cip_text::{Bytes, RecordLines, is_blank, is_molecule_end};
+use cip_text::{Bytes, Listing, RecordLines, is_blank, is_molecule_end};
 use std::alloc::{AllocError, Global};
 
 /// Texts in order, as the values of an item.

@@ -1,6 +1,5 @@
 use crate::{split_items, with_item, without_label_items};
-use cip_list::Listing;
-use cip_text::Bytes;
+use cip_text::{Bytes, Listing};
 use std::test::Fail;
 
 // The end of a record of menthol, from its last bond line on, with an item of its own and an old label item.

@@ -1,6 +1,6 @@
 -- What is told of units, one after the other.
 use Rattle.std.proofs.Common.{◌≡◌, ◌+◌, ◌++◌, List, ℕ, Some, ap, sym, ◌∙◌, drop, slice_get}
-use Rattle.cip_list.proofs.Rests.{rest_at}
+use Rattle.cip_mol.proofs.Rests.{rest_at}
 use Rattle.cip_print.specs.declared.answer.UnitAnswer.{UnitAnswer}
 use Rattle.cip_print.specs.Explaining.{told_line, told_lines}
 use Rattle.cip_print.specs.Tallies.{with_outcome, with_units}

@@ -1,7 +1,7 @@
 // What is found of a record.
 
 use crate::naming::UnitName;
-use cip_list::Listing;
+use cip_text::Listing;
 use cip_mol::{Outcome, ReadFault, Site};
 
 /// A stereogenic unit of a record by its name, with what is found of it. Ligands from the number `drawn` on are implicit

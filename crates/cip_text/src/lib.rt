@@ -1,4 +1,5 @@
-//! Lines of a text, fields by columns, and the numbers in fields. A text is any list of bytes.
+//! Lines of a text, fields by columns, and the numbers in fields. A text is any list of bytes. And lists whose items are
+//! counted in 32 bits.
 #![tactic(auto)]
 
 mod bodies;
@@ -6,6 +7,7 @@ mod bytes;
 mod fields;
 mod kinds;
 mod laws;
+mod list;
 mod numbers;
 mod splitting;
 #[cfg(test)]
@@ -17,6 +19,7 @@ pub use bytes::Bytes;
 pub use fields::{columns, without_spaces_behind};
 pub use kinds::{is_blank, is_molecule_end, is_terminator};
 pub use laws::{contents_stand_at_places, lines_are_cut, lines_are_ended, lines_join};
+pub use list::Listing;
 pub use numbers::{NumberFault, decimal4, integer};
 pub use splitting::{Line, Lines, begins_with, content, has_last, lines, split_line, without_end};
 pub use writing::{coordinate, push_right};

@@ -1,5 +1,5 @@
 use crate::{
-    NumberFault, columns, content, decimal4, integer, is_blank, is_terminator, lines, split_line,
+    Listing, NumberFault, columns, content, decimal4, integer, is_blank, is_terminator, lines, split_line,
 };
 use std::test::Fail;
 
@@ -85,5 +85,15 @@ fn lines_end_at_line_feeds(rt: HostRuntime) -> Result<(), Fail> {
     for (line, blank, terminator) in kinds {
         assert_eq!(rt; (is_blank(line), is_terminator(line)), (blank, terminator));
     }
+    Ok(())
+}
+
+#[test]
+fn items_come_back_in_order(rt: HostRuntime) -> Result<(), Fail> {
+    let mut list = Listing::new(rt.alloc());
+    list.push(7_u32)?;
+    list.push(5)?;
+    assert_eq!(rt; list.as_slice(), [7, 5].as_slice());
+    assert_eq!(rt; (list.len(), *list.get(1)), (2, 5));
     Ok(())
 }

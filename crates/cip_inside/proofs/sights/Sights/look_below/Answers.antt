@@ -1,5 +1,5 @@
 use Rattle.std.proofs.Common.{◌∙◌, true, false, subst, map}
-use Rattle.cip_pruned.specs.Pruning.{StandsAbove}
+use Rattle.cip_inside.specs.Pruning.{StandsAbove}
 use Rattle.cip_inside.specs.Below.{below_side}
 use Rattle.cip_inside.proofs.EarlySides.{early_by, below_early}
 use Rattle.cip_inside.proofs.sights.Sights.look_below.Goals as goal

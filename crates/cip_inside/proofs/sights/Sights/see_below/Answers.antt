@@ -2,11 +2,11 @@ use Rattle.std.proofs.Common.{◌≡◌, ◌∙◌, sym, ap, subst, arith, lengt
 use Rattle.cip_digraph.specs.digraph.NodeList.{parents_of}
 use Rattle.cip_views.proofs.WholeTold.{parents_len}
 use Rattle.cip_aux.specs.Sights.{Sight}
-use Rattle.cip_pruned.specs.Growing.{Ascend}
-use Rattle.cip_pruned.specs.Pruning.{Pruning, PrunedDigraph}
-use Rattle.cip_pruned.proofs.Ascending.{told_ascend}
-use Rattle.cip_pruned.proofs.KeptChildren.{kept_few}
-use Rattle.cip_pruned.proofs.PrunedKeys.{pruned_len}
+use Rattle.cip_inside.specs.Growing.{Ascend}
+use Rattle.cip_inside.specs.Pruning.{Pruning, PrunedDigraph}
+use Rattle.cip_inside.proofs.Ascending.{told_ascend}
+use Rattle.cip_inside.proofs.KeptChildren.{kept_few}
+use Rattle.cip_inside.proofs.PrunedKeys.{pruned_len}
 use Rattle.cip_inside.proofs.BelowTables.{marks_len}
 use Rattle.cip_inside.proofs.sights.Sights.see_below.Goals as goal
 

@@ -1,9 +1,0 @@
-pub mod Ascending
-pub mod Grown
-pub mod KeptChildren
-pub mod PrunedKeys
-pub mod PrunedMarks
-pub mod PrunedOrders
-pub mod PrunedSpheres
-pub mod TallerOrders
-pub mod Ways

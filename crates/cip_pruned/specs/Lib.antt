@@ -1,4 +1,0 @@
-pub mod Growing
-pub mod Laws
-pub mod PrunerColumns
-pub mod Pruning

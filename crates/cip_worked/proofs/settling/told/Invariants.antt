@@ -1,4 +1,0 @@
-use Rattle.cip_worked.proofs.settling.told.Given as goal
-
-abbrev pub ghosts-settled : goal.ghosts-settled
-ghosts-settled a = record { name = a.blank.name; parts = a.blank.parts }
