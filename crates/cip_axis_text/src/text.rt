@@ -48,6 +48,7 @@ fn axes_text_once(
 ) -> Result<AxesText, AllocError>
     requires few { length lines.now < 2 ^ 32 - 1 }
     requires some { 1 ≤ nodes }
+    requires bounded { nodes ≤ 1000000 }
     ensures text { IfOk result (λ axes. axes.text ≡ axes_without_items rules nodes number lines.now) }
     ensures flagged { IfOk result (λ axes. axes.flagged ≡ is_flagged_without_items rules nodes lines.now) }
 {

@@ -54,11 +54,17 @@ impl Digraphs for Desk {
     ghost standing = { λ desk. standing_of desk.standing };
 
     fn reserve(alloc: Global, nodes: u32) -> Result<Desk, AllocError> {
-        // both readings of a node have a number each
-        if nodes >= 1 << 31 {
-            return Err(AllocError);
-        }
-        reserve_tables(alloc, nodes)
+        let branches = Branches::reserve(alloc)?;
+        let (arena, work) = reserve_growing(alloc, nodes)?;
+        let (sights, marks) = reserve_ranking(alloc, nodes)?;
+        Ok(Desk {
+            bound: nodes,
+            arena,
+            work,
+            sights,
+            marks,
+            branches,
+        })
     }
 
     fn rank<L: Ledger>(
@@ -123,6 +129,7 @@ fn reserve_growing(alloc: Global, nodes: u32) -> Result<(Arena, Work), AllocErro
 }
 
 fn reserve_sights(alloc: Global, nodes: u32) -> Result<Sights, AllocError>
+    requires { nodes < 2 ^ 31 }
     ensures { IfOk result (λ sights. sights.views.bound ≡ nodes) }
 {
     let pruner = Pruner::reserve(alloc, nodes)?;
@@ -131,28 +138,13 @@ fn reserve_sights(alloc: Global, nodes: u32) -> Result<Sights, AllocError>
 }
 
 fn reserve_ranking(alloc: Global, nodes: u32) -> Result<(Sights, Descriptors), AllocError>
+    requires { nodes < 2 ^ 31 }
     ensures sights { IfOk result (λ tables. tables.0.views.bound ≡ nodes) }
     ensures marks { IfOk result (λ tables. tables.1.bound ≡ nodes) }
 {
     let marks = Descriptors::reserve(alloc, nodes)?;
     let sights = reserve_sights(alloc, nodes)?;
     Ok((sights, marks))
-}
-
-fn reserve_tables(alloc: Global, nodes: u32) -> Result<Desk, AllocError>
-    ensures { IfOk result (λ desk. desk.bound ≡ nodes) }
-{
-    let branches = Branches::reserve(alloc)?;
-    let (arena, work) = reserve_growing(alloc, nodes)?;
-    let (sights, marks) = reserve_ranking(alloc, nodes)?;
-    Ok(Desk {
-        bound: nodes,
-        arena,
-        work,
-        sights,
-        marks,
-        branches,
-    })
 }
 
 // Grows the digraph of a root until its ligands are settled.

@@ -65,6 +65,7 @@ fn tell_once(
 ) -> Result<GroupText, AllocError>
     requires few { length lines.now < 2 ^ 32 - 1 }
     requires some { 1 ≤ nodes }
+    requires bounded { nodes ≤ 1000000 }
     ensures { IfOk result (λ told. told ≡ with_number number (told_without_items rules nodes lines.now)) }
 {
     let mut labeller = Labeller::<Desk>::reserve(alloc, nodes)?;

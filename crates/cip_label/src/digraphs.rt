@@ -1,5 +1,5 @@
 // What is found of the digraph of a root.
-ghost use Rattle.std.specs.Prelude.{◌≡◌, ◌≤◌, ◌^◌, ◌∷◌, [], ℕ, Bool, IfOk, IsErr, Option};
+ghost use Rattle.std.specs.Prelude.{◌≡◌, ◌<◌, ◌≤◌, ◌^◌, ◌∷◌, [], ℕ, Bool, IfOk, Option};
 ghost use Rattle.cip_digraph.specs.declared.decision.Decision as decisions;
 ghost use Rattle.cip_digraph.specs.units.Ends.{end_at};
 ghost use Rattle.cip_label.specs.Fitting.{IsFit};
@@ -33,10 +33,11 @@ pub trait Digraphs {
     /// whether R is above S by the last rule.
     ghost standing: { Self → Bool → ℕ → ℕ → Option decisions.Decision };
 
-    /// Takes memory for at most so many nodes of each digraph. For 2^31 nodes and more there is none.
+    /// Takes memory for at most so many nodes of each digraph, which are below 2^31: both readings of a node have a
+    /// number each.
     fn reserve(alloc: Global, nodes: u32) -> Result<Self, AllocError>
-        ensures room { IfOk result (λ digraphs. bound digraphs ≡ nodes) }
-        ensures many { 2 ^ 31 ≤ nodes → IsErr result };
+        requires few { nodes < 2 ^ 31 }
+        ensures room { IfOk result (λ digraphs. bound digraphs ≡ nodes) };
 
     /// Grows the digraph of a root as far as its ligands need, and ranks them.
     fn rank<L: Ledger>(

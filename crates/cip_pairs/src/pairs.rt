@@ -1,6 +1,6 @@
 // Rule 4b: branches in both readings, the higher one with the higher one, then the lower with the lower.
 ghost use Rattle.std.specs.Prelude.{◌≡◌, ◌<◌, ◌≤◌, ◌+◌, ◌^◌, ℕ, false, cond, [], length, slice_index, IfOk};
-ghost use Rattle.std.specs.Prelude.{IfSome, IsErr, IsNone};
+ghost use Rattle.std.specs.Prelude.{IfSome, IsNone};
 ghost use Rattle.std.specs.Ordering.{is_lt};
 ghost use Rattle.cip_rank.specs.Tree.{height_of};
 ghost use Rattle.cip_rank.specs.Ranking.{OrdersAs, by_number};
@@ -54,14 +54,11 @@ impl Model for PairWork {
 }
 
 impl PairWork {
-    /// Room for a table of `bound` nodes. All memory is taken here. Of 2^31 nodes and more there is none.
+    /// Room for a table of `bound` nodes. All memory is taken here.
     pub fn reserve(alloc: Global, bound: u32) -> Result<PairWork, AllocError>
+        requires few { bound < 2 ^ 31 }
         ensures room { IfOk result (λ work. work.bound ≡ bound) }
-        ensures many { 2 ^ 31 ≤ bound → IsErr result }
     {
-        if bound >= 1 << 31 {
-            return Err(AllocError);
-        }
         let room = bound as usize;
         Ok(PairWork {
             bound,

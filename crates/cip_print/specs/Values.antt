@@ -1,5 +1,5 @@
 -- The value lines of a record's item, version 2. Own.
-use Rattle.std.specs.Prelude.{ℕ, List, [], ◌∷◌, ◌++◌, codes, decimal, Some, None}
+use Rattle.std.specs.Prelude.{ℕ, List, [], ◌<◌, ◌-◌, ◌^◌, ◌∷◌, ◌++◌, ⊤, codes, decimal, length, Some, None}
 use Rattle.std.specs.declared.option.Option.{Option}
 use Rattle.std.specs.List.{filter_map}
 use Rattle.cip_mol.specs.declared.outcome.Outcome.{Outcome}
@@ -34,6 +34,11 @@ unit_line unit = outcome_line unit unit.outcome
 abbrev pub or_none : List (List ℕ) → List (List ℕ)
 or_none [] = codes "none" ∷ []
 or_none (line ∷ lines) = line ∷ lines
+
+-- there is room for the lines of all units behind a first line
+unfoldable pub HasRoom : Answer → Type 0
+HasRoom (Labelled units) = length units < 2 ^ 32 - 1
+HasRoom (Refused fault) = ⊤
 
 -- The value lines of an answer.
 unfoldable pub values_of : ℕ → Rules → Answer → List (List ℕ)

@@ -3,7 +3,7 @@ ghost use Rattle.std.specs.Prelude.{◌≡◌, ◌≢◌, ◌<◌, ◌≤◌, �
 ghost use Rattle.std.specs.List.{filter_map};
 ghost use Rattle.std.specs.Option.{option_map};
 ghost use Rattle.cip_print.specs.Refusals.{refusal_line};
-ghost use Rattle.cip_print.specs.Values.{year_text, settings_line, outcome_line, unit_line, or_none, values_of};
+ghost use Rattle.cip_print.specs.Values.{year_text, settings_line, outcome_line, unit_line, or_none, values_of, HasRoom};
 
 use crate::answer::{Answer, UnitAnswer, UnitAnswers};
 use crate::labels::ordered_label;
@@ -17,13 +17,14 @@ use std::alloc::{AllocError, Global};
 /// The value lines of an answer that was found within a bound on nodes by a wording of Rule 1b: these two, then why the
 /// record is refused, or a line for each unit that has a label or whose digraph is larger than the bound, and `none`
 /// where there is no such unit.
-#[tactic(auto, unfolding(crate::specs::Values::values_of))]
+#[tactic(auto, unfolding(crate::specs::Values::values_of, crate::specs::Values::HasRoom))]
 pub fn item_values(
     alloc: Global,
     answer: &Answer,
     nodes: u32,
     rules: Rules,
 ) -> Result<Texts, AllocError>
+    requires few { HasRoom answer.now }
     ensures { IfOk result (λ texts. texts ≡ values_of nodes rules answer.now) }
 {
     match answer {
@@ -54,6 +55,7 @@ fn year(rules: Rules) -> &'static str
 }
 
 fn unit_values(alloc: Global, units: &UnitAnswers, first: String) -> Result<Texts, AllocError>
+    requires { length units.now < 2 ^ 32 - 1 }
     ensures { IfOk result (λ texts. texts ≡ string_bytes first ∷ or_none (filter_map unit_line units.now)) }
 {
     let mut values = one_text(alloc, first)?;
@@ -64,14 +66,12 @@ fn unit_values(alloc: Global, units: &UnitAnswers, first: String) -> Result<Text
     Ok(values)
 }
 
-// Adds the lines of units behind a first line. A list can't hold a line more than there are units at most.
+// Adds the lines of units behind a first line.
 fn push_lines(alloc: Global, values: &mut Texts, units: &UnitAnswers) -> Result<(), AllocError>
-    requires { length values.old ≤ 1 }
+    requires first { length values.old ≤ 1 }
+    requires few { length units.now < 2 ^ 32 - 1 }
     ensures { OnOk result (values.new ≡ values.old ++ filter_map unit_line units.now) }
 {
-    if units.len() == u32::MAX {
-        return Err(AllocError);
-    }
     for place in 0..units.len() {
         push_line(alloc, values, units.get(place))?;
     }

@@ -37,10 +37,17 @@ module _ (setting : Setting) (bound : ℕ) where
   answered unit = unit_answer setting.rules bound setting.graph setting.positions setting.units unit
 
   pub has_room : (answers : List UnitAnswer) (place : ℕ) → answers ≡ map answered (take place setting.units) →
-      place < length setting.units → length setting.units < 2 ^ 32 → length answers < 2 ^ 32 - 1
+      place < length setting.units → length setting.units < 2 ^ 32 - 1 → length answers < 2 ^ 32 - 1
   has_room answers place so_far within few =
       let same : length answers ≡ place = counted answered answers setting.units place so_far within in
       omega (arith, same, within, few)
+
+  -- as many answers as units
+  pub few_answers : (answers : List UnitAnswer) → answers ≡ map answered setting.units →
+      length setting.units < 2 ^ 32 - 1 → length answers < 2 ^ 32 - 1
+  few_answers answers all few =
+      let same : length answers ≡ length setting.units = ap length all ∙ length-map setting.units answered in
+      omega (arith, same, few)
 
   pub is_place : (answers : List UnitAnswer) (place : ℕ) → answers ≡ map answered (take place setting.units) →
       place < length setting.units → length answers < length setting.units

@@ -2,6 +2,7 @@
 ghost use Rattle.std.specs.Prelude.{◌≡◌, ◌≤◌, ◌<◌, ◌-◌, ◌^◌, IfOk, length};
 ghost use Rattle.std.specs.List.{list_any};
 ghost use Rattle.cip_text.specs.Slices.{texts};
+ghost use Rattle.cip_print.specs.Values.{HasRoom};
 ghost use Rattle.cip_record.specs.Answers.{
   answer_by,
   answer_lines,
@@ -38,7 +39,8 @@ pub fn label_record(
     requires few { length bytes.now < 2 ^ 32 - 1 }
     requires some { 1 ≤ nodes }
     requires bounded { nodes ≤ 1000000 }
-    ensures { IfOk result (λ answer. answer ≡ answer_by rules nodes bytes.now) }
+    ensures answer { IfOk result (λ answer. answer ≡ answer_by rules nodes bytes.now) }
+    ensures room { IfOk result HasRoom }
 {
     let bare = without_label_items(alloc, bytes)?;
     let lines = RecordLines::new(alloc, &bare)?;
@@ -54,7 +56,9 @@ fn label_once(
 ) -> Result<Answer, AllocError>
     requires few { length lines.now < 2 ^ 32 - 1 }
     requires some { 1 ≤ nodes }
-    ensures { IfOk result (λ answer. answer ≡ answer_without_items rules nodes lines.now) }
+    requires bounded { nodes ≤ 1000000 }
+    ensures answer { IfOk result (λ answer. answer ≡ answer_without_items rules nodes lines.now) }
+    ensures room { IfOk result HasRoom }
 {
     let mut labeller = RecordLabeller::reserve(alloc, nodes)?;
     label_within(alloc, &mut labeller, lines, rules)
@@ -70,6 +74,7 @@ pub fn label_within(
 ) -> Result<Answer, AllocError>
     requires few { length lines.now < 2 ^ 32 - 1 }
     ensures answer { IfOk result (λ answer. answer ≡ answer_without_items rules labeller.old lines.now) }
+    ensures room { IfOk result HasRoom }
     ensures kept { labeller.new ≡ labeller.old }
 {
     answer_lines(alloc, labeller, lines.contents(), rules)
@@ -83,6 +88,7 @@ fn answer_lines(
 ) -> Result<Answer, AllocError>
     requires { length lines.now < 2 ^ 32 - 1 }
     ensures answer { IfOk result (λ answer. answer ≡ answer_lines rules labeller.old (texts lines.now)) }
+    ensures room { IfOk result HasRoom }
     ensures kept { labeller.new ≡ labeller.old }
 {
     match read_molecule(alloc, lines) {
@@ -99,6 +105,7 @@ fn answer_molecule(
     rules: Rules,
 ) -> Result<Answer, AllocError>
     ensures answer { IfOk result (λ answer. answer ≡ of_molecule rules labeller.old molecule.now) }
+    ensures room { IfOk result HasRoom }
     ensures kept { labeller.new ≡ labeller.old }
 {
     // Reading the atoms tells that there are few.

@@ -1,5 +1,5 @@
 // The units of a graph, each with its outcome.
-ghost use Rattle.std.specs.Prelude.{◌≡◌, ◌<◌, ◌^◌, IfOk, length};
+ghost use Rattle.std.specs.Prelude.{◌≡◌, ◌<◌, ◌-◌, ◌^◌, IfOk, length};
 ghost use Rattle.cip_record.specs.Answers.{unit_answers};
 
 use crate::answering::RecordLabeller;
@@ -16,10 +16,11 @@ pub fn label_units(
     labeller: &mut RecordLabeller,
     setting: &Setting<'_>,
 ) -> Result<UnitAnswers, AllocError>
-    requires few { length setting.now.units < 2 ^ 32 }
+    requires few { length setting.now.units < 2 ^ 32 - 1 }
     ensures answers { IfOk result
         (λ answers. answers ≡ unit_answers setting.now.rules labeller.old setting.now.graph setting.now.positions
         setting.now.units) }
+    ensures few { IfOk result (λ answers. length answers < 2 ^ 32 - 1) }
     ensures kept { labeller.new ≡ labeller.old }
 {
     label_counted::<Brand>(alloc, labeller, setting, Blank::new(1))
@@ -35,10 +36,11 @@ fn label_counted<L: Ledger>(
     requires name { blank.name ≡ L.name }
     requires parts { blank.parts ≡ L.parts }
     requires one { 0 < blank.parts }
-    requires few { length setting.now.units < 2 ^ 32 }
+    requires few { length setting.now.units < 2 ^ 32 - 1 }
     ensures answers { IfOk result
         (λ answers. answers ≡ unit_answers setting.now.rules labeller.old setting.now.graph setting.now.positions
         setting.now.units) }
+    ensures few { IfOk result (λ answers. length answers < 2 ^ 32 - 1) }
     ensures kept { labeller.new ≡ labeller.old }
 {
     let mut steps = Steps::<L>::open(blank);

@@ -32,4 +32,5 @@ pub struct Asked {
     pub nodes: u32,
     pub rules: Rules,
     ghost some: { 1 ≤ nodes },
+    ghost bounded: { nodes ≤ 1000000 },
 }

@@ -2,6 +2,7 @@
 ghost use Rattle.std.specs.Prelude.{◌≡◌, ◌≤◌, ◌<◌, ◌-◌, ◌^◌, IfOk, OnOk, length};
 ghost use Rattle.cip_axis_text.specs.AxesTexts.{axes_without_items, is_flagged_without_items};
 ghost use Rattle.cip_groups.specs.Texts.{told_without_items, with_number};
+ghost use Rattle.cip_print.specs.Values.{HasRoom};
 ghost use Rattle.cip_record.specs.Answers.{answer_by, answer_without_items};
 ghost use Rattle.cip_set.specs.SetAnswers.{set_without_items, IsFew};
 
@@ -39,6 +40,7 @@ impl Desk {
     /// Takes memory for digraphs of at most so many nodes.
     pub fn reserve(alloc: Global, nodes: u32) -> Result<Desk, AllocError>
         requires some { 1 ≤ nodes }
+        requires bounded { nodes ≤ 1000000 }
         ensures { IfOk result (λ desk. desk ≡ nodes) }
     {
         let labeller = RecordLabeller::reserve(alloc, nodes)?;
@@ -48,6 +50,7 @@ impl Desk {
     /// Takes memory anew where the bound is another one.
     pub fn fit(&mut self, alloc: Global, nodes: u32) -> Result<(), AllocError>
         requires some { 1 ≤ nodes }
+        requires bounded { nodes ≤ 1000000 }
         ensures { OnOk result (self.new ≡ nodes) }
     {
         if self.nodes != nodes {
@@ -65,6 +68,7 @@ impl Desk {
     ) -> Result<Answer, AllocError>
         requires few { length lines.now < 2 ^ 32 - 1 }
         ensures answer { IfOk result (λ answer. answer ≡ answer_without_items rules self.old lines.now) }
+        ensures room { IfOk result HasRoom }
         ensures kept { self.new ≡ self.old }
     {
         label_within(alloc, &mut self.labeller, lines, rules)

@@ -14,6 +14,7 @@ pub struct Trial {
     pub rules: Rules,
     ghost few: { records ≤ 100000 },
     ghost some: { 1 ≤ nodes },
+    ghost bounded: { nodes ≤ 1000000 },
 }
 
 /// One of the records by its number, which is from 1 on.

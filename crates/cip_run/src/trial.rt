@@ -123,6 +123,7 @@ fn new_clerks(
     workers: u8,
 ) -> Result<Vec<Worker<Desk, Answer>>, AllocError>
     requires some { 1 ≤ nodes }
+    requires bounded { nodes ≤ 1000000 }
     ensures { IfOk result (λ clerks. length clerks.items ≡ workers) }
 {
     let mut clerks = Vec::with_capacity(alloc, workers as usize)?;

@@ -50,6 +50,7 @@ fn set_once(
 ) -> Result<SetAnswer, AllocError>
     requires few { length lines.now < 2 ^ 32 - 1 }
     requires some { 1 ≤ nodes }
+    requires bounded { nodes ≤ 1000000 }
     ensures answer { IfOk result (λ answer. answer ≡ set_without_items rules nodes atom letter lines.now) }
     ensures few { IfOk result (λ answer. IsFew lines.now answer) }
 {

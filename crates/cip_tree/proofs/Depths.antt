@@ -1,12 +1,16 @@
 -- How many nodes and spheres there are, by the first branch and the others.
 use Rattle.std.proofs.Common.{◌≡◌, ◌≤◌, ◌+◌, ◌-◌, suc, List, [], ◌∷◌, max, drop, take, get_or, length, ap, arith}
 use Rattle.std.proofs.lemmas.List.{take_all}
-use Rattle.cip_tree.specs.Branches.{Branches, Branch, none, more, gathered, count, depth}
+use Rattle.cip_tree.specs.Branches.{Branches, Branch, none, more, gathered, count, depth, height, node_count}
 
 -- no more spheres than nodes
 pub shallow : (branches : Branches) → depth branches ≤ count branches
 shallow none = omega arith
 shallow (more label below others) = omega (arith, shallow below, shallow others)
+
+-- a sphere each, and the root's own
+pub lower : (tree : Branch) → height tree + 1 ≤ node_count tree
+lower tree = omega (arith, shallow tree.below)
 
 others_are : (branch : Branch) (branches : List Branch)
     → take (length (branch ∷ branches) - 1) (drop 1 (branch ∷ branches)) ≡ branches

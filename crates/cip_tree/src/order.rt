@@ -2,7 +2,7 @@
 ghost use Rattle.std.specs.Prelude.{◌≡◌, ◌<◌, ◌+◌, ◌^◌, IfOk, length};
 ghost use Rattle.cip_rank.specs.Comparison.{comparison};
 ghost use Rattle.cip_digraph.specs.rules.Decisions.{first_difference};
-ghost use Rattle.cip_tree.specs.Branches.{children as branches_below, node_count};
+ghost use Rattle.cip_tree.specs.Branches.{children as branches_below, height};
 ghost use Rattle.cip_tree.specs.BranchKeys.{key_of};
 ghost use Rattle.cip_tree.specs.BoxedOrder.{decided_by, plain_decision};
 
@@ -14,7 +14,8 @@ use cip_rank::Rules;
 use std::alloc::{AllocError, Global};
 use std::cmp::Ordering;
 
-/// How two children of the root stand by Rules 1a, 1b and 2, by their places among its children; none where they tie.
+/// How two children of the root stand by Rules 1a, 1b and 2, by their places among its children; none where they tie. Each
+/// sphere of a decision fits 32 bits.
 pub fn plain_order(
     alloc: Global,
     tree: &PlainTree,
@@ -24,7 +25,7 @@ pub fn plain_order(
 ) -> Result<Option<Decision>, AllocError>
     requires first { a < length (branches_below tree.now) }
     requires second { b < length (branches_below tree.now) }
-    requires few { node_count tree.now < 2 ^ 32 }
+    requires shallow { height tree.now + 1 < 2 ^ 32 }
     ensures { IfOk result (λ decision. decision ≡ plain_decision rules tree.now a b) }
 {
     let height = tree.height();

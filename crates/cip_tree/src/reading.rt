@@ -47,7 +47,7 @@ impl PlainTree {
     /// The outermost sphere.
     #[cycle(height)]
     pub fn height(&self) -> u32
-        requires { count_of self.now < 2 ^ 32 }
+        requires { height_of self.now < 2 ^ 32 }
         ensures { result ≡ height_of self.now }
     {
         depth_of(&self.children)
@@ -66,7 +66,7 @@ fn counted(branches: &[PlainTree]) -> Option<u32>
 
 #[cycle(height)]
 fn depth_of(branches: &[PlainTree]) -> u32
-    requires { count (gathered branches.now) < 2 ^ 32 }
+    requires { depth (gathered branches.now) < 2 ^ 32 }
     ensures { result ≡ depth (gathered branches.now) }
 {
     match branches {

@@ -156,11 +156,11 @@ module _ (graph : Graph) where
       )
       (omega (arith, counted, centres, bonds, axes))
 
--- the units of a molecule are fewer than a list can hold
+-- the units of a molecule are fewer than a list can hold, and a line more
 pub few_units : (drawing : Drawing) (graph : Graph) (positions : List (List ℕ)) (all : List units.Unit) →
     length drawing.atoms ≤ 16384 → graph ≡ graph_of drawing
     → map (λ (unit : units.Unit). unit.site) all ≡ sites_of graph positions →
-    length all < 2 ^ 32
+    length all < 2 ^ 32 - 1
 unfolding graph_of
 few_units drawing graph positions all few is at =
     let drawn : graph.drawn ≡ length drawing.atoms = ap (λ (g : Graph). g.drawn) is in

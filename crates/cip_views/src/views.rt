@@ -1,6 +1,6 @@
 // Views of a digraph, in memory that was reserved.
 ghost use Rattle.std.specs.Prelude.{◌≡◌, ◌<◌, ◌≤◌, ◌^◌, ℕ, pos, true, false, None, [], ◌∷◌};
-ghost use Rattle.std.specs.Prelude.{length, map, replicate, slice_index, All, Bool, List, IfOk, IsErr};
+ghost use Rattle.std.specs.Prelude.{length, map, replicate, slice_index, All, Bool, List, IfOk};
 ghost use Rattle.std.specs.declared.option.Option.{Option};
 ghost use Rattle.std.specs.List.{list_all, slice_index_or};
 ghost use Rattle.cip_mol.specs.declared.descriptor.Descriptor.{Descriptor};
@@ -55,11 +55,10 @@ impl Model for Views {
 }
 
 impl Views {
-    /// No view, with room for digraphs of `bound` nodes. All memory is taken here. Of 2^31 nodes and more there is
-    /// none.
+    /// No view, with room for digraphs of `bound` nodes. All memory is taken here.
     pub fn reserve(alloc: Global, bound: u32) -> Result<Views, AllocError>
+        requires few { bound < 2 ^ 31 }
         ensures room { IfOk result (λ views. views.bound ≡ bound) }
-        ensures many { 2 ^ 31 ≤ bound → IsErr result }
     {
         Ok(Views {
             bound,

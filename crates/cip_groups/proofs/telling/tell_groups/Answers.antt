@@ -1,4 +1,4 @@
-use Rattle.std.proofs.Common.{◌<◌, ◌^◌, ◌∙◌, ap, length, map, subst, sym}
+use Rattle.std.proofs.Common.{◌<◌, ◌^◌, ◌∙◌, ap, arith, length, map, subst, sym}
 use Rattle.cip_mol.specs.Geometry.{geometry_of}
 use Rattle.cip_mol.specs.declared.site.Unit as units
 use Rattle.cip_digraph.specs.units.Units.{sites_of}
@@ -14,11 +14,14 @@ new-requires c = record {
 }
 
 pub all_lines-requires : goal.all_lines-requires
-all_lines-requires c = record {
-  few = subst (λ (setting : Setting). length setting.units < 2 ^ 32) (sym c.in_ok-setting.ensures)
-      (few_units c.args.molecule.now c.in_ok-graph.graph c.in_ok-positions.positions c.list.result.now
-      c.atoms-atoms.ensures.range.few_atoms c.in_ok-graph.ensures
-      (ap (map (λ (unit : units.Unit). unit.site)) (c.list.ensures ∙ c.in_ok-units.ensures)
-      ∙ sites_kept (geometry_of c.args.molecule.now) (sites_of c.in_ok-graph.graph c.in_ok-positions.positions)));
-  same = sym (ap (λ (setting : Setting). setting.units) c.in_ok-setting.ensures ∙ c.list.ensures);
-}
+all_lines-requires c =
+    let few =
+    few_units c.args.molecule.now c.in_ok-graph.graph c.in_ok-positions.positions c.list.result.now
+    c.atoms-atoms.ensures.range.few_atoms c.in_ok-graph.ensures
+    (ap (map (λ (unit : units.Unit). unit.site)) (c.list.ensures ∙ c.in_ok-units.ensures)
+    ∙ sites_kept (geometry_of c.args.molecule.now) (sites_of c.in_ok-graph.graph c.in_ok-positions.positions)) in
+    record {
+      few = subst (λ (setting : Setting). length setting.units < 2 ^ 32) (sym c.in_ok-setting.ensures)
+          (omega (arith, few));
+      same = sym (ap (λ (setting : Setting). setting.units) c.in_ok-setting.ensures ∙ c.list.ensures);
+    }

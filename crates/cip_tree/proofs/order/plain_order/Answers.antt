@@ -1,16 +1,15 @@
 use Rattle.std.proofs.Common.{◌≡◌, IfOk, sym, ◌∙◌, subst, arith}
-use Rattle.cip_tree.proofs.Depths.{shallow}
 use Rattle.cip_tree.proofs.FirstDecisions.{decided_1a, decided_1b, decided_2, of_children}
 use Rattle.cip_tree.proofs.order.plain_order.Goals as goal
 
 pub first_decision-requires : goal.first_decision-requires
-first_decision-requires c = omega (arith, c.height-height.ensures, shallow c.args.tree.now.below, c.requires.few)
+first_decision-requires c = omega (arith, c.height-height.ensures, c.requires.shallow)
 
 pub first_decision-requires-2 : goal.first_decision-requires-2
-first_decision-requires-2 c = omega (arith, c.height-height.ensures, shallow c.args.tree.now.below, c.requires.few)
+first_decision-requires-2 c = omega (arith, c.height-height.ensures, c.requires.shallow)
 
 pub first_decision-requires-3 : goal.first_decision-requires-3
-first_decision-requires-3 c = omega (arith, c.height-height.ensures, shallow c.args.tree.now.below, c.requires.few)
+first_decision-requires-3 c = omega (arith, c.height-height.ensures, c.requires.shallow)
 
 pub returns-in-Some : goal.returns-in-Some
 returns-in-Some c =

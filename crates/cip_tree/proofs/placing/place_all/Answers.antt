@@ -1,8 +1,12 @@
 use Rattle.std.proofs.Common.{length, ap, ◌∙◌, arith}
 use Rattle.cip_tree.specs.FlatTree.{Placed}
+use Rattle.cip_tree.proofs.Depths.{shallow}
 use Rattle.cip_tree.proofs.FlatNodes.{further, first_further}
 use Rattle.cip_tree.proofs.SpheresInOrder.{few_placed}
 use Rattle.cip_tree.proofs.placing.place_all.Goals as goal
+
+pub height-end-requires : goal.height-end-requires
+height-end-requires c = omega (arith, shallow c.args.tree.now.below, c.requires)
 
 pub overflow_cast-past : goal.overflow_cast-past
 overflow_cast-past c =
