@@ -14,32 +14,28 @@ use crate::series::Trial;
 use crate::trial::write_summary;
 use cip_batch::Gate;
 use cip_io::{Sink, Source, push_all};
-use cip_stream::{Limits, Stop, answer_stream};
+use cip_stream::{Crew, Limits, Stop, answer_stream};
 use cip_words::help_text;
 use std::alloc::Global;
 use std::thread::Threads;
 
 /// Writes what is told of each record of the source.
 pub fn answer_records<R: Threads + Sync, G: Gate + Sync, S: Source, K: Sink>(
-    rt: &R,
-    alloc: Global,
+    crew: &Crew<'_, R, G>,
     asked: &Asked,
     limits: Limits,
-    workers: u8,
-    gate: &G,
     source: &mut S,
     sink: &mut K,
 ) -> Ending
     requires record { limits.record < 2 ^ 31 }
     requires input { limits.input < 2 ^ 63 }
-    requires some { 1 ≤ workers }
     ensures meant { MeansOf asked.now.task (manner_of asked.now) limits (status_of result)
         (streams (S.left source.old) (S.faults source.old) (K.taken sink.old) (K.faults sink.old))
         (streams (S.left source.new) (S.faults source.new) (K.taken sink.new) (K.faults sink.new)) }
     ensures missed { IsMissed asked.now.task (manner_of asked.now) limits (S.left source.old) result }
     ensures bounded { TakesAtMost (limits.input + 1) (S.left source.old) (S.left source.new) }
 {
-    let answered = answer_stream(rt, alloc, asked, limits, workers, gate, source, sink);
+    let answered = answer_stream(crew, asked, limits, source, sink);
     Ending::after(asked.task, answered)
 }
 
@@ -58,18 +54,14 @@ pub fn make<K: Sink>(alloc: Global, start: u32, records: u32, sink: &mut K) -> E
 
 /// Labels made records, and writes the summary of their outcomes.
 pub fn try_made<R: Threads + Sync, G: Gate + Sync, K: Sink>(
-    rt: &R,
-    alloc: Global,
+    crew: &Crew<'_, R, G>,
     trial: &Trial,
-    workers: u8,
-    gate: &G,
     sink: &mut K,
 ) -> Ending
-    requires some { 1 ≤ workers }
     ensures { MeansOfTrying (made_answers trial.now.rules trial.now.nodes trial.now.start trial.now.records) (status_of result)
         (stream (K.taken sink.old) (K.faults sink.old)) (stream (K.taken sink.new) (K.faults sink.new)) }
 {
-    match write_summary(rt, alloc, trial, workers, gate, sink) {
+    match write_summary(crew, trial, sink) {
         Ok(false) => Ending::Done,
         Ok(true) => Ending::Flagged,
         Err(Stop::WriteFault) => Ending::WriteFault,

@@ -10,7 +10,7 @@ use cip_io::{Sink, push_all};
 use cip_make::record;
 use cip_print::{Answer, Tally};
 use cip_record::is_flagged;
-use cip_stream::Stop;
+use cip_stream::{Crew, Stop};
 use std::alloc::{AllocError, Global};
 use std::marker::Model;
 use std::thread::Threads;
@@ -36,20 +36,16 @@ impl Job for Numbered {
 /// Labels the records in batches of eight for each worker, and writes the summary of their outcomes. Says whether a
 /// record is refused or a unit over the bound.
 pub fn write_summary<R: Threads + Sync, G: Gate + Sync, K: Sink>(
-    rt: &R,
-    alloc: Global,
+    crew: &Crew<'_, R, G>,
     trial: &Trial,
-    workers: u8,
-    gate: &G,
     sink: &mut K,
 ) -> Result<bool, Stop>
-    requires some { 1 ≤ workers }
     ensures summed { Sums (made_answers trial.now.rules trial.now.nodes trial.now.start trial.now.records) result
         (K.taken sink.old) (K.taken sink.new) }
     ensures fault { IsErrOf result Stop.WriteFault → Rose (K.faults sink.old) (K.faults sink.new) }
 {
-    let count = count_made(rt, alloc, trial, workers, gate)?;
-    let line = count.tally.line(alloc)?;
+    let count = count_made(crew, trial)?;
+    let line = count.tally.line(crew.alloc)?;
     push_all(sink, &line).map_err(|_| Stop::WriteFault)?;
     Ok(count.flagged)
 }
@@ -91,25 +87,21 @@ impl Count {
 }
 
 fn count_made<R: Threads + Sync, G: Gate + Sync>(
-    rt: &R,
-    alloc: Global,
+    crew: &Crew<'_, R, G>,
     trial: &Trial,
-    workers: u8,
-    gate: &G,
 ) -> Result<Count, AllocError>
-    requires some { 1 ≤ workers }
     ensures { IfOk result (λ count. count
         ≡ counted (made_answers trial.now.rules trial.now.nodes trial.now.start trial.now.records)) }
 {
-    let mut clerks = new_clerks(alloc, trial.nodes, workers)?;
+    let mut clerks = new_clerks(crew.alloc, trial.nodes, crew.workers)?;
     let mut count = Count {
         tally: Tally::new(),
         flagged: false,
     };
     let mut done = 0;
     while done < trial.records {
-        let jobs = next_jobs(alloc, trial, done, workers)?;
-        let answers = map_batch(rt, alloc, &jobs, &mut clerks, gate)?;
+        let jobs = next_jobs(crew.alloc, trial, done, crew.workers)?;
+        let answers = map_batch(crew.rt, crew.alloc, &jobs, &mut clerks, crew.gate)?;
         count.add_all(&answers);
         done += jobs.len() as u32;
     }

@@ -8,10 +8,11 @@ ghost use Rattle.cip_frame.specs.Records.{tail_of};
 ghost use Rattle.cip_stream.specs.Manner.{Manner};
 ghost use Rattle.cip_stream.specs.Batches.{Answers, AnswersFirst, AnswersTail, told_from, telling};
 
+use crate::crew::Desks;
 use crate::stop::Stop;
 use crate::teller::{Teller, Told};
 use crate::verdict::Verdict;
-use cip_batch::{Gate, Job, Worker, map_batch};
+use cip_batch::{Gate, Job};
 use cip_frame::{Framer, Tail};
 use cip_io::{Sink, push_all};
 use cip_text::Bytes;
@@ -132,52 +133,40 @@ impl<'a, T: Teller + Sync> Batch<'a, T> {
 /// Takes the records that wait in the framer, and answers each batch that is full. Says what the answered records add to
 /// the end of the run.
 pub fn answer_waiting<'a, R: Threads + Sync, G: Gate + Sync, T: Teller + Sync, K: Sink>(
-    rt: &R,
-    alloc: Global,
-    gate: &G,
-    workers: &mut [Worker<T::Desk, Found<T::Note>>],
+    desks: &mut Desks<'_, R, G, T>,
     framer: &mut Framer,
     batch: &mut Batch<'a, T>,
     sink: &mut K,
 ) -> Result<Verdict<T::Note>, Stop>
     requires limit { framer.old.limit < 2 ^ 31 }
-    requires some { 0 < length workers.old }
-    requires few { length workers.old < 2 ^ 32 }
     requires room { batch.old.first + length (batch.old.records ++ framer.old.waiting) < 2 ^ 64 }
     ensures answered { AnswersFirst (T.manner batch.old.teller) batch.old.first
         (batch.old.records ++ framer.old.waiting) batch.new.first batch.new.records result
         (K.taken sink.old) (K.taken sink.new) }
     ensures emptied { OnOk result (framer.new ≡ record framer.old { waiting = [] }) }
     ensures teller { batch.new.teller ≡ batch.old.teller }
-    ensures workers { length workers.new ≡ length workers.old }
     ensures fault { IsErrOf result Stop.WriteFault → Rose (K.faults sink.old) (K.faults sink.new) }
     ensures later { K.faults sink.old ≤ K.faults sink.new }
 {
     let mut verdict = Verdict::clear();
     while let Some(next) = framer.next() {
-        verdict = verdict.and(take_record(rt, alloc, gate, workers, next.bytes, batch, sink)?);
+        verdict = verdict.and(take_record(desks, next.bytes, batch, sink)?);
     }
     Ok(verdict)
 }
 
 // Puts a record into the batch, and answers the batch where it is full then.
 fn take_record<'a, R: Threads + Sync, G: Gate + Sync, T: Teller + Sync, K: Sink>(
-    rt: &R,
-    alloc: Global,
-    gate: &G,
-    workers: &mut [Worker<T::Desk, Found<T::Note>>],
+    desks: &mut Desks<'_, R, G, T>,
     bytes: Bytes,
     batch: &mut Batch<'a, T>,
     sink: &mut K,
 ) -> Result<Verdict<T::Note>, Stop>
     requires short { length bytes ≤ 2 ^ 31 }
-    requires some { 0 < length workers.old }
-    requires few { length workers.old < 2 ^ 32 }
     requires room { batch.old.first + length batch.old.records < 2 ^ 64 - 1 }
     ensures answered { AnswersFirst (T.manner batch.old.teller) batch.old.first (batch.old.records ++ bytes ∷ [])
         batch.new.first batch.new.records result (K.taken sink.old) (K.taken sink.new) }
     ensures teller { batch.new.teller ≡ batch.old.teller }
-    ensures workers { length workers.new ≡ length workers.old }
     ensures fault { IsErrOf result Stop.WriteFault → Rose (K.faults sink.old) (K.faults sink.new) }
     ensures later { K.faults sink.old ≤ K.faults sink.new }
 {
@@ -185,21 +174,16 @@ fn take_record<'a, R: Threads + Sync, G: Gate + Sync, T: Teller + Sync, K: Sink>
     if !batch.is_full() {
         return Ok(Verdict::clear());
     }
-    answer_batch(rt, alloc, gate, workers, batch, sink)
+    answer_batch(desks, batch, sink)
 }
 
 /// Answers the records of a batch, writes the answers in the order of the records, and empties the batch. Says what
 /// they add to the end of the run.
 pub fn answer_batch<'a, R: Threads + Sync, G: Gate + Sync, T: Teller + Sync, K: Sink>(
-    rt: &R,
-    alloc: Global,
-    gate: &G,
-    workers: &mut [Worker<T::Desk, Found<T::Note>>],
+    desks: &mut Desks<'_, R, G, T>,
     batch: &mut Batch<'a, T>,
     sink: &mut K,
 ) -> Result<Verdict<T::Note>, Stop>
-    requires some { 0 < length workers.old }
-    requires few { length workers.old < 2 ^ 32 }
     requires room { batch.old.first + length batch.old.records < 2 ^ 64 }
     ensures answered { Answers (T.manner batch.old.teller) batch.old.first batch.old.records result
         (K.taken sink.old) (K.taken sink.new) }
@@ -208,11 +192,10 @@ pub fn answer_batch<'a, R: Threads + Sync, G: Gate + Sync, T: Teller + Sync, K: 
       records = [];
     }) }
     ensures teller { batch.new.teller ≡ batch.old.teller }
-    ensures workers { length workers.new ≡ length workers.old }
     ensures fault { IsErrOf result Stop.WriteFault → Rose (K.faults sink.old) (K.faults sink.new) }
     ensures later { K.faults sink.old ≤ K.faults sink.new }
 {
-    let found = map_batch(rt, alloc, &batch.waiting, workers, gate)?;
+    let found = desks.answer(&batch.waiting)?;
     let verdict = write_all(&found, sink)?;
     batch.first += batch.waiting.len() as u64;
     batch.waiting.clear();
@@ -248,17 +231,12 @@ fn write<N: Copy, K: Sink>(found: &Found<N>, sink: &mut K) -> Result<Verdict<N>,
 /// Answers the last batch, into which a last record without its terminator line goes, and writes blank lines behind it
 /// where they are kept. Says what its records add to the end of the run.
 pub fn answer_tail<'a, R: Threads + Sync, G: Gate + Sync, T: Teller + Sync, K: Sink>(
-    rt: &R,
-    alloc: Global,
-    gate: &G,
-    workers: &mut [Worker<T::Desk, Found<T::Note>>],
+    desks: &mut Desks<'_, R, G, T>,
     tail: Tail,
     batch: &mut Batch<'a, T>,
     sink: &mut K,
 ) -> Result<Verdict<T::Note>, Stop>
     requires small { is_within (2 ^ 31) tail ≡ true }
-    requires some { 0 < length workers.old }
-    requires few { length workers.old < 2 ^ 32 }
     requires room { batch.old.first + length batch.old.records < 2 ^ 64 - 1 }
     ensures answered { (rest : List ℕ) → tail ≡ tail_of rest
         → AnswersTail (T.manner batch.old.teller) batch.old.first batch.old.records rest result
@@ -267,15 +245,15 @@ pub fn answer_tail<'a, R: Threads + Sync, G: Gate + Sync, T: Teller + Sync, K: S
     ensures later { K.faults sink.old ≤ K.faults sink.new }
 {
     match tail {
-        Tail::Nothing => answer_batch(rt, alloc, gate, workers, batch, sink),
+        Tail::Nothing => answer_batch(desks, batch, sink),
         Tail::Blank(bytes) => {
-            let verdict = answer_batch(rt, alloc, gate, workers, batch, sink)?;
+            let verdict = answer_batch(desks, batch, sink)?;
             write_blank(batch.teller.keeps_blank(), bytes.as_slice(), sink)?;
             Ok(verdict)
         }
         Tail::Last(last) => {
             batch.push(last.bytes)?;
-            answer_batch(rt, alloc, gate, workers, batch, sink)
+            answer_batch(desks, batch, sink)
         }
     }
 }

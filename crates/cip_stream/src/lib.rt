@@ -2,6 +2,7 @@
 #![tactic(auto)]
 
 mod batch;
+mod crew;
 mod laws;
 mod limits;
 mod reading;
@@ -12,6 +13,7 @@ mod teller;
 mod tests;
 mod verdict;
 
+pub use crew::Crew;
 pub use laws::streams_divide;
 pub use limits::{LIMITS, Limits};
 pub use stop::Stop;

@@ -1,7 +1,7 @@
 ghost use Rattle.std.specs.Prelude.{◌==◌, ◌∷◌, ◌++◌, [], None, codes, decimal, length, true};
 ghost use Rattle.cip_text.specs.Lines.{line_feed};
 
-use crate::{LIMITS, Teller, Told, Verdict, answer_stream};
+use crate::{Crew, LIMITS, Teller, Told, Verdict, answer_stream};
 use cip_batch::Open;
 use cip_io::{MemSink, MemSource};
 use std::alloc::{AllocError, Global};
@@ -79,16 +79,13 @@ fn cuts(rt: HostRuntime) -> Result<(), Fail> {
             for workers in [1, 4] {
                 let mut source = MemSource::steady(stream(alloc, 3, 20, tail)?, piece);
                 let mut sink = MemSink::with_room(alloc, 5, 500, Vec::new(alloc))?;
-                let verdict = answer_stream(
-                    &rt,
+                let crew = Crew {
+                    rt: &rt,
                     alloc,
-                    &Lengths,
-                    LIMITS,
+                    gate: &Open,
                     workers,
-                    &Open,
-                    &mut source,
-                    &mut sink,
-                );
+                };
+                let verdict = answer_stream(&crew, &Lengths, LIMITS, &mut source, &mut sink);
                 assert!(rt; matches!(verdict, Ok(told) if told.flagged == is_flagged));
                 assert_eq!(rt; sink.into_bytes(), wanted);
             }

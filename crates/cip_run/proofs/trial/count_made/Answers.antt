@@ -20,6 +20,6 @@ loop-done-preserved g c =
       records = search rules;
       within = search rules;
       clerks =
-          as_many c.loop-done.clerks.len c.args.workers c.map_batch.new.workers c.loop-done.clerks.items (search rules)
+          as_many c.loop-done.clerks.len c.args.crew.now.workers c.map_batch.new.workers c.loop-done.clerks.items (search rules)
           c.loop-done.invariant.clerks (search rules);
     }

@@ -7,7 +7,7 @@ invariant-loop-done g l = record {
   so_far : l.count ≡ counted (made_answers l.trial.rules l.trial.nodes l.trial.start l.done);
   records : l.count.counts.records ≡ l.done;
   within : l.done ≤ l.trial.records;
-  clerks : length l.clerks.items ≡ l.workers;
+  clerks : length l.clerks.items ≡ l.crew.workers;
 }
 
 abbrev pub decreases-loop-done : goal.decreases-loop-done

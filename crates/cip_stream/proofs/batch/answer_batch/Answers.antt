@@ -9,7 +9,7 @@ returns-in_err-verdict-clause-answered g c =
     let batch = c.args.batch.now in
     let manner = g.T.Teller.manner batch.teller in
     let told : c.deref-2.result.now ≡ told_from manner batch.first batch.records =
-    c.deref-2.ensures.value ∙ c.in_ok-found.ensures.answers
+    c.deref-2.ensures.value ∙ c.in_ok-found.ensures
     ∙ ap (map (λ w. telling (g.T.Teller.manner w.teller.now) w.number w.bytes)) c.deref.ensures.value
     ∙ c.batch.invariant ∙ ap (λ b. told_from (g.T.Teller.manner b.teller) b.first b.records) c.batch.view_is in
     rw (p.1, p.2) (c.in_err-verdict.ensures.answered manner batch.first batch.records told)
@@ -19,7 +19,7 @@ returns-clause-answered g c =
     let batch = c.args.batch.now in
     let manner = g.T.Teller.manner batch.teller in
     let told : c.deref-2.result.now ≡ told_from manner batch.first batch.records =
-    c.deref-2.ensures.value ∙ c.in_ok-found.ensures.answers
+    c.deref-2.ensures.value ∙ c.in_ok-found.ensures
     ∙ ap (map (λ w. telling (g.T.Teller.manner w.teller.now) w.number w.bytes)) c.deref.ensures.value
     ∙ c.batch.invariant ∙ ap (λ b. told_from (g.T.Teller.manner b.teller) b.first b.records) c.batch.view_is in
     c.in_ok-verdict.ensures.answered manner batch.first batch.records told

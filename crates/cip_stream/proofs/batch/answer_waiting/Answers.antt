@@ -48,6 +48,5 @@ loop-next-preserved g c =
           (same_next manner batch.first next.first records (next.records ++ rest) _ _ _ so_far) c.requires.room;
       teller = search rules;
       rest = search rules;
-      workers = search rules;
       later = search rules;
     }

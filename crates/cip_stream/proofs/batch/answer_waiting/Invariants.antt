@@ -10,7 +10,6 @@ invariant-loop-next g l = record {
   room : l.batch.first + length (l.batch.records ++ l.framer.waiting) < 2 ^ 64;
   teller : l.batch.teller ≡ l.initial.batch.teller;
   rest : l.framer ≡ record l.initial.framer { waiting = l.framer.waiting };
-  workers : length l.workers ≡ length l.initial.workers;
   later : g.K.Sink.faults l.initial.sink ≤ g.K.Sink.faults l.sink;
 }
 

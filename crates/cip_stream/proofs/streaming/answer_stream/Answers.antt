@@ -95,8 +95,6 @@ loop-batch-preserved g c =
       sink_later = search rules;
       piece = subst (λ n. 0 < n) (sym (as_many c.loop-batch.piece.len c.feed_next.new.piece c.loop-batch.piece.items
           (omega (arith, c.loop-batch.piece.ok)))) c.loop-batch.invariant.piece;
-      crew = as_many c.loop-batch.crew.len c.answer_waiting.new.workers c.loop-batch.crew.items
-          (omega (arith, c.loop-batch.crew.ok)) ∙ c.loop-batch.invariant.crew;
     }
 
 pub returns-in_err-answer_tail-in-End-clause-ended : goal.returns-in_err-answer_tail-in-End-clause-ended
@@ -287,7 +285,6 @@ loop-batch-init g c = record {
   source_later = search rules;
   sink_later = search rules;
   piece = search rules;
-  crew = search rules;
 }
 
 -- the tail has no read fault

@@ -11,7 +11,6 @@ invariant-loop-batch g l = record {
   source_later : g.S.Source.faults l.fn.source ≤ g.S.Source.faults l.source;
   sink_later : g.K.Sink.faults l.fn.sink ≤ g.K.Sink.faults l.sink;
   piece : 0 < length l.piece.items;
-  crew : length l.crew.items ≡ l.fn.workers;
 }
 
 abbrev pub decreases-loop-batch : goal.decreases-loop-batch
