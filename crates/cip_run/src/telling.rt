@@ -54,7 +54,7 @@ impl Asked {
     ) -> Result<Told<Note>, AllocError>
         requires few { length bytes.now ≤ 2 ^ 31 }
         requires fit { desk.old ≡ self.now.nodes }
-        ensures text { IfOk result (λ told. told.text.items ≡ (manner_of self.now).text number bytes.now) }
+        ensures text { IfOk result (λ told. told.text ≡ (manner_of self.now).text number bytes.now) }
         ensures verdict { IfOk result (λ told. told.verdict ≡ (manner_of self.now).verdict number bytes.now) }
     {
         let lines = RecordLines::new(alloc, bytes)?;
@@ -76,7 +76,7 @@ impl Asked {
     ) -> Result<Told<Note>, AllocError>
         requires few { length lines.now ≤ 2 ^ 31 }
         requires fit { desk.old ≡ self.now.nodes }
-        ensures text { IfOk result (λ told. told.text.items
+        ensures text { IfOk result (λ told. told.text
             ≡ (told_bare self.now.rules self.now.nodes self.now.task number lines.now).text) }
         ensures verdict { IfOk result (λ told. told.verdict
             ≡ (told_bare self.now.rules self.now.nodes self.now.task number lines.now).verdict) }
@@ -106,7 +106,7 @@ impl Asked {
     ) -> Result<Told<Note>, AllocError>
         requires few { length lines.now < 2 ^ 32 - 1 }
         requires fit { desk.old ≡ self.now.nodes }
-        ensures text { IfOk result (λ told. told.text.items
+        ensures text { IfOk result (λ told. told.text
             ≡ (annotate_change self.now.rules self.now.nodes (record { bytes = lines.now; note = note })).text) }
         ensures verdict { IfOk result (λ told. told.verdict
             ≡ (annotate_change self.now.rules self.now.nodes (record { bytes = lines.now; note = note })).verdict) }
@@ -130,7 +130,7 @@ impl Asked {
     ) -> Result<Told<Note>, AllocError>
         requires few { length lines.now < 2 ^ 32 - 1 }
         requires fit { desk.old ≡ self.now.nodes }
-        ensures text { IfOk result (λ told. told.text.items
+        ensures text { IfOk result (λ told. told.text
             ≡ (explain_bare self.now.rules self.now.nodes number lines.now).text) }
         ensures verdict { IfOk result (λ told. told.verdict
             ≡ (explain_bare self.now.rules self.now.nodes number lines.now).verdict) }
@@ -151,7 +151,7 @@ impl Asked {
     ) -> Result<Told<Note>, AllocError>
         requires few { length lines.now ≤ 2 ^ 31 }
         requires fit { desk.old ≡ self.now.nodes }
-        ensures text { IfOk result (λ told. told.text.items ≡ (annotate_change self.now.rules self.now.nodes
+        ensures text { IfOk result (λ told. told.text ≡ (annotate_change self.now.rules self.now.nodes
             (set_bare self.now.rules self.now.nodes 0 atom letter 0 lines.now)).text) }
         ensures verdict { IfOk result (λ told. told.verdict ≡ (annotate_change self.now.rules self.now.nodes
             (set_bare self.now.rules self.now.nodes 0 atom letter 0 lines.now)).verdict) }
@@ -177,7 +177,7 @@ impl Asked {
     ) -> Result<Told<Note>, AllocError>
         requires few { length lines.now ≤ 2 ^ 31 }
         requires fit { desk.old ≡ self.now.nodes }
-        ensures text { IfOk result (λ told. told.text.items
+        ensures text { IfOk result (λ told. told.text
             ≡ (annotate_change self.now.rules self.now.nodes (mirror_bare self.now.rules self.now.nodes lines.now)).text) }
         ensures verdict { IfOk result (λ told. told.verdict ≡ (annotate_change self.now.rules self.now.nodes
             (mirror_bare self.now.rules self.now.nodes lines.now)).verdict) }
@@ -203,7 +203,7 @@ impl Asked {
     ) -> Result<Told<Note>, AllocError>
         requires few { length lines.now < 2 ^ 32 - 1 }
         requires fit { desk.old ≡ self.now.nodes }
-        ensures text { IfOk result (λ told. told.text.items
+        ensures text { IfOk result (λ told. told.text
             ≡ (groups_bare self.now.rules self.now.nodes number lines.now).text) }
         ensures verdict { IfOk result (λ told. told.verdict
             ≡ (groups_bare self.now.rules self.now.nodes number lines.now).verdict) }
@@ -222,7 +222,7 @@ impl Asked {
     ) -> Result<Told<Note>, AllocError>
         requires few { length lines.now < 2 ^ 32 - 1 }
         requires fit { desk.old ≡ self.now.nodes }
-        ensures text { IfOk result (λ told. told.text.items
+        ensures text { IfOk result (λ told. told.text
             ≡ (axes_bare self.now.rules self.now.nodes number lines.now).text) }
         ensures verdict { IfOk result (λ told. told.verdict
             ≡ (axes_bare self.now.rules self.now.nodes number lines.now).verdict) }

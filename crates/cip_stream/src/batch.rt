@@ -26,20 +26,6 @@ const RECORDS: usize = 8;
 // How many bytes of records are enough for a batch: 64 MiB.
 const BYTES: u64 = 67_108_864;
 
-/// What a worker found for a record.
-#[derive(Drop)]
-pub struct Found<N> {
-    told: Told<N>,
-}
-
-impl<N> Model for Found<N> {
-    ghost use Rattle.cip_stream.specs.Batches.{Telling};
-
-    ghost Value = { Telling N };
-
-    ghost view = { λ found. record { text = found.told.text.items; verdict = found.told.verdict } };
-}
-
 /// A record that waits for its answer.
 #[derive(Drop)]
 pub struct Waiting<'a, T: Teller> {
@@ -51,17 +37,15 @@ pub struct Waiting<'a, T: Teller> {
 }
 
 impl<'a, T: Teller> Job for Waiting<'a, T> {
-    type Out = Found<T::Note>;
+    type Out = Told<T::Note>;
 
     type Desk = T::Desk;
 
     ghost answer = { λ job. telling (T.manner job.teller.now) job.number job.bytes };
 
-    fn work(&self, desk: &mut T::Desk) -> Result<Found<T::Note>, AllocError> {
-        let told = self
-            .teller
-            .tell(self.alloc, desk, self.number, self.bytes.as_slice())?;
-        Ok(Found { told })
+    fn work(&self, desk: &mut T::Desk) -> Result<Told<T::Note>, AllocError> {
+        self.teller
+            .tell(self.alloc, desk, self.number, self.bytes.as_slice())
     }
 }
 
@@ -204,7 +188,7 @@ pub fn answer_batch<'a, R: Threads + Sync, G: Gate + Sync, T: Teller + Sync, K: 
 }
 
 // Writes what was found for records, one after the other.
-fn write_all<N: Copy, K: Sink>(found: &[Found<N>], sink: &mut K) -> Result<Verdict<N>, Stop>
+fn write_all<N: Copy, K: Sink>(found: &[Told<N>], sink: &mut K) -> Result<Verdict<N>, Stop>
     ensures answered { (manner : Manner N) (number : ℕ) (records : List (List ℕ))
         → found.now ≡ told_from manner number records
         → Answers manner number records result (K.taken sink.old) (K.taken sink.new) }
@@ -218,14 +202,14 @@ fn write_all<N: Copy, K: Sink>(found: &[Found<N>], sink: &mut K) -> Result<Verdi
     Ok(verdict)
 }
 
-fn write<N: Copy, K: Sink>(found: &Found<N>, sink: &mut K) -> Result<Verdict<N>, Stop>
+fn write<N: Copy, K: Sink>(found: &Told<N>, sink: &mut K) -> Result<Verdict<N>, Stop>
     ensures answered { (manner : Manner N) (number : ℕ) (bytes : List ℕ) → found.now ≡ telling manner number bytes
         → Answers manner number (bytes ∷ []) result (K.taken sink.old) (K.taken sink.new) }
     ensures fault { IsErrOf result Stop.WriteFault → Rose (K.faults sink.old) (K.faults sink.new) }
     ensures later { K.faults sink.old ≤ K.faults sink.new }
 {
-    push_all(sink, &found.told.text).map_err(|_| Stop::WriteFault)?;
-    Ok(found.told.verdict)
+    push_all(sink, &found.text).map_err(|_| Stop::WriteFault)?;
+    Ok(found.verdict)
 }
 
 /// Answers the last batch, into which a last record without its terminator line goes, and writes blank lines behind it

@@ -2,8 +2,8 @@
 ghost use Rattle.std.specs.Prelude.{◌≡◌, ◌≤◌, ◌<◌, ◌^◌, IfOk, length, map};
 ghost use Rattle.cip_stream.specs.Batches.{telling};
 
-use crate::batch::{Found, Waiting};
-use crate::teller::Teller;
+use crate::batch::Waiting;
+use crate::teller::{Teller, Told};
 use cip_batch::{Gate, Worker, map_batch};
 use std::alloc::{AllocError, Global};
 use std::marker::Model;
@@ -23,7 +23,7 @@ pub struct Crew<'a, R, G> {
 #[derive(Drop)]
 pub struct Desks<'a, R, G, T: Teller> {
     crew: &'a Crew<'a, R, G>,
-    workers: Vec<Worker<T::Desk, Found<T::Note>>>,
+    workers: Vec<Worker<T::Desk, Told<T::Note>>>,
 }
 
 impl<'a, R, G, T: Teller> Model for Desks<'a, R, G, T> {
@@ -44,7 +44,7 @@ impl<'a, R: Threads + Sync, G: Gate + Sync, T: Teller + Sync> Desks<'a, R, G, T>
     }
 
     /// What is found for each of some records.
-    pub fn answer(&mut self, waiting: &[Waiting<'_, T>]) -> Result<Vec<Found<T::Note>>, AllocError>
+    pub fn answer(&mut self, waiting: &[Waiting<'_, T>]) -> Result<Vec<Told<T::Note>>, AllocError>
         requires { length waiting.now < 2 ^ 63 }
         ensures { IfOk result (λ found. found.items
             ≡ map (λ w. telling (T.manner w.teller.now) w.number w.bytes) waiting.now) }
@@ -59,7 +59,7 @@ fn new_workers<T: Teller>(
     alloc: Global,
     teller: &T,
     count: u8,
-) -> Result<Vec<Worker<T::Desk, Found<T::Note>>>, AllocError>
+) -> Result<Vec<Worker<T::Desk, Told<T::Note>>>, AllocError>
     ensures { IfOk result (λ v. length v.items ≡ count) }
 {
     let mut workers = Vec::with_capacity(alloc, count as usize)?;

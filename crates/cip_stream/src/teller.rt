@@ -4,12 +4,21 @@ ghost use Rattle.cip_stream.specs.Manner.{Manner};
 
 use crate::verdict::Verdict;
 use std::alloc::{AllocError, Global};
+use std::marker::Model;
 
 /// What is told of a record: the text that is due for it, and what it adds to the end of the run.
 #[derive(Drop)]
 pub struct Told<N> {
     pub text: Vec<u8>,
     pub verdict: Verdict<N>,
+}
+
+impl<N> Model for Told<N> {
+    ghost use Rattle.cip_stream.specs.Batches.{Telling};
+
+    ghost Value = { Telling N };
+
+    ghost view = { λ told. record { text = told.text.items; verdict = told.verdict } };
 }
 
 /// Who tells of each record of a stream.
@@ -35,7 +44,7 @@ pub trait Teller {
         bytes: &[u8],
     ) -> Result<Told<Self::Note>, AllocError>
         requires few { length bytes.now ≤ 2 ^ 31 }
-        ensures text { IfOk result (λ told. told.text.items ≡ (manner self.now).text number bytes.now) }
+        ensures text { IfOk result (λ told. told.text ≡ (manner self.now).text number bytes.now) }
         ensures verdict { IfOk result (λ told. told.verdict ≡ (manner self.now).verdict number bytes.now) };
 
     /// Whether blank lines behind the last record are written as they are.

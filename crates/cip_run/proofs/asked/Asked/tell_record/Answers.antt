@@ -11,10 +11,10 @@ pub returns-then-not-has_label_item-clause-text : goal.returns-then-not-has_labe
 returns-then-not-has_label_item-clause-text c =
     let asked = c.args.self.now in
     let none : has_label_item c.args.bytes.now ≡ false = search rules in
-    subst (λ text. IfOk c.tell_lines.result (λ told. told.text.items ≡ text))
+    subst (λ text. IfOk c.tell_lines.result (λ told. told.text ≡ text))
     (ap (λ (told : Telling Note). told.text)
     (told_itself asked.rules asked.nodes asked.task c.args.number c.args.bytes.now none))
-    (subst (λ bytes. IfOk c.tell_lines.result (λ told. told.text.items
+    (subst (λ bytes. IfOk c.tell_lines.result (λ told. told.text
     ≡ (told_bare asked.rules asked.nodes asked.task c.args.number bytes).text)) c.in_ok-lines.ensures
     c.tell_lines.ensures.text)
 
@@ -32,10 +32,10 @@ returns-then-not-has_label_item-clause-verdict c =
 pub returns-clause-text : goal.returns-clause-text
 returns-clause-text c =
     let asked = c.args.self.now in
-    subst (λ text. IfOk c.tell_lines-2.result (λ told. told.text.items ≡ text))
+    subst (λ text. IfOk c.tell_lines-2.result (λ told. told.text ≡ text))
     (ap (λ (told : Telling Note). told.text)
     (bare_is_told asked.rules asked.nodes asked.task c.args.number c.args.bytes.now))
-    (subst (λ bytes. IfOk c.tell_lines-2.result (λ told. told.text.items
+    (subst (λ bytes. IfOk c.tell_lines-2.result (λ told. told.text
     ≡ (told_bare asked.rules asked.nodes asked.task c.args.number bytes).text))
     (c.in_ok-lines-2.ensures ∙ c.deref.ensures.value ∙ c.in_ok-bare.ensures.value) c.tell_lines-2.ensures.text)
 
