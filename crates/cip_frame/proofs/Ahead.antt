@@ -1,25 +1,14 @@
--- What the loop over the lines of a piece keeps.
+-- What the loop over the parts of a piece keeps.
 use Rattle.std.proofs.Common.{◌≡◌, ◌≤◌, ◌<◌, ◌+◌, ℕ, List, [], ◌∷◌, ◌++◌, length, Bool, true, false, refl, sym, ◌∙◌, ap, arith, append_assoc, append-nil, length-append}
 use Rattle.std.specs.List.{take_while}
 use Rattle.std.proofs.lemmas.List.Sums.{take_while-cons}
 use Rattle.cip_frame.specs.Records.{is_closing, open_line}
 use Rattle.cip_frame.specs.Framing.{Framing, IsFrontOf, fits, all_fit}
 use Rattle.cip_frame.specs.Following.{cut_behind}
-use Rattle.cip_frame.specs.Taking.{is_line, TakesLine, IsTooLong}
+use Rattle.cip_frame.specs.Taking.{is_line, Ahead, ArePlain, IsTooLong, TakesLine}
 use Rattle.cip_frame.proofs.PieceLines.{line_closing, line_open}
-use Rattle.cip_frame.proofs.Limits.{over_line}
-
--- what waits and what is still to come are together what was to come at first
-pub record Ahead (old : Framing) (piece : List ℕ) (now : Framing) (left : List ℕ) : Type 0 where
-  pub waiting : now.waiting ++ (cut_behind now.open_bytes left).whole
-      ≡ old.waiting ++ (cut_behind old.open_bytes piece).whole
-  pub rest : (cut_behind now.open_bytes left).rest ≡ (cut_behind old.open_bytes piece).rest
-  pub fit : all_fit old.limit (cut_behind now.open_bytes left) ≡ all_fit old.limit (cut_behind old.open_bytes piece)
-  pub fitting : now.waiting ++ take_while (fits old.limit) (cut_behind now.open_bytes left).whole
-      ≡ old.waiting ++ take_while (fits old.limit) (cut_behind old.open_bytes piece).whole
-  pub within : length old.open_bytes ≤ old.limit → length now.open_bytes ≤ old.limit
-  pub limit : now.limit ≡ old.limit
-  pub fault : now.fault ≡ old.fault
+use Rattle.cip_frame.proofs.Limits.{over_front, over_line}
+use Rattle.cip_frame.proofs.PlainLines.{plain_cut}
 
 ahead_by : (old : Framing) (piece : List ℕ) (now : Framing) (line behind : List ℕ) (new : Framing) (k : Bool)
     → is_closing (open_line now.open_bytes ++ line) ≡ k → is_line line ≡ true
@@ -75,6 +64,66 @@ ahead_over old piece now line behind h a more =
     record {
       waiting = sym (append-nil now.waiting) ∙ ap (λ parts. now.waiting ++ parts) (sym over.none) ∙ a.fitting;
       passed = sym a.fit ∙ over.over;
+    }
+
+-- nothing was taken yet
+pub ahead_first : (now : Framing) (bytes : List ℕ) → Ahead now bytes now bytes
+ahead_first now bytes = record {
+  waiting = refl;
+  rest = refl;
+  fit = refl;
+  fitting = refl;
+  within = λ few. few;
+  limit = refl;
+  fault = refl;
+}
+
+-- one part and then another
+pub ahead_through : (old : Framing) (piece : List ℕ) (now : Framing) (left : List ℕ) (new : Framing) (behind : List ℕ)
+    → Ahead old piece now left → Ahead now left new behind → Ahead old piece new behind
+ahead_through old piece now left new behind a b = record {
+  waiting = b.waiting ∙ a.waiting;
+  rest = b.rest ∙ a.rest;
+  fit = rw a.limit at b.fit ∙ a.fit;
+  fitting = rw a.limit at b.fitting ∙ a.fitting;
+  within = λ few. rw a.limit at b.within (a.within few);
+  limit = b.limit ∙ a.limit;
+  fault = b.fault ∙ a.fault;
+}
+
+pub too_long_through : (old : Framing) (piece : List ℕ) (now : Framing) (left : List ℕ) (new : Framing)
+    → Ahead old piece now left → IsTooLong now left new → IsTooLong old piece new
+too_long_through old piece now left new a t = record {
+  waiting = rw a.limit at t.waiting ∙ a.fitting;
+  passed = sym a.fit ∙ rw a.limit at t.passed;
+}
+
+-- whole lines without a dollar sign
+pub ahead_plain : (now : Framing) (lines behind : List ℕ) → open_line now.open_bytes ≡ [] → ArePlain lines
+    → length now.open_bytes + length lines ≤ now.limit
+    → Ahead now (lines ++ behind) (record now { open_bytes = now.open_bytes ++ lines }) behind
+ahead_plain now lines behind begun are few =
+    let cuts = plain_cut now.open_bytes lines behind (rw begun refl) are.plain in
+    record {
+      waiting = rw cuts refl;
+      rest = rw cuts refl;
+      fit = rw cuts refl;
+      fitting = rw cuts refl;
+      within = λ _. rw (length-append now.open_bytes lines) few;
+      limit = refl;
+      fault = refl;
+    }
+
+-- the record is too long with them
+pub plain_over : (now : Framing) (lines behind : List ℕ) → open_line now.open_bytes ≡ [] → ArePlain lines
+    → now.limit < length now.open_bytes + length lines → IsTooLong now (lines ++ behind) now
+plain_over now lines behind begun are more =
+    let longer : now.limit < length (now.open_bytes ++ lines) = rw (length-append now.open_bytes lines) more in
+    let over = rw (sym (plain_cut now.open_bytes lines behind (rw begun refl) are.plain)) at
+    (over_front now.limit (now.open_bytes ++ lines) behind longer) in
+    record {
+      waiting = sym (append-nil now.waiting) ∙ ap (λ parts. now.waiting ++ parts) (sym over.none);
+      passed = over.over;
     }
 
 -- what waits goes on

@@ -1,7 +1,7 @@
 -- What a piece of a stream, and one line of it, make of a framer. Own.
 use Rattle.std.specs.Prelude.{◌≡◌, ◌≤◌, ◌+◌, ◌++◌, ◌∷◌, [], ℕ, List, Bool, true, false, ◌==◌, ◌&&◌, not, length, if◌then◌else◌}
-use Rattle.std.specs.List.{take_while}
-use Rattle.cip_text.specs.Lines.{line_feed}
+use Rattle.std.specs.List.{list_any, take_while}
+use Rattle.cip_text.specs.Lines.{line_feed, has_last}
 use Rattle.cip_frame.specs.Records.{is_closing, open_line}
 use Rattle.cip_frame.specs.Framing.{Framing, fits, all_fit}
 use Rattle.cip_frame.specs.Following.{cut_behind}
@@ -35,3 +35,20 @@ pub record TakesPiece (old : Framing) (piece : List ℕ) (new : Framing) : Type 
 pub record IsTooLong (old : Framing) (piece : List ℕ) (new : Framing) : Type 0 where
   pub waiting : new.waiting ≡ old.waiting ++ take_while (fits old.limit) (cut_behind old.open_bytes piece).whole
   pub passed : all_fit old.limit (cut_behind old.open_bytes piece) ≡ false
+
+-- whole lines in which no dollar sign stands
+pub record ArePlain (lines : List ℕ) : Type 0 where
+  pub ended : has_last line_feed lines ≡ true
+  pub plain : list_any (λ b. b == 36) lines ≡ false
+
+-- what waits and what is still to come are together what was to come at first
+pub record Ahead (old : Framing) (piece : List ℕ) (now : Framing) (left : List ℕ) : Type 0 where
+  pub waiting : now.waiting ++ (cut_behind now.open_bytes left).whole
+      ≡ old.waiting ++ (cut_behind old.open_bytes piece).whole
+  pub rest : (cut_behind now.open_bytes left).rest ≡ (cut_behind old.open_bytes piece).rest
+  pub fit : all_fit old.limit (cut_behind now.open_bytes left) ≡ all_fit old.limit (cut_behind old.open_bytes piece)
+  pub fitting : now.waiting ++ take_while (fits old.limit) (cut_behind now.open_bytes left).whole
+      ≡ old.waiting ++ take_while (fits old.limit) (cut_behind old.open_bytes piece).whole
+  pub within : length old.open_bytes ≤ old.limit → length now.open_bytes ≤ old.limit
+  pub limit : now.limit ≡ old.limit
+  pub fault : now.fault ≡ old.fault

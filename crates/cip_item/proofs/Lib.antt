@@ -1,6 +1,7 @@
 pub mod AlikeLines
 pub mod Closed
 pub mod FirstEnds
+pub mod Gaps
 pub mod Headings
 pub mod ItemLines
 pub mod Joining

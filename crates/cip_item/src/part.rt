@@ -79,7 +79,8 @@ impl Part {
     }
 }
 
-fn has_molecule_end(contents: &[&[u8]]) -> bool
+// Whether some line ends the molfile.
+pub(crate) fn has_molecule_end(contents: &[&[u8]]) -> bool
     ensures { result ≡ list_any is_molecule_end (texts contents.now) }
 {
     for content in contents {

@@ -6,7 +6,8 @@ ghost use Rattle.cip_text.specs.Slices.{texts};
 ghost use Rattle.cip_item.specs.Putting.{has_returns, line_end_for, missing_end, needs_gap, heading, item, with_item};
 ghost use Rattle.cip_item.specs.Room.{room_of};
 
-use cip_text::{Bytes, Listing, RecordLines, is_blank, is_molecule_end};
+use crate::part::has_molecule_end;
+use cip_text::{Bytes, Listing, RecordLines, is_blank};
 use std::alloc::{AllocError, Global};
 
 /// Texts in order, as the values of an item.
@@ -140,17 +141,12 @@ fn gap<'a>(end: &'a [u8], contents: &[&[u8]]) -> &'a [u8]
     }
 }
 
+// The last line is asked first.
 fn needs_gap(contents: &[&[u8]]) -> bool
     ensures { result ≡ needs_gap false false (texts contents.now) }
 {
-    let mut ended = false;
-    let mut filled = false;
-    for content in contents {
-        if ended {
-            filled = !is_blank(content);
-        } else {
-            ended = is_molecule_end(content);
-        }
+    match contents {
+        [before @ .., last] => !is_blank(last) && has_molecule_end(before),
+        [] => false,
     }
-    filled
 }

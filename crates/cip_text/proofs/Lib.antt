@@ -1,4 +1,5 @@
 pub mod Contents
+pub mod Decimals
 pub mod Ended
 pub mod Ends
 pub mod Firsts

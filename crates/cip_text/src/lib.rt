@@ -20,6 +20,6 @@ pub use fields::{columns, without_spaces_behind};
 pub use kinds::{is_blank, is_molecule_end, is_terminator};
 pub use laws::{contents_stand_at_places, lines_are_cut, lines_are_ended, lines_join};
 pub use list::Listing;
-pub use numbers::{NumberFault, decimal4, integer};
+pub use numbers::{CAP, NumberFault, decimal4, integer, whole};
 pub use splitting::{Line, Lines, begins_with, content, has_last, lines, split_line, without_end};
 pub use writing::{coordinate, push_right};

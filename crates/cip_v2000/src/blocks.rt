@@ -44,7 +44,7 @@ pub fn atom_block(alloc: Global, lines: &[&[u8]], count: u32) -> Result<Vec<Atom
     ensures counted { IfOk result (λ atoms. length atoms.items ≡ count) }
     ensures there { IfOk result (λ _. 4 + count ≤ length lines.now) }
 {
-    let mut atoms = Vec::new(alloc);
+    let mut atoms = Vec::with_capacity(alloc, count as usize)?;
     for row in 0..count as usize {
         let atom = atom_line(lines, 4 + row)?;
         atoms.push(atom)?;

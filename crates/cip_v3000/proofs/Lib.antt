@@ -1,4 +1,5 @@
 pub mod BlockRows
+pub mod Counted
 pub mod InOrder
 pub mod Joined
 pub mod JoinedInOrder

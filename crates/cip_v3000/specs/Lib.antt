@@ -1,6 +1,7 @@
 pub mod AtomLine
 pub mod Blocks
 pub mod BondLine
+pub mod Counted
 pub mod CountsLine
 pub mod Frames
 pub mod Grammar

@@ -44,7 +44,7 @@ pub fn atom_block(
     ensures counted { IfOk result (λ block. (length block.atoms.items ≡ count) × (length block.indices ≡ count)) }
 {
     let mut indices = Indices::new(alloc);
-    let mut atoms = Vec::new(alloc);
+    let mut atoms = Vec::with_capacity(alloc, count as usize)?;
     for row in 0..count as usize {
         let line = atom_line(alloc, joined, 3 + row, &indices)?;
         indices.push(line.index)?;

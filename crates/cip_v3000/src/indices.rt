@@ -2,6 +2,7 @@
 ghost use Rattle.std.specs.Prelude.{◌≡◌, false, nat_eq, IfOk};
 ghost use Rattle.std.specs.List.{list_any};
 ghost use Rattle.cip_v3000.specs.AtomLine.{new_index};
+ghost use Rattle.cip_v3000.specs.Counted.{is_counted};
 
 use cip_mol::ReadCause;
 use cip_reading::number_stated;
@@ -12,18 +13,21 @@ use std::marker::Model;
 /// The greatest index.
 pub const GREATEST: u32 = 1_000_000_000;
 
-/// Indices in order of appearance, none of them twice. Contracts see their list.
+/// Indices in order of appearance, none of them twice. Contracts see their list. So far as they are 1, 2, 3 and so on
+/// from the first one on they are counted; the set holds those behind.
 #[derive(Drop)]
 pub struct Indices {
-    set: IndexSet<u32>,
+    counted: u32,
+    others: IndexSet<u32>,
 }
 
 impl Model for Indices {
     ghost use Rattle.std.specs.Prelude.{List, ℕ};
+    ghost use Rattle.cip_v3000.specs.Counted.{with_counted};
 
     ghost Value = { List ℕ };
 
-    ghost view = { λ s. s.set.keys };
+    ghost view = { λ indices. with_counted indices.counted indices.others.keys };
 }
 
 impl Indices {
@@ -35,40 +39,62 @@ impl Indices {
         ensures { result ≡ [] }
     {
         Indices {
-            set: IndexSet::new(alloc),
+            counted: 0,
+            others: IndexSet::new(alloc),
         }
     }
 
     /// How many there are.
+    #[tactic(auto, using(crate::proofs::Counted::length_with_counted))]
     pub fn len(&self) -> usize
         ensures { result ≡ length self.now }
     {
-        self.set.len()
+        self.counted as usize + self.others.len()
     }
 
     /// Adds an index that isn't there yet at the end.
+    #[tactic(auto, using(crate::proofs::Counted::counted_more, crate::proofs::Counted::none_behind))]
     pub fn push(&mut self, index: u32) -> Result<(), AllocError>
         requires { list_any (nat_eq index) self.old ≡ false }
         ensures { OnOk result (self.new ≡ self.old ++ index ∷ []) }
     {
-        self.set.insert(index)?;
+        if self.others.is_empty() && index > 0 && index - 1 == self.counted {
+            self.counted = index;
+            return Ok(());
+        }
+        self.others.insert(index)?;
         Ok(())
     }
 
     /// Whether an index is there.
+    #[tactic(auto, using(crate::proofs::Counted::any_with_counted))]
     pub fn contains(&self, index: u32) -> bool
         ensures { result ≡ list_any (nat_eq index) self.now }
     {
-        self.set.contains(&index)
+        is_counted(self.counted, index) || self.others.contains(&index)
     }
 
     /// The place of an index, from 0.
+    #[tactic(auto, using(crate::proofs::Counted::place_counted, crate::proofs::Counted::place_behind, crate::proofs::Counted::length_with_counted))]
     pub fn place(&self, index: u32) -> Option<usize>
         ensures value { result ≡ position (nat_eq index) self.now }
         ensures within { IfSome result (λ place. place < length self.now) }
     {
-        self.set.get_index_of(&index)
+        if is_counted(self.counted, index) {
+            return Some(index as usize - 1);
+        }
+        // Reading how many there are tells that they are few.
+        let _others = self.others.len();
+        let place = self.others.get_index_of(&index)?;
+        Some(self.counted as usize + place)
     }
+}
+
+// Whether an index is one of so many that are counted from 1.
+fn is_counted(counted: u32, index: u32) -> bool
+    ensures { result ≡ is_counted counted index }
+{
+    1 <= index && index <= counted
 }
 
 /// The index that a word states, which is none of those known.

@@ -39,7 +39,7 @@ pub fn joined_lines<'a>(alloc: Global, lines: &'a [&'a [u8]]) -> Result<JoinedLi
     ensures value { IfOk result (λ found. seen_all found ≡ joined_lines (texts lines.now)) }
     ensures numbered { IfOk result (λ found. All IsNumbered found.lines.items) }
 {
-    let mut found = Vec::new(alloc);
+    let mut found = Vec::with_capacity(alloc, lines.len())?;
     let mut first = 4;
     let mut place = 4;
     while place < lines.len() {

@@ -9,7 +9,7 @@ use Rattle.cip_v2000.proofs.blocks.atom_block.Goals as goal
 
 pub returns-in_err-atom-clause-value : goal.returns-in_err-atom-clause-value
 returns-in_err-atom-clause-value c =
-    let refused = err_from_is_err_and c.from_residual.result c.from_residual.ensures.1 in
+    let refused = err_from_is_err_and c.from_residual-in_err-atom.result c.from_residual-in_err-atom.ensures.1 in
     rw (refused.1, refused.2)
     (row_refused (atom_row (texts c.args.lines.now)) _ _ _ _ _ c.loop-row-test.true c.in_err-atom.ensures.value
     c.loop-row.invariant.so_far)

@@ -12,7 +12,7 @@ use Rattle.cip_v3000.proofs.blocks.atom_block.Goals as goal
 
 pub returns-in_err-line-clause-value : goal.returns-in_err-line-clause-value
 returns-in_err-line-clause-value c =
-    let refused = err_from_is_err_and c.from_residual.result c.from_residual.ensures.1 in
+    let refused = err_from_is_err_and c.from_residual-in_err-line.result c.from_residual-in_err-line.ensures.1 in
     let joined = seen_all c.args.joined.now in
     rw (refused.1, refused.2) (fails_alike c.in_err-line.field-0.0
     (read_at joined (3 + c.loop-row.row) (atom_of c.loop-row.indices)) _ c.in_err-line.ensures.value
