@@ -12,12 +12,12 @@ returns c =
     let begun : is_in c.args.vertex (c.args.next ∷ c.args.vertex ∷ []) ≡ true =
     or_right (c.args.next == c.args.vertex) _ (or_left (c.args.vertex == c.args.vertex) _ (eq-eqb c.args.vertex c.args.vertex refl)) in
     c.reaches_early.ensures.value
-    ∙ ap (λ path. reaches_by c.args.graph.now c.args.vertex c.args.target c.args.most path c.args.next)
+    ∙ ap (λ path. reaches_by c.args.alternation.now c.args.vertex c.args.target c.args.most path c.args.next)
     (c.push-2.ensures
     ∙ ap (λ path. c.args.next ∷ path) (c.push.ensures ∙ ap (λ path. c.args.vertex ∷ path) c.new-path.ensures))
-    ∙ by_any c.args.graph.now c.args.vertex c.args.target c.args.most (c.args.next ∷ c.args.vertex ∷ []) c.args.next begun
+    ∙ by_any c.args.alternation.now c.args.vertex c.args.target c.args.most (c.args.next ∷ c.args.vertex ∷ []) c.args.next begun
 
 pub returns-then-not-walks : goal.returns-then-not-walks
 returns-then-not-walks c =
-    no_ring c.args.graph.now c.args.target c.args.most (c.args.next ∷ c.args.vertex ∷ []) c.args.next
+    no_ring c.args.alternation.now c.args.target c.args.most (c.args.next ∷ c.args.vertex ∷ []) c.args.next
     (sym c.in_ok-walks.ensures ∙ c.if-not-walks.true)

@@ -8,6 +8,6 @@ returns-then-reaches_by-clause-value c =
     let first = c.min-first.result in
     let sum : (c.args.more - first) + first ≡ c.args.more = omega (arith, c.min-first.ensures) in
     c.if-reaches_by.true
-    ∙ sym (subst (λ more. reaches_by c.args.graph.now c.args.aim.third c.args.aim.target more c.args.path.now c.args.at ≡ true) sum
-    (further_by c.args.graph.now c.args.aim.third c.args.aim.target first (c.args.more - first) c.args.path.now c.args.at
+    ∙ sym (subst (λ more. reaches_by c.args.alternation.now c.args.aim.third c.args.aim.target more c.args.path.now c.args.at ≡ true) sum
+    (further_by c.args.alternation.now c.args.aim.third c.args.aim.target first (c.args.more - first) c.args.path.now c.args.at
     (sym c.if-reaches_by.ensures.value)))
