@@ -6,7 +6,7 @@ ghost use Rattle.cip_mancude.specs.Partners.{alternating_partner, can_close};
 use crate::alternating::Alternation;
 use crate::path::Path;
 use crate::walk::has_walk;
-use crate::ways::{Aim, MOST_DOUBLES, reaches_early};
+use crate::ways::{Aim, MOST_DOUBLES, reaches_by, reaches_soon};
 use cip_ring::VertexSet;
 use std::alloc::{AllocError, Global};
 
@@ -40,8 +40,8 @@ fn can_close(alternation: &Alternation, vertex: u32, next: u32, other: u32) -> b
         && other != next
 }
 
-// Most bonds that lie in no ring are told by walks, which are few: at each atom at most two lead on, and none is
-// followed twice. A ring meets no atom twice, so that where a walk leads round, paths are followed.
+// Most rings have six atoms. Most other bonds are told by walks, which are few: at each atom at most two lead on, and
+// none is followed twice. A ring meets no atom twice, so that where a walk leads round, paths are followed.
 fn finds_ring(
     alloc: Global,
     alternation: &Alternation,
@@ -54,10 +54,6 @@ fn finds_ring(
     requires { most ≤ 11 }
     ensures { IfOk result (λ found. found ≡ reaches alternation.now target most (next ∷ vertex ∷ []) next) }
 {
-    let walks = has_walk(alternation, target, most, next, reached)?;
-    if !walks {
-        return Ok(false);
-    }
     let mut path = Path::new(alloc);
     path.push(vertex);
     path.push(next);
@@ -66,5 +62,12 @@ fn finds_ring(
         target,
         third: vertex,
     };
-    Ok(reaches_early(alternation, aim, most, &mut path, next))
+    if reaches_soon(alternation, aim, most, &mut path, next) {
+        return Ok(true);
+    }
+    let walks = has_walk(alternation, target, most, next, reached)?;
+    if !walks {
+        return Ok(false);
+    }
+    Ok(reaches_by(alternation, aim, most, &mut path, next))
 }

@@ -1,5 +1,5 @@
 // The search for ways by turns over a single and a double bond, as alternating rings go.
-ghost use Rattle.std.specs.Prelude.{◌≡◌, ◌≤◌, ◌+◌, ◌*◌, length};
+ghost use Rattle.std.specs.Prelude.{◌≡◌, ◌≤◌, ◌+◌, ◌*◌, length, true};
 ghost use Rattle.cip_digraph.specs.graph.Graph.{edges_at};
 ghost use Rattle.cip_mancude.specs.SharedRings.{passes_along, passes_through, reaches_by};
 
@@ -19,21 +19,36 @@ pub struct Aim {
     pub third: u32,
 }
 
-/// Whether a way over so many double bonds at most goes on from a path to the aim. Small rings are tried first, since
-/// most are small. From an atom at most two single bonds lead on, so at most 4,095 ways are followed over eleven double
-/// bonds.
+/// Whether a way as in a ring of six atoms goes on from a path to the aim, over so many double bonds at most. Most rings
+/// are such, and few ways are followed.
+pub fn reaches_soon(
+    alternation: &Alternation,
+    aim: Aim,
+    more: u32,
+    path: &mut Path,
+    at: u32,
+) -> bool
+    requires room { length path.old + 2 * more ≤ 24 }
+    ensures found { result ≡ true → reaches_by alternation.now aim.third aim.target more path.old at ≡ true }
+    ensures path { path.new ≡ path.old }
+{
+    reaches_by(alternation, aim, more.min(DOUBLES_OF_SIX), path, at)
+}
+
+/// Whether a way over so many double bonds at most goes on from a path to the aim. Small rings are tried first.
 pub fn reaches_early(alternation: &Alternation, aim: Aim, more: u32, path: &mut Path, at: u32) -> bool
     requires room { length path.old + 2 * more ≤ 24 }
     ensures value { result ≡ reaches_by alternation.now aim.third aim.target more path.old at }
     ensures path { path.new ≡ path.old }
 {
-    let first = more.min(DOUBLES_OF_SIX);
-    reaches_by(alternation, aim, first, path, at) || reaches_by(alternation, aim, more, path, at)
+    reaches_soon(alternation, aim, more, path, at) || reaches_by(alternation, aim, more, path, at)
 }
 
+/// The same by one search. From an atom at most two single bonds lead on, so at most 4,095 ways are followed over eleven
+/// double bonds.
 #[cycle(reaches_by)]
 #[tactic(auto, using(crate::proofs::WaySteps::reaches_none, crate::proofs::WaySteps::reaches_some))]
-fn reaches_by(alternation: &Alternation, aim: Aim, more: u32, path: &mut Path, at: u32) -> bool
+pub fn reaches_by(alternation: &Alternation, aim: Aim, more: u32, path: &mut Path, at: u32) -> bool
     requires { length path.old + 2 * more ≤ 24 }
     ensures value { result ≡ reaches_by alternation.now aim.third aim.target more path.old at }
     ensures path { path.new ≡ path.old }
