@@ -26,7 +26,15 @@ pub fn closes_ring(
     if !can_close(alternation, vertex, next, other) {
         return Ok(false);
     }
-    finds_ring(alloc, alternation, vertex, next, other, MOST_DOUBLES, reached)
+    finds_ring(
+        alloc,
+        alternation,
+        vertex,
+        next,
+        other,
+        MOST_DOUBLES,
+        reached,
+    )
 }
 
 // Whether a single bond joins two atoms that alternate, as the partner of the one does.

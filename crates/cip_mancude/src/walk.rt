@@ -50,7 +50,11 @@ fn add_onward(alternation: &Alternation, at: u32, reached: &mut VertexSet) -> Re
 }
 
 // Adds the partner of an atom, where both alternate.
-fn add_behind(alternation: &Alternation, next: u32, reached: &mut VertexSet) -> Result<(), AllocError>
+fn add_behind(
+    alternation: &Alternation,
+    next: u32,
+    reached: &mut VertexSet,
+) -> Result<(), AllocError>
     ensures { OnOk result (reached.new ≡ with_new reached.old (onward_of alternation.now next)) }
 {
     let Some(other) = alternation.partner(next) else {

@@ -19,8 +19,8 @@ pub struct Aim {
     pub third: u32,
 }
 
-/// Whether a way as in a ring of six atoms goes on from a path to the aim, over so many double bonds at most. Most rings
-/// are such, and few ways are followed.
+/// Whether a way as in a ring of six atoms goes on from a path to the aim, over so many double bonds at most. Most
+/// rings are such, and few ways are followed.
 pub fn reaches_soon(
     alternation: &Alternation,
     aim: Aim,
@@ -36,7 +36,13 @@ pub fn reaches_soon(
 }
 
 /// Whether a way over so many double bonds at most goes on from a path to the aim. Small rings are tried first.
-pub fn reaches_early(alternation: &Alternation, aim: Aim, more: u32, path: &mut Path, at: u32) -> bool
+pub fn reaches_early(
+    alternation: &Alternation,
+    aim: Aim,
+    more: u32,
+    path: &mut Path,
+    at: u32,
+) -> bool
     requires room { length path.old + 2 * more ≤ 24 }
     ensures value { result ≡ reaches_by alternation.now aim.third aim.target more path.old at }
     ensures path { path.new ≡ path.old }
@@ -44,8 +50,8 @@ pub fn reaches_early(alternation: &Alternation, aim: Aim, more: u32, path: &mut 
     reaches_soon(alternation, aim, more, path, at) || reaches_by(alternation, aim, more, path, at)
 }
 
-/// The same by one search. From an atom at most two single bonds lead on, so at most 4,095 ways are followed over eleven
-/// double bonds.
+/// The same by one search. From an atom at most two single bonds lead on, so at most 4,095 ways are followed over
+/// eleven double bonds.
 #[cycle(reaches_by)]
 #[tactic(auto, using(crate::proofs::WaySteps::reaches_none, crate::proofs::WaySteps::reaches_some))]
 pub fn reaches_by(alternation: &Alternation, aim: Aim, more: u32, path: &mut Path, at: u32) -> bool
@@ -63,7 +69,8 @@ pub fn reaches_by(alternation: &Alternation, aim: Aim, more: u32, path: &mut Pat
 #[cycle(reaches_by)]
 fn passes_along(alternation: &Alternation, aim: Aim, more: u32, path: &mut Path, at: u32) -> bool
     requires { length path.old + 2 * more + 2 ≤ 24 }
-    ensures value { result ≡ passes_along alternation.now aim.third aim.target more path.old at (edges_at alternation.now at) }
+    ensures value { result
+        ≡ passes_along alternation.now aim.third aim.target more path.old at (edges_at alternation.now at) }
     ensures path { path.new ≡ path.old }
 {
     for edge in alternation.edges_at(at) {
@@ -76,7 +83,13 @@ fn passes_along(alternation: &Alternation, aim: Aim, more: u32, path: &mut Path,
 
 // Whether the search goes on through an atom and its partner and reaches its aim.
 #[cycle(reaches_by)]
-fn passes_through(alternation: &Alternation, aim: Aim, more: u32, path: &mut Path, next: u32) -> bool
+fn passes_through(
+    alternation: &Alternation,
+    aim: Aim,
+    more: u32,
+    path: &mut Path,
+    next: u32,
+) -> bool
     requires { length path.old + 2 * more + 2 ≤ 24 }
     ensures value { result ≡ passes_through alternation.now aim.third aim.target more path.old next }
     ensures path { path.new ≡ path.old }

@@ -1,4 +1,4 @@
-use Rattle.std.proofs.Common.{◌≡◌, ◌∙◌, ◌∷◌, [], ap, sym}
+use Rattle.std.proofs.Common.{◌∙◌, ◌∷◌, [], ap, sym}
 use Rattle.cip_mancude.proofs.Searched.{begun_with}
 use Rattle.cip_mancude.proofs.Walked.{no_ring}
 use Rattle.cip_mancude.proofs.search.finds_ring.Goals as goal
