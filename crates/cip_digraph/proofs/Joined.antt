@@ -11,7 +11,7 @@ use Rattle.cip_digraph.specs.graph.Incidence.{IsIncidence, IsListed, row}
 use Rattle.cip_digraph.specs.graph.SoundGraphs.{JoinsBelow, IsSound}
 use Rattle.cip_digraph.proofs.Lists.{by_recursion}
 
-touches_none : (vertex : ℕ) (edge : Edge) → vertex ≢ edge.a → vertex ≢ edge.b → touches vertex edge ≡ false
+pub touches_none : (vertex : ℕ) (edge : Edge) → vertex ≢ edge.a → vertex ≢ edge.b → touches vertex edge ≡ false
 touches_none vertex edge not_a not_b = grind (arith, nat_tests)
 
 row-replicate : (vertices vertex : ℕ) → row (replicate vertices []) vertex ≡ []

@@ -14,6 +14,7 @@ pub mod ExchangedOrders
 pub mod Hanging
 pub mod Inversions
 pub mod Joined
+pub mod LaidRows
 pub mod LeastSphere
 pub mod LigandNodes
 pub mod LinkedNodes
@@ -26,6 +27,7 @@ pub mod Placing
 pub mod Reached
 pub mod ReflectedLetters
 pub mod ReflectedUnits
+pub mod RowRooms
 pub mod SameFromTie
 pub mod SettledTies
 pub mod SortedRows

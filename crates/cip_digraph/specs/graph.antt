@@ -6,4 +6,5 @@ pub mod Incidence
 pub mod LonePairs
 pub mod Neglected
 pub mod Renumbering
+pub mod Rows
 pub mod SoundGraphs

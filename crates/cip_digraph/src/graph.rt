@@ -64,7 +64,7 @@ impl Model for Graph {
 
     ghost invariant = { λ g. IsInRange (record { vertices = g.vertices.items; edges = g.edges.items; drawn = g.drawn })
         × IsSound (record { vertices = g.vertices.items; edges = g.edges.items; drawn = g.drawn })
-        × IsIncidence (length g.vertices.items) g.edges.items g.incidence };
+        × IsIncidence (length g.vertices.items) g.edges.items g.incidence.rows };
 }
 
 impl Graph {

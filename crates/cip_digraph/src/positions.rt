@@ -1,5 +1,5 @@
 // Where the double bonds of alternating atoms can stand, by vertex.
-ghost use Rattle.std.specs.Prelude.{◌≡◌, ◌++◌, ◌∷◌, [], OnOk, OnErr};
+ghost use Rattle.std.specs.Prelude.{◌≡◌, ◌++◌, ◌∷◌, [], IfOk, OnOk, OnErr};
 ghost use Rattle.cip_digraph.specs.rings.PositionLists.{IsPositionList};
 ghost use Rattle.cip_digraph.specs.rings.Positions.{listed_positions};
 
@@ -28,13 +28,13 @@ impl Model for Positions {
 }
 
 impl Positions {
-    /// Of no vertex.
-    pub fn new(alloc: Global) -> Positions
-        ensures { result ≡ [] }
+    /// Of no vertex, with room for those of so many.
+    pub fn with_room(alloc: Global, vertices: usize) -> Result<Positions, AllocError>
+        ensures { IfOk result (λ positions. positions ≡ []) }
     {
-        Positions {
-            lists: Vec::new(alloc),
-        }
+        Ok(Positions {
+            lists: Vec::with_capacity(alloc, vertices)?,
+        })
     }
 
     /// The positions of a vertex, ascending; none of one that isn't alternating.

@@ -21,20 +21,23 @@ pub fn edges_of(
         (λ edges. edges.items
         ≡ map (bond_edge molecule.now) molecule.now.bonds ++ hydrogen_edges (length molecule.now.atoms) carriers.now) }
 {
-    let mut edges = bond_edges(alloc, molecule, surroundings)?;
+    let mut edges = bond_edges(alloc, molecule, surroundings, carriers.len())?;
     push_hydrogens(&mut edges, surroundings.len() as u32, carriers)?;
     Ok(edges)
 }
 
+// With room for so many further edges.
 fn bond_edges(
     alloc: Global,
     molecule: &Molecule,
     surroundings: &[Surroundings],
+    further: usize,
 ) -> Result<Vec<Edge>, AllocError>
     requires { surroundings.now ≡ surroundings_of molecule.now }
     ensures { IfOk result (λ edges. edges.items ≡ map (bond_edge molecule.now) molecule.now.bonds) }
 {
-    let mut edges = Vec::new(alloc);
+    let count = molecule.bonds().len().saturating_add(further);
+    let mut edges = Vec::with_capacity(alloc, count)?;
     for bond in molecule.bonds() {
         edges.push(bond_edge(bond, surroundings))?;
     }

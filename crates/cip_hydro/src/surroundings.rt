@@ -26,7 +26,7 @@ pub fn surroundings_of(alloc: Global, molecule: &Molecule) -> Result<Vec<Surroun
     ensures few { IfOk result (λ all. All HasFew all.items) }
 {
     let sums = order_sums(alloc, molecule.atoms().len(), molecule.bonds())?;
-    let mut all = Vec::new(alloc);
+    let mut all = Vec::with_capacity(alloc, sums.len())?;
     for (atom, orders) in sums.iter().enumerate() {
         all.push(surroundings_at(molecule, atom as u32, *orders))?;
     }

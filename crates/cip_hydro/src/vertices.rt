@@ -30,21 +30,24 @@ pub fn vertices_of(
         ≡ map (atom_vertex molecule.now) (range_with_len 0 (length molecule.now.atoms))
         ++ replicate (length carriers.now) hydrogen) }
 {
-    let mut vertices = atom_vertices(alloc, molecule, surroundings)?;
+    let mut vertices = atom_vertices(alloc, molecule, surroundings, carriers.len())?;
     push_hydrogens(&mut vertices, carriers.len())?;
     Ok(vertices)
 }
 
+// With room for so many further vertices.
 fn atom_vertices(
     alloc: Global,
     molecule: &Molecule,
     surroundings: &[Surroundings],
+    further: usize,
 ) -> Result<Vec<Vertex>, AllocError>
     requires { surroundings.now ≡ surroundings_of molecule.now }
     ensures { IfOk result
         (λ vertices. vertices.items ≡ map (atom_vertex molecule.now) (range_with_len 0 (length molecule.now.atoms))) }
 {
-    let mut vertices = Vec::new(alloc);
+    let count = surroundings.len().saturating_add(further);
+    let mut vertices = Vec::with_capacity(alloc, count)?;
     for (number, atom) in molecule.atoms().iter().enumerate() {
         vertices.push(atom_vertex(atom, surroundings[number].lone))?;
     }

@@ -1,9 +1,13 @@
 -- What the search for a ring through a bond tells.
-use Rattle.std.proofs.Common.{◌≡◌, ℕ, Bool, true, false, cond, ◌&&◌, Some, None, [], ◌∷◌, refl, ap, ◌∙◌}
+use Rattle.std.proofs.Common.{◌≡◌, ℕ, Bool, true, false, cond, ◌==◌, ◌&&◌, Some, None, List, [], ◌∷◌, refl, ap, ◌∙◌}
 use Rattle.std.specs.declared.option.Option.{Option}
-use Rattle.cip_digraph.specs.rings.Alternating.{closes_ring, is_alternating, partner, reaches}
+use Rattle.std.proofs.lemmas.Bool.{eq-eqb}
+use Rattle.cip_digraph.specs.rings.Alternating.{closes_ring, is_alternating, is_in, partner, reaches}
 use Rattle.cip_digraph.specs.graph.Graph.{Graph}
+use Rattle.cip_digraph.proofs.AlternatingWays.{or_left, or_right}
 use Rattle.cip_mancude.specs.Partners.{alternating_partner, can_close}
+use Rattle.cip_mancude.specs.SharedRings.{reaches_by}
+use Rattle.cip_mancude.proofs.WaySteps.{by_any}
 
 the_partner : (b : Bool) (partner next : ℕ) → ◌≡◌ {A = Option ℕ} (Some next) (cond b (Some partner) None)
     → next ≡ partner
@@ -13,6 +17,15 @@ the_partner false partner next e = cc
 pub partner_of : (graph : Graph) (vertex next : ℕ) → ◌≡◌ {A = Option ℕ} (Some next) (alternating_partner graph vertex)
     → next ≡ partner graph vertex
 partner_of graph vertex next e = the_partner (is_alternating graph vertex) (partner graph vertex) next e
+
+-- a way that begins with two atoms meets the first of them
+pub begun_with : (graph : Graph) (vertex next target most : ℕ) (path : List ℕ) → path ≡ next ∷ vertex ∷ []
+    → reaches_by graph vertex target most path next ≡ reaches graph target most (next ∷ vertex ∷ []) next
+begun_with graph vertex next target most path is =
+    let begun : is_in vertex (next ∷ vertex ∷ []) ≡ true =
+    or_right (next == vertex) _ (or_left (vertex == vertex) _ (eq-eqb vertex vertex refl)) in
+    ap (λ met. reaches_by graph vertex target most met next) is
+    ∙ by_any graph vertex target most (next ∷ vertex ∷ []) next begun
 
 and_true : (a b : Bool) → true ≡ a → b ≡ (a && b)
 and_true true b e = refl

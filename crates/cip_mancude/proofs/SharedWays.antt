@@ -3,11 +3,11 @@ use Rattle.std.proofs.Common.{◌≡◌, ◌⊎◌, ◌≤◌, ℕ, zero, suc, i
 use Rattle.std.specs.List.{AllByRecursion, list_any}
 use Rattle.std.proofs.lemmas.Bool.{and_parts, and_from, eq-eqb}
 use Rattle.cip_digraph.specs.rings.Alternating.{is_in, is_alternating, partner, singles, goes_on}
-use Rattle.cip_digraph.specs.rings.AlternatingRings.{Alternates, met, ring_of, IsAlternatingRing}
+use Rattle.cip_digraph.specs.rings.AlternatingRings.{Alternates, met, ring_of}
 use Rattle.cip_digraph.specs.graph.Graph.{Graph}
 use Rattle.cip_digraph.specs.graph.SoundGraphs.{IsSound}
 use Rattle.cip_digraph.proofs.AlternatingWays.{HasWay, Steps, any_from, any_gives, either, if_goes, not_true, or_left, or_right, ring_of_way, step_from, step_to, way_of_ring}
-use Rattle.cip_mancude.specs.SharedRings.{FindsShared, ShareRing, SharedRingsAreFound, passes_through, reaches_by, ring_meets, share_ring}
+use Rattle.cip_mancude.specs.SharedRings.{ShareRing, SharedRingsAreFound, passes_through, reaches_by, ring_meets, share_ring}
 
 -- a path and what a way behind it meets
 abbrev walked : Graph → List ℕ → List ℕ → List ℕ

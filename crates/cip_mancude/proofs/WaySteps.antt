@@ -1,11 +1,10 @@
 -- The search for ways, a step at a time; one that goes further finds no less, and one has only alternating atoms.
 use Rattle.std.proofs.Common.{◌≡◌, ◌<◌, ◌-◌, ◌+◌, ℕ, zero, suc, Bool, true, false, cond, ◌==◌, ◌||◌, ◌&&◌, List, [], ◌∷◌, refl, sym, ap, ◌∙◌, arith}
 use Rattle.std.specs.List.{list_any}
-use Rattle.std.proofs.lemmas.Bool.{and_parts}
 use Rattle.cip_digraph.specs.rings.Alternating.{goes_on, is_alternating, is_in, partner, reaches, singles}
 use Rattle.cip_digraph.specs.graph.Graph.{Graph, edges_at}
 use Rattle.cip_mancude.specs.Partners.{goes_through}
-use Rattle.cip_mancude.specs.SharedRings.{passes_along, passes_through, reaches_by, ring_meets, share_ring}
+use Rattle.cip_mancude.specs.SharedRings.{passes_along, passes_through, reaches_by, share_ring}
 use Rattle.cip_mancude.proofs.SharedWays.{shared_alternates}
 
 pub reaches_none : (graph : Graph) (third target more : ℕ) (path : List ℕ) (at : ℕ) → more ≡ 0

@@ -1,5 +1,5 @@
 -- The other ends of the double bonds of alternating atoms, and how a search goes on through them. Own.
-use Rattle.std.specs.Prelude.{ℕ, Bool, false, cond, List, [], ◌∷◌, Some, None, filter, map, not, ◌==◌, ◌||◌, ◌&&◌}
+use Rattle.std.specs.Prelude.{◌≡◌, ◌<◌, ℕ, Bool, false, cond, List, [], ◌∷◌, Some, None, filter, length, map, not, slice_index_or, ◌==◌, ◌||◌, ◌&&◌}
 use Rattle.std.specs.declared.option.Option.{Option}
 use Rattle.cip_digraph.specs.declared.graph.Edge.{Edge}
 use Rattle.cip_digraph.specs.rings.Alternating.{closes_ring, goes_on, is_alternating, is_in, partner, reaches, singles}
@@ -7,6 +7,11 @@ use Rattle.cip_digraph.specs.graph.Graph.{Graph, other_end}
 
 abbrev pub alternating_partner : Graph → ℕ → Option ℕ
 alternating_partner graph vertex = cond (is_alternating graph vertex) (Some (partner graph vertex)) None
+
+-- the partners of the first vertices of a graph
+pub record ArePartners (graph : Graph) (partners : List (Option ℕ)) : Type 0 where
+  pub each : (vertex : ℕ) → vertex < length partners → (d : Option ℕ)
+      → slice_index_or partners vertex d ≡ alternating_partner graph vertex
 
 abbrev pub sole : List Edge → Option Edge
 sole [] = None

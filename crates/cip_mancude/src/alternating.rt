@@ -1,15 +1,104 @@
 // Alternating atoms, and the other ends of their double bonds.
-ghost use Rattle.std.specs.Prelude.{◌≡◌};
+ghost use Rattle.std.specs.Prelude.{◌≡◌, IfOk, length};
+ghost use Rattle.cip_digraph.specs.graph.Graph.{edges_at};
 ghost use Rattle.cip_digraph.specs.rings.Alternating.{is_alternating, is_in, singles};
-ghost use Rattle.cip_mancude.specs.Partners.{alternating_partner, sole_counted};
+ghost use Rattle.cip_mancude.specs.Partners.{alternating_partner, ArePartners, sole_counted};
 
 use cip_digraph::{Edge, Graph};
+use std::alloc::{AllocError, Global};
+use std::marker::Model;
 
 /// How many bonds an alternating atom has at most.
 const MOST_BONDS: usize = 3;
 
-/// The other end of the double bond of an alternating atom; none of any other vertex.
-pub fn alternating_partner(graph: &Graph, vertex: u32) -> Option<u32>
+/// A graph and the partners of its first vertices, which are found once; those of the others are found whenever they
+/// are asked for. Contracts see the graph.
+#[derive(Drop)]
+pub struct Alternation<'a> {
+    graph: &'a Graph,
+    partners: Vec<Option<u32>>,
+}
+
+impl<'a> Model for Alternation<'a> {
+    ghost use Rattle.cip_digraph.specs.graph.Graph as graphs;
+    ghost use Rattle.cip_mancude.specs.Partners.{ArePartners};
+
+    ghost Value = { graphs.Graph };
+
+    ghost view = { λ a. a.graph.now };
+
+    ghost invariant = { λ a. ArePartners a.graph.now a.partners.items };
+}
+
+impl<'a> Alternation<'a> {
+    /// With the partners of all vertices.
+    pub fn new(alloc: Global, graph: &'a Graph) -> Result<Alternation<'a>, AllocError>
+        ensures { IfOk result (λ alternation. alternation ≡ graph.now) }
+    {
+        let partners = partners_of(alloc, graph)?;
+        Ok(Alternation { graph, partners })
+    }
+
+    /// With the partners of none. It takes no memory.
+    pub fn bare(alloc: Global, graph: &'a Graph) -> Alternation<'a>
+        ensures { result ≡ graph.now }
+    {
+        Alternation {
+            graph,
+            partners: Vec::new(alloc),
+        }
+    }
+
+    /// The edges at a vertex, by ascending neighbour.
+    pub fn edges_at(&self, vertex: u32) -> &[Edge]
+        ensures value { result.now ≡ edges_at self.now vertex }
+    {
+        self.graph.edges_at(vertex)
+    }
+
+    /// The other end of the double bond of an alternating atom; none of any other vertex.
+    pub fn partner(&self, vertex: u32) -> Option<u32>
+        ensures { result ≡ alternating_partner self.now vertex }
+    {
+        match self.partners.get(vertex as usize) {
+            Some(partner) => *partner,
+            None => alternating_partner(self.graph, vertex),
+        }
+    }
+
+    /// Whether a vertex is an alternating atom.
+    pub fn alternates(&self, vertex: u32) -> bool
+        ensures { result ≡ is_alternating self.now vertex }
+    {
+        self.partner(vertex).is_some()
+    }
+
+    /// Whether a single bond leads from a vertex to another.
+    pub fn is_single(&self, vertex: u32, other: u32) -> bool
+        ensures { result ≡ is_in other (singles self.now vertex) }
+    {
+        for edge in self.edges_at(vertex) {
+            if edge.order == 1 && edge.other_end(vertex) == other {
+                return true;
+            }
+        }
+        false
+    }
+}
+
+// The partner of each vertex.
+fn partners_of(alloc: Global, graph: &Graph) -> Result<Vec<Option<u32>>, AllocError>
+    ensures { IfOk result (λ partners. ArePartners graph.now partners.items) }
+{
+    let count = graph.vertices().len();
+    let mut partners = Vec::with_capacity(alloc, count)?;
+    for vertex in 0..count as u32 {
+        partners.push(alternating_partner(graph, vertex))?;
+    }
+    Ok(partners)
+}
+
+fn alternating_partner(graph: &Graph, vertex: u32) -> Option<u32>
     ensures { result ≡ alternating_partner graph.now vertex }
 {
     let edges = graph.edges_at(vertex);
@@ -36,22 +125,4 @@ fn sole_counted(edges: &[Edge]) -> Option<Edge>
         }
     }
     found
-}
-
-pub fn is_alternating(graph: &Graph, vertex: u32) -> bool
-    ensures { result ≡ is_alternating graph.now vertex }
-{
-    alternating_partner(graph, vertex).is_some()
-}
-
-/// Whether a single bond leads from a vertex to another.
-pub fn is_single(graph: &Graph, vertex: u32, other: u32) -> bool
-    ensures { result ≡ is_in other (singles graph.now vertex) }
-{
-    for edge in graph.edges_at(vertex) {
-        if edge.order == 1 && edge.other_end(vertex) == other {
-            return true;
-        }
-    }
-    false
 }

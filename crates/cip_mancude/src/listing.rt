@@ -3,7 +3,7 @@ ghost use Rattle.std.specs.Prelude.{◌≡◌, ◌==◌, ◌||◌, ◌++◌, ◌
 ghost use Rattle.cip_digraph.specs.rings.Alternating.{closes_ring};
 ghost use Rattle.cip_digraph.specs.rings.Positions.{positions_at, positions_of};
 
-use crate::alternating::alternating_partner;
+use crate::alternating::Alternation;
 use crate::search::closes_ring;
 use cip_digraph::{Graph, Positions};
 use cip_ring::VertexSet;
@@ -16,10 +16,11 @@ pub fn positions(alloc: Global, graph: &Graph) -> Result<Positions, AllocError>
     ensures { IfOk result (λ positions. positions ≡ positions_of graph.now) }
 {
     let count = graph.vertices().len();
+    let alternation = Alternation::new(alloc, graph)?;
     let mut reached = VertexSet::new(alloc, count)?;
-    let mut positions = Positions::new(alloc);
+    let mut positions = Positions::with_room(alloc, count)?;
     for vertex in 0..count as u32 {
-        let list = positions_at(alloc, graph, vertex, &mut reached)?;
+        let list = positions_at(alloc, &alternation, vertex, &mut reached)?;
         positions.push(list.as_slice())?;
     }
     Ok(positions)
@@ -28,18 +29,18 @@ pub fn positions(alloc: Global, graph: &Graph) -> Result<Positions, AllocError>
 // Whether the double bond can lead to another atom than now.
 fn is_position(
     alloc: Global,
-    graph: &Graph,
+    alternation: &Alternation,
     vertex: u32,
     partner: u32,
     other: u32,
     reached: &mut VertexSet,
 ) -> Result<bool, AllocError>
-    ensures { IfOk result (λ found. found ≡ ((other == partner) || closes_ring graph.now vertex other)) }
+    ensures { IfOk result (λ found. found ≡ ((other == partner) || closes_ring alternation.now vertex other)) }
 {
     if other == partner {
         return Ok(true);
     }
-    closes_ring(alloc, graph, vertex, other, reached)
+    closes_ring(alloc, alternation, vertex, other, reached)
 }
 
 fn push_if(positions: &mut SmallVec<u32, 3>, other: u32, found: bool) -> Result<(), AllocError>
@@ -53,19 +54,19 @@ fn push_if(positions: &mut SmallVec<u32, 3>, other: u32, found: bool) -> Result<
 
 fn positions_at(
     alloc: Global,
-    graph: &Graph,
+    alternation: &Alternation,
     vertex: u32,
     reached: &mut VertexSet,
 ) -> Result<SmallVec<u32, 3>, AllocError>
-    ensures { IfOk result (λ list. list.items ≡ positions_at graph.now vertex) }
+    ensures { IfOk result (λ list. list.items ≡ positions_at alternation.now vertex) }
 {
     let mut positions: SmallVec<u32, 3> = SmallVec::new(alloc);
-    let Some(partner) = alternating_partner(graph, vertex) else {
+    let Some(partner) = alternation.partner(vertex) else {
         return Ok(positions);
     };
-    for edge in graph.edges_at(vertex) {
+    for edge in alternation.edges_at(vertex) {
         let other = edge.other_end(vertex);
-        let found = is_position(alloc, graph, vertex, partner, other, reached)?;
+        let found = is_position(alloc, alternation, vertex, partner, other, reached)?;
         push_if(&mut positions, other, found)?;
     }
     Ok(positions)

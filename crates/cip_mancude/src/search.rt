@@ -3,49 +3,56 @@ ghost use Rattle.std.specs.Prelude.{◌≡◌, ◌≤◌, ◌∷◌, [], Some, I
 ghost use Rattle.cip_digraph.specs.rings.Alternating.{closes_ring, reaches};
 ghost use Rattle.cip_mancude.specs.Partners.{alternating_partner, can_close};
 
-use crate::alternating::{alternating_partner, is_alternating, is_single};
+use crate::alternating::Alternation;
 use crate::path::Path;
 use crate::walk::has_walk;
-use crate::ways::{Aim, MOST_DOUBLES, reaches_early};
-use cip_digraph::Graph;
+use crate::ways::{Aim, MOST_DOUBLES, reaches_by, reaches_soon};
 use cip_ring::VertexSet;
 use std::alloc::{AllocError, Global};
 
 /// Whether the single bond between two atoms lies in an alternating ring. The set serves the search.
 pub fn closes_ring(
     alloc: Global,
-    graph: &Graph,
+    alternation: &Alternation,
     vertex: u32,
     other: u32,
     reached: &mut VertexSet,
 ) -> Result<bool, AllocError>
-    ensures { IfOk result (λ found. found ≡ closes_ring graph.now vertex other) }
+    ensures { IfOk result (λ found. found ≡ closes_ring alternation.now vertex other) }
 {
-    let Some(next) = alternating_partner(graph, vertex) else {
+    let Some(next) = alternation.partner(vertex) else {
         return Ok(false);
     };
-    if !can_close(graph, vertex, next, other) {
+    if !can_close(alternation, vertex, next, other) {
         return Ok(false);
     }
-    finds_ring(alloc, graph, vertex, next, other, MOST_DOUBLES, reached)
+    finds_ring(
+        alloc,
+        alternation,
+        vertex,
+        next,
+        other,
+        MOST_DOUBLES,
+        reached,
+    )
 }
 
 // Whether a single bond joins two atoms that alternate, as the partner of the one does.
-fn can_close(graph: &Graph, vertex: u32, next: u32, other: u32) -> bool
-    requires { alternating_partner graph.now vertex ≡ Some next }
-    ensures { result ≡ can_close graph.now vertex other }
+fn can_close(alternation: &Alternation, vertex: u32, next: u32, other: u32) -> bool
+    requires { alternating_partner alternation.now vertex ≡ Some next }
+    ensures { result ≡ can_close alternation.now vertex other }
 {
-    is_alternating(graph, next)
-        && is_alternating(graph, other)
-        && is_single(graph, vertex, other)
+    alternation.alternates(next)
+        && alternation.alternates(other)
+        && alternation.is_single(vertex, other)
         && other != next
 }
 
-// Most bonds that lie in no ring are told by walks, which are few: at each atom at most two lead on, and none is
-// followed twice. A ring meets no atom twice, so that where a walk leads round, paths are followed.
+// Most rings have six atoms. Most other bonds are told by walks, which are few: at each atom at most two lead on, and
+// none is followed twice. A ring meets no atom twice, so that where a walk leads round, paths are followed.
 fn finds_ring(
     alloc: Global,
-    graph: &Graph,
+    alternation: &Alternation,
     vertex: u32,
     next: u32,
     target: u32,
@@ -53,12 +60,8 @@ fn finds_ring(
     reached: &mut VertexSet,
 ) -> Result<bool, AllocError>
     requires { most ≤ 11 }
-    ensures { IfOk result (λ found. found ≡ reaches graph.now target most (next ∷ vertex ∷ []) next) }
+    ensures { IfOk result (λ found. found ≡ reaches alternation.now target most (next ∷ vertex ∷ []) next) }
 {
-    let walks = has_walk(graph, target, most, next, reached)?;
-    if !walks {
-        return Ok(false);
-    }
     let mut path = Path::new(alloc);
     path.push(vertex);
     path.push(next);
@@ -67,5 +70,12 @@ fn finds_ring(
         target,
         third: vertex,
     };
-    Ok(reaches_early(graph, aim, most, &mut path, next))
+    if reaches_soon(alternation, aim, most, &mut path, next) {
+        return Ok(true);
+    }
+    let walks = has_walk(alternation, target, most, next, reached)?;
+    if !walks {
+        return Ok(false);
+    }
+    Ok(reaches_by(alternation, aim, most, &mut path, next))
 }

@@ -4,7 +4,7 @@ ghost use Rattle.cip_digraph.specs.rings.Alternating.{partner};
 ghost use Rattle.cip_digraph.specs.graph.Graph.{edges_at};
 ghost use Rattle.cip_mancude.specs.SharedRings.{ring_along, ring_meets, share_ring};
 
-use crate::alternating::{alternating_partner, is_alternating};
+use crate::alternating::Alternation;
 use crate::path::Path;
 use crate::ways::{Aim, MOST_DOUBLES, reaches_early};
 use cip_digraph::Graph;
@@ -22,27 +22,28 @@ struct Start {
 pub fn share_ring(alloc: Global, graph: &Graph, vertex: u32, third: u32) -> bool
     ensures { result ≡ share_ring graph.now vertex third }
 {
-    if !is_alternating(graph, third) {
+    let alternation = Alternation::bare(alloc, graph);
+    if !alternation.alternates(third) {
         return false;
     }
-    let Some(next) = alternating_partner(graph, vertex) else {
+    let Some(next) = alternation.partner(vertex) else {
         return false;
     };
-    if !is_alternating(graph, next) {
+    if !alternation.alternates(next) {
         return false;
     }
     let start = Start { vertex, next };
-    ring_along(alloc, graph, MOST_DOUBLES, third, start)
+    ring_along(alloc, &alternation, MOST_DOUBLES, third, start)
 }
 
-fn ring_along(alloc: Global, graph: &Graph, most: u32, third: u32, start: Start) -> bool
-    requires next { start.next ≡ partner graph.now start.vertex }
+fn ring_along(alloc: Global, alternation: &Alternation, most: u32, third: u32, start: Start) -> bool
+    requires next { start.next ≡ partner alternation.now start.vertex }
     requires most { most ≤ 11 }
-    ensures { result ≡ ring_along graph.now most third start.vertex (edges_at graph.now start.vertex) }
+    ensures { result ≡ ring_along alternation.now most third start.vertex (edges_at alternation.now start.vertex) }
 {
-    for edge in graph.edges_at(start.vertex) {
+    for edge in alternation.edges_at(start.vertex) {
         let other = edge.other_end(start.vertex);
-        if edge.order == 1 && ring_meets(alloc, graph, most, third, start, other) {
+        if edge.order == 1 && ring_meets(alloc, alternation, most, third, start, other) {
             return true;
         }
     }
@@ -50,12 +51,19 @@ fn ring_along(alloc: Global, graph: &Graph, most: u32, third: u32, start: Start)
 }
 
 // Whether a ring over the double bond and along the single bond to another atom meets a third one.
-fn ring_meets(alloc: Global, graph: &Graph, most: u32, third: u32, start: Start, other: u32) -> bool
-    requires next { start.next ≡ partner graph.now start.vertex }
+fn ring_meets(
+    alloc: Global,
+    alternation: &Alternation,
+    most: u32,
+    third: u32,
+    start: Start,
+    other: u32,
+) -> bool
+    requires next { start.next ≡ partner alternation.now start.vertex }
     requires most { most ≤ 11 }
-    ensures { result ≡ ring_meets graph.now most third start.vertex other }
+    ensures { result ≡ ring_meets alternation.now most third start.vertex other }
 {
-    if !is_alternating(graph, other) || other == start.next {
+    if !alternation.alternates(other) || other == start.next {
         return false;
     }
     let mut path = Path::new(alloc);
@@ -65,5 +73,5 @@ fn ring_meets(alloc: Global, graph: &Graph, most: u32, third: u32, start: Start,
         target: other,
         third,
     };
-    reaches_early(graph, aim, most, &mut path, start.next)
+    reaches_early(alternation, aim, most, &mut path, start.next)
 }

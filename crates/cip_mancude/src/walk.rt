@@ -5,56 +5,60 @@ ghost use Rattle.cip_digraph.specs.rings.SmallRings.{with_new};
 ghost use Rattle.cip_ring.specs.Steps.{within};
 ghost use Rattle.cip_mancude.specs.Walks.{onward, onward_of};
 
-use crate::alternating::{alternating_partner, is_alternating};
-use cip_digraph::{Edge, Graph};
+use crate::alternating::Alternation;
+use cip_digraph::Edge;
 use cip_ring::{Steps, VertexSet, within};
 use std::alloc::AllocError;
 
 /// Steps over a single bond and the double bond behind it.
 #[derive(Drop)]
 struct Onward<'a> {
-    graph: &'a Graph,
+    alternation: &'a Alternation<'a>,
 }
 
 impl<'a> Steps for Onward<'a> {
-    ghost step = { λ s. onward s.graph.now };
+    ghost step = { λ s. onward s.alternation.now };
 
     fn add_steps(&self, from: u32, reached: &mut VertexSet) -> Result<(), AllocError> {
-        add_onward(self.graph, from, reached)
+        add_onward(self.alternation, from, reached)
     }
 }
 
 /// Whether a walk over so many double bonds at most leads to a target. The set serves the search.
 pub fn has_walk(
-    graph: &Graph,
+    alternation: &Alternation,
     target: u32,
     most: u32,
     at: u32,
     reached: &mut VertexSet,
 ) -> Result<bool, AllocError>
-    ensures { IfOk result (λ found. found ≡ is_in target (within (onward graph.now) at most)) }
+    ensures { IfOk result (λ found. found ≡ is_in target (within (onward alternation.now) at most)) }
 {
-    within(&Onward { graph }, at, most, reached)?;
+    within(&Onward { alternation }, at, most, reached)?;
     Ok(reached.contains(target))
 }
 
-fn add_onward(graph: &Graph, at: u32, reached: &mut VertexSet) -> Result<(), AllocError>
-    ensures { OnOk result (reached.new ≡ with_new reached.old (onward graph.now at)) }
+fn add_onward(alternation: &Alternation, at: u32, reached: &mut VertexSet) -> Result<(), AllocError>
+    ensures { OnOk result (reached.new ≡ with_new reached.old (onward alternation.now at)) }
 {
-    for edge in graph.edges_at(at) {
+    for edge in alternation.edges_at(at) {
         if edge.order == 1 {
-            add_behind(graph, edge.other_end(at), reached)?;
+            add_behind(alternation, edge.other_end(at), reached)?;
         }
     }
     Ok(())
 }
 
 // Adds the partner of an atom, where both alternate.
-fn add_behind(graph: &Graph, next: u32, reached: &mut VertexSet) -> Result<(), AllocError>
-    ensures { OnOk result (reached.new ≡ with_new reached.old (onward_of graph.now next)) }
+fn add_behind(
+    alternation: &Alternation,
+    next: u32,
+    reached: &mut VertexSet,
+) -> Result<(), AllocError>
+    ensures { OnOk result (reached.new ≡ with_new reached.old (onward_of alternation.now next)) }
 {
-    let Some(other) = alternating_partner(graph, next) else {
+    let Some(other) = alternation.partner(next) else {
         return Ok(());
     };
-    reached.insert_if(is_alternating(graph, other), other)
+    reached.insert_if(alternation.alternates(other), other)
 }

@@ -1,11 +1,10 @@
 // The search for ways by turns over a single and a double bond, as alternating rings go.
-ghost use Rattle.std.specs.Prelude.{◌≡◌, ◌≤◌, ◌+◌, ◌*◌, length};
+ghost use Rattle.std.specs.Prelude.{◌≡◌, ◌≤◌, ◌+◌, ◌*◌, length, true};
 ghost use Rattle.cip_digraph.specs.graph.Graph.{edges_at};
 ghost use Rattle.cip_mancude.specs.SharedRings.{passes_along, passes_through, reaches_by};
 
-use crate::alternating::{alternating_partner, is_alternating};
+use crate::alternating::Alternation;
 use crate::path::Path;
-use cip_digraph::Graph;
 
 /// How many further double bonds a ring has at most.
 pub const MOST_DOUBLES: u32 = 11;
@@ -20,40 +19,62 @@ pub struct Aim {
     pub third: u32,
 }
 
-/// Whether a way over so many double bonds at most goes on from a path to the aim. Small rings are tried first, since
-/// most are small. From an atom at most two single bonds lead on, so at most 4,095 ways are followed over eleven double
-/// bonds.
-pub fn reaches_early(graph: &Graph, aim: Aim, more: u32, path: &mut Path, at: u32) -> bool
+/// Whether a way as in a ring of six atoms goes on from a path to the aim, over so many double bonds at most. Most
+/// rings are such, and few ways are followed.
+pub fn reaches_soon(
+    alternation: &Alternation,
+    aim: Aim,
+    more: u32,
+    path: &mut Path,
+    at: u32,
+) -> bool
     requires room { length path.old + 2 * more ≤ 24 }
-    ensures value { result ≡ reaches_by graph.now aim.third aim.target more path.old at }
+    ensures found { result ≡ true → reaches_by alternation.now aim.third aim.target more path.old at ≡ true }
     ensures path { path.new ≡ path.old }
 {
-    let first = more.min(DOUBLES_OF_SIX);
-    reaches_by(graph, aim, first, path, at) || reaches_by(graph, aim, more, path, at)
+    reaches_by(alternation, aim, more.min(DOUBLES_OF_SIX), path, at)
 }
 
+/// Whether a way over so many double bonds at most goes on from a path to the aim. Small rings are tried first.
+pub fn reaches_early(
+    alternation: &Alternation,
+    aim: Aim,
+    more: u32,
+    path: &mut Path,
+    at: u32,
+) -> bool
+    requires room { length path.old + 2 * more ≤ 24 }
+    ensures value { result ≡ reaches_by alternation.now aim.third aim.target more path.old at }
+    ensures path { path.new ≡ path.old }
+{
+    reaches_soon(alternation, aim, more, path, at) || reaches_by(alternation, aim, more, path, at)
+}
+
+/// The same by one search. From an atom at most two single bonds lead on, so at most 4,095 ways are followed over
+/// eleven double bonds.
 #[cycle(reaches_by)]
 #[tactic(auto, using(crate::proofs::WaySteps::reaches_none, crate::proofs::WaySteps::reaches_some))]
-fn reaches_by(graph: &Graph, aim: Aim, more: u32, path: &mut Path, at: u32) -> bool
+pub fn reaches_by(alternation: &Alternation, aim: Aim, more: u32, path: &mut Path, at: u32) -> bool
     requires { length path.old + 2 * more ≤ 24 }
-    ensures value { result ≡ reaches_by graph.now aim.third aim.target more path.old at }
+    ensures value { result ≡ reaches_by alternation.now aim.third aim.target more path.old at }
     ensures path { path.new ≡ path.old }
 {
     if at == aim.target && path.contains(aim.third) {
         return true;
     }
-    more > 0 && passes_along(graph, aim, more - 1, path, at)
+    more > 0 && passes_along(alternation, aim, more - 1, path, at)
 }
 
 // Whether the search goes on along a single bond and reaches its aim.
 #[cycle(reaches_by)]
-fn passes_along(graph: &Graph, aim: Aim, more: u32, path: &mut Path, at: u32) -> bool
+fn passes_along(alternation: &Alternation, aim: Aim, more: u32, path: &mut Path, at: u32) -> bool
     requires { length path.old + 2 * more + 2 ≤ 24 }
-    ensures value { result ≡ passes_along graph.now aim.third aim.target more path.old at (edges_at graph.now at) }
+    ensures value { result
+        ≡ passes_along alternation.now aim.third aim.target more path.old at (edges_at alternation.now at) }
     ensures path { path.new ≡ path.old }
 {
-    for edge in graph.edges_at(at) {
-        if edge.order == 1 && passes_through(graph, aim, more, path, edge.other_end(at)) {
+    for edge in alternation.edges_at(at) {
+        if edge.order == 1 && passes_through(alternation, aim, more, path, edge.other_end(at)) {
             return true;
         }
     }
@@ -62,20 +83,26 @@ fn passes_along(graph: &Graph, aim: Aim, more: u32, path: &mut Path, at: u32) ->
 
 // Whether the search goes on through an atom and its partner and reaches its aim.
 #[cycle(reaches_by)]
-fn passes_through(graph: &Graph, aim: Aim, more: u32, path: &mut Path, next: u32) -> bool
+fn passes_through(
+    alternation: &Alternation,
+    aim: Aim,
+    more: u32,
+    path: &mut Path,
+    next: u32,
+) -> bool
     requires { length path.old + 2 * more + 2 ≤ 24 }
-    ensures value { result ≡ passes_through graph.now aim.third aim.target more path.old next }
+    ensures value { result ≡ passes_through alternation.now aim.third aim.target more path.old next }
     ensures path { path.new ≡ path.old }
 {
-    let Some(other) = alternating_partner(graph, next) else {
+    let Some(other) = alternation.partner(next) else {
         return false;
     };
-    if !is_alternating(graph, other) || path.contains(next) || path.contains(other) {
+    if !alternation.alternates(other) || path.contains(next) || path.contains(other) {
         return false;
     }
     path.push(next);
     path.push(other);
-    let found = reaches_by(graph, aim, more, path, other);
+    let found = reaches_by(alternation, aim, more, path, other);
     path.pop();
     path.pop();
     found

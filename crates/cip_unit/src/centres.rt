@@ -40,8 +40,9 @@ fn is_centre(graph: &Graph, atom: u32) -> bool
     requires { atom < graph.now.drawn }
     ensures { result ≡ is_centre graph.now atom }
 {
-    drawn_count(graph, atom) >= 3
-        && has_centre_bonds(&graph.vertices()[atom as usize], graph.edges_at(atom).len())
+    // Most atoms have other bonds: their neighbours aren't counted.
+    has_centre_bonds(&graph.vertices()[atom as usize], graph.edges_at(atom).len())
+        && drawn_count(graph, atom) >= 3
 }
 
 fn drawn_count(graph: &Graph, atom: u32) -> usize

@@ -6,5 +6,5 @@ pub returns : goal.returns
 returns c =
     IfOk-weaker c.finds_ring.result _ _
     (λ found is.
-    closes_is c.args.graph.now c.args.vertex c.args.other c.in-Some.next found c.in-Some.ensures
+    closes_is c.args.alternation.now c.args.vertex c.args.other c.in-Some.next found c.in-Some.ensures
     c.if-not-can_close.ensures is) c.finds_ring.ensures

@@ -5,5 +5,5 @@ use Rattle.cip_mancude.proofs.sharing.ring_along.Given as goal
 
 abbrev pub invariant-loop-edge : goal.invariant-loop-edge
 invariant-loop-edge l =
-    ring_along l.graph l.most l.third l.start.vertex (drop l.edge-index (edges_at l.graph l.start.vertex))
-    ≡ ring_along l.graph l.most l.third l.start.vertex (edges_at l.graph l.start.vertex)
+    ring_along l.alternation l.most l.third l.start.vertex (drop l.edge-index (edges_at l.alternation l.start.vertex))
+    ≡ ring_along l.alternation l.most l.third l.start.vertex (edges_at l.alternation l.start.vertex)

@@ -6,5 +6,5 @@ use Rattle.cip_mancude.proofs.walk.add_onward.Given as goal
 
 abbrev pub invariant-loop-edge : goal.invariant-loop-edge
 invariant-loop-edge l =
-    with_new l.reached (onward_along l.graph l.at (drop l.edge-index (edges_at l.graph l.at)))
-    ≡ with_new l.initial.reached (onward l.graph l.at)
+    with_new l.reached (onward_along l.alternation l.at (drop l.edge-index (edges_at l.alternation l.at)))
+    ≡ with_new l.initial.reached (onward l.alternation l.at)

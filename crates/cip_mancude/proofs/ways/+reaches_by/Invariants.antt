@@ -14,7 +14,8 @@ decreases-passes_through l = 3 * l.more + 1
 
 abbrev pub invariant-passes_along-loop-edge : goal.invariant-passes_along-loop-edge
 invariant-passes_along-loop-edge l = record {
-  rest : passes_along l.graph l.aim.third l.aim.target l.more l.fn.path l.at (drop l.edge-index (edges_at l.graph l.at))
-      ≡ passes_along l.graph l.aim.third l.aim.target l.more l.fn.path l.at (edges_at l.graph l.at);
+  rest : passes_along l.alternation l.aim.third l.aim.target l.more l.fn.path l.at
+      (drop l.edge-index (edges_at l.alternation l.at))
+      ≡ passes_along l.alternation l.aim.third l.aim.target l.more l.fn.path l.at (edges_at l.alternation l.at);
   path : l.path ≡ l.fn.path;
 }
