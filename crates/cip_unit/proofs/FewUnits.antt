@@ -1,5 +1,5 @@
 -- A graph has few units: at most ten by an atom, as a centre, as the first end of a bond and as that of an axis.
-use Rattle.std.proofs.Common.{◌≡◌, ◌<◌, ◌≤◌, ◌^◌, ◌*◌, ◌==◌, ◌&&◌, ◌||◌, ◌++◌, ◌∷◌, ◌∙◌, [], ℕ, ℤ, pos, int_eq, Bool, true, false, cond, List, refl, sym, ap, arith, inl, inr, length, length-append, flat_map, map}
+use Rattle.std.proofs.Common.{◌≡◌, ◌<◌, ◌≤◌, ◌^◌, ◌-◌, ◌*◌, ◌==◌, ◌&&◌, ◌||◌, ◌++◌, ◌∷◌, ◌∙◌, [], ℕ, ℤ, pos, int_eq, Bool, true, false, cond, List, refl, sym, ap, arith, inl, inr, length, length-append, flat_map, map}
 use Rattle.std.specs.Prelude.{filter}
 use Rattle.std.specs.List.{range_with_len}
 use Rattle.std.proofs.lemmas.Bool.{eqb-true}
