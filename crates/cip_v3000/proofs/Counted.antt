@@ -50,6 +50,10 @@ any_with_counted index counted others =
     list_any-append (nat_eq index) (range_with_len 1 counted) others
     ∙ ap (λ k. k || list_any (nat_eq index) others) (any_counted index 1 counted ∙ from_one index counted)
 
+pub none_of_none : (index : ℕ) (others : List ℕ) → length others ≡ 0 → list_any (nat_eq index) others ≡ false
+none_of_none index [] none = refl
+none_of_none index (other ∷ others) none = absurd (omega (arith, none))
+
 pub none_behind : (index counted : ℕ) (others : List ℕ) → list_any (nat_eq index) (with_counted counted others) ≡ false
     → list_any (nat_eq index) others ≡ false
 none_behind index counted others none =

@@ -1,8 +1,8 @@
 -- One byte more of a text that is split into words.
-use Rattle.std.proofs.Common.{◌≡◌, ℕ, ◌-◌, ◌+◌, ◌≤◌, ◌<◌, List, [], ◌∷◌, ◌++◌, refl, sym, ap, ◌∙◌, arith, length, take, drop, get_or, true, false, append_assoc}
+use Rattle.std.proofs.Common.{◌≡◌, ◌==◌, ℕ, ◌-◌, ◌+◌, ◌≤◌, ◌<◌, List, [], ◌∷◌, ◌++◌, refl, sym, ap, ◌∙◌, arith, length, take, drop, get_or, true, false, append_assoc}
 use Rattle.std.proofs.lemmas.List.{take_more, drop_more, get_or-drop, length-drop}
 use Rattle.cip_v3000.specs.declared.splitting.Within.{Within}
-use Rattle.cip_v3000.specs.declared.splitting.Within.TheVariants.{Plain}
+use Rattle.cip_v3000.specs.declared.splitting.Within.TheVariants.{Plain, Bracket, Quote}
 use Rattle.cip_v3000.specs.Words.{after, ends_word, ended, words_from}
 
 -- what stands from one place to another of a text
@@ -41,3 +41,16 @@ word_ends so_far more total within text start at lt cuts add is =
     = rw (drop_more text at 0 lt, cuts) refl in
     rw (z, add) (append_assoc so_far (ended (piece text start at)) (words_from Plain [] (drop (at + 1) text))
     ∙ sym (ap (λ (ws : List (List ℕ)). so_far ++ ws) one) ∙ is)
+
+-- no byte behind the closing bracket begins or ends a part
+pub state_stays : (within : Within) (b : ℕ) → 41 < b → within ≡ after within b
+state_stays Plain b high =
+    let no_bracket : (b == 40) ≡ false = grind (arith, high) in
+    let no_quote : (b == 34) ≡ false = grind (arith, high) in
+    rw (no_bracket, no_quote) refl
+state_stays Bracket b high =
+    let no_bracket : (b == 41) ≡ false = grind (arith, high) in
+    rw no_bracket refl
+state_stays Quote b high =
+    let no_quote : (b == 34) ≡ false = grind (arith, high) in
+    rw no_quote refl

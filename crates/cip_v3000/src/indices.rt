@@ -67,11 +67,11 @@ impl Indices {
     }
 
     /// Whether an index is there.
-    #[tactic(auto, using(crate::proofs::Counted::any_with_counted))]
+    #[tactic(auto, using(crate::proofs::Counted::any_with_counted, crate::proofs::Counted::none_of_none))]
     pub fn contains(&self, index: u32) -> bool
         ensures { result ≡ list_any (nat_eq index) self.now }
     {
-        is_counted(self.counted, index) || self.others.contains(&index)
+        is_counted(self.counted, index) || !self.others.is_empty() && self.others.contains(&index)
     }
 
     /// The place of an index, from 0.
