@@ -1,8 +1,8 @@
 // What is found of a record.
 
 use crate::naming::UnitName;
-use cip_text::Listing;
 use cip_mol::{Outcome, ReadFault, Site};
+use cip_text::Listing;
 
 /// A stereogenic unit of a record by its name, with what is found of it. Ligands from the number `drawn` on are implicit
 /// hydrogens.

@@ -1,5 +1,6 @@
 use crate::{
-    Listing, NumberFault, columns, content, decimal4, integer, is_blank, is_terminator, lines, split_line,
+    Listing, NumberFault, columns, content, decimal4, integer, is_blank, is_terminator, lines,
+    split_line,
 };
 use std::test::Fail;
 
