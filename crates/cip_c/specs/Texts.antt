@@ -1,0 +1,26 @@
+-- The texts that are due for a record. Own.
+use Rattle.std.specs.Prelude.{ℕ, List, [], ◌∷◌, ◌++◌}
+use Rattle.std.specs.List.{flat_map}
+use Rattle.cip_item.specs.Parts.{without_label_items}
+use Rattle.cip_item.specs.Putting.{with_item}
+use Rattle.cip_print.specs.Explaining.{explained}
+use Rattle.cip_print.specs.Values.{values_of}
+use Rattle.cip_record.specs.Answers.{answer_by}
+use Rattle.cip_c.specs.declared.settings.Settings.{Settings}
+
+-- the record with its item; label items that it has are taken out first
+abbrev pub annotated : Settings → List ℕ → List ℕ
+annotated settings bytes =
+    with_item (without_label_items bytes) (values_of settings.nodes settings.rules (answer_by settings.rules settings.nodes bytes))
+
+abbrev pub ended_line : List ℕ → List ℕ
+ended_line line = line ++ 10 ∷ []
+
+-- the value lines of its item
+abbrev pub values_text : Settings → List ℕ → List ℕ
+values_text settings bytes =
+    flat_map ended_line (values_of settings.nodes settings.rules (answer_by settings.rules settings.nodes bytes))
+
+-- what is found of the record of this number
+abbrev pub explained_text : ℕ → Settings → List ℕ → List ℕ
+explained_text number settings bytes = explained number (answer_by settings.rules settings.nodes bytes)
