@@ -7,7 +7,7 @@
 
 int main(void) {
     cip_labeller labeller;
-    uint8_t *record = malloc(ROOM), *text = malloc(ROOM);
+    uint8_t *record = malloc(ROOM), *text = calloc(ROOM, 1);
     if (!record || !text || cip_make(&labeller, CIP_NODES, CIP_WORDING) != 0) return 5;
     size_t length = fread(record, 1, ROOM, stdin);
     int64_t whole = cip_annotate(&labeller, record, length, text, ROOM);

@@ -11,15 +11,15 @@
  * has more: whoever gets a count above `room` calls again with as much room. A text isn't ended by a zero byte. A
  * negative answer says why nothing is written; then the memory at `text` is as it was.
  *
- * What is tested, and answered by a negative number: pointers that are null (also where the length is 0), the bound, the
- * wording, the length of the record, and a labeller that was given back or couldn't be made.
+ * What is tested, and answered by a negative number: pointers that are null (also where the length is 0), the bound,
+ * the wording, the length of the record, and a labeller that was given back or couldn't be made.
  * What a caller has to see to, since no call can test it:
  *   - `labeller` points to a cip_labeller that cip_make was called with, whose bytes nobody else writes or copies;
- *   - behind `record` there are `length` bytes, and behind `text` there is room for `room`; these and the labeller don't
- *     overlap, and are writable memory of the process (a record isn't changed, but may not stand in memory that can't be
- *     written, as string literals do);
- *   - one call at a time for a labeller. It may go from thread to thread, if the program orders the calls (by a lock, or
- *     by a thread's start and end), and each thread may have a labeller of its own;
+ *   - behind `record` there are `length` bytes, and behind `text` there is room for `room`, all of which was written
+ *     before (by calloc or memset, say, where nothing else was); these and the labeller don't overlap, and nobody else
+ *     writes them during the call. The record isn't changed, but what is proved supposes memory that could be;
+ *   - one call at a time for a labeller. It may go from thread to thread, if the program orders the calls (by a lock,
+ *     or by a thread's start and end), and each thread may have a labeller of its own;
  *   - no call in a signal handler, nor in the forked child of a process that has threads;
  *   - malloc, realloc and free are of one allocator, and align as the C library's do.
  *

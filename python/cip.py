@@ -55,7 +55,7 @@ class Label:
     """The label of a stereogenic unit, and what it rests on."""
 
     unit: str
-    """`a1` for the centre at atom 1, `b2-3` for the double bond between atoms 2 and 3, `x1-3` for the axis between them."""
+    """`a1` for the centre at atom 1, `b2-3` for the double bond of atoms 2 and 3, `x1-3` for the axis of 1 and 3."""
     letter: str
     """R, S, Z, E, M, P; r, s, m, p, seqCis, seqTrans where Rule 5 turned round would give the opposite."""
     rule: str
@@ -63,7 +63,7 @@ class Label:
     sphere: int
     """The sphere in which that rule decided."""
     order: Tuple[Tuple[str, ...], ...]
-    """The ligands of each end, highest first: numbers of atoms, `H` for a hydrogen that isn't drawn, `:` for a lone pair."""
+    """The ligands of each end, highest first: atoms by number, `H` for a hydrogen not drawn, `:` for a lone pair."""
 
     @property
     def atoms(self) -> Tuple[int, ...]:

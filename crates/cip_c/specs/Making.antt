@@ -1,5 +1,6 @@
 -- What comes of making a labeller. Own.
-use Rattle.std.specs.Prelude.{◌==◌, ◌||◌, ◌≡◌, ◌⊎◌, ℕ, ℤ, pos, negsuc, Option, None, Some, Result, Ok, Err, if◌then◌else◌, nat_lt}
+use Rattle.std.specs.Prelude.{◌==◌, ◌||◌, ◌≡◌, ◌⊎◌, ℕ, ℤ, pos, negsuc, if◌then◌else◌, nat_lt}
+use Rattle.std.specs.Prelude.{Option, None, Some, Result, Ok, Err}
 use Rattle.cip_rank.specs.declared.rules.Rules.TheVariants.{Wording2013, Wording2018}
 use Rattle.cip_c.specs.declared.codes.TheConstants.{BOUND_OUTSIDE, NO_MEMORY, WORDING_UNKNOWN}
 use Rattle.cip_c.specs.declared.settings.Settings.{Settings}

@@ -129,7 +129,8 @@ pub unsafe extern "C" fn cip_explain(
     requires* { sem 𝓛 (given the_row labeller passed.labeller) ∗ sem 𝓛 (given_bytes length bytes passed.bytes)
         ∗ sem 𝓛 (given_bytes room text passed.text) }
     ensures* { sem 𝓛 (given the_row labeller passed.labeller) ∗ sem 𝓛 (given_bytes length bytes passed.bytes)
-        ∗ sem 𝓛 (given_bytes room text (written result (due (explained_text number) passed.labeller passed.bytes) passed.text))
+        ∗ sem 𝓛 (given_bytes room text
+        (written result (due (explained_text number) passed.labeller passed.bytes) passed.text))
         ∗ ⌜ unless_null labeller (unless_null bytes (unless_null text
         (IsTold (due (explained_text number) passed.labeller passed.bytes) result) result) result) result ⌝ }
 {

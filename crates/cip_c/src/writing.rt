@@ -8,7 +8,8 @@ use crate::labeller::LONGEST;
 use crate::slot::Slot;
 use std::alloc::AllocError;
 
-/// Writes the record with its item, or its front. The answer is how many bytes the whole has, or why nothing is written.
+/// Writes the record with its item, or the front of it. The answer is how many bytes the whole has, or why nothing is
+/// written.
 pub(crate) fn annotate(slot: &mut Slot, bytes: &[u8], text: &mut [u8]) -> i64
     ensures kept { slot.new ≡ slot.old }
     ensures told { IsTold (due annotated slot.old bytes.now) result }
@@ -55,8 +56,10 @@ pub(crate) fn explain(slot: &mut Slot, number: u64, bytes: &[u8], text: &mut [u8
 
 // Writes a text or its front, where there was memory for it.
 fn put(due: Result<Vec<u8>, AllocError>, text: &mut [u8]) -> i64
-    ensures told { MatchResult due (λ due. (result ≡ pos (length due.items)) ⊎ (result ≡ NO_MEMORY)) (λ _. result ≡ NO_MEMORY) }
-    ensures written { MatchResult due (λ due. text.new ≡ written result (Ok due.items) text.old) (λ _. text.new ≡ text.old) }
+    ensures told { MatchResult due
+        (λ due. (result ≡ pos (length due.items)) ⊎ (result ≡ NO_MEMORY)) (λ _. result ≡ NO_MEMORY) }
+    ensures written { MatchResult due
+        (λ due. text.new ≡ written result (Ok due.items) text.old) (λ _. text.new ≡ text.old) }
 {
     match due {
         Ok(due) => put_front(&due, text),

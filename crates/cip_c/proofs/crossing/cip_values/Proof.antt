@@ -50,7 +50,7 @@ use Rattle.cip_c.specs.contracts.slot.Slot.{the_row}
 use Rattle.cip_c.specs.contracts.crossing.cip_values as f
 use Rattle.cip_c.specs.contracts.writing.write_values as of
 use Rattle.cip_c.proofs.writing.write_values.Met.{met}
-use Rattle.cip_c.proofs.Bytes.{bytes_to_cells, cells_to_bytes}
+use Rattle.cip_c.proofs.Lending.{Places, tells, lends, comes_back}
 use Rattle.cip_c.proofs.crossing.cip_values.Statement.{statement}
 use Rattle.cip_c.proofs.crossing.cip_values.Code as code
 
@@ -137,39 +137,21 @@ module _ {M : Type 1} {𝓤 : Ura M} (𝓛 : Logic 𝓤) (𝓜 : Model 𝓤 𝓛
   at_blocks : (b o b' o' b'' o'' : ℕ) → ent 𝓤 (⋆ 𝓛 (Had (block_ptr b o) (block_ptr b' o') (block_ptr b'' o''))) (Ran (block_ptr b o) (block_ptr b' o') (block_ptr b'' o''))
   at_blocks b o b' o' b'' o'' =
       let p = block_ptr b o in let r = block_ptr b' o' in let t = block_ptr b'' o'' in let x = g.labeller in let xs = g.bytes in let old = g.text in
-      qed 𝓛 (Had p r t) ∵ fsplit ! $ flt_l ! (λ low. move ! (1 ∷ []) $ fsplit ! $ fsplit ! $ flt_l ! (λ low'. flt_l ! (λ small. move ! (2 ∷ []) $ fsplit ! $ fsplit ! $ flt_l ! (λ low''. flt_l ! (λ narrow.
-      -- [the text; the record; the labeller]
-      move ! (2 ∷ 1 ∷ []) $ enter ! _ _ _ _ _ $
+      let at : Places = record { b = b; o = o; b' = b'; o' = o'; b'' = b''; o'' = o''; n = n; m = m } in
+      qed 𝓛 (Had p r t) ∵ tells at x xs ! old (λ low. enter ! _ _ _ _ _ $
       alloc_all ! (λ l. pass_all ! refl ((tt, tt), ((tt, tt), ((tt, record { fits = counted }), ((tt, tt), ((tt, record { fits = roomy }), tt))))) $
-      sets ! (bin ! (get ! refl) (lit ! tt) (tests_null p low)) refl (tt, tt) $ first ! $ branches ! (get ! refl) (λ wrong. absurd wrong) (λ _.
+      sets ! (bin ! (get ! refl) (lit ! tt) (tests_null p low.labeller)) refl (tt, tt) $ first ! $ branches ! (get ! refl) (λ wrong. absurd wrong) (λ _.
       skips ! $ exec ! 𝓣.C 𝓣.Λ (env code.Mir.locals l) code.Mir.t-3 (at_ret (env code.Mir.locals l) (W.post (y p r t))) $
-      sets ! (bin ! (get ! refl) (lit ! tt) (tests_null r low')) refl (tt, tt) $ first ! $ branches ! (get ! refl) (λ wrong. absurd wrong) (λ _.
+      sets ! (bin ! (get ! refl) (lit ! tt) (tests_null r low.bytes)) refl (tt, tt) $ first ! $ branches ! (get ! refl) (λ wrong. absurd wrong) (λ _.
       skips ! $ exec ! 𝓣.C 𝓣.Λ (env code.Mir.locals l) code.Mir.t-5 (at_ret (env code.Mir.locals l) (W.post (y p r t))) $
-      sets ! (bin ! (get ! refl) (lit ! tt) (tests_null t low'')) refl (tt, tt) $ first ! $ branches ! (get ! refl) (λ wrong. absurd wrong) (λ _.
+      sets ! (bin ! (get ! refl) (lit ! tt) (tests_null t low.text)) refl (tt, tt) $ first ! $ branches ! (get ! refl) (λ wrong. absurd wrong) (λ _.
       skips ! $ exec ! 𝓣.C 𝓣.Λ (env code.Mir.locals l) code.Mir.t-7 (at_ret (env code.Mir.locals l) (W.post (y p r t))) $
       sets ! (of_opd ! (get ! refl)) refl (tt, tt) $
       sets ! (addr ! (through ! refl (stop !))) refl (tt, tt) $
       sets ! (agg ! (and_then ! (get ! refl) (and_then ! (get ! refl) (no_more !)))) refl (tt, (tt, (record { fits = counted }, tt))) $
       sets ! (agg ! (and_then ! (get ! refl) (and_then ! (get ! refl) (no_more !)))) refl (tt, (tt, (record { fits = roomy }, tt))) $
-      lft_new ! tt (λ α. let κ = α ∷ [] in move ! (1 ∷ []) $
-      use1 𝓛 (later (some (λ (γ : ℕ). ‵ ((MutRef (named 0) κ the_row).own_val (record { ref_ptr = (b, o); ghost_name = γ; now = x }) (vptr b o ∷ [])) ⊛ ‵ (flent κ (Body (mem the_row) b o γ)))))
-      (lends_ref 𝓛 the_row (named 0) κ x b o) $ await ! tt $ pick ! (λ γ. split ! $
-      -- [the labeller, lent; what is had for it; its token; the record; the text]
-      lft_new ! tt (λ β. let λ' = β ∷ [] in move ! (4 ∷ []) $
-      use1 𝓛 (‵ (fsep (feq ℕ (length xs) n) (bytes full_share xs b' o'))) (bytes_apart 𝓛 full_share n xs b' o') $ fsplit ! $ feq_l ! (λ long. feq_i ! ℕ (length xs) (length xs) refl $ fjoin ! $
-      let fits : (length xs < 2 ^ 64) × (length xs * 1 < 2 ^ 63) = (omega (arith, long), omega (arith, long)) in
-      use2 𝓛 (later ((‵ ((ShrSlice (named 1) λ' u8).own_val (record { ref_ptr = (b', o'); now = xs }) (slice_val (b', o') (length xs) ∷ [])) ⊛ ‵ (flent λ' (fsep (feq ℕ (length xs) (length xs)) (bytes full_share xs b' o')))) ⊛ ‵ (flft λ' full_share)))
-      (lends_shr_slice 𝓛 u8 (named 1) λ' full_share xs b' o' fits λ' ((uint_Copied 𝓛 w8).shares full_share λ') ((λ', full_share) ∷ []) (Incl-refl λ') (Incl-refl λ')) $ await ! tt $ split ! $ split ! $
-      rewrite ! 0 (λ (k : ℕ). ‵ ((ShrSlice (named 1) λ' u8).own_val (record { ref_ptr = (b', o'); now = xs }) (slice_val (b', o') k ∷ []))) long refl $
-      -- [the record, lent; what is had for it; its token; the same of the labeller; the text]
-      lft_new ! tt (λ δ. let μ = δ ∷ [] in move ! (7 ∷ []) $
-      use1 𝓛 (‵ (fsep (feq ℕ (length old) m) (bytes full_share old b'' o''))) (bytes_apart 𝓛 full_share m old b'' o'') $ fsplit ! $ feq_l ! (λ wide.
-      let fits' : (length old < 2 ^ 64) × (length old * 1 < 2 ^ 63) = (omega (arith, wide), omega (arith, wide)) in
-      use1 𝓛 (‵ (cells (mem u8) old b'' o'')) (bytes_to_cells 𝓛 old b'' o'') $
-      use1 𝓛 (later (some (λ (ν : ℕ). ‵ ((MutSlice (named 2) μ u8).own_val (record { ref_ptr = (b'', o''); ghost_name = ν; now = old }) (slice_val (b'', o'') (length old) ∷ [])) ⊛ ‵ (flent μ (Held u8 (length old) b'' o'' ν)))))
-      (lends_slice 𝓛 u8 (named 2) μ old b'' o'' fits') $ await ! tt $ pick ! (λ ν. split ! $
-      rewrite ! 0 (λ (k : ℕ). ‵ ((MutSlice (named 2) μ u8).own_val (record { ref_ptr = (b'', o''); ghost_name = ν; now = old }) (slice_val (b'', o'') k ∷ []))) wide refl $
-      move ! (6 ∷ 3 ∷ 0 ∷ 8 ∷ 5 ∷ 2 ∷ []) $
+      lends at x xs ! tt old low (λ long wide k'.
+      let κ = k'.α ∷ [] in let λ' = k'.β ∷ [] in let μ = k'.δ ∷ [] in
       -- [what is lent: the labeller, the record, the text; their tokens; what is had for the text, the record, the labeller]
       let G = triple_of 𝓛 of.signature (of.spec 𝓛 𝓜.mem 𝓡.returns) in
       let z : G.Ghost = (
@@ -177,7 +159,7 @@ module _ {M : Type 1} {𝓤 : Ura M} (𝓛 : Logic 𝓤) (𝓜 : Model 𝓤 𝓛
           (κ, (λ', (μ, tt))),
           (full_share, (full_share, (full_share, tt))),
           tt,
-          (record { ref_ptr = (b, o); ghost_name = γ; now = x }, (record { ref_ptr = (b', o'); now = xs }, (record { ref_ptr = (b'', o''); ghost_name = ν; now = old }, tt))),
+          (record { ref_ptr = (b, o); ghost_name = k'.γ; now = x }, (record { ref_ptr = (b', o'); now = xs }, (record { ref_ptr = (b'', o''); ghost_name = k'.ν; now = old }, tt))),
           (vptr b o ∷ [], (slice_val (b', o') n ∷ [], (slice_val (b'', o'') m ∷ [], tt))),
         ),
         tt,
@@ -192,21 +174,13 @@ module _ {M : Type 1} {𝓤 : Ura M} (𝓛 : Logic 𝓤) (𝓜 : Model 𝓤 𝓛
       await ! tt $ pick ! (λ u. split ! $ move ! (1 ∷ []) $ pick ! (λ ws. split ! $ move ! (1 ∷ []) $ split ! $ heard ! _ (λ kept. split ! $ heard ! _ (λ told. heard ! _ (λ new.
       -- [the last values; the tokens with the result; what is had for the text, the record, the labeller]
       let now : List ℕ = ws.1.1.0 in
-      fsplit ! $ fsplit ! $ rewrite ! 0 (λ (h : the_row.Denot). ‵ (fres γ (the_row.coded.code h))) kept refl $
+      fsplit ! $ fsplit ! $ rewrite ! 0 (λ (h : the_row.Denot). ‵ (fres k'.γ (the_row.coded.code h))) kept refl $
       move ! (2 ∷ []) $ fsplit ! $ drop ! $ fsplit ! $ fsplit ! $ fsplit ! $ move ! (6 ∷ 4 ∷ 0 ∷ 7 ∷ 8 ∷ 9 ∷ []) $
       -- [the tokens with the result; the last values of the labeller and the text; what is had for the text, the record, the labeller]
-      split ! $ split ! $ lft_end ! tt $ move ! (1 ∷ []) $ split ! $ lft_end ! tt $ move ! (1 ∷ []) $ split ! $ lft_end ! tt $
-      -- [the ended lifetimes: the text's; nothing; the record's, the labeller's; the result; as before]
-      move ! (3 ∷ 9 ∷ 5 ∷ []) $ use3 𝓛 (later (‵ (part_at the_row full_share x b o))) (ref_back 𝓛 the_row κ γ x b o) $ await ! tt $
-      move ! (3 ∷ 7 ∷ []) $ lent_back ! tt $ fsplit ! $ drop ! $ feq_i ! ℕ (length xs) n long $ fjoin ! $ use1 𝓛 (‵ (part_at (Array u8 n) full_share xs b' o')) (bytes_whole 𝓛 full_share n xs b' o') $
-      move ! (2 ∷ 6 ∷ 5 ∷ []) $ use3 𝓛 (later (‵ ((Arr (mem u8) (length old)).own_at now b'' o''))) (slice_back 𝓛 u8 μ ν now (length old) b'' o'') $ await ! tt $
-      fsplit ! $ feq_l ! (λ same. use1 𝓛 (‵ (bytes full_share now b'' o'')) (cells_to_bytes 𝓛 now b'' o'') $ feq_i ! ℕ (length now) m (same ∙ wide) $ fjoin ! $
-      use1 𝓛 (‵ (part_at (Array u8 m) full_share now b'' o'')) (bytes_whole 𝓛 full_share m now b'' o'') $ rewrite ! 0 (λ (zs : List ℕ). ‵ (part_at (Array u8 m) full_share zs b'' o'')) new refl $
-      -- [the text; the record; the labeller; nothing; the result]
-      flt_i ! m (2 ^ 63) narrow $ flt_i ! o'' (2 ^ 63) low'' $ fjoin ! $ fjoin ! $ move ! (1 ∷ []) $
-      flt_i ! n (2 ^ 63) small $ flt_i ! o' (2 ^ 63) low' $ fjoin ! $ fjoin ! $ move ! (2 ∷ []) $ flt_i ! o (2 ^ 63) low $ fjoin ! $ move ! (4 ∷ []) $
+      split ! $ split ! $ move ! (1 ∷ []) $ split ! $ move ! (1 ∷ []) $ split ! $ move ! (3 ∷ 2 ∷ 0 ∷ 5 ∷ 6 ∷ 7 ∷ 8 ∷ 9 ∷ []) $
+      comes_back at x xs ! tt old now (written u wanted old) new low long wide k' (move ! (4 ∷ []) $
       peeks ! i64 (Is i64) (shows 𝓛 i64) u (v ∷ []) (λ is. lands_as ! refl refl ((sint_Lawful 𝓛 w64).typed u _ is).0 $
-      returns ! (look_at ! 0 refl) $ free_all ! refl $ keep ! (0 ∷ 1 ∷ 2 ∷ 3 ∷ []) $ ends_told p r t v u told))))))))))))))))))))))))
+      returns ! (look_at ! 0 refl) $ free_all ! refl $ keep ! (0 ∷ 1 ∷ 2 ∷ 3 ∷ []) $ ends_told p r t v u told))))))))))))))
 
   at_each : (p r t : Ptr) → ent 𝓤 (⋆ 𝓛 (Had p r t)) (Ran p r t)
   at_each null_ptr r t = at_null r t
