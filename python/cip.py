@@ -23,6 +23,8 @@ from typing import List, Optional, Tuple, Union, overload
 
 __all__ = ["Error", "Label", "Labeller", "Labels", "NoMemory", "Refused"]
 
+Record = Union[str, bytes, bytearray, memoryview]
+
 NODES = 100_000
 RULE_1B = 2018
 
@@ -97,21 +99,29 @@ class Labeller:
         year = rule_1b if 0 <= rule_1b < 1 << 32 else 0
         _checked(self._library.cip_make(self._held, bound, year))
         self._end = weakref.finalize(self, self._library.cip_release, self._held)
+        # at the end of the process a thread may still be in a call, and the memory goes anyway
+        self._end.atexit = False
+
+    @overload
+    def annotate(self, record: str) -> str: ...
+
+    @overload
+    def annotate(self, record: Union[bytes, bytearray, memoryview]) -> bytes: ...
 
     def annotate(self, record):
         """The record with its data item CIP_LABELS, which takes the place of items of that name; str for str."""
         text = self._written(self._library.cip_annotate, record)
         return text.decode() if isinstance(record, str) else text
 
-    def labels(self, record: Union[bytes, str]) -> Labels:
+    def labels(self, record: Record) -> Labels:
         """The labels of a record; `Refused` where it isn't one that is read."""
         return _labels(self._written(self._library.cip_values, record).decode())
 
-    def values(self, record: Union[bytes, str]) -> List[str]:
+    def values(self, record: Record) -> List[str]:
         """The value lines of the record's item, as they stand in it."""
         return self._written(self._library.cip_values, record).decode().splitlines()
 
-    def explain(self, record: Union[bytes, str], number: int = 1) -> str:
+    def explain(self, record: Record, number: int = 1) -> str:
         """A line `record NUMBER`, and a line for every unit: its label, or why it has none."""
         if not 0 <= number < 1 << 64:
             raise ValueError("number: 0 to 2^64 - 1")
@@ -129,14 +139,14 @@ class Labeller:
         self.close()
 
     # A call's text, with more room where it doesn't fit.
-    def _written(self, call, record: Union[bytes, str], *number: int) -> bytes:
-        given = record.encode() if isinstance(record, str) else bytes(record)
+    def _written(self, call, record: Record, *number: int) -> bytes:
+        given = record.encode() if isinstance(record, str) else bytes(memoryview(record))
         with self._lock:
             length = _checked(call(self._held, *number, given, len(given), self._text, len(self._text)))
             while length > len(self._text):
                 self._text = ctypes.create_string_buffer(length)
                 length = _checked(call(self._held, *number, given, len(given), self._text, len(self._text)))
-            return self._text.raw[:length] if length > _ROOM else ctypes.string_at(self._text, length)
+            return ctypes.string_at(self._text, length)
 
 
 # The labels that value lines tell.

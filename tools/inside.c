@@ -1,6 +1,7 @@
 /* What tools/inside runs of the library: `inside annotate|values|explain < FILE` writes the texts of all records and
- * tells how many there were in which time; `inside conditions` tries what a caller has not kept, and ends with the
- * number of the first try that went wrong, or 0. */
+ * tells how many there were in which time; `inside conditions` tries what a caller has not kept, and `inside memory`
+ * refuses each request for memory in turn; these two end with the number of the first try that went wrong, or 0. It is
+ * linked with --wrap=malloc,--wrap=realloc, by which the library's requests come here first. */
 #include <cip.h>
 #include <stdio.h>
 #include <stdlib.h>
@@ -28,6 +29,15 @@ static int is_written(const char *front, size_t length) {
         if (text[place] != '#') return 0;
     return 1;
 }
+
+/* The number of the request for memory that is refused, and how many there were. */
+static long refused, met;
+
+void *__real_malloc(size_t size);
+void *__real_realloc(void *old, size_t size);
+
+void *__wrap_malloc(size_t size) { return ++met == refused ? NULL : __real_malloc(size); }
+void *__wrap_realloc(void *old, size_t size) { return ++met == refused ? NULL : __real_realloc(old, size); }
 
 static int64_t call(int which, cip_labeller *labeller, const uint8_t *given, size_t length, uint8_t *to, size_t room) {
     if (which == 0) return cip_annotate(labeller, given, length, to, room);
@@ -91,6 +101,34 @@ static int conditions(void) {
     return 0;
 }
 
+/* A refused request is answered, changes nothing, and a second call does what the first should have. */
+static int memory(void) {
+    size_t length = sizeof record - 1, whole = sizeof values - 1;
+    memcpy(bytes, record, length);
+    for (long number = 1;; number++) {
+        cip_labeller labeller;
+        memset(text, '#', ROOM);
+        refused = number;
+        met = 0;
+        int64_t told = cip_make(&labeller, CIP_NODES, CIP_WORDING);
+        if (told != 0) {
+            TRY(25, told == CIP_NO_MEMORY && cip_values(&labeller, bytes, length, text, ROOM) == CIP_NOT_MADE);
+            TRY(26, cip_release(&labeller) == 0 && cip_make(&labeller, CIP_NODES, CIP_WORDING) == 0);
+        }
+        for (int which = 0; which < 3; which++) {
+            memset(text, '#', ROOM);
+            told = call(which, &labeller, bytes, length, text, ROOM);
+            TRY(27, told > 0 || (told == CIP_NO_MEMORY && is_written("", 0)));
+        }
+        int is_met = met >= number;
+        refused = 0;
+        memset(text, '#', ROOM);
+        TRY(28, cip_values(&labeller, bytes, length, text, ROOM) == (int64_t)whole && is_written(values, whole));
+        TRY(29, cip_release(&labeller) == 0);
+        if (!is_met) return fprintf(stderr, "%ld\n", number - 1) < 0;
+    }
+}
+
 static uint8_t *all_of_input(size_t *length) {
     size_t room = 1 << 20, count;
     uint8_t *found = malloc(room);
@@ -150,6 +188,7 @@ static int texts(int which) {
 int main(int count, char **words) {
     static const char *const names[] = {"annotate", "values", "explain"};
     if (count == 2 && strcmp(words[1], "conditions") == 0) return conditions();
+    if (count == 2 && strcmp(words[1], "memory") == 0) return memory();
     for (int which = 0; count == 2 && which < 3; which++)
         if (strcmp(words[1], names[which]) == 0) return texts(which);
     return 2;
