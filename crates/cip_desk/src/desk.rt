@@ -1,5 +1,5 @@
 // The digraphs of roots, grown and ranked one after the other at one desk.
-ghost use Rattle.std.specs.Prelude.{◌≡◌, ◌≤◌, ◌∷◌, [], length, IfOk, OnOk};
+ghost use Rattle.std.specs.Prelude.{◌≡◌, ◌≤◌, ◌<◌, ◌^◌, ◌∷◌, [], length, IfOk, OnOk};
 ghost use Rattle.cip_arena.specs.Growth.{Holds};
 ghost use Rattle.cip_constitution.specs.Settling.{SettledAs};
 ghost use Rattle.cip_digraph.specs.units.Ends.{end_at};

@@ -1,0 +1,4 @@
+pub mod Making
+pub mod Pointers
+pub mod Texts
+pub mod Writing
