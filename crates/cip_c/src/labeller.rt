@@ -1,7 +1,7 @@
 // Memory in which records are labelled, with what labels rest on.
 ghost use Rattle.std.specs.Prelude.{◌≡◌, ◌≤◌, ◌<◌, ◌-◌, ◌^◌, ◌++◌, IfOk, OnOk, length};
 ghost use Rattle.std.specs.List.{flat_map};
-ghost use Rattle.cip_print.specs.Values.{values_of};
+ghost use Rattle.cip_print.specs.Values.{values_of, HasRoom};
 ghost use Rattle.cip_record.specs.Answers.{answer_without_items};
 ghost use Rattle.cip_c.specs.Texts.{annotated, ended_line, explained_text, values_text};
 
@@ -39,6 +39,7 @@ impl Labeller {
     /// Takes memory for digraphs as large as the bound.
     pub(crate) fn reserve(alloc: Global, settings: Settings) -> Result<Labeller, AllocError>
         requires some { 1 ≤ settings.nodes }
+        requires bounded { settings.nodes ≤ 1000000 }
         ensures { IfOk result (λ labeller. labeller ≡ settings) }
     {
         let memory = RecordLabeller::reserve(alloc, settings.nodes)?;
@@ -105,6 +106,7 @@ impl Labeller {
         requires few { length lines.now < 2 ^ 32 - 1 }
         ensures answer { IfOk result (λ answer. answer
             ≡ answer_without_items self.old.rules self.old.nodes lines.now) }
+        ensures room { IfOk result HasRoom }
         ensures kept { self.new ≡ self.old }
     {
         label_within(self.alloc, &mut self.memory, lines, self.settings.rules)

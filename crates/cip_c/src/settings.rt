@@ -19,6 +19,7 @@ pub(crate) struct Settings {
 pub(crate) fn settings_of(nodes: u32, year: u32) -> Result<Settings, i64>
     ensures settings { result ≡ settings_of nodes year }
     ensures some { IfOk result (λ settings. 1 ≤ settings.nodes) }
+    ensures bounded { IfOk result (λ settings. settings.nodes ≤ 1000000) }
 {
     if nodes == 0 || nodes > MOST_NODES {
         return Err(BOUND_OUTSIDE);

@@ -47,6 +47,7 @@ pub(crate) fn make(alloc: Global, slot: &mut Slot, nodes: u32, year: u32) -> i64
 
 fn fill(alloc: Global, slot: &mut Slot, settings: Settings) -> i64
     requires some { 1 ≤ settings.nodes }
+    requires bounded { settings.nodes ≤ 1000000 }
     requires empty { slot.old ≡ None }
     ensures told { IsMade (Ok settings) result }
     ensures made { slot.new ≡ made result (Ok settings) }
@@ -62,6 +63,7 @@ fn fill(alloc: Global, slot: &mut Slot, settings: Settings) -> i64
 
 fn boxed(alloc: Global, settings: Settings) -> Result<Box<Labeller>, AllocError>
     requires some { 1 ≤ settings.nodes }
+    requires bounded { settings.nodes ≤ 1000000 }
     ensures { IfOk result (λ labeller. labeller.value ≡ settings) }
 {
     let labeller = Labeller::reserve(alloc, settings)?;
