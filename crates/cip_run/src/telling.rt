@@ -7,7 +7,7 @@ ghost use Rattle.cip_run.specs.TellingBare.{annotate_change, axes_bare, explain_
 use crate::asked::{Asked, Task};
 use crate::desk::Desk;
 use crate::ending::{Missed, Note};
-use cip_item::{has_label_item, lines_with_item, without_label_items};
+use cip_item::{has_label_item, lines_with_item, lines_without_label_items};
 use cip_mol::CentreLetter;
 use cip_print::{explain_text, item_values};
 use cip_record::is_flagged;
@@ -61,7 +61,7 @@ impl Asked {
         if !has_label_item(&lines) {
             return self.tell_lines(alloc, desk, number, &lines);
         }
-        let bare = without_label_items(alloc, bytes)?;
+        let bare = lines_without_label_items(alloc, &lines)?;
         let lines = RecordLines::new(alloc, &bare)?;
         self.tell_lines(alloc, desk, number, &lines)
     }

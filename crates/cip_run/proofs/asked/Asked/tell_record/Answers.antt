@@ -1,6 +1,6 @@
 use Rattle.std.proofs.Common.{rules, ◌≡◌, ◌∙◌, ap, subst, false}
 use Rattle.std.specs.Prelude.{IfOk}
-use Rattle.cip_item.specs.Parts.{has_label_item}
+use Rattle.cip_item.specs.Parts.{has_label_item, without_label_items}
 use Rattle.cip_stream.specs.Batches.{Telling}
 use Rattle.cip_run.specs.TellingBare.{told_bare}
 use Rattle.cip_run.specs.declared.ending.Note.{Note}
@@ -37,7 +37,8 @@ returns-clause-text c =
     (bare_is_told asked.rules asked.nodes asked.task c.args.number c.args.bytes.now))
     (subst (λ bytes. IfOk c.tell_lines-2.result (λ told. told.text
     ≡ (told_bare asked.rules asked.nodes asked.task c.args.number bytes).text))
-    (c.in_ok-lines-2.ensures ∙ c.deref.ensures.value ∙ c.in_ok-bare.ensures.value) c.tell_lines-2.ensures.text)
+    (c.in_ok-lines-2.ensures ∙ c.deref.ensures.value ∙ c.in_ok-bare.ensures.value
+    ∙ ap without_label_items c.in_ok-lines.ensures) c.tell_lines-2.ensures.text)
 
 pub returns-clause-verdict : goal.returns-clause-verdict
 returns-clause-verdict c =
@@ -47,4 +48,5 @@ returns-clause-verdict c =
     (bare_is_told asked.rules asked.nodes asked.task c.args.number c.args.bytes.now))
     (subst (λ bytes. IfOk c.tell_lines-2.result (λ told. told.verdict
     ≡ (told_bare asked.rules asked.nodes asked.task c.args.number bytes).verdict))
-    (c.in_ok-lines-2.ensures ∙ c.deref.ensures.value ∙ c.in_ok-bare.ensures.value) c.tell_lines-2.ensures.verdict)
+    (c.in_ok-lines-2.ensures ∙ c.deref.ensures.value ∙ c.in_ok-bare.ensures.value
+    ∙ ap without_label_items c.in_ok-lines.ensures) c.tell_lines-2.ensures.verdict)
