@@ -36,7 +36,7 @@ or_none [] = codes "none" ∷ []
 or_none (line ∷ lines) = line ∷ lines
 
 -- there is room for the lines of all units behind a first line
-unfoldable pub HasRoom : Answer → Type 0
+abbrev pub HasRoom : Answer → Type 0
 HasRoom (Labelled units) = length units < 2 ^ 32 - 1
 HasRoom (Refused fault) = ⊤
 

@@ -1,4 +1,5 @@
-ghost use Rattle.std.specs.Prelude.{◌≡◌, ◌<◌, ◌+◌, OnOk, length};
+ghost use Rattle.std.specs.Prelude.{◌≡◌, ◌<◌, ◌+◌, OnOk, length, true};
+ghost use Rattle.cip_print.specs.Values.{HasRoom};
 
 use crate::{Answer, Tally, UnitAnswer, UnitAnswers, UnitName, explain_text, item_values, name_of};
 use cip_mol::{
@@ -64,6 +65,16 @@ fn units_without_a_line(alloc: Global) -> Result<UnitAnswers, AllocError> {
 const LABELLED: &[u8] =
     b"cip 2 rule1b 2018 nodes 100000|a2 R 1a 2 order 6 1 3 H|a3 s 5 1 order 7 2 4 H|a4 S 1a 2 order 8 5 3 H|";
 
+// Whether there is room for the lines of all units behind a first line.
+fn has_room(answer: &Answer) -> bool
+    ensures { result ≡ true → HasRoom answer.now }
+{
+    match answer {
+        Answer::Labelled(units) => units.len() < u32::MAX,
+        Answer::Refused(_) => true,
+    }
+}
+
 // Whether the answer has exactly these value lines, each followed by `|`.
 fn has_lines(
     alloc: Global,
@@ -72,6 +83,9 @@ fn has_lines(
     rules: Rules,
     lines: &[u8],
 ) -> Result<bool, AllocError> {
+    if !has_room(answer) {
+        return Ok(false);
+    }
     let values = item_values(alloc, answer, nodes, rules)?;
     let mut text: Vec<u8> = Vec::new(alloc);
     for place in 0..values.len() {

@@ -17,7 +17,7 @@ use std::alloc::{AllocError, Global};
 /// The value lines of an answer that was found within a bound on nodes by a wording of Rule 1b: these two, then why the
 /// record is refused, or a line for each unit that has a label or whose digraph is larger than the bound, and `none`
 /// where there is no such unit.
-#[tactic(auto, unfolding(crate::specs::Values::values_of, crate::specs::Values::HasRoom))]
+#[tactic(auto, unfolding(crate::specs::Values::values_of))]
 pub fn item_values(
     alloc: Global,
     answer: &Answer,
