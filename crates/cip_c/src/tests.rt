@@ -57,7 +57,10 @@ fn a_text_or_its_front_is_written(rt: HostRuntime) -> Result<(), Fail> {
     assert_eq!(rt; write_values(&mut slot, RECORD, &mut text), 55);
     assert!(rt; text.starts_with(VALUES));
     assert_eq!(rt; text[55], b'#');
-    assert_eq!(rt; annotate(&mut slot, RECORD, &mut text), 55 + 16 + RECORD.len() as i64);
+    assert_eq!(rt;
+        annotate(&mut slot, RECORD, &mut text),
+        55 + 16 + RECORD.len() as i64
+    );
     assert!(rt; text.starts_with(RECORD));
     assert_eq!(rt; explain(&mut slot, 7, RECORD, &mut text), 33);
     assert!(rt; text.starts_with(b"record 7\na1 S 1a 1 order 4 3 2 5\n"));
