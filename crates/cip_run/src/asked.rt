@@ -1,5 +1,5 @@
 // What is asked of each record of a stream.
-ghost use Rattle.std.specs.Prelude.{◌≡◌, ◌≤◌};
+ghost use Rattle.std.specs.Prelude.{◌≤◌};
 
 use cip_mol::CentreLetter;
 use cip_rank::Rules;
@@ -33,15 +33,4 @@ pub struct Asked {
     pub rules: Rules,
     ghost some: { 1 ≤ nodes },
     ghost bounded: { nodes ≤ 1000000 },
-}
-
-impl Asked {
-    /// What is asked where digraphs have at most so many nodes.
-    pub fn new(task: Task, nodes: u32, rules: Rules) -> Asked
-        requires some { 1 ≤ nodes }
-        requires bounded { nodes ≤ 1000000 }
-        ensures { result ≡ record { task = task; nodes = nodes; rules = rules } }
-    {
-        Asked { task, nodes, rules }
-    }
 }

@@ -1,5 +1,5 @@
 // Made records that are to be labelled.
-ghost use Rattle.std.specs.Prelude.{◌≡◌, ◌≤◌};
+ghost use Rattle.std.specs.Prelude.{◌≤◌};
 
 use cip_rank::Rules;
 use std::alloc::Global;
@@ -15,23 +15,6 @@ pub struct Trial {
     ghost few: { records ≤ 100000 },
     ghost some: { 1 ≤ nodes },
     ghost bounded: { nodes ≤ 1000000 },
-}
-
-impl Trial {
-    /// So many records of the series, labelled within a bound on nodes.
-    pub fn new(start: u32, records: u32, nodes: u32, rules: Rules) -> Trial
-        requires few { records ≤ 100000 }
-        requires some { 1 ≤ nodes }
-        requires bounded { nodes ≤ 1000000 }
-        ensures { result ≡ record { start = start; records = records; nodes = nodes; rules = rules } }
-    {
-        Trial {
-            start,
-            records,
-            nodes,
-            rules,
-        }
-    }
 }
 
 /// One of the records by its number, which is from 1 on.

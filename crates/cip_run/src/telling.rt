@@ -234,7 +234,7 @@ impl Asked {
 
 // A text without a note.
 fn plain(text: Vec<u8>, flagged: bool) -> Told<Note>
-    ensures text { result.text ≡ text }
+    ensures text { result.text ≡ text.items }
     ensures verdict { result.verdict ≡ record { flagged = flagged; note = None } }
 {
     Told {
