@@ -1,10 +1,11 @@
 // Worked digraphs in boxes: how many nodes they have, and how two ligands stand by constitution.
-ghost use Rattle.std.specs.Prelude.{◌≤◌, length};
+ghost use Rattle.std.specs.Prelude.{◌≤◌, ◌<◌, ◌^◌, length};
+ghost use Rattle.cip_tree.specs.Branches.{children as branches_below, node_count};
 
 use crate::molecules::{
     Ends, GLYCERALDEHYDE, METHYLCYCLOPROPANE, OXIRANE, PYRIDINE, TETRAHEDRANE, graph,
 };
-use cip_digraph::Nodes;
+use cip_digraph::{Decision, Nodes};
 use cip_mancude::positions;
 use cip_rank::Rules;
 use cip_tree::{Flat, PlainTree, plain_order, plain_tree};
@@ -44,6 +45,21 @@ fn place_of(nodes: &Flat, vertex: u32) -> Option<u32> {
     None
 }
 
+// How two children of the root stand. A tree has no more spheres than nodes.
+fn stand(
+    alloc: Global,
+    tree: &PlainTree,
+    rules: Rules,
+    a: u32,
+    b: u32,
+) -> Result<Option<Decision>, AllocError>
+    requires first { a < length (branches_below tree.now) }
+    requires second { b < length (branches_below tree.now) }
+    requires few { node_count tree.now < 2 ^ 32 }
+{
+    plain_order(alloc, tree, rules, a, b)
+}
+
 // How many nodes there are, and how two neighbours of the root stand.
 fn told(
     alloc: Global,
@@ -62,7 +78,7 @@ fn told(
     if a as usize >= neighbours || b as usize >= neighbours {
         return format!(in alloc; "no children");
     }
-    match plain_order(alloc, tree, rules, a, b)? {
+    match stand(alloc, tree, rules, a, b)? {
         None => format!(in alloc; "{count} nodes, a tie"),
         Some(decision) => {
             let side = if decision.side == Ordering::Greater {
