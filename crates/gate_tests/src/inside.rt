@@ -91,6 +91,7 @@ fn marks_inside(
     requires whole { TellsWhole graph.now positions.now root arena.now.sphere arena.now.nodes }
     requires root { root < length graph.now.vertices }
     requires sites { map (λ unit. unit.site) units.now ≡ sites_of graph.now positions.now }
+    requires few { length arena.now.nodes < 2 ^ 31 }
     ensures { IfOk result (λ marks. length marks.marks ≡ length arena.now.nodes) }
 {
     let count = arena.len();
@@ -149,6 +150,9 @@ fn told<L: Ledger>(
     arena.start(&graph, root);
     if !grow_whole(&mut arena, &graph, &positions, &mut steps) {
         return format!(in alloc; "no room");
+    }
+    if arena.len() > MOST_NODES {
+        return format!(in alloc; "too many nodes");
     }
     let marks = marks_inside(alloc, &arena, &graph, &positions, units.list(), root)?;
     spelled(alloc, &arena, &marks)

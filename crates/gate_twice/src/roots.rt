@@ -1,5 +1,5 @@
 // The digraphs of all vertices of a molecule.
-ghost use Rattle.std.specs.Prelude.{◌≡◌, ◌<◌, ◌≤◌};
+ghost use Rattle.std.specs.Prelude.{◌≡◌, ◌<◌, ◌≤◌, ◌^◌};
 
 use crate::counts::Counts;
 use crate::molecules::Drawn;
@@ -49,7 +49,8 @@ pub fn compare_roots<L: Ledger>(
     steps: &mut Steps<L>,
     counts: &mut Counts,
 ) -> Result<Option<Found>, AllocError>
-    requires { 0 < nodes }
+    requires some { 0 < nodes }
+    requires few { nodes < 2 ^ 31 }
 {
     let mut arena = Arena::reserve(alloc, nodes)?;
     let mut views = Views::reserve(alloc, nodes)?;
