@@ -1,11 +1,13 @@
 // Worked cases: runs the rows of a table over memory, and prints what each of them leaves behind.
 #![tactic(auto)]
 
+mod added;
 mod case;
 mod running;
 mod turns;
 mod watched;
 
+use crate::added::lines_added;
 use crate::case::{Case, read_case};
 use crate::running::{Outcome, run_case};
 use crate::turns::{run_in_turn, summary};
@@ -52,20 +54,29 @@ fn text_of<R: Files + Threads + Sync + AllocGlobal>(
     let alloc = rt.alloc();
     let input = fs::read(rt, case.file)?;
     let Some(calls) = case.in_turn else {
-        let outcome = run_case(rt, alloc, case, input)?;
-        return Ok(outcome_text(alloc, case.name, &outcome)?);
+        let outcome = run_case(rt, alloc, case, input.to_vec(alloc)?)?;
+        return Ok(outcome_text(alloc, case.name, &input, &outcome)?);
     };
     let runs = run_in_turn(rt, alloc, case, calls, &input)?;
     let summary = summary(alloc, calls, &runs)?;
     Ok(format!(in alloc; "=== {}: {summary}\n", case.name)?.into_bytes())
 }
 
-// The name of a case and its exit status, its diagnostics, and the bytes that were written.
-fn outcome_text(alloc: Global, name: &str, outcome: &Outcome) -> Result<Vec<u8>, AllocError> {
+// The name of a case and its exit status, its diagnostics, and the bytes that were written: where they are the input with
+// lines put in, these lines alone.
+fn outcome_text(
+    alloc: Global,
+    name: &str,
+    input: &[u8],
+    outcome: &Outcome,
+) -> Result<Vec<u8>, AllocError> {
     let head = format!(in alloc; "=== {name}: status {}\n", outcome.status)?;
     let mut text = head.into_bytes();
-    for part in [outcome.said.as_slice(), &outcome.written, b"\n"] {
-        text.extend_from_slice(part)?;
+    text.extend_from_slice(&outcome.said)?;
+    match lines_added(alloc, input, &outcome.written)? {
+        Some(added) => text.extend_from_slice(&added)?,
+        None => text.extend_from_slice(&outcome.written)?,
     }
+    text.push(b'\n')?;
     Ok(text)
 }
