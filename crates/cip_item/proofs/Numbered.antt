@@ -75,8 +75,7 @@ told LabelItem first number contents = item_at first
     (end_of_item number contents) true ∷ items_from LabelItem number contents
 
 -- One more line: the items told with it hold it exactly where it belongs to a label item, and they hold the lines to
--- come
--- as those told behind it do.
+-- come as those told behind it do.
 record Steps (before : Part) (first number : ℕ) (content : List ℕ) (contents : List (List ℕ)) : Type 0 where
   next : ℕ
   begun : next ≤ number + 1

@@ -1,5 +1,5 @@
--- A record with a label item put in. CTfile Formats, SDfile data items; the name and the place of the item, and the line
--- ends that it needs, are own.
+-- A record with a label item put in. CTfile Formats, SDfile data items; the name and the place of the item, and the
+-- line ends that it needs, are own.
 use Rattle.std.specs.Prelude.{ℕ, List, [], ◌∷◌, ◌++◌, Bool, true, false, not, ◌==◌, ◌&&◌, codes, if◌then◌else◌}
 use Rattle.std.specs.List.{flat_map, list_any}
 use Rattle.cip_text.specs.Lines.{line_feed, carriage_return, has_last, lf, crlf}

@@ -72,8 +72,7 @@ MarksArePlaced =
     AreMarks (digraph graph positions root last) view.originals mark (placed_marks marks view)
 
 -- Descriptors of the nodes strictly below the viewed one are those strictly inside its subtree. Those of nodes with
--- lower numbers
--- needn't be known.
+-- lower numbers needn't be known.
 abbrev pub InsideMarksArePlaced : Type 0
 InsideMarksArePlaced =
     (graph : Graph) (positions : List (List ℕ)) (root last : ℕ) (all : List Told) (mark : List ℕ → Option Descriptor)
