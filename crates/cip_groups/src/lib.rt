@@ -11,8 +11,6 @@ mod names;
 mod outcomes;
 mod places;
 mod telling;
-#[cfg(test)]
-mod tests;
 
 pub use collections::read_groups;
 pub use faults::{GroupCause, GroupFault};
