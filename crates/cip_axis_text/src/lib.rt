@@ -2,8 +2,6 @@
 #![tactic(auto)]
 
 mod answering;
-#[cfg(test)]
-mod tests;
 mod text;
 
 pub use text::{AxesText, axes_text, axes_text_within};
