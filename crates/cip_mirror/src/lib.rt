@@ -5,8 +5,6 @@ mod answers;
 mod changes;
 mod mirror;
 mod rows;
-#[cfg(test)]
-mod tests;
 
 pub use answers::{MirrorAnswer, MirrorRefusal};
 pub use changes::{changed_record, changes_are_read};

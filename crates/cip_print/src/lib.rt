@@ -8,8 +8,6 @@ mod laws;
 mod naming;
 mod refusals;
 mod tally;
-#[cfg(test)]
-mod tests;
 mod values;
 
 pub use answer::{Answer, UnitAnswer, UnitAnswers};

@@ -3,8 +3,6 @@
 
 mod answering;
 mod laws;
-#[cfg(test)]
-mod tests;
 mod units;
 
 pub use answering::{RecordLabeller, is_flagged, label_record, label_within};

@@ -4,8 +4,6 @@
 mod answers;
 mod laws;
 mod setting;
-#[cfg(test)]
-mod tests;
 
 pub use answers::{SetAnswer, SetRefusal};
 pub use cip_mirror::{MirrorAnswer, MirrorRefusal, mirror_lines, mirror_record};

@@ -14,8 +14,6 @@ mod reading;
 mod rows;
 mod splitting;
 mod table;
-#[cfg(test)]
-mod tests;
 
 pub use bonds::place_named;
 pub use frames::{FrameLine, is_frame};

@@ -5,8 +5,6 @@ mod forms;
 mod help;
 mod numbers;
 mod settings;
-#[cfg(test)]
-mod tests;
 mod values;
 
 pub use help::help_text;

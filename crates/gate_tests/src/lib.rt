@@ -1,4 +1,5 @@
-//! Worked molecules: their digraphs in boxes and as they are settled, and the descriptors inside these. Tests alone.
+//! Worked molecules: their units, their digraphs in boxes and as they are settled, and the descriptors inside these. Tests
+//! alone.
 #![tactic(auto)]
 
 #[cfg(test)]
@@ -11,3 +12,5 @@ mod inside;
 mod molecules;
 #[cfg(test)]
 mod settling;
+#[cfg(test)]
+mod units;

@@ -1,5 +1,5 @@
-use crate::read;
 use cip_mol::{Molecule, ReadRefusal};
+use cip_v3000::read;
 use std::alloc::{AllocError, Global};
 use std::test::Fail;
 

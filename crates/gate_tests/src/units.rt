@@ -1,13 +1,13 @@
 ghost use Rattle.std.specs.Prelude.{◌≡◌, ◌≤◌, All, IfOk, length};
 ghost use Rattle.cip_mol.specs.Ranges.{IsAtom, IsBond};
 
-use crate::units;
 use cip_digraph::{Graph, Positions, Units};
 use cip_hydro::graph_of;
 use cip_mancude::positions;
 use cip_mol::{Atom, Bond, Ligand, Ligands, Mark, Molecule, Site, Unit};
 use cip_num::Vec3;
 use cip_ring::smallest_ring;
+use cip_unit::units;
 use std::alloc::{AllocError, Global};
 use std::test::Fail;
 

@@ -1,6 +1,6 @@
-use crate::{is_v3000, read};
 use cip_mol::{Molecule, ReadRefusal};
 use cip_text::body_contents;
+use cip_v2000::{is_v3000, read};
 use std::alloc::{AllocError, Global};
 use std::test::Fail;
 

@@ -1,6 +1,6 @@
-use crate::{is_flagged, label_record};
 use cip_print::item_values;
 use cip_rank::Rules;
+use cip_record::{is_flagged, label_record};
 use std::alloc::{AllocError, Global};
 use std::test::Fail;
 

@@ -1,6 +1,6 @@
-use crate::{Settings, help_text, read_words};
 use cip_mol::CentreLetter;
 use cip_rank::Rules;
+use cip_words::{Settings, help_text, read_words};
 use clap::{Arg, ArgAction, ArgMatches, Command};
 use std::alloc::{AllocError, Global};
 use std::test::Fail;

@@ -1,7 +1,7 @@
 // Records in which a centre is to have a letter, and the mirrored record; expected texts are worked by hand.
-use crate::{MirrorAnswer, SetAnswer, SetRefusal, mirror_record, set_letter};
 use cip_mol::CentreLetter;
 use cip_rank::Rules;
+use cip_set::{MirrorAnswer, SetAnswer, SetRefusal, mirror_record, set_letter};
 use std::alloc::{AllocError, Global};
 use std::test::Fail;
 

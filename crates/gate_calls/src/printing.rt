@@ -1,9 +1,11 @@
 ghost use Rattle.std.specs.Prelude.{◌≡◌, ◌<◌, ◌+◌, OnOk, length, true};
 ghost use Rattle.cip_print.specs.Values.{HasRoom};
 
-use crate::{Answer, Tally, UnitAnswer, UnitAnswers, UnitName, explain_text, item_values, name_of};
 use cip_mol::{
     Cause, Descriptor, Label, Ligand, Ligands, Outcome, Places, ReadCause, ReadFault, Rule, Site,
+};
+use cip_print::{
+    Answer, Tally, UnitAnswer, UnitAnswers, UnitName, explain_text, item_values, name_of,
 };
 use cip_rank::Rules;
 use std::alloc::{AllocError, Global};

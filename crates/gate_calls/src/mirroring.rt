@@ -1,5 +1,5 @@
 // Records that are mirrored; expected texts are worked by hand.
-use crate::{MirrorAnswer, MirrorRefusal, mirror_record};
+use cip_mirror::{MirrorAnswer, MirrorRefusal, mirror_record};
 use std::alloc::{AllocError, Global};
 use std::test::Fail;
 
