@@ -17,13 +17,13 @@ use Rattle.cip_axis.specs.Cumulenes.{any_bond, chain_from, chain_over, chains, f
 use Rattle.cip_axis.specs.Further.{cumulene_unit, cumulenes_of, biaryl_unit, biaryls_of, further_of}
 use Rattle.cip_axis.specs.declared.site.FurtherUnit.{FurtherUnit}
 use Rattle.cip_laws.specs.Images.{Among}
-use Rattle.cip_laws.proofs.Among.{among_map, from_map, among_filter, from_filter, among_flat, from_flat, among_arranged, among_range, from_range}
-use Rattle.cip_laws.proofs.CarriedAxes.{axis_end_carried, doubles_moved, double_from}
-use Rattle.cip_laws.proofs.CarriedLists.{in_carried}
-use Rattle.cip_laws.proofs.CarriedNodes.{Way, way, ways, way_image, IsRenamed}
-use Rattle.cip_laws.proofs.CarriedSites.{SameUnit, two_same}
-use Rattle.cip_laws.proofs.WaySymmetry.{back_way, leads_back, way_there, way_from}
-use Rattle.cip_laws.proofs.Truths.{and_parts, and_both, not_true, not_false}
+use Rattle.cip_laws.proofs.lists.Among.{among_map, from_map, among_filter, from_filter, among_flat, from_flat, among_arranged, among_range, from_range}
+use Rattle.cip_laws.proofs.units.CarriedAxes.{axis_end_carried, doubles_moved, double_from}
+use Rattle.cip_laws.proofs.lists.CarriedLists.{in_carried}
+use Rattle.cip_laws.proofs.digraph.CarriedNodes.{Way, way, ways, way_image, IsRenamed}
+use Rattle.cip_laws.proofs.units.CarriedSites.{SameUnit, two_same}
+use Rattle.cip_laws.proofs.graph.WaySymmetry.{back_way, leads_back, way_there, way_from}
+use Rattle.cip_laws.proofs.lists.Truths.{and_parts, and_both, not_true, not_false}
 use Rattle.cip_axis_laws.proofs.CarriedChains.{over_carried, over_turned, from_short, IsTurnedOver}
 use Rattle.cip_axis_laws.proofs.CarriedHindrance.{biaryl_end_carried, hindered_long, ring_back, ring_carried}
 use Rattle.cip_axis_laws.proofs.TurnedLists.{onto, last_from, last_is, first_onto, last_onto, long_onto, in_onto, any_onto, any_mapped, last_mapped}

@@ -29,17 +29,17 @@ use Rattle.cip_axis.proofs.Sited.{biaryl_end_parts}
 use Rattle.cip_axis.specs.FurtherOutcomes.{as_unit}
 use Rattle.cip_axis_laws.specs.FurtherLaws.{IsImageFurther, FurtherGo, FurtherOutcomesGo, RenumberingKeepsFurther}
 use Rattle.cip_laws.specs.Images.{Among}
-use Rattle.cip_laws.proofs.Among.{among_all, among_left, among_right, from_append}
-use Rattle.cip_laws.proofs.CarriedNodes.{IsRenamed, Way, way_image}
-use Rattle.cip_laws.proofs.CarriedSites.{SameUnit, two_same, two_crossed}
-use Rattle.cip_laws.proofs.ListedSites.{listed, neighbours_rise, some_drawn, drawn_is, axis_end_listed}
-use Rattle.cip_laws.proofs.RenamedGeometry.{crossed_same}
-use Rattle.cip_laws.proofs.RenumberedBonds.{renumbered_sound}
-use Rattle.cip_laws.proofs.RenumberedGraph.{carry, of_atom}
-use Rattle.cip_laws.proofs.RenumberedSenses.{IsEndListed}
-use Rattle.cip_laws.proofs.RenumberedUnits.{carry_onto}
-use Rattle.cip_laws.proofs.Truths.{and_parts, or_back}
-use Rattle.cip_laws.proofs.WaySymmetry.{back_way}
+use Rattle.cip_laws.proofs.lists.Among.{among_all, among_left, among_right, from_append}
+use Rattle.cip_laws.proofs.digraph.CarriedNodes.{IsRenamed, Way, way_image}
+use Rattle.cip_laws.proofs.units.CarriedSites.{SameUnit, two_same, two_crossed}
+use Rattle.cip_laws.proofs.units.ListedSites.{listed, neighbours_rise, some_drawn, drawn_is, axis_end_listed}
+use Rattle.cip_laws.proofs.drawings.RenamedGeometry.{crossed_same}
+use Rattle.cip_laws.proofs.drawings.RenumberedBonds.{renumbered_sound}
+use Rattle.cip_laws.proofs.graph.RenumberedGraph.{carry, of_atom}
+use Rattle.cip_laws.proofs.units.RenumberedSenses.{IsEndListed}
+use Rattle.cip_laws.proofs.units.RenumberedUnits.{carry_onto}
+use Rattle.cip_laws.proofs.lists.Truths.{and_parts, or_back}
+use Rattle.cip_laws.proofs.graph.WaySymmetry.{back_way}
 use Rattle.cip_axis_laws.proofs.CarriedChains.{over_carried}
 use Rattle.cip_axis_laws.proofs.CarriedFurther.{SameAtoms, pair_atoms, IsCumuleneCore, IsBiarylCore, FoundCumulene, found_cumulene, cumulene_among, FoundBiaryl, found_biaryl, biaryl_among, chain_atoms, last_carried, cumulene_there, cumulene_from, biaryl_there, biaryl_from, CumuleneBack, cumulene_back, biaryl_back}
 use Rattle.cip_axis_laws.proofs.FurtherMatched.{renamed, one_sound, two_sound, TwoMatched, two_matched, GoEnds, pair_of}
