@@ -34,6 +34,7 @@ impl Teller for Asked {
         number: u64,
         bytes: &[u8],
     ) -> Result<Told<Note>, AllocError> {
+        // A desk of `new_desk` fits already, and nothing is taken; but the contract allows any desk.
         desk.fit(alloc, self.nodes)?;
         self.tell_record(alloc, desk, number, bytes)
     }
