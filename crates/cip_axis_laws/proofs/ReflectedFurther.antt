@@ -19,7 +19,7 @@ use Rattle.cip_digraph.specs.rings.Positions.{positions_of}
 use Rattle.cip_digraph.specs.rules.Exchange.{reflected_geometry}
 use Rattle.cip_axis.specs.Biaryls.{is_biaryl}
 use Rattle.cip_axis.specs.Cumulenes.{any_bond, chains, is_cumulene}
-use Rattle.cip_axis.specs.Further.{has_crossed, cumulene_geometry, cumulene_site, cumulene_unit, cumulenes_of, biaryl_site, biaryl_unit, biaryls_of, further_of, further_in}
+use Rattle.cip_axis.specs.Further.{has_crossed, cumulene_site, cumulene_unit, cumulenes_of, biaryl_site, biaryl_unit, biaryls_of, further_of}
 use Rattle.cip_axis.specs.Likeness.{like}
 use Rattle.cip_axis.specs.declared.site.FurtherUnit.{FurtherUnit}
 use Rattle.cip_axis.specs.FurtherOutcomes.{as_unit}

@@ -1,7 +1,6 @@
 // A record with a label item put in.
 ghost use Rattle.std.specs.Prelude.{◌≡◌, ◌-◌, ◌^◌, ◌++◌, [], false, min, IfOk, OnOk, if◌then◌else◌};
 ghost use Rattle.std.specs.List.{flat_map};
-ghost use Rattle.cip_text.specs.Bodies.{body_contents};
 ghost use Rattle.cip_text.specs.Slices.{texts};
 ghost use Rattle.cip_item.specs.Putting.{has_returns, line_end_for, missing_end, needs_gap, heading, item, with_item};
 ghost use Rattle.cip_item.specs.Room.{room_of};

@@ -1,9 +1,8 @@
 // The value lines of a record's item.
-ghost use Rattle.std.specs.Prelude.{◌≡◌, ◌≢◌, ◌<◌, ◌≤◌, ◌+◌, ◌-◌, ◌^◌, ◌++◌, ◌∷◌, [], length, IfOk, OnOk, string_bytes};
+ghost use Rattle.std.specs.Prelude.{◌≡◌, ◌<◌, ◌≤◌, ◌+◌, ◌-◌, ◌^◌, ◌++◌, ◌∷◌, [], length, IfOk, OnOk, string_bytes};
 ghost use Rattle.std.specs.List.{filter_map};
 ghost use Rattle.std.specs.Option.{option_map};
-ghost use Rattle.cip_print.specs.Refusals.{refusal_line};
-ghost use Rattle.cip_print.specs.Values.{year_text, settings_line, outcome_line, unit_line, or_none, values_of, HasRoom};
+ghost use Rattle.cip_print.specs.Values.{year_text, settings_line, unit_line, or_none, values_of, HasRoom};
 
 use crate::answer::{Answer, UnitAnswer, UnitAnswers};
 use crate::labels::ordered_label;

@@ -8,7 +8,6 @@ use Rattle.cip_num.specs.declared.plane.Sign.{Sign}
 use Rattle.cip_num.specs.declared.plane.Sign.TheVariants.{Zero}
 use Rattle.cip_num.specs.declared.plane.Vec3.{Vec3}
 use Rattle.cip_rank.specs.Matching.{InPairs}
-use Rattle.cip_mol.specs.Bonds.{joins_same}
 use Rattle.cip_mol.specs.Bonds as bonds
 use Rattle.cip_mol.specs.Drawing.{Drawing}
 use Rattle.cip_mol.specs.DrawnLigands.{drawn}
