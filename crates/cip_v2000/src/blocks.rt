@@ -91,8 +91,7 @@ pub fn property_block(
     ensures range { IfOk result (λ pairs. All IsPair pairs.items) }
 {
     let mut pairs = Vec::new(alloc);
-    let mut place = before;
-    while place < lines.len() {
+    for place in before..lines.len() {
         let line = lines[place];
         if is_molecule_end(line) {
             return Ok(pairs);
@@ -102,7 +101,6 @@ pub fn property_block(
             cause: ReadCause::Property,
         };
         push_stated(alloc, &mut pairs, fault, atoms, line)?;
-        place += 1;
     }
     Err(ReadRefusal::Fault(short(lines)))
 }
