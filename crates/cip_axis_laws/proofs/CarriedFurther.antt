@@ -1,32 +1,31 @@
 -- The further units of a renamed graph are the renamed further units, with what is known of each in both.
-use Rattle.std.proofs.Common.{◌≡◌, ◌≢◌, ◌≤◌, ◌+◌, ◌-◌, inl, inr, ℕ, List, [], ◌∷◌, ◌++◌, map, length, filter, flat_map, get_or, refl, sym, ap, subst, ◌∙◌, Bool, true, false, not, cond, ◌==◌, ◌||◌, ◌&&◌, nat_lt, nat_le, lt-ltb, ltb-true, ltb-false, leb-true, eqb-true, arith}
+use Rattle.std.proofs.Common.{◌≡◌, ◌+◌, ◌-◌, ℕ, List, [], ◌∷◌, ◌++◌, map, length, filter, flat_map, refl, sym, ap, subst, ◌∙◌, Bool, true, false, not, cond, ◌==◌, ◌||◌, ◌&&◌, nat_lt, nat_le, lt-ltb, ltb-true, leb-true, eqb-true, arith}
 use Rattle.std.specs.List.{list_any, range_with_len}
 use Rattle.std.proofs.lemmas.List.{length-map}
 use Rattle.cip_mol.specs.Drawing.{Drawing}
 use Rattle.cip_mol.specs.declared.site.Ligand.TheVariants.{Vertex, LonePair}
-use Rattle.cip_digraph.specs.declared.graph.Edge.{Edge}
 use Rattle.cip_digraph.specs.graph.Graph.{Graph, vertex_at, edges_at, neighbours, other_end}
 use Rattle.cip_digraph.specs.graph.SoundGraphs.{IsSound}
 use Rattle.cip_digraph.specs.rings.Alternating.{is_in}
 use Rattle.cip_digraph.specs.rings.Positions.{positions_of, is_delocalised}
 use Rattle.cip_digraph.specs.units.Allenes.{doubles, is_axis_end}
-use Rattle.cip_digraph.specs.units.DoubleBonds.{multiples, outer_neighbours, has_end_bonds, end_ligands}
+use Rattle.cip_digraph.specs.units.DoubleBonds.{multiples, outer_neighbours, end_ligands}
 use Rattle.cip_ring.specs.AnyRings.{is_in_ring}
 use Rattle.cip_axis.specs.Biaryls.{hindered_at, is_hindered, is_biaryl, is_biaryl_end}
 use Rattle.cip_axis.specs.Cumulenes.{any_bond, chain_from, chain_over, chains, first_atom, last_atom, is_cumulene}
-use Rattle.cip_axis.specs.Further.{cumulene_unit, cumulenes_of, biaryl_unit, biaryls_of, further_of}
+use Rattle.cip_axis.specs.Further.{cumulene_unit, cumulenes_of, biaryl_unit, biaryls_of}
 use Rattle.cip_axis.specs.declared.site.FurtherUnit.{FurtherUnit}
 use Rattle.cip_laws.specs.Images.{Among}
-use Rattle.cip_laws.proofs.Among.{among_map, from_map, among_filter, from_filter, among_flat, from_flat, among_arranged, among_range, from_range}
-use Rattle.cip_laws.proofs.CarriedAxes.{axis_end_carried, doubles_moved, double_from}
-use Rattle.cip_laws.proofs.CarriedLists.{in_carried}
-use Rattle.cip_laws.proofs.CarriedNodes.{Way, way, ways, way_image, IsRenamed}
-use Rattle.cip_laws.proofs.CarriedSites.{SameUnit, two_same}
-use Rattle.cip_laws.proofs.WaySymmetry.{back_way, leads_back, way_there, way_from}
-use Rattle.cip_laws.proofs.Truths.{and_parts, and_both, not_true, not_false}
+use Rattle.cip_laws.proofs.lists.Among.{among_map, from_map, among_filter, from_filter, among_flat, from_flat, among_arranged, among_range, from_range}
+use Rattle.cip_laws.proofs.units.CarriedAxes.{axis_end_carried, doubles_moved, double_from}
+use Rattle.cip_laws.proofs.lists.CarriedLists.{in_carried}
+use Rattle.cip_laws.proofs.digraph.CarriedNodes.{Way, way, ways, way_image, IsRenamed}
+use Rattle.cip_laws.proofs.units.CarriedSites.{SameUnit, two_same}
+use Rattle.cip_laws.proofs.graph.WaySymmetry.{back_way, leads_back, way_there, way_from}
+use Rattle.cip_laws.proofs.lists.Truths.{and_parts, and_both, not_true, not_false}
 use Rattle.cip_axis_laws.proofs.CarriedChains.{over_carried, over_turned, from_short, IsTurnedOver}
 use Rattle.cip_axis_laws.proofs.CarriedHindrance.{biaryl_end_carried, hindered_long, ring_back, ring_carried}
-use Rattle.cip_axis_laws.proofs.TurnedLists.{onto, last_from, last_is, first_onto, last_onto, long_onto, in_onto, any_onto, any_mapped, last_mapped}
+use Rattle.cip_axis_laws.proofs.TurnedLists.{onto, last_is, first_onto, last_onto, long_onto, in_onto, any_onto, any_mapped, last_mapped}
 
 -- the same atoms listed in another way
 abbrev pub SameAtoms : List ℕ → List ℕ → Type 0

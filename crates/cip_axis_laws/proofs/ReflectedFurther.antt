@@ -19,13 +19,13 @@ use Rattle.cip_digraph.specs.rings.Positions.{positions_of}
 use Rattle.cip_digraph.specs.rules.Exchange.{reflected_geometry}
 use Rattle.cip_axis.specs.Biaryls.{is_biaryl}
 use Rattle.cip_axis.specs.Cumulenes.{any_bond, chains, is_cumulene}
-use Rattle.cip_axis.specs.Further.{has_crossed, cumulene_geometry, cumulene_site, cumulene_unit, cumulenes_of, biaryl_site, biaryl_unit, biaryls_of, further_of, further_in}
+use Rattle.cip_axis.specs.Further.{has_crossed, cumulene_site, cumulene_unit, cumulenes_of, biaryl_site, biaryl_unit, biaryls_of, further_of}
 use Rattle.cip_axis.specs.Likeness.{like}
 use Rattle.cip_axis.specs.declared.site.FurtherUnit.{FurtherUnit}
 use Rattle.cip_axis.specs.FurtherOutcomes.{as_unit}
 use Rattle.cip_axis_laws.specs.FurtherLaws.{reflected_further, ReflectsFurther, ReflectionKeepsFurther}
-use Rattle.cip_laws.proofs.CarriedLists.{mapped_twice, mapped_by, mapped_flat}
-use Rattle.cip_laws.proofs.ReflectedDrawings.{geometry_mirrored, graph_kept, reflection_keeps_drawings}
+use Rattle.cip_laws.proofs.lists.CarriedLists.{mapped_twice, mapped_by, mapped_flat}
+use Rattle.cip_laws.proofs.drawings.ReflectedDrawings.{geometry_mirrored, graph_kept, reflection_keeps_drawings}
 
 either_kept : (mark : Mark) → is_either (exchanged mark) ≡ is_either mark
 either_kept marks.Up = refl

@@ -1,5 +1,5 @@
 -- Renumbering carries the further units of a drawing and what is found of them along.
-use Rattle.std.proofs.Common.{◌≡◌, ◌≢◌, ◌⊎◌, inl, inr, ◌<◌, ◌≤◌, ◌+◌, ◌-◌, ℕ, List, [], ◌∷◌, ◌++◌, map, length, filter, flat_map, refl, sym, ap, subst, ◌∙◌, Bool, true, false, not, cond, ◌==◌, ◌||◌, ◌&&◌, nat_lt, lt-ltb, ltb-true, ltb-false, eqb-true, arith}
+use Rattle.std.proofs.Common.{◌≡◌, ◌≢◌, ◌⊎◌, inl, inr, ◌<◌, ◌≤◌, ◌+◌, ◌-◌, ℕ, List, [], ◌∷◌, map, length, flat_map, refl, sym, ap, subst, ◌∙◌, Bool, true, false, not, cond, ◌==◌, ◌||◌, ◌&&◌, nat_lt, lt-ltb, ltb-true, ltb-false, arith}
 use Rattle.std.specs.List.{AllByRecursion, list_any, range_with_len}
 use Rattle.std.proofs.lemmas.List.{length-map}
 use Rattle.cip_rank.specs.declared.rules.Rules.{Rules}
@@ -29,19 +29,19 @@ use Rattle.cip_axis.proofs.Sited.{biaryl_end_parts}
 use Rattle.cip_axis.specs.FurtherOutcomes.{as_unit}
 use Rattle.cip_axis_laws.specs.FurtherLaws.{IsImageFurther, FurtherGo, FurtherOutcomesGo, RenumberingKeepsFurther}
 use Rattle.cip_laws.specs.Images.{Among}
-use Rattle.cip_laws.proofs.Among.{among_all, among_left, among_right, from_append}
-use Rattle.cip_laws.proofs.CarriedNodes.{IsRenamed, Way, way_image}
-use Rattle.cip_laws.proofs.CarriedSites.{SameUnit, two_same, two_crossed}
-use Rattle.cip_laws.proofs.ListedSites.{listed, neighbours_rise, some_drawn, drawn_is, axis_end_listed}
-use Rattle.cip_laws.proofs.RenamedGeometry.{crossed_same}
-use Rattle.cip_laws.proofs.RenumberedBonds.{renumbered_sound}
-use Rattle.cip_laws.proofs.RenumberedGraph.{carry, of_atom}
-use Rattle.cip_laws.proofs.RenumberedSenses.{IsEndListed}
-use Rattle.cip_laws.proofs.RenumberedUnits.{carry_onto}
-use Rattle.cip_laws.proofs.Truths.{and_parts, or_back}
-use Rattle.cip_laws.proofs.WaySymmetry.{back_way}
+use Rattle.cip_laws.proofs.lists.Among.{among_all, among_left, among_right, from_append}
+use Rattle.cip_laws.proofs.digraph.CarriedNodes.{IsRenamed, Way, way_image}
+use Rattle.cip_laws.proofs.units.CarriedSites.{SameUnit, two_same, two_crossed}
+use Rattle.cip_laws.proofs.units.ListedSites.{listed, neighbours_rise, some_drawn, drawn_is, axis_end_listed}
+use Rattle.cip_laws.proofs.drawings.RenamedGeometry.{crossed_same}
+use Rattle.cip_laws.proofs.drawings.RenumberedBonds.{renumbered_sound}
+use Rattle.cip_laws.proofs.graph.RenumberedGraph.{carry, of_atom}
+use Rattle.cip_laws.proofs.units.RenumberedSenses.{IsEndListed}
+use Rattle.cip_laws.proofs.units.RenumberedUnits.{carry_onto}
+use Rattle.cip_laws.proofs.lists.Truths.{or_back}
+use Rattle.cip_laws.proofs.graph.WaySymmetry.{back_way}
 use Rattle.cip_axis_laws.proofs.CarriedChains.{over_carried}
-use Rattle.cip_axis_laws.proofs.CarriedFurther.{SameAtoms, pair_atoms, IsCumuleneCore, IsBiarylCore, FoundCumulene, found_cumulene, cumulene_among, FoundBiaryl, found_biaryl, biaryl_among, chain_atoms, last_carried, cumulene_there, cumulene_from, biaryl_there, biaryl_from, CumuleneBack, cumulene_back, biaryl_back}
+use Rattle.cip_axis_laws.proofs.CarriedFurther.{IsCumuleneCore, IsBiarylCore, FoundCumulene, found_cumulene, cumulene_among, FoundBiaryl, found_biaryl, biaryl_among, chain_atoms, last_carried, cumulene_there, cumulene_from, biaryl_there, biaryl_from, cumulene_back, biaryl_back}
 use Rattle.cip_axis_laws.proofs.FurtherMatched.{renamed, one_sound, two_sound, TwoMatched, two_matched, GoEnds, pair_of}
 use Rattle.cip_axis_laws.proofs.TurnedLists.{any_onto, onto}
 

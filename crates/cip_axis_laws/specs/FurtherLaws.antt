@@ -1,5 +1,5 @@
 -- What another numbering and a mirror do to further units and to what is found of them. Own, after IUPAC 2013, P-92.
-use Rattle.std.specs.Prelude.{◌≡◌, ◌⊎◌, ℕ, List, map, length}
+use Rattle.std.specs.Prelude.{◌≡◌, ◌⊎◌, ℕ, map, length}
 use Rattle.cip_rank.specs.declared.rules.Rules.{Rules}
 use Rattle.cip_mol.specs.Bonds as bonds
 use Rattle.cip_mol.specs.Drawing.{Drawing}

@@ -7,6 +7,7 @@ use Rattle.cip_text.specs.Kinds.{is_blank, is_terminator}
 use Rattle.cip_text.specs.Kinds.{is_molecule_end}
 use Rattle.cip_text.specs.Bodies.{body_contents}
 use Rattle.cip_text.specs.Bodies.{body, closing}
+use Rattle.cip_item.specs.Kinds.{label_name}
 
 -- the first LF stands right behind a CR; where there is none, the last byte is a CR
 abbrev pub has_returns : Bool → List ℕ → Bool
@@ -39,7 +40,7 @@ gap end bytes = if needs_gap false false (body_contents bytes) then end else []
 -- the item
 
 unfoldable pub heading : List ℕ
-heading = codes "> <CIP_LABELS>"
+heading = codes "> " ++ label_name
 
 -- the heading, the values and an empty line
 abbrev pub item : List ℕ → List (List ℕ) → List ℕ

@@ -1,5 +1,5 @@
 // Where the items of a record stand.
-ghost use Rattle.std.specs.Prelude.{◌≡◌, ◌≤◌, ◌<◌, ◌+◌, ◌-◌, ◌^◌, ◌++◌, ◌∷◌, [], List, ℕ, length, IfOk, OnOk};
+ghost use Rattle.std.specs.Prelude.{◌≡◌, ◌≤◌, ◌<◌, ◌+◌, ◌-◌, ◌^◌, ◌++◌, ◌∷◌, List, ℕ, length, IfOk, OnOk};
 ghost use Rattle.cip_item.specs.Items.{items_of};
 ghost use Rattle.cip_item.specs.Splitting.{items_with, closed_before, begun};
 

@@ -1,11 +1,11 @@
 // A record with a label item put in.
 ghost use Rattle.std.specs.Prelude.{◌≡◌, ◌-◌, ◌^◌, ◌++◌, [], false, min, IfOk, OnOk, if◌then◌else◌};
 ghost use Rattle.std.specs.List.{flat_map};
-ghost use Rattle.cip_text.specs.Bodies.{body_contents};
 ghost use Rattle.cip_text.specs.Slices.{texts};
 ghost use Rattle.cip_item.specs.Putting.{has_returns, line_end_for, missing_end, needs_gap, heading, item, with_item};
 ghost use Rattle.cip_item.specs.Room.{room_of};
 
+use crate::kinds::LABEL_NAME;
 use crate::part::has_molecule_end;
 use cip_text::{Bytes, Listing, RecordLines, is_blank};
 use std::alloc::{AllocError, Global};
@@ -15,7 +15,7 @@ pub type Texts = Listing<Bytes>;
 
 // The end of the last line, the heading with its end, and the empty lines before and behind the item: each end is CRLF
 // at most.
-const ITEM_ROOM: usize = 2 + (14 + 2) + 2 + 2;
+const ITEM_ROOM: usize = 2 + (2 + LABEL_NAME.len() + 2) + 2 + 2;
 
 /// Puts a label item into a record, with a line for each value: before the terminator line, or at the end where there
 /// is none.
@@ -61,18 +61,20 @@ fn room_for(values: &Texts) -> usize
 fn put_item(text: &mut Vec<u8>, end: &[u8], values: &Texts) -> Result<(), AllocError>
     ensures { OnOk result (text.new.items ≡ text.old.items ++ item end.now values.now) }
 {
-    text.extend_from_slice(heading())?;
+    put_heading(text)?;
     text.extend_from_slice(end)?;
     put_values(text, end, values)?;
     text.extend_from_slice(end)?;
     Ok(())
 }
 
-#[tactic(auto, unfolding(crate::specs::Putting::heading))]
-fn heading() -> &'static [u8]
-    ensures { result.now ≡ heading }
+#[tactic(auto, unfolding(crate::specs::Putting::heading), using(crate::proofs::Joining::two_joined))]
+fn put_heading(text: &mut Vec<u8>) -> Result<(), AllocError>
+    ensures { OnOk result (text.new.items ≡ text.old.items ++ heading) }
 {
-    b"> <CIP_LABELS>".as_slice()
+    text.extend_from_slice(b"> ".as_slice())?;
+    text.extend_from_slice(LABEL_NAME)?;
+    Ok(())
 }
 
 // One line for each value.

@@ -200,7 +200,7 @@ impl PairWork {
     {
         let _bound = self.bound;
         self.rank_sphere(table, earlier, marks, 0);
-        for depth in 0..height(table) {
+        for depth in 0..table.height() {
             if !self.rank_sphere(table, earlier, marks, depth + 1) {
                 return;
             }
@@ -226,7 +226,7 @@ impl PairWork {
         ensures low { IfSome result (λ parted. parted.depth < length table.now.parents) }
         ensures bound { self.new.bound ≡ self.old.bound }
     {
-        let past = table.sphere(table.len() - 1) + 1;
+        let past = table.height() + 1;
         for depth in 0..past {
             if !self.rank_sphere(table, earlier, marks, depth) {
                 return None;
@@ -265,15 +265,6 @@ impl PairWork {
             Ordering::Equal => None,
             _ => self.part(table, earlier, marks, a, b),
         }
-    }
-}
-
-fn height(table: &Table) -> u32
-    ensures { result ≡ height_of table.now.parents }
-{
-    match table.len() {
-        0 => 0,
-        count => table.sphere(count - 1),
     }
 }
 

@@ -1,6 +1,6 @@
 // How labels are written.
 ghost use Rattle.std.specs.Prelude.{◌≡◌, ◌++◌, IfOk, string_bytes, slice_get, codes};
-ghost use Rattle.cip_print.specs.Labels.{ligand_name, spaced_name, names_at, names_of_ends, names_in_order, label_line, ordered_label};
+ghost use Rattle.cip_print.specs.Labels.{ligand_name, spaced_name, names_at, names_of_ends, names_in_order, ordered_label};
 
 use crate::answer::UnitAnswer;
 use cip_mol::{Label, Ligand, Site};

@@ -1,9 +1,8 @@
 // The value lines of a record's item.
-ghost use Rattle.std.specs.Prelude.{◌≡◌, ◌≢◌, ◌<◌, ◌≤◌, ◌+◌, ◌-◌, ◌^◌, ◌++◌, ◌∷◌, [], length, IfOk, OnOk, string_bytes};
+ghost use Rattle.std.specs.Prelude.{◌≡◌, ◌<◌, ◌≤◌, ◌+◌, ◌-◌, ◌^◌, ◌++◌, ◌∷◌, [], length, IfOk, OnOk, string_bytes};
 ghost use Rattle.std.specs.List.{filter_map};
 ghost use Rattle.std.specs.Option.{option_map};
-ghost use Rattle.cip_print.specs.Refusals.{refusal_line};
-ghost use Rattle.cip_print.specs.Values.{year_text, settings_line, outcome_line, unit_line, or_none, values_of, HasRoom};
+ghost use Rattle.cip_print.specs.Values.{year_text, settings_line, unit_line, or_none, values_of, HasRoom};
 
 use crate::answer::{Answer, UnitAnswer, UnitAnswers};
 use crate::labels::ordered_label;
@@ -13,6 +12,14 @@ use cip_mol::Outcome;
 use cip_rank::Rules;
 use cip_text::Bytes;
 use std::alloc::{AllocError, Global};
+
+// The version of the item, with which its first line begins.
+const VERSION: &str = "cip 2";
+
+// What stands in that line before the year of the wording of Rule 1b, and before the bound on nodes.
+const WORDING: &str = " rule1b ";
+
+const NODES: &str = " nodes ";
 
 /// The value lines of an answer that was found within a bound on nodes by a wording of Rule 1b: these two, then why the
 /// record is refused, or a line for each unit that has a label or whose digraph is larger than the bound, and `none`
@@ -42,7 +49,7 @@ fn settings(alloc: Global, nodes: u32, rules: Rules) -> Result<String, AllocErro
     ensures { IfOk result (λ line. string_bytes line ≡ settings_line nodes rules) }
 {
     let year = year(rules);
-    format!(in alloc; "cip 2 rule1b {year} nodes {nodes}")
+    format!(in alloc; "{VERSION}{WORDING}{year}{NODES}{nodes}")
 }
 
 fn year(rules: Rules) -> &'static str

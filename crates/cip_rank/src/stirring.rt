@@ -1,5 +1,5 @@
 // Which rank numbers need a look: those of nodes of which a child's number changed.
-ghost use Rattle.std.specs.Prelude.{◌≡◌, ◌<◌, ◌≤◌, true, length, slice_index, vec_capacity};
+ghost use Rattle.std.specs.Prelude.{◌≡◌, ◌<◌, true, length, slice_index, vec_capacity};
 ghost use Rattle.cip_rank.specs.Calm.{is_stirred, StaysStirred, StirsAgain, StirsParents};
 
 use crate::table::Table;

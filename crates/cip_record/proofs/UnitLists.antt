@@ -49,26 +49,19 @@ module _ (setting : Setting) (bound : ℕ) where
       let same : length answers ≡ length setting.units = ap length all ∙ length-map setting.units answered in
       omega (arith, same, few)
 
-  pub is_place : (answers : List UnitAnswer) (place : ℕ) → answers ≡ map answered (take place setting.units) →
-      place < length setting.units → length answers < length setting.units
-  is_place answers place so_far within =
-      let same : length answers ≡ place = counted answered answers setting.units place so_far within in
-      omega (arith, same, within)
-
-  -- the next unit is the one whose place is the number of answers
-  pub next_unit : (now count : ℕ) (answers : List UnitAnswer) (place : ℕ) (listed : List Unit) (unit : Unit)
+  -- one unit more
+  pub next_unit : (now : ℕ) (answers : List UnitAnswer) (place : ℕ) (listed : List Unit) (unit : Unit)
       (name : UnitName) (site : Site) (drawn : ℕ) (outcome : Outcome) → answers ≡ map answered (take place setting.units) →
       place < length setting.units → listed ≡ setting.units → unit ≡ slice_index_or listed place unit →
-      count ≡ length answers → name ≡ name_of unit.site → site ≡ unit.site → drawn ≡ setting.graph.drawn → now ≡ bound →
-      ((u : Unit) → slice_get setting.units count ≡ Some u → outcome ≡ outcome_in setting now u) →
+      name ≡ name_of unit.site → site ≡ unit.site → drawn ≡ setting.graph.drawn → now ≡ bound →
+      ((u : Unit) → slice_get setting.units place ≡ Some u → outcome ≡ outcome_in setting now u) →
       answers ++ record { name = name; site = site; drawn = drawn; outcome = outcome } ∷ []
       ≡ map answered (take (place + 1) setting.units)
-  next_unit now count answers place listed unit name site drawn outcome so_far within all is number named same
-      graph_drawn kept found =
+  next_unit now answers place listed unit name site drawn outcome so_far within all is named same graph_drawn kept
+      found =
       let at : slice_get setting.units place ≡ Some unit =
       slice_get_from setting.units place unit within (is ∙ ap (λ us. slice_index_or us place unit) all) in
-      let here : count ≡ place = number ∙ counted answered answers setting.units place so_far within in
       let outcomes : outcome ≡ outcome_in setting bound unit =
-      found unit (ap (slice_get setting.units) here ∙ at) ∙ ap (λ n. outcome_in setting n unit) kept in
+      found unit at ∙ ap (λ n. outcome_in setting n unit) kept in
       one_more answered answers setting.units place unit _ so_far at
       (λ k. record { name = named k; site = same k; drawn = graph_drawn k; outcome = outcomes k })

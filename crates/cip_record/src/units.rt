@@ -46,8 +46,8 @@ fn label_counted<L: Ledger>(
     let mut steps = Steps::<L>::open(blank);
     let mut answers = UnitAnswers::new(alloc);
     let units = setting.units().as_slice();
-    for unit in units {
-        let outcome = labeller.label(alloc, setting, answers.len(), &mut steps)?;
+    for (place, unit) in units.iter().enumerate() {
+        let outcome = labeller.label(alloc, setting, place as u32, &mut steps)?;
         answers.push(UnitAnswer {
             name: name_of(&unit.site),
             site: unit.site.copy(alloc),

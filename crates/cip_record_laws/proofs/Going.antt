@@ -16,9 +16,9 @@ use Rattle.cip_laws.specs.DrawnOutcomes.{units_in}
 use Rattle.cip_laws.specs.Images.{Among}
 use Rattle.cip_laws.specs.ReflectionLaw.{ReflectsDrawing}
 use Rattle.cip_laws.specs.RenumberingLaw.{on_vertices, GoTogether, OutcomesGo}
-use Rattle.cip_laws.proofs.Among.{among_map, from_map}
-use Rattle.cip_laws.proofs.ReflectedDrawings.{reflection_keeps_drawings}
-use Rattle.cip_laws.proofs.Renumbered.{renumbering_keeps_outcomes}
+use Rattle.cip_laws.proofs.lists.Among.{among_map, from_map}
+use Rattle.cip_laws.proofs.drawings.ReflectedDrawings.{reflection_keeps_drawings}
+use Rattle.cip_laws.proofs.drawings.Renumbered.{renumbering_keeps_outcomes}
 use Rattle.cip_print.specs.declared.answer.UnitAnswer.{UnitAnswer}
 use Rattle.cip_record.specs.Answers.{unit_answer}
 use Rattle.cip_record_laws.specs.Records.{IsImageAnswer, RecordsGo, IsMirrorAnswer, RecordsMirror}

@@ -1,6 +1,5 @@
 -- What is told of a record is what is told of it without its label items.
-use Rattle.std.proofs.Common.{◌≡◌, ◌==◌, ℕ, List, Bool, true, false, refl, sym, ◌∙◌, ap, subst, if◌then◌else◌}
-use Rattle.cip_item.proofs.NoLabels.{no_label_item}
+use Rattle.std.proofs.Common.{◌≡◌, ◌==◌, ℕ, List, Bool, true, false, refl, sym, ◌∙◌, ap, if◌then◌else◌}
 use Rattle.cip_item.proofs.Walking.{itself}
 use Rattle.cip_item.specs.Parts.{has_label_item, without_label_items}
 use Rattle.cip_mirror.proofs.MirrorReads.{mirror_reads}
@@ -10,14 +9,13 @@ use Rattle.cip_mirror.specs.declared.answers.MirrorAnswer.{MirrorAnswer}
 use Rattle.cip_mirror.specs.declared.answers.MirrorAnswer.TheVariants as mirrored
 use Rattle.cip_mol.specs.declared.centre_letter.CentreLetter.{CentreLetter}
 use Rattle.cip_rank.specs.declared.rules.Rules.{Rules}
-use Rattle.cip_record.specs.Answers.{answer_without_items, is_flagged}
 use Rattle.cip_set.proofs.SetReads.{set_records_are_read}
 use Rattle.cip_set.specs.SetAnswers.{GivesLetter, set_answer}
 use Rattle.cip_set.specs.declared.answers.SetAnswer.{SetAnswer}
 use Rattle.cip_set.specs.declared.answers.SetAnswer.TheVariants as sets
 use Rattle.cip_stream.specs.Batches.{Telling, telling}
 use Rattle.cip_run.specs.Changing.{Change, mirrored_to, reflected, set_to, unchanged, with_letter}
-use Rattle.cip_run.specs.Telling.{annotated, changing, explained, is_flagged_record, manner_by}
+use Rattle.cip_run.specs.Telling.{annotated, explained, is_flagged_record, manner_by}
 use Rattle.cip_run.specs.TellingBare.{annotate_change, told_bare}
 use Rattle.cip_run.specs.declared.asked.Task.{Task}
 use Rattle.cip_run.specs.declared.asked.Task.TheVariants.{Annotate, Explain, Set, Mirror, Groups, Axes}

@@ -1,5 +1,5 @@
 -- What is told of a record that has no label items. Own.
-use Rattle.std.specs.Prelude.{◌==◌, ℕ, List, None, if◌then◌else◌}
+use Rattle.std.specs.Prelude.{◌==◌, ℕ, List, if◌then◌else◌}
 use Rattle.cip_axis_text.specs.AxesTexts.{axes_without_items, is_flagged_without_items}
 use Rattle.cip_groups.specs.Texts as groups
 use Rattle.cip_mirror.specs.Answers as mirrors

@@ -1,5 +1,5 @@
 // What each command does, and how it ends.
-ghost use Rattle.std.specs.Prelude.{◌≡◌, ◌≤◌, ◌<◌, ◌+◌, ◌^◌};
+ghost use Rattle.std.specs.Prelude.{◌≤◌, ◌<◌, ◌+◌, ◌^◌};
 ghost use Rattle.cip_stream.specs.Reading.{TakesAtMost};
 ghost use Rattle.cip_run.specs.Endings.{status_of};
 ghost use Rattle.cip_run.specs.Runs.{IsMissed};

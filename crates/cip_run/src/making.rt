@@ -1,5 +1,5 @@
 // Records that are made.
-ghost use Rattle.std.specs.Prelude.{◌≡◌, ◌≤◌, ◌+◌, IsErrOf};
+ghost use Rattle.std.specs.Prelude.{◌≤◌, ◌+◌, IsErrOf};
 ghost use Rattle.cip_io.specs.Faults.{Rose};
 ghost use Rattle.cip_make.specs.Made.{made};
 ghost use Rattle.cip_run.specs.Making.{Makes, Writes};

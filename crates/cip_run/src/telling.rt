@@ -1,6 +1,5 @@
 // What is told of a record, by what is asked.
-ghost use Rattle.std.specs.Prelude.{◌≡◌, ◌≤◌, ◌<◌, ◌-◌, ◌+◌, ◌^◌, IfOk, None, length};
-ghost use Rattle.cip_run.specs.Changing.{Change, unchanged};
+ghost use Rattle.std.specs.Prelude.{◌≡◌, ◌≤◌, ◌<◌, ◌-◌, ◌^◌, IfOk, None, length};
 ghost use Rattle.cip_run.specs.Telling.{manner_of};
 ghost use Rattle.cip_run.specs.TellingBare.{annotate_change, axes_bare, explain_bare, groups_bare, mirror_bare, set_bare, told_bare};
 
@@ -34,6 +33,7 @@ impl Teller for Asked {
         number: u64,
         bytes: &[u8],
     ) -> Result<Told<Note>, AllocError> {
+        // A desk of `new_desk` fits already, and nothing is taken; but the contract allows any desk.
         desk.fit(alloc, self.nodes)?;
         self.tell_record(alloc, desk, number, bytes)
     }

@@ -28,6 +28,7 @@ impl Job for Numbered {
     #[tactic(auto, unfolding(crate::specs::Trying::made_answer))]
     fn work(&self, desk: &mut Desk) -> Result<Answer, AllocError> {
         let bytes = record(self.alloc, self.trial.start, self.number)?;
+        // A desk of `new_clerks` fits already, and nothing is taken; but the contract allows any desk.
         desk.fit(self.alloc, self.trial.nodes)?;
         desk.answer(self.alloc, &bytes, self.trial.rules)
     }

@@ -1,6 +1,6 @@
 -- The property lines of a molfile that state charges, radicals and isotopes. CTfile Formats; that words are split at
 -- spaces, and that words past the pairs aren't read, is own.
-use Rattle.std.specs.Prelude.{ℕ, List, [], ◌∷◌, ◌+◌, ◌*◌, ◌==◌, Some, None, Result, Ok, Err, codes, length, take, drop, slice_get, if◌then◌else◌}
+use Rattle.std.specs.Prelude.{ℕ, List, [], ◌∷◌, ◌+◌, ◌*◌, Some, None, Result, Ok, Err, codes, take, drop, slice_get, if◌then◌else◌}
 use Rattle.std.specs.declared.option.Option.{Option}
 use Rattle.std.specs.Option.{ok_or, option_map}
 use Rattle.std.specs.Str.{bytes_eq}

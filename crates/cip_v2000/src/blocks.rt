@@ -1,5 +1,6 @@
 // The blocks of a molfile.
-ghost use Rattle.std.specs.Prelude.{◌≡◌, ◌≤◌, ◌<◌, ◌+◌, ◌^◌, ◌-◌, [], All, length, IfOk};
+ghost use Rattle.std.specs.Prelude.{◌≡◌, ◌≤◌, ◌<◌, ◌+◌, ◌^◌, ◌-◌, [], All, length, slice_get, IfErr, IfOk, Some, None};
+ghost use Rattle.cip_mol.specs.declared.refusal.ReadCause.TheVariants.{Short};
 ghost use Rattle.cip_text.specs.Slices.{texts};
 ghost use Rattle.cip_mol.specs.Ranges.{IsBond};
 ghost use Rattle.cip_v2000.specs.AtomLine.{atom_of, IsAtomLine};
@@ -28,10 +29,8 @@ pub fn counts_line(lines: &[&[u8]]) -> Result<CountsLine, ReadFault>
     ensures range { IfOk result (λ counts. (counts.atoms ≤ 999) × (counts.bonds ≤ 999)) }
     ensures there { IfOk result (λ _. 4 ≤ length lines.now) }
 {
-    match lines.get(3) {
-        None => Err(short(lines)),
-        Some(line) => numbered(4, counts_in(line)),
-    }
+    let line = line_at(lines, 3)?;
+    numbered(4, counts_in(line))
 }
 
 /// Reads the atom lines, so many.
@@ -92,8 +91,7 @@ pub fn property_block(
     ensures range { IfOk result (λ pairs. All IsPair pairs.items) }
 {
     let mut pairs = Vec::new(alloc);
-    let mut place = before;
-    while place < lines.len() {
+    for place in before..lines.len() {
         let line = lines[place];
         if is_molecule_end(line) {
             return Ok(pairs);
@@ -103,7 +101,6 @@ pub fn property_block(
             cause: ReadCause::Property,
         };
         push_stated(alloc, &mut pairs, fault, atoms, line)?;
-        place += 1;
     }
     Err(ReadRefusal::Fault(short(lines)))
 }
@@ -115,10 +112,8 @@ fn atom_line(lines: &[&[u8]], place: usize) -> Result<AtomLine, ReadFault>
     ensures range { IfOk result IsAtomLine }
     ensures there { IfOk result (λ _. place < length lines.now) }
 {
-    match lines.get(place) {
-        None => Err(short(lines)),
-        Some(line) => numbered(place as u32 + 1, atom_in(line)),
-    }
+    let line = line_at(lines, place)?;
+    numbered(place as u32 + 1, atom_in(line))
 }
 
 #[tactic(auto, unfolding(cip_reading::specs::Reading::read_at))]
@@ -136,8 +131,20 @@ fn bond_line(
     ensures free { IfOk result (IsFree before.now) }
     ensures there { IfOk result (λ _. place < length lines.now) }
 {
+    let line = line_at(lines, place)?;
+    numbered(place as u32 + 1, bond_in(atoms, before, line))
+}
+
+// The line at a place, from 0, where it is there.
+fn line_at<'a>(lines: &[&'a [u8]], place: usize) -> Result<&'a [u8], ReadFault>
+    requires { length lines.now < 2 ^ 32 - 1 }
+    ensures found { IfOk result (λ line. slice_get (texts lines.now) place ≡ Some line.now) }
+    ensures there { IfOk result (λ _. place < length lines.now) }
+    ensures missing { IfErr result (λ fault. (slice_get (texts lines.now) place ≡ None)
+        × (fault ≡ record { line = length lines.now + 1; cause = Short })) }
+{
     match lines.get(place) {
         None => Err(short(lines)),
-        Some(line) => numbered(place as u32 + 1, bond_in(atoms, before, line)),
+        Some(line) => Ok(line),
     }
 }

@@ -29,17 +29,24 @@ word_goes_on so_far total within text start at le lt stays is =
     = rw (drop_more text at 0 lt, stays, piece_more text start at le lt) refl in
     sym (ap (λ (ws : List (List ℕ)). so_far ++ ws) one) ∙ is
 
+-- a byte that ends a word stands outside brackets and quotes
+cut_is_plain : (within : Within) (b : ℕ) → ends_word within b ≡ true → within ≡ Plain
+cut_is_plain Plain b cuts = refl
+cut_is_plain Bracket b cuts = absurd (grind (arith, cuts))
+cut_is_plain Quote b cuts = absurd (grind (arith, cuts))
+
 pub word_ends : (so_far more total : List (List ℕ)) (within : Within) (text : List ℕ) (start at : ℕ)
     → at < length text → ends_word within (get_or text at 0) ≡ true
     → more ≡ so_far ++ ended (piece text start at) → so_far ++ words_from within (piece text start at) (drop at text)
     ≡ total
-    → more ++ words_from Plain (piece text (at + 1) (at + 1)) (drop (at + 1) text) ≡ total
+    → more ++ words_from within (piece text (at + 1) (at + 1)) (drop (at + 1) text) ≡ total
 word_ends so_far more total within text start at lt cuts add is =
     let z : at + 1 - (at + 1) ≡ 0 = omega arith in
+    let plain : within ≡ Plain = cut_is_plain within (get_or text at 0) cuts in
     let one : words_from within (piece text start at) (drop at text) ≡ ended (piece text start at)
     ++ words_from Plain [] (drop (at + 1) text)
     = rw (drop_more text at 0 lt, cuts) refl in
-    rw (z, add) (append_assoc so_far (ended (piece text start at)) (words_from Plain [] (drop (at + 1) text))
+    rw (z, add, plain) (append_assoc so_far (ended (piece text start at)) (words_from Plain [] (drop (at + 1) text))
     ∙ sym (ap (λ (ws : List (List ℕ)). so_far ++ ws) one) ∙ is)
 
 -- no byte behind the closing bracket begins or ends a part

@@ -33,10 +33,13 @@ words_from within word (b ∷ bs) =
 unfoldable pub words_of : List ℕ → List (List ℕ)
 words_of text = words_from Plain [] text
 
+abbrev pub equals_sign : ℕ
+equals_sign = 61
+
 -- KEY=value, cut at the first =
 abbrev pub cut_at : List ℕ → Option ℕ → Option (List ℕ × List ℕ)
 cut_at word None = None
 cut_at word (Some place) = Some (take place word, drop (place + 1) word)
 
 unfoldable pub keyed : List ℕ → Option (List ℕ × List ℕ)
-keyed word = cut_at word (position (λ b. b == 61) word)
+keyed word = cut_at word (position (λ b. b == equals_sign) word)

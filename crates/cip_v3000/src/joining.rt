@@ -1,5 +1,5 @@
 // Lines, joined where they are continued.
-ghost use Rattle.std.specs.Prelude.{◌≡◌, ◌≤◌, ◌<◌, ◌^◌, ◌-◌, ◌+◌, All, length, IfOk};
+ghost use Rattle.std.specs.Prelude.{◌≡◌, ◌≤◌, ◌<◌, ◌^◌, ◌-◌, ◌+◌, All, length, slice_get, IfErr, IfOk, Some, None};
 ghost use Rattle.std.specs.List.{flat_map};
 ghost use Rattle.cip_mol.specs.declared.refusal.ReadCause.TheVariants.{Frame};
 ghost use Rattle.cip_text.specs.Slices.{texts};
@@ -76,6 +76,20 @@ impl<'a> Text<'a> {
         match self {
             Text::Whole(bytes) => bytes,
             Text::Joined(bytes) => bytes,
+        }
+    }
+}
+
+impl<'a> JoinedLines<'a> {
+    /// The line at a place, or the fault where one more is due.
+    pub fn line(&self, place: usize) -> Result<JoinedLine<'a>, ReadFault>
+        ensures found { IfOk result (λ line. slice_get (seen_all self.now).lines place ≡ Some (seen line)) }
+        ensures missing { IfErr result (λ fault. (slice_get (seen_all self.now).lines place ≡ None)
+            × (fault ≡ self.now.past)) }
+    {
+        match self.lines.get(place) {
+            None => Err(self.past),
+            Some(line) => Ok(*line),
         }
     }
 }

@@ -25,14 +25,10 @@ pub fn counts_line(alloc: Global, joined: &JoinedLines<'_>) -> Result<CountsLine
     ensures value { Gives (λ counts. counts) result (read_at (seen_all joined.now) 1 counts_of) }
     ensures range { IfOk result (λ counts. (counts.atoms ≤ 16384) × (counts.bonds ≤ 32768)) }
 {
-    match joined.lines.get(1) {
-        None => Err(ReadRefusal::Fault(joined.past)),
-        Some(line) => {
-            let text = text_of(alloc, line)?;
-            let words = words(alloc, text.bytes())?;
-            Ok(numbered(line.number, counts_in(&words))?)
-        }
-    }
+    let line = joined.line(1)?;
+    let text = text_of(alloc, &line)?;
+    let words = words(alloc, text.bytes())?;
+    Ok(numbered(line.number, counts_in(&words))?)
 }
 
 /// Reads the atom line at a place, behind atoms of these indices.
@@ -46,14 +42,10 @@ pub fn atom_line(
     ensures value { Gives (λ line. line) result (read_at (seen_all joined.now) place (atom_of known.now)) }
     ensures range { IfOk result (IsAtomLine known.now) }
 {
-    match joined.lines.get(place) {
-        None => Err(ReadRefusal::Fault(joined.past)),
-        Some(line) => {
-            let text = text_of(alloc, line)?;
-            let words = words(alloc, text.bytes())?;
-            Ok(numbered(line.number, atom_in(known, &words))?)
-        }
-    }
+    let line = joined.line(place)?;
+    let text = text_of(alloc, &line)?;
+    let words = words(alloc, text.bytes())?;
+    Ok(numbered(line.number, atom_in(known, &words))?)
 }
 
 /// Reads the bond line at a place, among atoms of these indices and behind these bonds.
@@ -72,14 +64,10 @@ pub fn bond_line(
         (read_at (seen_all joined.now) place (bond_of atoms.now known.now before.now.bonds)) }
     ensures range { IfOk result (IsBondLine known.now before.now) }
 {
-    match joined.lines.get(place) {
-        None => Err(ReadRefusal::Fault(joined.past)),
-        Some(line) => {
-            let text = text_of(alloc, line)?;
-            let words = words(alloc, text.bytes())?;
-            Ok(numbered(line.number, bond_in(atoms, known, before, &words))?)
-        }
-    }
+    let line = joined.line(place)?;
+    let text = text_of(alloc, &line)?;
+    let words = words(alloc, text.bytes())?;
+    Ok(numbered(line.number, bond_in(atoms, known, before, &words))?)
 }
 
 /// Reads the line at a place that frames a part.
@@ -92,18 +80,14 @@ pub fn frame(
 ) -> Result<(), ReadRefusal>
     ensures { Gives (λ _. tt) result (frame_at (seen_all joined.now) place due) }
 {
-    match joined.lines.get(place) {
-        None => Err(ReadRefusal::Fault(joined.past)),
-        Some(line) => {
-            if !is_framed(alloc, line, due)? {
-                return Err(ReadRefusal::Fault(ReadFault {
-                    line: line.number,
-                    cause: ReadCause::Frame,
-                }));
-            }
-            Ok(())
-        }
+    let line = joined.line(place)?;
+    if !is_framed(alloc, &line, due)? {
+        return Err(ReadRefusal::Fault(ReadFault {
+            line: line.number,
+            cause: ReadCause::Frame,
+        }));
     }
+    Ok(())
 }
 
 /// Whether a joined line is the one that frames a part.

@@ -54,7 +54,7 @@ pub fn depths_of(table: &Table) -> u32
     ensures depths { result ≡ height_of table.now.parents + 1 }
     ensures few { result ≤ length table.now.parents }
 {
-    table.sphere(table.len() - 1) + 1
+    table.height() + 1
 }
 
 /// How many depths are there in the first spheres of a view.

@@ -1,4 +1,4 @@
-use Rattle.std.proofs.Common.{rules, ◌≡◌, ◌<◌, [], length}
+use Rattle.std.proofs.Common.{rules, ◌<◌, [], length}
 use Rattle.cip_item.proofs.Gaps.{last_tells}
 use Rattle.cip_item.proofs.putting.needs_gap.Goals as goal
 

@@ -5,22 +5,23 @@ use Rattle.cip_record.proofs.units.label_counted.Goals as goal
 
 pub push-requires : goal.push-requires
 push-requires g c =
-    has_room c.args.setting.now c.args.labeller.now c.loop-unit.answers c.loop-unit.unit-index
-    c.loop-unit.invariant.so_far
-    (subst (λ units. c.loop-unit.unit-index < length units) c.loop-unit.invariant.all c.loop-unit-test.true)
+    has_room c.args.setting.now c.args.labeller.now c.loop-place.answers c.loop-place.place
+    c.loop-place.invariant.so_far
+    (subst (λ units. c.loop-place.place < length units) c.loop-place.invariant.all c.loop-place-test.true)
     c.requires.few
 
-pub loop-unit-preserved : goal.loop-unit-preserved
-loop-unit-preserved g c = record {
+pub loop-place-preserved : goal.loop-place-preserved
+loop-place-preserved g c = record {
   so_far =
       c.in_ok-push.ensures.added
-      ∙ next_unit c.args.setting.now c.args.labeller.now c.loop-unit.labeller c.len.result c.loop-unit.answers
-      c.loop-unit.unit-index c.as_slice-units.result.now c.unit-item.result c.name_of.result c.copy.result c.drawn.result
-      c.in_ok-outcome.outcome c.loop-unit.invariant.so_far
-      (subst (λ units. c.loop-unit.unit-index < length units) c.loop-unit.invariant.all c.loop-unit-test.true)
-      c.loop-unit.invariant.all c.unit-item.is c.len.ensures.counted c.name_of.ensures c.copy.ensures
-      (c.drawn.ensures.value ∙ ap (λ (graph : Graph). graph.drawn) c.graph.ensures.value) c.loop-unit.invariant.kept
+      ∙ next_unit c.args.setting.now c.args.labeller.now c.loop-place.labeller c.loop-place.answers
+      c.loop-place.place c.as_slice-units.result.now c.index-units-place.result c.name_of.result c.copy.result
+      c.drawn.result
+      c.in_ok-outcome.outcome c.loop-place.invariant.so_far
+      (subst (λ units. c.loop-place.place < length units) c.loop-place.invariant.all c.loop-place-test.true)
+      c.loop-place.invariant.all c.index-units-place.is c.name_of.ensures c.copy.ensures
+      (c.drawn.ensures.value ∙ ap (λ (graph : Graph). graph.drawn) c.graph.ensures.value) c.loop-place.invariant.kept
       c.in_ok-outcome.ensures.outcome;
-  all = c.loop-unit.invariant.all;
-  kept = c.label.ensures.kept ∙ c.loop-unit.invariant.kept;
+  all = c.loop-place.invariant.all;
+  kept = c.label.ensures.kept ∙ c.loop-place.invariant.kept;
 }

@@ -1,7 +1,6 @@
-use Rattle.cip_stream.specs.Endings.{EndsAs}
 use Rattle.cip_run.specs.Statuses.{streams}
 use Rattle.cip_run.specs.Telling.{manner_of}
-use Rattle.cip_run.proofs.Answered.{AnsweringEnded, meant, told_missed}
+use Rattle.cip_run.proofs.Answered.{meant, told_missed}
 use Rattle.cip_run.proofs.commands.answer_records.Goals as goal
 
 pub returns-clause-meant : goal.returns-clause-meant

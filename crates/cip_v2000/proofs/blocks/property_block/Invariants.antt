@@ -1,4 +1,4 @@
-use Rattle.std.proofs.Common.{◌≡◌, ◌≤◌, ◌+◌, ◌-◌, drop, length, All}
+use Rattle.std.proofs.Common.{◌≡◌, ◌≤◌, ◌+◌, drop, length, All}
 use Rattle.cip_text.specs.Slices.{texts}
 use Rattle.cip_v2000.specs.Grammar.{pairs_from, pairs_behind}
 use Rattle.cip_v2000.specs.Statements.{IsPair}
@@ -11,6 +11,3 @@ invariant-loop-place l = record {
   within : l.place ≤ length l.lines;
   range : All IsPair l.pairs.items;
 }
-
-abbrev pub decreases-loop-place : goal.decreases-loop-place
-decreases-loop-place l = length l.lines - l.place

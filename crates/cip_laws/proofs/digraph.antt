@@ -1,0 +1,5 @@
+pub mod CarriedMarks
+pub mod CarriedNodes
+pub mod CarriedOrders
+pub mod CarriedUnits
+pub mod SameTrees

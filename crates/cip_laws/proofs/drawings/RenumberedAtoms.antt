@@ -1,0 +1,255 @@
+-- A renumbered drawing: its atoms have the same hydrogens and lone pairs, and its bonds are counted alike.
+use Rattle.std.proofs.Common.{◌≡◌, ◌≢◌, ◌⊎◌, inl, inr, ◌<◌, ◌≤◌, ◌+◌, ℕ, zero, suc, List, [], ◌∷◌, map, length, filter, sum, count_by, refl, sym, ap, subst, ◌∙◌, Bool, true, false, not, cond, ◌==◌, ◌&&◌, ◌||◌, nat_lt, nat_le, eqb-true, eq-eqb, ltb-true, ltb-false, arith}
+use Rattle.std.specs.List.{AllByRecursion, range_with_len}
+use Rattle.std.specs.List.Sorted.{IsPermutation}
+use Rattle.std.proofs.lemmas.Bool.{eqb-false, ne_eqb}
+use Rattle.std.proofs.lemmas.List.Sums.{sum_by-cons}
+use Rattle.std.proofs.lemmas.List.Sorted.{IsPermutation-sym, IsPermutation-map, sum_by-IsPermutation}
+use Rattle.cip_rank.specs.Matching.{InPairs}
+use Rattle.cip_mol.specs.Bonds.{touches, degree}
+use Rattle.cip_mol.specs.Bonds as bonds
+use Rattle.cip_mol.specs.Drawing.{Drawing}
+use Rattle.cip_mol.specs.Points.{no_atom}
+use Rattle.cip_mol.specs.declared.molecule.Atom.{Atom}
+use Rattle.cip_mol.specs.declared.molecule.Bond.{Bond}
+use Rattle.cip_mol.proofs.SimpleBonds.{IsJoin, simple_from_sound}
+use Rattle.cip_digraph.specs.graph.Hydrogens.{atom_at, bond_orders, hydrogens, hydrogens_of}
+use Rattle.cip_digraph.specs.graph.LonePairs.{lone_pair, lone_pair_of}
+use Rattle.cip_digraph.specs.graph.Neglected.{neglects, neglects_at, is_counted}
+use Rattle.cip_digraph.specs.graph.Renumbering.{IsForward, IsTurned, IsImage, IsRenumbering}
+use Rattle.cip_digraph.proofs.Lists.{Pairwise, by_recursion}
+use Rattle.cip_laws.specs.Images.{Among}
+use Rattle.cip_laws.proofs.lists.Among.{among_map, from_map, among_arranged, among_range, from_range, among_all}
+use Rattle.cip_laws.proofs.lists.Arranged.{filter_arranged}
+use Rattle.cip_laws.proofs.outcomes.LastReasons.{pairwise_arranged}
+use Rattle.cip_laws.proofs.lists.Truths.{or_back}
+use Rattle.cip_laws.proofs.lists.Elements.{unmapped}
+
+-- a bond of a drawing and its image
+pub record IsImageBond (image : ℕ → ℕ) (atoms : ℕ) (bond other : Bond) : Type 0 where
+  pub is : IsImage image bond other
+  pub joins : IsJoin atoms bond
+
+pub range_apart : (start count : ℕ) → Pairwise ◌≢◌ (range_with_len start count)
+range_apart start zero = tt
+range_apart start (suc count) = (above start (start + 1) count (omega arith), range_apart (start + 1) count)
+  where
+    above : (v start count : ℕ) → v < start → AllByRecursion (λ w. v ≢ w) (range_with_len start count)
+    above v start zero lt = tt
+    above v start (suc count) lt = (λ e. absurd (omega (arith, e, lt)), above v (start + 1) count (omega (arith, lt)))
+
+-- two numbers of a range, the first one lower
+range_pair : (R : ℕ → ℕ → Type 0) (start count j k : ℕ) → Pairwise R (range_with_len start count) → start ≤ j → j < k
+    → k < start + count → R j k
+range_pair R start zero j k pairs low lt high = absurd (omega (arith, low, lt, high))
+range_pair R start (suc count) j k pairs low lt high =
+    by (j == start) refl (λ above. range_pair R (start + 1) count j k pairs.1 above lt (omega (arith, high)))
+  where
+    by : (b : Bool) → (j == start) ≡ b → (start + 1 ≤ j → R j k) → R j k
+    by true e rest =
+        let same : j ≡ start = eqb-true j start e in
+        subst (λ i. R i k) (sym same)
+        (among_all (R start) k (range_with_len (start + 1) count) pairs.0
+        (among_range (start + 1) count k (omega (arith, lt, same)) (omega (arith, high))))
+    by false e rest = rest (let differ = eqb-false j start e in omega (arith, low, differ))
+
+pub pairs_all : {N : Type 0} (Q T : N → N → Type 0) (P : N → Type 0) → ((n m : N) → Q n m → P n → T n m)
+    → (ns ms : List N) → AllByRecursion P ns → InPairs Q ns ms → InPairs T ns ms
+pairs_all Q T P f [] [] all h = tt
+pairs_all Q T P f [] (m ∷ ms) all h = h
+pairs_all Q T P f (n ∷ ns) [] all h = h
+pairs_all Q T P f (n ∷ ns) (m ∷ ms) all h = (f n m h.0 all.0, pairs_all Q T P f ns ms all.1 h.1)
+
+pub all_arranged : {X : Type 0} (P : X → Type 0) (xs ys : List X) → IsPermutation xs ys → AllByRecursion P xs
+    → AllByRecursion P ys
+all_arranged {X} P xs ys p all =
+    each ys (λ y h. among_all P y xs all (among_arranged y ys xs (IsPermutation-sym xs ys p) h))
+  where
+    each : (ys : List X) → ((y : X) → Among y ys → P y) → AllByRecursion P ys
+    each [] f = tt
+    each (y ∷ ys) f = (f y (inl refl), each ys (λ z h. f z (inr h)))
+
+module _ (drawing other : Drawing) (image : ℕ → ℕ) (r : IsRenumbering drawing other image)
+    (sound : bonds.IsSound (length drawing.atoms) drawing.bonds) where
+  abbrev pub atoms : ℕ
+  atoms = length drawing.atoms
+
+  abbrev range : List ℕ
+  range = range_with_len 0 atoms
+
+  pub image_below : (k : ℕ) → k < atoms → image k < atoms
+  image_below k lt =
+      let h =
+      among_arranged (image k) (map image range) range r.permutation
+      (among_map image k range (among_range 0 atoms k (omega arith) (omega (arith, lt)))) in
+      let e = (from_range 0 atoms (image k) h).1 in
+      omega (arith, e)
+
+  pub image_onto : (m : ℕ) → m < atoms → (k : ℕ) × (k < atoms) × (m ≡ image k)
+  image_onto m lt =
+      let h =
+      among_arranged m range (map image range) (IsPermutation-sym (map image range) range r.permutation)
+      (among_range 0 atoms m (omega arith) (omega (arith, lt))) in
+      let found = from_map image m range h in
+      let e = (from_range 0 atoms found.0 found.1).1 in
+      (found.0, omega (arith, e), found.2)
+
+  images_apart : Pairwise (λ j k. image j ≢ image k) range
+  images_apart =
+      unmapped ◌≢◌ image range
+      (pairwise_arranged ◌≢◌ (λ a b differ e. differ (sym e)) range (map image range)
+      (IsPermutation-sym (map image range) range r.permutation) (range_apart 0 atoms))
+
+  pub image_injective : (j k : ℕ) → j < atoms → k < atoms → image j ≡ image k → j ≡ k
+  image_injective j k lt_j lt_k e = by (nat_lt j k) (nat_lt k j) refl refl
+    where
+      by : (a b : Bool) → nat_lt j k ≡ a → nat_lt k j ≡ b → j ≡ k
+      by true b f g =
+          absurd
+          (range_pair (λ j k. image j ≢ image k) 0 atoms j k images_apart (omega arith) (ltb-true j k f)
+          (omega (arith, lt_k)) e)
+      by false true f g =
+          absurd
+          (range_pair (λ j k. image j ≢ image k) 0 atoms k j images_apart (omega arith) (ltb-true k j g)
+          (omega (arith, lt_j)) (sym e))
+      by false false f g = let one = ltb-false j k f in let two = ltb-false k j g in omega (arith, one, two)
+
+  pub image_eq : (j k : ℕ) → j < atoms → k < atoms → (image j == image k) ≡ (j == k)
+  image_eq j k lt_j lt_k = by (j == k) refl
+    where
+      by : (b : Bool) → (j == k) ≡ b → (image j == image k) ≡ b
+      by true e = eq-eqb (image j) (image k) (ap image (eqb-true j k e))
+      by false e = ne_eqb (image j) (image k) (λ same. eqb-false j k e (image_injective j k lt_j lt_k same))
+
+  pub bonds_join : AllByRecursion (IsJoin atoms) drawing.bonds
+  bonds_join =
+      by_recursion (IsJoin atoms) drawing.bonds (simple_from_sound atoms drawing.bonds sound).joins
+
+  -- the bonds in pairs
+  abbrev pub ones : List Bond
+  ones = r.bonds.one
+
+  abbrev pub twos : List Bond
+  twos = r.bonds.other
+
+  pub bond_pairs : InPairs (IsImageBond image atoms) r.bonds.one r.bonds.other
+  bond_pairs =
+      pairs_all (IsImage image) (IsImageBond image atoms) (IsJoin atoms)
+      (λ b c is joins. record { is = is; joins = joins }) r.bonds.one r.bonds.other
+      (all_arranged (IsJoin atoms) drawing.bonds r.bonds.one r.bonds.of_one bonds_join) r.bonds.pairs
+
+  pub touches_carried : (k : ℕ) → k < atoms → (bond two : Bond) → IsImageBond image atoms bond two
+      → touches (image k) two ≡ touches k bond
+  touches_carried k lt bond two b = by b.is.ends
+    where
+      by : IsForward image bond two ⊎ IsTurned image bond two → touches (image k) two ≡ touches k bond
+      by (inl f) =
+          ap (λ v. (v == image k) || (two.b == image k)) f.a ∙ ap (λ v. (image bond.a == image k) || (v == image k)) f.b
+          ∙ ap (λ x. x || (image bond.b == image k)) (image_eq bond.a k b.joins.a lt)
+          ∙ ap (λ x. (bond.a == k) || x) (image_eq bond.b k b.joins.b lt)
+      by (inr t) =
+          ap (λ v. (v == image k) || (two.b == image k)) t.a ∙ ap (λ v. (image bond.b == image k) || (v == image k)) t.b
+          ∙ ap (λ x. x || (image bond.a == image k)) (image_eq bond.b k b.joins.b lt)
+          ∙ ap (λ x. (bond.b == k) || x) (image_eq bond.a k b.joins.a lt)
+          ∙ or_back (bond.b == k) (bond.a == k)
+
+  abbrev weight : ℕ → Bond → ℕ
+  weight k bond = cond (touches k bond) bond.order 0
+
+  count_pairs : (k : ℕ) → k < atoms → (ns ms : List Bond) → InPairs (IsImageBond image atoms) ns ms
+      → count_by (touches (image k)) ms ≡ count_by (touches k) ns
+  count_pairs k lt [] [] h = refl
+  count_pairs k lt [] (m ∷ ms) h = absurd h
+  count_pairs k lt (n ∷ ns) [] h = absurd h
+  count_pairs k lt (n ∷ ns) (m ∷ ms) h =
+      sum_by-cons (λ b. cond (touches (image k) b) 1 0) m ms
+      ∙ ap (λ t. cond t 1 0 + count_by (touches (image k)) ms) (touches_carried k lt n m h.0)
+      ∙ ap (λ c. cond (touches k n) 1 0 + c) (count_pairs k lt ns ms h.1)
+      ∙ sym (sum_by-cons (λ b. cond (touches k b) 1 0) n ns)
+
+  pub degree_same : (k : ℕ) → k < atoms → degree (image k) other.bonds ≡ degree k drawing.bonds
+  degree_same k lt =
+      sym (sum_by-IsPermutation (λ b. cond (touches (image k) b) 1 0) other.bonds r.bonds.other r.bonds.of_other)
+      ∙ count_pairs k lt r.bonds.one r.bonds.other bond_pairs
+      ∙ sum_by-IsPermutation (λ b. cond (touches k b) 1 0) drawing.bonds r.bonds.one r.bonds.of_one
+
+  orders_pairs : (k : ℕ) → k < atoms → (ns ms : List Bond) → InPairs (IsImageBond image atoms) ns ms
+      → bond_orders (image k) ms ≡ bond_orders k ns
+  orders_pairs k lt [] [] h = refl
+  orders_pairs k lt [] (m ∷ ms) h = absurd h
+  orders_pairs k lt (n ∷ ns) [] h = absurd h
+  orders_pairs k lt (n ∷ ns) (m ∷ ms) h =
+      ap
+      (λ t. sum
+      (map (λ (b : Bond). b.order) (cond t (m ∷ filter (touches (image k)) ms) (filter (touches (image k)) ms))))
+      (touches_carried k lt n m h.0)
+      ∙ by (touches k n) (orders_pairs k lt ns ms h.1)
+    where
+      by : (t : Bool) → bond_orders (image k) ms ≡ bond_orders k ns
+          → sum
+          (map (λ (b : Bond). b.order) (cond t (m ∷ filter (touches (image k)) ms) (filter (touches (image k)) ms)))
+          ≡ sum (map (λ (b : Bond). b.order) (cond t (n ∷ filter (touches k) ns) (filter (touches k) ns)))
+      by true e =
+          sum_by-cons (λ o. o) m.order (map (λ (b : Bond). b.order) (filter (touches (image k)) ms))
+          ∙ ap (λ o. o + bond_orders (image k) ms) h.0.is.order ∙ ap (λ s. n.order + s) e
+          ∙ sym (sum_by-cons (λ o. o) n.order (map (λ (b : Bond). b.order) (filter (touches k) ns)))
+      by false e = e
+
+  orders_arranged : (k : ℕ) (ns ms : List Bond) → IsPermutation ns ms → bond_orders k ms ≡ bond_orders k ns
+  orders_arranged k ns ms p =
+      sum_by-IsPermutation (λ o. o) (map (λ (b : Bond). b.order) (filter (touches k) ns))
+      (map (λ (b : Bond). b.order) (filter (touches k) ms))
+      (IsPermutation-map (λ (b : Bond). b.order) (filter (touches k) ns) (filter (touches k) ms)
+      (filter_arranged (touches k) ns ms p))
+
+  orders_same : (k : ℕ) → k < atoms → bond_orders (image k) other.bonds ≡ bond_orders k drawing.bonds
+  orders_same k lt =
+      sym (orders_arranged (image k) other.bonds r.bonds.other r.bonds.of_other)
+      ∙ orders_pairs k lt r.bonds.one r.bonds.other bond_pairs
+      ∙ orders_arranged k drawing.bonds r.bonds.one r.bonds.of_one
+
+  pub atom_same : (k : ℕ) → k < atoms → atom_at other (image k) ≡ atom_at drawing k
+  atom_same k lt = r.atoms k lt no_atom
+
+  pub hydrogens_same : (k : ℕ) → k < atoms → hydrogens_of other (image k) ≡ hydrogens_of drawing k
+  hydrogens_same k lt =
+      ap (λ a. hydrogens a (bond_orders (image k) other.bonds)) (atom_same k lt)
+      ∙ ap (hydrogens (atom_at drawing k)) (orders_same k lt)
+
+  pub lone_same : (k : ℕ) → k < atoms → lone_pair_of other (image k) ≡ lone_pair_of drawing k
+  lone_same k lt =
+      ap (λ a. lone_pair a (bond_orders (image k) other.bonds) (hydrogens_of other (image k))) (atom_same k lt)
+      ∙ ap (λ o. lone_pair (atom_at drawing k) o (hydrogens_of other (image k))) (orders_same k lt)
+      ∙ ap (lone_pair (atom_at drawing k) (bond_orders k drawing.bonds)) (hydrogens_same k lt)
+
+  neglects_same : (k : ℕ) → k < atoms → neglects_at other (image k) ≡ neglects_at drawing k
+  neglects_same k lt =
+      ap
+      (λ (a : Atom). neglects a.z (degree (image k) other.bonds + hydrogens_of other (image k))
+      (lone_pair_of other (image k))) (atom_same k lt)
+      ∙ ap (λ d. neglects (atom_at drawing k).z (d + hydrogens_of other (image k)) (lone_pair_of other (image k)))
+      (degree_same k lt)
+      ∙ ap (λ h. neglects (atom_at drawing k).z (degree k drawing.bonds + h) (lone_pair_of other (image k)))
+      (hydrogens_same k lt)
+      ∙ ap (neglects (atom_at drawing k).z (degree k drawing.bonds + hydrogens_of drawing k)) (lone_same k lt)
+
+  pub counted_same : (bond two : Bond) → IsImageBond image atoms bond two
+      → is_counted other two ≡ is_counted drawing bond
+  counted_same bond two b =
+      ap (λ o. nat_le 2 o && not (neglects_at other two.a || neglects_at other two.b)) b.is.order
+      ∙ ap (λ x. nat_le 2 bond.order && not x) (by b.is.ends)
+    where
+      by : IsForward image bond two ⊎ IsTurned image bond two
+          → (neglects_at other two.a || neglects_at other two.b)
+          ≡ (neglects_at drawing bond.a || neglects_at drawing bond.b)
+      by (inl f) =
+          ap (λ v. neglects_at other v || neglects_at other two.b) f.a
+          ∙ ap (λ v. neglects_at other (image bond.a) || neglects_at other v) f.b
+          ∙ ap (λ x. x || neglects_at other (image bond.b)) (neglects_same bond.a b.joins.a)
+          ∙ ap (λ x. neglects_at drawing bond.a || x) (neglects_same bond.b b.joins.b)
+      by (inr t) =
+          ap (λ v. neglects_at other v || neglects_at other two.b) t.a
+          ∙ ap (λ v. neglects_at other (image bond.b) || neglects_at other v) t.b
+          ∙ ap (λ x. x || neglects_at other (image bond.a)) (neglects_same bond.b b.joins.b)
+          ∙ ap (λ x. neglects_at drawing bond.b || x) (neglects_same bond.a b.joins.a)
+          ∙ or_back (neglects_at drawing bond.b) (neglects_at drawing bond.a)

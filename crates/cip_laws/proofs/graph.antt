@@ -1,0 +1,7 @@
+pub mod CarriedPositions
+pub mod CarriedSmallRings
+pub mod DelocalisedEnds
+pub mod HydrogenPlaces
+pub mod RenumberedGraph
+pub mod SingleLigands
+pub mod WaySymmetry
