@@ -26,7 +26,12 @@ pub fn are_pairs(choices: &[Named], words: &[String]) -> bool
 fn is_name(choices: &[Named], word: &[u8]) -> bool
     ensures { result ≡ list_any (bytes_eq word.now) (map (λ choice. choice.0.now) choices.now) }
 {
-    choices.iter().any(|choice| word == choice.0)
+    for choice in choices {
+        if word == choice.0 {
+            return true;
+        }
+    }
+    false
 }
 
 /// What an option is set to by names and values in turn: by its default where it isn't given, by its value where it is
