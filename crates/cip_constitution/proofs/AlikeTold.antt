@@ -7,7 +7,7 @@ use Rattle.std.specs.Cmp.{IsTotalOrder}
 use Rattle.std.specs.Cmp.Lexicographic.{slice_cmp}
 use Rattle.std.specs.List.{AllByRecursion, list_any}
 use Rattle.std.specs.Ordering.{is_eq, int_cmp, ordering_then}
-use Rattle.std.proofs.lemmas.Bool.{and_parts, or_parts, or_from, false_from_ne_true, both_ways}
+use Rattle.std.proofs.lemmas.Bool.{and_parts, both_ways}
 use Rattle.cip_rank.specs.Comparison.{sets, comparison}
 use Rattle.cip_rank.specs.Ranking.{by_number, comparison_at, OrdersAs}
 use Rattle.cip_rank.specs.declared.rules.Rules.{Rules}
@@ -53,31 +53,11 @@ use Rattle.cip_constitution.proofs.SeenRules.{
 use Rattle.cip_digraph.proofs.SettledTies.{both_all, none_left}
 use Rattle.cip_arena.specs.Growth.{Growth, Holds}
 use Rattle.cip_constitution.specs.Alike.{is_closed_ligand, alike_told}
-use Rattle.cip_constitution.specs.Following.{OrdersSphere}
 use Rattle.cip_constitution.specs.Standing.{ligand_number, have_other_ranks, differ_told}
 use Rattle.cip_constitution.proofs.Closed.{seen_below}
-use Rattle.cip_constitution.proofs.DifferTold.{eq_by_cmp, IsFirst, LigandAt, ligand_at, ranks_tell}
+use Rattle.cip_constitution.proofs.DifferTold.{eq_by_cmp, IsFirst, LigandAt, ligand_at, OrderFirst}
 use Rattle.cip_constitution.proofs.NodeKeys.{keys_at}
 use Rattle.cip_constitution.proofs.Under.{none_ended}
-
-any_less : {X Y : Type 0} (f : X → Y) (p : Y → Bool) (q : X → Bool) → ((x : X) → p (f x) ≡ true → q x ≡ true)
-    → (xs : List X) → list_any q xs ≡ false → list_any p (map f xs) ≡ false
-any_less f p q implies [] none = refl
-any_less f p q implies (x ∷ xs) none =
-    let parts = or_parts (q x) (list_any q xs) none in
-    or_from (p (f x)) (list_any p (map f xs))
-    (false_from_ne_true (p (f x)) (λ is. both_ways (q x) parts.0 (implies x is)))
-    (any_less f p q implies xs parts.1)
-
--- where no two pass one test, no two pass a stricter one
-some_less : {X Y : Type 0} (f : X → Y) (p : Y → Y → Bool) (q : X → X → Bool)
-    → ((x y : X) → p (f x) (f y) ≡ true → q x y ≡ true)
-    → (xs : List X) → some_pair q xs ≡ false → some_pair p (map f xs) ≡ false
-some_less f p q implies [] none = refl
-some_less f p q implies (x ∷ xs) none =
-    let parts = or_parts (list_any (q x) xs) (some_pair q xs) none in
-    or_from (list_any (p (f x)) (map f xs)) (some_pair p (map f xs))
-    (any_less f (p (f x)) (q x) (implies x) xs parts.0) (some_less f p q implies xs parts.1)
 
 -- nodes that tie at a depth tie in the order before
 earlier_tie : {N : Type 0} (below : N → List N) (earlier : N → N → Ordering) (key : N → ℤ) (depth : ℕ) (a b : N)
@@ -229,7 +209,7 @@ module _ (rules : Rules) (g : Graph) (positions : List (List ℕ)) (all : List u
   then_equal Greater = refl
 
   -- rank numbers by Rule 1a alone
-  module _ (ranks : List ℕ) (ranked : OrdersSphere g positions a.root a.sphere ranks 1 (a.sphere - 1)) where
+  module _ (ranks : List ℕ) (ranked : OrderFirst g positions a h some sound ranks) where
     tied_1a : (n m : ℕ) → First n → First m → IsEnded g positions a.root d high (node_at nodes n)
         → IsEnded g positions a.root d high (node_at nodes m) → rule (node_at nodes n) (node_at nodes m) ≡ Equal
         → by_number ranks n m ≡ Equal
@@ -240,7 +220,7 @@ module _ (rules : Rules) (g : Graph) (positions : List (List ℕ)) (all : List u
         ∙ tie in
         let by_distance = earlier_tie (children g positions) (by_distances g positions a.root d high rules)
         (λ node. pos (mass_key g node)) d x y by_mass in
-        ranks_tell g positions a h some sound ranks ranked n m p q
+        ranked.each n m p q
         ∙ earlier_tie (children g positions) (by_atoms g positions a.root d high)
         (λ node. lower_precedes (distance_key rules sphere_in_digraph node)) d x y by_distance
 
@@ -269,7 +249,7 @@ module _ (rules : Rules) (g : Graph) (positions : List (List ℕ)) (all : List u
         (equal_from (rule (node_at nodes n) (node_at nodes m)) nodes_tie) in
         ap not (sym (eq_by_cmp (slice_index ranks n) (slice_index ranks m)) ∙ ap is_eq numbers_tie)
 
-    alike_tied : (ligands : List Ligand) (x y : Ligand) → are_alike_within rules g positions all (end_at a.root ligands)
+    pub alike_tied : (ligands : List Ligand) (x y : Ligand) → are_alike_within rules g positions all (end_at a.root ligands)
         a.sphere (stand x) (stand y) ≡ true → alike_told rules g positions all a ranks x y ≡ true
     alike_tied ligands x y alike =
         let parts = closed_tie ligands x y alike in
@@ -280,14 +260,6 @@ module _ (rules : Rules) (g : Graph) (positions : List (List ℕ)) (all : List u
         (ended x parts.0) (ended y parts.1.0) parts.1.1 in
         ap (λ b. b && (closed_one y && not (differ_told ranks a.nodes x y))) parts.0
         ∙ ap (λ b. b && not (differ_told ranks a.nodes x y)) parts.1.0 ∙ ap not differ
-
-    -- where Rule 1a tells each two closed ligands apart, none are alike
-    pub none_are_alike : (ligands : List Ligand) → some_pair (alike_told rules g positions all a ranks) ligands ≡ false
-        → some_pair (are_alike_within rules g positions all (end_at a.root ligands) a.sphere) (map stand ligands)
-        ≡ false
-    none_are_alike ligands =
-        some_less stand (are_alike_within rules g positions all (end_at a.root ligands) a.sphere)
-        (alike_told rules g positions all a ranks) (alike_tied ligands) ligands
 
   -- rank numbers by all three rules
   module _ (level r1 r2 r3 : List ℕ) (flat : (x y : ℕ) → by_number level x y ≡ Equal)

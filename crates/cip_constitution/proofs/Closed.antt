@@ -328,7 +328,7 @@ module _ (rules : Rules) (g : Graph) (positions : List (List ℕ)) (all : List u
   ]
 
   -- a node of the last sphere, below, with children: the branch goes on
-  pub goes_on : (m : ℕ) → m < length a.nodes → is_under ps n m ≡ true → a.first ≤ m
+  goes_on : (m : ℕ) → m < length a.nodes → is_under ps n m ≡ true → a.first ≤ m
       → is_empty (children g positions (f m)) ≡ false → ended ≡ false
   goes_on m lt under high_first some_child =
       let found = reached m lt under in
@@ -339,26 +339,6 @@ module _ (rules : Rules) (g : Graph) (positions : List (List ℕ)) (all : List u
       ap is_empty beyond
       ∙ some_flat f (children g positions) (nodes_below kids last (n ∷ [])) m
       (subst (λ k. is_in m (nodes_below kids k (n ∷ [])) ≡ true) same found.1.1) some_child
-
-  -- no node of the last sphere below: the branch ended before
-  pub none_last : ((m : ℕ) → a.first ≤ m → m < length a.nodes → is_under ps n m ≡ true → ⊥)
-      → is_empty (nodes_below view last (f n ∷ [])) ≡ true
-  none_last none =
-      let tree = told_tree g positions a.root a.sphere a.nodes h.tells in
-      ap is_empty (seen_below last ∙ sym (mapped last (omega (arith, at_last))))
-      ∙ ap (λ ms. is_empty (map f ms))
-      (no_member (nodes_below kids last (n ∷ []))
-      (all_by (λ m. InRange last m × IsBelow ps tree n m) (λ m. ⊥)
-      (λ m p. none m (let le = p.0.0 in omega (arith, le, first_last)) (let lt = p.1.1 in omega (arith, lt, long))
-      p.1.0)
-      (nodes_below kids last (n ∷ []))
-      (both_all (InRange last) (IsBelow ps tree n) (nodes_below kids last (n ∷ []))
-      (depth_range last (omega (arith, at_last)))
-      (below_under ps tree n (omega (arith, within, long)) last))))
-    where
-      no_member : (ms : List ℕ) → AllByRecursion (λ m. ⊥) ms → ms ≡ []
-      no_member [] all = refl
-      no_member (m ∷ ms) all = absurd all.0
 
   pub closed_false : (m : ℕ) → m < length a.nodes → is_under ps n m ≡ true → test m ≡ true
       → (ended && not holds) ≡ false

@@ -71,7 +71,6 @@ use Rattle.cip_digraph.proofs.Placing.{placed_parents}
 use Rattle.cip_constitution.proofs.SeenRules.{IsFurther, seen_1a}
 use Rattle.cip_digraph.proofs.SettledTies.{both_all}
 use Rattle.cip_arena.specs.Growth.{Growth, Holds}
-use Rattle.cip_constitution.specs.Following.{OrdersSphere}
 use Rattle.cip_constitution.specs.Standing.{stands_told, first_standing, ligand_number, have_other_ranks, differ_told}
 
 -- tests of pairs, one element after the other
@@ -213,13 +212,13 @@ module _ (g : Graph) (positions : List (List ℕ)) (a : Growth) (h : Holds g pos
       (subst (λ ns. length (filter (stands_for vertex) ns) ≤ 1) (sym around_is) (one_at_most g positions sound a.root
       (Vertex vertex))))
 
-  module _ (ranks : List ℕ) (ranked : OrdersSphere g positions a.root a.sphere ranks 1 (a.sphere - 1)) where
-    pub ranks_tell : (n m : ℕ) → IsFirst n → IsFirst m
+  -- the numbers of the root's children order them by Rule 1a within the last sphere
+  pub record OrderFirst (ranks : List ℕ) : Type 0 where
+    pub each : (n m : ℕ) → IsFirst n → IsFirst m
         → by_number ranks n m ≡ comparison (children g positions) all_tie (λ node. pos (atomic_key g positions node))
         (a.sphere - 1) (node_at nodes n) (node_at nodes m)
-    ranks_tell n m p q = ranked.each n m p.behind (omega (arith, p.low, count_is g positions a.root 1)) q.behind
-        (omega (arith, q.low, count_is g positions a.root 1))
 
+  module _ (ranks : List ℕ) (ranked : OrderFirst ranks) where
     module _ (rules : Rules) (all : List units.Unit) where
       abbrev rule : Node → Node → Ordering
       rule = rule_1a (seen_at rules g positions all a.root) (a.sphere - 1)
@@ -228,7 +227,7 @@ module _ (g : Graph) (positions : List (List ℕ)) (a : Growth) (h : Holds g pos
       rule_is n m p q =
           seen_1a g positions a.root rules (auxiliary rules g positions all) (a.sphere - 1) (node_at nodes n)
           (node_at nodes m) p.further q.further
-          ∙ sym (ranks_tell n m p q)
+          ∙ sym (ranked.each n m p q)
 
       then_equal : (r : Ordering) → is_eq (ordering_then r Equal) ≡ is_eq r
       then_equal Less = refl

@@ -1,45 +1,43 @@
--- Rank numbers by diagonals: a node of sphere t of a digraph up to sphere s has its number at depth s - t. Own.
-use Rattle.std.specs.Prelude.{◌≡◌, ◌<◌, ◌≤◌, ◌-◌, ℕ, suc, pos, List, length, slice_index}
-use Rattle.std.specs.declared.cmp.Ordering.{Ordering}
-use Rattle.cip_rank.specs.Comparison.{comparison}
-use Rattle.cip_rank.specs.Ranged.{OrdersRange}
-use Rattle.cip_digraph.specs.digraph.Digraph.{children, digraph}
+-- The branches of a root's children, followed with the digraph by Rule 1a. Own.
+use Rattle.std.specs.Prelude.{◌≡◌, ◌<◌, ◌≤◌, ◌∷◌, ℕ, suc, pos, List, length, slice_index}
+use Rattle.cip_branches.specs.Deciding.{Branched, AreFollowed, AreDecided}
+use Rattle.cip_branches.specs.Passing.{AreKeyed}
+use Rattle.cip_digraph.specs.digraph.Digraph.{Node, children, digraph}
 use Rattle.cip_digraph.specs.graph.Graph.{Graph}
 use Rattle.cip_digraph.specs.rules.Keys.{atomic_key}
 use Rattle.cip_digraph.specs.rules.Orders.{all_tie}
 use Rattle.cip_digraph.specs.digraph.Telling.{node_at, first_of}
 
--- what settling keeps: the first node of each sphere, numbers of the nodes, and the child of the root above each
+-- what settling keeps
 pub record Trying : Type 0 where
   pub bound : ℕ
-  pub firsts : List ℕ
-  pub numbers : List ℕ
-  pub tops : List ℕ
+  pub branched : Branched
 
-module _ (graph : Graph) (positions : List (List ℕ)) (root : ℕ) where
-  -- Rule 1a of nodes by number in the digraph up to a sphere
-  abbrev pub rank_of : ℕ → ℕ → ℕ → ℕ → Ordering
-  rank_of last depth a b =
-      comparison (children graph positions) all_tie (λ node. pos (atomic_key graph positions node)) depth
-      (node_at (digraph graph positions root last) a) (node_at (digraph graph positions root last) b)
+-- Numbers by node: the root's child of a branch stands behind the root, and so behind those of the branches before.
+abbrev pub numbers_of : Branched → List ℕ
+numbers_of branched = 0 ∷ branched.layers.ranked.numbers
 
-  -- the numbers order the nodes of one sphere at a depth
-  abbrev pub OrdersSphere : ℕ → List ℕ → ℕ → ℕ → Type 0
-  OrdersSphere last numbers sphere depth =
-      OrdersRange (first_of graph positions root sphere) (first_of graph positions root (suc sphere))
-      (rank_of last depth) numbers
+module _ (graph : Graph) (positions : List (List ℕ)) (root bound : ℕ) where
+  -- the node of a number, whichever sphere is the last one: there are no more spheres than there is room for nodes
+  abbrev pub named : ℕ → Node
+  named number = node_at (digraph graph positions root bound) number
 
-  pub record TellFirsts (last : ℕ) (firsts : List ℕ) : Type 0 where
-    pub spheres : length firsts ≡ suc last
-    pub first : (t : ℕ) → t ≤ last → slice_index firsts t ≡ first_of graph positions root t
+  -- Each child of the root has a branch. The places show nodes of the digraph up to a sphere, but the root; those of the
+  -- last sphere show nodes of it that rise.
+  pub record Follows (sphere : ℕ) (branched : Branched) : Type 0 where
+    pub last : suc branched.last ≡ sphere
+    pub followed : AreFollowed branched
+    pub decided : AreDecided (children graph positions) all_tie (λ node. pos (atomic_key graph positions node)) named
+        branched
+    pub count : suc (length branched.wanted) ≡ length (digraph graph positions root 1)
+    pub top : (k : ℕ) → k < length branched.wanted → slice_index branched.layers.kin.nodes k ≡ suc k
+    pub keyed : AreKeyed (length (digraph graph positions root sphere)) branched.layers.kin
+    pub few : length branched.layers.kin.ups < length (digraph graph positions root sphere)
+    pub outer : (place : ℕ) → branched.first ≤ place → place < length branched.layers.kin.ups
+        → first_of graph positions root sphere ≤ slice_index branched.layers.kin.nodes place
+    pub rise : (p q : ℕ) → branched.first ≤ p → p < q → q < length branched.layers.kin.ups
+        → slice_index branched.layers.kin.nodes p < slice_index branched.layers.kin.nodes q
 
-  pub record Follows (last : ℕ) (firsts numbers : List ℕ) : Type 0 where
-    pub starts : TellFirsts last firsts
-    pub len : length numbers ≡ length (digraph graph positions root last)
-    pub each : (t : ℕ) → 1 ≤ t → t ≤ last → OrdersSphere last numbers t (last - t)
-
-  -- the spheres beyond one have their numbers already, those up to it still the ones of before
-  pub record Refined (last inner : ℕ) (numbers : List ℕ) : Type 0 where
-    pub len : length numbers ≡ length (digraph graph positions root last)
-    pub done : (t : ℕ) → inner < t → t ≤ last → OrdersSphere last numbers t (last - t)
-    pub left : (t : ℕ) → 1 ≤ t → t ≤ inner → OrdersSphere last numbers t (last - suc t)
+  -- from the first sphere on
+  pub record IsFollowed (sphere : ℕ) (branched : Branched) : Type 0 where
+    pub from_first : 0 < sphere → Follows sphere branched

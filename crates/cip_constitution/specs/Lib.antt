@@ -1,8 +1,8 @@
 pub mod Alike
 pub mod Closing
+pub mod Ending
 pub mod Following
 pub mod Marking
 pub mod Settling
 pub mod Standing
-pub mod Tops
 pub mod WorkColumns

@@ -14,7 +14,8 @@ use cip_digraph::{Graph, Positions};
 use cip_mol::Ligand;
 use cip_rank::{Ranks, Rules};
 
-fn is_closed_at(
+/// Whether a ligand has no node beyond the last sphere and no atom of a unit.
+pub fn is_closed_at(
     arena: &Arena,
     graph: &Graph,
     positions: &Positions,

@@ -1,23 +1,25 @@
-// Ligands that differ by rank numbers of their nodes.
-ghost use Rattle.std.specs.Prelude.{◌≡◌, ◌<◌, ℕ, length};
+// Ligands that differ by the numbers of their branches.
+ghost use Rattle.std.specs.Prelude.{◌≡◌, ◌<◌, ◌∷◌, ℕ, length, slice_index};
 ghost use Rattle.std.specs.List.{list_all};
 ghost use Rattle.cip_digraph.specs.units.Ranked.{every_pair};
+ghost use Rattle.cip_constitution.specs.Following.{numbers_of};
 ghost use Rattle.cip_constitution.specs.Standing.{have_other_ranks, differ_told};
 
 use crate::standing::number_of;
+use cip_arena::Arena;
+use cip_branches::Branches;
 use cip_digraph::Nodes;
 use cip_mol::Ligand;
 use cip_rank::Ranks;
 
-/// Whether every two differ.
-pub fn differ_each<N: Nodes>(nodes: &N, ranks: &Ranks, ligands: &[Ligand]) -> bool
-    requires some { 0 < length (N.nodes nodes.now) }
-    requires ranks { length ranks.now.numbers ≡ length (N.nodes nodes.now) }
-    ensures { result ≡ every_pair (differ_told ranks.now.numbers (N.nodes nodes.now)) ligands.now }
+/// Whether the branches of every two have parted.
+pub fn part_each(arena: &Arena, branches: &Branches, ligands: &[Ligand]) -> bool
+    requires { 0 < length arena.now.nodes }
+    ensures { result ≡ every_pair (differ_told (numbers_of branches.now) arena.now.nodes) ligands.now }
 {
     let mut rest = ligands;
     while let [ligand, others @ ..] = rest {
-        if !differ_from(nodes, ranks, ligand, others) {
+        if !part_from(arena, branches, ligand, others) {
             return false;
         }
         rest = others;
@@ -25,19 +27,41 @@ pub fn differ_each<N: Nodes>(nodes: &N, ranks: &Ranks, ligands: &[Ligand]) -> bo
     true
 }
 
-fn differ_from<N: Nodes>(nodes: &N, ranks: &Ranks, ligand: &Ligand, others: &[Ligand]) -> bool
-    requires some { 0 < length (N.nodes nodes.now) }
-    requires ranks { length ranks.now.numbers ≡ length (N.nodes nodes.now) }
-    ensures { result ≡ list_all (differ_told ranks.now.numbers (N.nodes nodes.now) ligand.now) others.now }
+fn part_from(arena: &Arena, branches: &Branches, ligand: &Ligand, others: &[Ligand]) -> bool
+    requires { 0 < length arena.now.nodes }
+    ensures { result ≡ list_all (differ_told (numbers_of branches.now) arena.now.nodes ligand.now) others.now }
 {
     let mut rest = others;
     while let [other, more @ ..] = rest {
-        if !differ(nodes, ranks, ligand, other) {
+        if !part(arena, branches, ligand, other) {
             return false;
         }
         rest = more;
     }
     true
+}
+
+/// Whether the branches of two have parted. A lone pair's is its own.
+pub fn part(arena: &Arena, branches: &Branches, a: &Ligand, b: &Ligand) -> bool
+    requires { 0 < length arena.now.nodes }
+    ensures { result ≡ differ_told (numbers_of branches.now) arena.now.nodes a.now b.now }
+{
+    match (number_of(arena, a), number_of(arena, b)) {
+        (None, None) => false,
+        (Some(a), Some(b)) => number_at(branches, a) != number_at(branches, b),
+        _ => true,
+    }
+}
+
+// The number of the branch of a child of the root.
+fn number_at(branches: &Branches, node: u32) -> u32
+    ensures { result ≡ slice_index (numbers_of branches.now) node }
+{
+    if node == 0 {
+        0
+    } else {
+        branches.number(node - 1)
+    }
 }
 
 /// Whether two have different rank numbers. A lone pair's is its own.

@@ -1,68 +1,60 @@
-// Branches of the root's children, and the sphere in which each of them ends.
-ghost use Rattle.std.specs.Prelude.{◌≡◌, ◌<◌, ◌≤◌, ◌==◌, ◌++◌, ◌∷◌, [], false, cond, length, slice_index, vec_capacity};
-ghost use Rattle.std.specs.List.{AllByRecursion};
+// Branches that have their last nodes in the last sphere.
+ghost use Rattle.std.specs.Prelude.{◌≡◌, ◌<◌, ◌≤◌, ◌-◌, ◌↔◌, ℕ, true, false, length, slice_index};
+ghost use Rattle.cip_digraph.specs.outcome.Deciding.{is_empty};
+ghost use Rattle.cip_digraph.specs.digraph.Digraph.{children, digraph};
+ghost use Rattle.cip_digraph.specs.digraph.Telling.{node_at};
 ghost use Rattle.cip_arena.specs.Growth.{Holds};
-ghost use Rattle.cip_constitution.specs.Standing.{ligand_number};
-ghost use Rattle.cip_constitution.specs.Tops.{TellTops, EndsElsewhere, LigandEndsElsewhere};
+ghost use Rattle.cip_branches.specs.Passing.{AreKeyed};
+ghost use Rattle.cip_constitution.specs.Ending.{EndsElsewhere, LigandEndsElsewhere};
 
-use crate::columns::push_reserved;
+use crate::marking::MarkedUnits;
 use crate::standing::number_of;
 use cip_arena::Arena;
-use cip_digraph::{Graph, Nodes, Positions};
+use cip_branches::Branches;
+use cip_digraph::{Graph, Positions};
 use cip_mol::Ligand;
-use cip_rank::Table;
+use cip_rank::Rules;
 
-// The child of the root that a node stands below, itself where it is one.
-fn top_of(table: &Table, tops: &[u32], node: u32) -> u32
-    requires some { 0 < node }
-    requires within { node < length table.now.parents }
-    requires before { node ≤ length tops.now }
-    ensures { result ≡ cond (slice_index table.now.parents node == 0) node
-        (slice_index tops.now (slice_index table.now.parents node)) }
+/// What ligands are tried on.
+#[derive(Drop)]
+pub struct Trial<'a, 'u> {
+    pub arena: &'a Arena,
+    pub branches: &'a Branches,
+    pub graph: &'a Graph,
+    pub positions: &'a Positions,
+    pub units: &'a MarkedUnits<'u>,
+    pub rules: Rules,
+}
+
+// Whether the node at a place has children, those beyond the last sphere too.
+fn goes_on(trial: &Trial<'_, '_>, place: u32) -> bool
+    requires holds { Holds trial.now.graph.now trial.now.positions.now trial.now.arena.now }
+    requires keyed { AreKeyed (length trial.now.arena.now.nodes) trial.now.branches.now.layers.kin }
+    requires place { place < length trial.now.branches.now.layers.kin.ups }
+    ensures { result ≡ false ↔ (is_empty (children trial.now.graph.now trial.now.positions.now (node_at
+        (digraph trial.now.graph.now trial.now.positions.now trial.now.arena.now.root trial.now.arena.now.sphere)
+        (slice_index trial.now.branches.now.layers.kin.nodes place))) ≡ true) }
 {
-    let _count = table.len();
-    match table.parent(node) {
-        None | Some(0) => node,
-        Some(parent) => tops[parent as usize],
+    trial
+        .arena
+        .child_count(trial.graph, trial.branches.node(place))
+        > 0
+}
+
+// Whether the last nodes of a branch may stand in the last sphere: they do, or it isn't followed any more.
+fn may_end_here(trial: &Trial<'_, '_>, branch: u32) -> bool
+    requires holds { Holds trial.now.graph.now trial.now.positions.now trial.now.arena.now }
+    requires keyed { AreKeyed (length trial.now.arena.now.nodes) trial.now.branches.now.layers.kin }
+    ensures { result ≡ false → EndsElsewhere trial.now.graph.now trial.now.positions.now trial.now.arena.now
+        trial.now.branches.now branch }
+{
+    if !trial.branches.is_wanted(branch) {
+        return true;
     }
-}
-
-/// Tells of the further nodes of a table too, below which child of the root they stand.
-pub fn extend_tops(table: &Table, tops: &mut Vec<u32>)
-    requires some { 0 < length tops.old.items }
-    requires shorter { length tops.old.items ≤ length table.now.parents }
-    requires tell { TellTops table.now.parents tops.old.items }
-    requires room { length table.now.parents ≤ vec_capacity tops.old }
-    ensures len { length tops.new.items ≡ length table.now.parents }
-    ensures tell { TellTops table.now.parents tops.new.items }
-    ensures room { vec_capacity tops.old ≤ vec_capacity tops.new }
-{
-    let count = table.len();
-    let known = tops.len() as u32;
-    for node in known..count {
-        let top = top_of(table, tops.as_slice(), node);
-        push_reserved(tops, top);
-    }
-}
-
-fn is_top(tops: &[u32], node: u32, top: u32) -> bool
-    requires { node < length tops.now }
-    ensures { result ≡ (slice_index tops.now node == top) }
-{
-    tops[node as usize] == top
-}
-
-// Whether the branch of a child of the root has its last nodes in the last sphere.
-fn ends_here(arena: &Arena, graph: &Graph, positions: &Positions, tops: &[u32], top: u32) -> bool
-    requires holds { Holds graph.now positions.now arena.now }
-    requires len { length tops.now ≡ length arena.now.nodes }
-    ensures { result ≡ false → EndsElsewhere graph.now positions.now arena.now tops.now (Some top) }
-{
-    let _positions = positions;
     let mut found = false;
-    for node in arena.first()..arena.len() {
-        if is_top(tops, node, top) {
-            if arena.child_count(graph, node) > 0 {
+    for place in trial.branches.first()..trial.branches.len() {
+        if trial.branches.branch(place) == branch {
+            if goes_on(trial, place) {
                 return false;
             }
             found = true;
@@ -71,44 +63,31 @@ fn ends_here(arena: &Arena, graph: &Graph, positions: &Positions, tops: &[u32], 
     found
 }
 
-fn ligand_ends_here(
-    arena: &Arena,
-    graph: &Graph,
-    positions: &Positions,
-    tops: &[u32],
-    ligand: &Ligand,
-) -> bool
-    requires holds { Holds graph.now positions.now arena.now }
-    requires nodes { 0 < length arena.now.nodes }
-    requires len { length tops.now ≡ length arena.now.nodes }
-    ensures { result ≡ false → LigandEndsElsewhere graph.now positions.now arena.now tops.now ligand.now }
+fn ligand_may_end(trial: &Trial<'_, '_>, ligand: &Ligand) -> bool
+    requires holds { Holds trial.now.graph.now trial.now.positions.now trial.now.arena.now }
+    requires nodes { 0 < length trial.now.arena.now.nodes }
+    requires keyed { AreKeyed (length trial.now.arena.now.nodes) trial.now.branches.now.layers.kin }
+    ensures { result ≡ false → LigandEndsElsewhere trial.now.graph.now trial.now.positions.now trial.now.arena.now
+        trial.now.branches.now ligand.now }
 {
-    match number_of(arena, ligand) {
+    match number_of(trial.arena, ligand) {
         None => false,
-        Some(top) => ends_here(arena, graph, positions, tops, top),
+        Some(0) => true,
+        Some(top) => may_end_here(trial, top - 1),
     }
 }
 
-/// Whether some ligand's branch has its last nodes in the last sphere.
-pub fn some_end_here(
-    arena: &Arena,
-    graph: &Graph,
-    positions: &Positions,
-    tops: &[u32],
-    ligands: &[Ligand],
-) -> bool
-    requires holds { Holds graph.now positions.now arena.now }
-    requires nodes { 0 < length arena.now.nodes }
-    requires len { length tops.now ≡ length arena.now.nodes }
-    ensures { result ≡ false → AllByRecursion (LigandEndsElsewhere graph.now positions.now arena.now tops.now)
-        ligands.now }
+/// Whether one of two branches may have its last nodes in the last sphere, or that sphere is the first one.
+pub fn one_may_end(trial: &Trial<'_, '_>, a: &Ligand, b: &Ligand) -> bool
+    requires holds { Holds trial.now.graph.now trial.now.positions.now trial.now.arena.now }
+    requires some { 0 < trial.now.arena.now.sphere }
+    requires nodes { 0 < length trial.now.arena.now.nodes }
+    requires keyed { AreKeyed (length trial.now.arena.now.nodes) trial.now.branches.now.layers.kin }
+    ensures further { result ≡ false → 1 < trial.now.arena.now.sphere }
+    ensures first { result ≡ false → LigandEndsElsewhere trial.now.graph.now trial.now.positions.now
+        trial.now.arena.now trial.now.branches.now a.now }
+    ensures second { result ≡ false → LigandEndsElsewhere trial.now.graph.now trial.now.positions.now
+        trial.now.arena.now trial.now.branches.now b.now }
 {
-    let mut rest = ligands;
-    while let [ligand, others @ ..] = rest {
-        if ligand_ends_here(arena, graph, positions, tops, ligand) {
-            return true;
-        }
-        rest = others;
-    }
-    false
+    trial.arena.sphere() == 1 || ligand_may_end(trial, a) || ligand_may_end(trial, b)
 }

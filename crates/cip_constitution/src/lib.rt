@@ -2,10 +2,12 @@
 #![tactic(auto)]
 
 mod alike;
+mod candidates;
 mod closing;
 mod columns;
 mod differing;
 mod ending;
+mod following;
 mod keys;
 mod marking;
 mod settling;

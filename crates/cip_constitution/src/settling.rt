@@ -54,7 +54,6 @@ pub fn settle<L: Ledger>(
     ensures work { work.new.bound ≡ work.old.bound }
 {
     let _vertices = graph.vertices();
-    work.start(arena, graph, positions);
     let mut grown = arena.grow(graph, positions, steps);
     while grown == Grown::Grown {
         work.follow(arena, graph, positions);

@@ -1,45 +1,45 @@
-// Ligands tried by rank numbers of their nodes.
-ghost use Rattle.std.specs.Prelude.{◌≡◌, ◌<◌, ◌≤◌, ◌-◌, ◌++◌, ◌∷◌, ℕ, false, List, [], pos, map, replicate, length};
+// Ligands tried by the numbers of their branches.
+ghost use Rattle.std.specs.Prelude.{◌≡◌, ◌<◌, ◌≤◌, ◌+◌, ◌-◌, ◌^◌, ℕ, false, List, pos, map, length};
 ghost use Rattle.std.specs.Prelude.{vec_capacity, IfOk};
 ghost use Rattle.cip_rank.specs.Calm.{AreCalm};
 ghost use Rattle.cip_rank.specs.Ranking.{comparison_at, OrdersAs};
 ghost use Rattle.cip_rank.specs.declared.rules.Rules.{Rules as Wording};
 ghost use Rattle.cip_mol.specs.declared.site.Unit.{Unit as AnyUnit};
+ghost use Rattle.cip_branches.specs.Deciding.{no_branches};
 ghost use Rattle.cip_digraph.specs.digraph.Digraph.{sphere as sphere_of};
 ghost use Rattle.cip_digraph.specs.rules.Keys.{lower_precedes};
 ghost use Rattle.cip_digraph.specs.digraph.NodeList.{parents_of, distance_told};
 ghost use Rattle.cip_arena.specs.Growth.{Holds};
-ghost use Rattle.cip_constitution.specs.Following.{TellFirsts, Follows, Refined};
+ghost use Rattle.cip_constitution.specs.Following.{Follows, IsFollowed};
 ghost use Rattle.cip_constitution.specs.Settling.{setting_of, differs, has_alike};
-ghost use Rattle.cip_constitution.specs.Tops.{TopsUpTo};
 
 use crate::alike::alike_each;
-use crate::columns::push_reserved;
-use crate::differing::differ_each;
-use crate::ending::{extend_tops, some_end_here};
+use crate::candidates::has_candidates;
+use crate::differing::part_each;
+use crate::ending::Trial;
+use crate::following::{begin_branches, follow_branches};
 use crate::keys::{ByAtom, ByDistance, ByMass};
 use crate::marking::MarkedUnits;
 use cip_arena::Arena;
+use cip_branches::{Branches, Column};
 use cip_digraph::{Graph, Nodes, Positions};
 use cip_mol::Ligand;
-use cip_rank::{Keyed, Ranks, Rules, Table, rank_sphere};
+use cip_rank::{Keyed, Ranks, Rules, Table, both, rank_sphere};
 use std::alloc::{AllocError, Global};
 use std::marker::Model;
 
-/// The rank numbers of settling, in memory that is taken at once.
+/// The branches and rank numbers of settling, in memory that is taken at once.
 #[derive(Drop)]
 pub struct Work {
     bound: u32,
-    // the first node of each sphere so far
-    firsts: Vec<u32>,
-    // of a node of sphere t, its number by Rule 1a at depth s - t, where s is the last sphere
-    diagonal: Ranks,
+    // the branches of the root's children, by Rule 1a
+    branches: Branches,
+    // the root's children
+    tops: Column<u32>,
     level: Ranks,
     by_atom: Ranks,
     by_distance: Ranks,
     by_mass: Ranks,
-    // of each node, below which child of the root it stands
-    tops: Vec<u32>,
     // of each node, whether it stands below a ligand's
     under: Vec<bool>,
 }
@@ -59,62 +59,43 @@ impl Model for Work {
 impl Work {
     /// Room for digraphs of `bound` nodes.
     pub fn reserve(alloc: Global, bound: u32) -> Result<Work, AllocError>
-        ensures { IfOk result (λ work. work ≡ record { bound = bound; firsts = []; numbers = []; tops = [] }) }
+        ensures { IfOk result (λ work. work ≡ record { bound = bound; branched = no_branches (bound - 1) }) }
     {
+        let under = Vec::with_capacity(alloc, bound as usize)?;
+        let columns = both(under, reserve_branches(alloc, bound))?;
+        let ((under, (branches, tops)), (level, by_atom, by_distance, by_mass)) = both(
+            columns,
+            reserve_ranks(alloc, bound),
+        )?;
         Ok(Work {
             bound,
-            firsts: Vec::with_capacity(alloc, bound as usize)?,
-            diagonal: Ranks::reserve(alloc, bound)?,
-            level: Ranks::reserve(alloc, bound)?,
-            by_atom: Ranks::reserve(alloc, bound)?,
-            by_distance: Ranks::reserve(alloc, bound)?,
-            by_mass: Ranks::reserve(alloc, bound)?,
-            tops: Vec::with_capacity(alloc, bound as usize)?,
-            under: Vec::with_capacity(alloc, bound as usize)?,
+            branches,
+            tops,
+            level,
+            by_atom,
+            by_distance,
+            by_mass,
+            under,
         })
     }
 
-    /// Begins with a digraph that was just started.
-    pub fn start(&mut self, arena: &Arena, graph: &Graph, positions: &Positions)
-        requires holds { Holds graph.now positions.now arena.now }
-        requires started { arena.now.sphere ≡ 0 }
-        requires room { arena.now.bound ≤ self.old.bound }
-        ensures followed { Follows graph.now positions.now arena.now.root 0 self.new.firsts self.new.numbers }
-        ensures tops { TopsUpTo graph.now positions.now arena.now.root 0 self.new.tops }
-        ensures bound { self.new.bound ≡ self.old.bound }
-    {
-        let _graph = graph;
-        let _positions = positions;
-        let _count = arena.len();
-        self.firsts.clear();
-        push_reserved(&mut self.firsts, 0);
-        self.tops.clear();
-        push_reserved(&mut self.tops, 0);
-        self.diagonal.level(arena.table());
-    }
-
-    /// Follows a digraph that was grown by one sphere: numbers that sphere, and refines the ones before it.
+    /// Follows a digraph that was grown by one sphere.
     pub fn follow(&mut self, arena: &Arena, graph: &Graph, positions: &Positions)
         requires holds { Holds graph.now positions.now arena.now }
         requires some { 0 < arena.now.sphere }
         requires last { 0 < length (sphere_of graph.now positions.now arena.now.root arena.now.sphere) }
         requires room { arena.now.bound ≤ self.old.bound }
-        requires followed { Follows graph.now positions.now arena.now.root (arena.now.sphere - 1) self.old.firsts
-            self.old.numbers }
-        requires tops { TopsUpTo graph.now positions.now arena.now.root (arena.now.sphere - 1) self.old.tops }
-        ensures followed { Follows graph.now positions.now arena.now.root arena.now.sphere self.new.firsts
-            self.new.numbers }
-        ensures tops { TopsUpTo graph.now positions.now arena.now.root arena.now.sphere self.new.tops }
+        requires followed { IsFollowed graph.now positions.now arena.now.root arena.now.bound (arena.now.sphere - 1)
+            self.old.branched }
+        ensures followed { Follows graph.now positions.now arena.now.root arena.now.bound arena.now.sphere
+            self.new.branched }
         ensures bound { self.new.bound ≡ self.old.bound }
     {
-        let first = arena.first();
-        let past = arena.len();
-        push_reserved(&mut self.firsts, first);
-        self.diagonal.extend(arena.table());
-        self.diagonal
-            .number_range(&ByAtom { nodes: arena }, first, past);
-        refine_inwards(arena, graph, positions, &self.firsts, &mut self.diagonal);
-        extend_tops(arena.table(), &mut self.tops);
+        if arena.sphere() == 1 {
+            begin_branches(arena, graph, positions, &mut self.tops, &mut self.branches);
+        } else {
+            follow_branches(arena, graph, positions, &mut self.branches);
+        }
     }
 
     /// Whether every two ligands differ by Rule 1a within the last sphere.
@@ -127,15 +108,17 @@ impl Work {
     ) -> bool
         requires holds { Holds graph.now positions.now arena.now }
         requires some { 0 < arena.now.sphere }
-        requires followed { Follows graph.now positions.now arena.now.root arena.now.sphere self.now.firsts
-            self.now.numbers }
+        requires last { 0 < length (sphere_of graph.now positions.now arena.now.root arena.now.sphere) }
+        requires followed { Follows graph.now positions.now arena.now.root arena.now.bound arena.now.sphere
+            self.now.branched }
         ensures result { (rules : Wording) (units : List AnyUnit)
             → result ≡ differs (setting_of rules graph.now positions.now units ligands.now) arena.now.root
             arena.now.sphere }
     {
         let _vertices = graph.vertices();
         let _positions = positions;
-        differ_each(arena, &self.diagonal, ligands)
+        let _count = arena.len();
+        part_each(arena, &self.branches, ligands)
     }
 
     /// Whether two ligands have no node beyond the last sphere and are alike, where none were within the sphere before.
@@ -150,11 +133,11 @@ impl Work {
     ) -> bool
         requires holds { Holds graph.now positions.now arena.now }
         requires some { 0 < arena.now.sphere }
+        requires last { 0 < length (sphere_of graph.now positions.now arena.now.root arena.now.sphere) }
         requires root { arena.now.root < length graph.now.vertices }
         requires room { arena.now.bound ≤ self.old.bound }
-        requires followed { Follows graph.now positions.now arena.now.root arena.now.sphere self.old.firsts
-            self.old.numbers }
-        requires tops { TopsUpTo graph.now positions.now arena.now.root arena.now.sphere self.old.tops }
+        requires followed { Follows graph.now positions.now arena.now.root arena.now.bound arena.now.sphere
+            self.old.branched }
         requires before { 1 < arena.now.sphere
             → has_alike (setting_of rules graph.now positions.now units.now ligands.now) arena.now.root
             (arena.now.sphere - 1) ≡ false }
@@ -164,20 +147,17 @@ impl Work {
     {
         let _vertices = graph.vertices();
         let _count = arena.len();
-        if arena.sphere() > 1 && !some_end_here(arena, graph, positions, &self.tops, ligands) {
-            return false;
-        }
-        // Rule 1a, whose numbers stand already, tells most ligands apart
-        if !alike_each(
-            arena,
-            graph,
-            positions,
+        let branches = &self.branches;
+        let trial = Trial {
+            arena: &*arena,
+            branches,
+            graph: &*graph,
+            positions: &*positions,
+            units: &*units,
             rules,
-            units,
-            &self.diagonal,
-            &mut self.under,
-            ligands,
-        ) {
+        };
+        // Rule 1a, whose numbers stand already, tells most ligands apart
+        if !has_candidates(&trial, &mut self.under, ligands) {
             return false;
         }
         let depth = arena.sphere() - 1;
@@ -198,56 +178,34 @@ impl Work {
     }
 }
 
-// Refines the spheres one after the other, from the last but one to the first. Where a sphere stays as it was, so do
-// those before it.
-fn refine_inwards(
-    arena: &Arena,
-    graph: &Graph,
-    positions: &Positions,
-    firsts: &[u32],
-    ranks: &mut Ranks,
-)
-    requires holds { Holds graph.now positions.now arena.now }
-    requires some { 0 < arena.now.sphere }
-    requires firsts { TellFirsts graph.now positions.now arena.now.root arena.now.sphere firsts.now }
-    requires left { Refined graph.now positions.now arena.now.root arena.now.sphere (arena.now.sphere - 1)
-        ranks.old.numbers }
-    ensures done { Refined graph.now positions.now arena.now.root arena.now.sphere 0 ranks.new.numbers }
-    ensures bound { ranks.new.bound ≡ ranks.old.bound }
+// All nodes but the root may have a place.
+fn place_count(bound: u32) -> u32
+    ensures count { result ≡ bound - 1 }
+    ensures few { result + 1 < 2 ^ 32 }
 {
-    let mut outer = arena.sphere();
-    while outer > 1 {
-        if !refine_one(arena, graph, positions, firsts, ranks, outer - 1) {
-            return;
-        }
-        outer -= 1;
-    }
+    bound.saturating_sub(1)
 }
 
-// Refines one sphere by the next one, and says whether it changed.
-fn refine_one(
-    arena: &Arena,
-    graph: &Graph,
-    positions: &Positions,
-    firsts: &[u32],
-    ranks: &mut Ranks,
-    inner: u32,
-) -> bool
-    requires holds { Holds graph.now positions.now arena.now }
-    requires some { 0 < inner }
-    requires within { inner < arena.now.sphere }
-    requires firsts { TellFirsts graph.now positions.now arena.now.root arena.now.sphere firsts.now }
-    requires left { Refined graph.now positions.now arena.now.root arena.now.sphere inner ranks.old.numbers }
-    ensures done { Refined graph.now positions.now arena.now.root arena.now.sphere (inner - 1) ranks.new.numbers }
-    ensures stopped { result ≡ false → Refined graph.now positions.now arena.now.root arena.now.sphere 0
-        ranks.new.numbers }
-    ensures bound { ranks.new.bound ≡ ranks.old.bound }
+// The branches of the root's children, and a column of these.
+fn reserve_branches(alloc: Global, bound: u32) -> Result<(Branches, Column<u32>), AllocError>
+    ensures branches { IfOk result (λ both. both.0 ≡ no_branches (bound - 1)) }
+    ensures tops { IfOk result (λ both. both.1.room ≡ bound) }
 {
-    let _graph = graph;
-    let _positions = positions;
-    let first = firsts[inner as usize];
-    let past = firsts[inner as usize + 1];
-    ranks.refine_range(arena.table(), first, past)
+    let branches = Branches::reserve(alloc, place_count(bound))?;
+    both(branches, Column::reserve(alloc, bound))
+}
+
+// The rank numbers of each rule, and those that all tie.
+fn reserve_ranks(alloc: Global, bound: u32) -> Result<(Ranks, Ranks, Ranks, Ranks), AllocError>
+    ensures level { IfOk result (λ ranks. ranks.0.bound ≡ bound) }
+    ensures by_atom { IfOk result (λ ranks. ranks.1.bound ≡ bound) }
+    ensures by_distance { IfOk result (λ ranks. ranks.2.bound ≡ bound) }
+    ensures by_mass { IfOk result (λ ranks. ranks.3.bound ≡ bound) }
+{
+    let ranks = both(Ranks::reserve(alloc, bound)?, Ranks::reserve(alloc, bound))?;
+    let ranks = both(ranks, Ranks::reserve(alloc, bound))?;
+    let (((level, by_atom), by_distance), by_mass) = both(ranks, Ranks::reserve(alloc, bound))?;
+    Ok((level, by_atom, by_distance, by_mass))
 }
 
 // Ranks by a key over an earlier order, so many spheres down.

@@ -47,7 +47,7 @@ use Rattle.cip_digraph.proofs.Hanging as hanging
 use Rattle.cip_digraph.proofs.Numbered.{count_is, at_number}
 use Rattle.cip_digraph.proofs.Placing.{placed, placed_parents}
 use Rattle.cip_arena.specs.Growth.{Growth, Holds}
-use Rattle.cip_views.specs.Near.{root_keys}
+use Rattle.cip_views.specs.RootKeys.{root_keys}
 use Rattle.cip_constitution.proofs.CutRanks.{KeysAre, tie_total}
 use Rattle.cip_constitution.proofs.DifferTold.{IsFirst, all_level}
 use Rattle.cip_constitution.proofs.NodeKeys.{keys_at}

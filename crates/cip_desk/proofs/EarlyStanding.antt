@@ -61,7 +61,7 @@ use Rattle.cip_views.specs.declared.asked.Asked.{Asked}
 use Rattle.cip_views.specs.Asking.{decided, with_found}
 use Rattle.cip_views.specs.Finding.{found_within}
 use Rattle.cip_desk.specs.declared.branches.Pair.{Pair}
-use Rattle.cip_views.specs.Near.{root_keys}
+use Rattle.cip_views.specs.RootKeys.{root_keys}
 use Rattle.cip_desk.specs.Ranking.{early}
 use Rattle.cip_desk.specs.Standing.{Standing, pair, pairs_of, found_of, standing_of, asked_in, number_at, asked_by}
 use Rattle.cip_desk.proofs.EarlyBranches.{same_differences, compare_first}

@@ -11,7 +11,7 @@ use Rattle.cip_reroot.specs.View.{View}
 use Rattle.cip_views.specs.declared.asked.Asked.{Asked}
 use Rattle.cip_views.specs.Asking.{with_found}
 use Rattle.cip_views.specs.Finding.{found_within}
-use Rattle.cip_views.specs.Near.{root_keys}
+use Rattle.cip_views.specs.RootKeys.{root_keys}
 use Rattle.cip_views.specs.TableView.{seen_in_table}
 use Rattle.cip_desk.specs.declared.branches.Pair.{Pair}
 use Rattle.cip_desk.specs.Standing.{number_at, asked_by}

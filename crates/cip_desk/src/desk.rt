@@ -15,10 +15,11 @@ use cip_arena::Arena;
 use cip_aux::{UnitsAt, Whole};
 use cip_constitution::{Settled, Work, settle};
 use cip_digraph::Decision;
-use cip_inside::{Pruner, Sights, descriptors_inside};
+use cip_inside::{Near, Pruner, Sights, descriptors_inside};
 use cip_label::{Digraphs, Ranking, Setting};
 use cip_mol::{Ligand, Ligands};
 use cip_pairs::Descriptors;
+use cip_rank::both;
 use cip_steps::Steps;
 use cip_views::Views;
 use std::alloc::{AllocError, Global};
@@ -54,9 +55,11 @@ impl Digraphs for Desk {
     ghost standing = { λ desk. standing_of desk.standing };
 
     fn reserve(alloc: Global, nodes: u32) -> Result<Desk, AllocError> {
-        let branches = Branches::reserve(alloc)?;
-        let (arena, work) = reserve_growing(alloc, nodes)?;
-        let (sights, marks) = reserve_ranking(alloc, nodes)?;
+        let growing = both(Branches::reserve(alloc)?, reserve_growing(alloc, nodes))?;
+        let ((branches, (arena, work)), (sights, marks)) = both(
+            growing,
+            reserve_ranking(alloc, nodes),
+        )?;
         Ok(Desk {
             bound: nodes,
             arena,
@@ -118,23 +121,24 @@ impl Digraphs for Desk {
     }
 }
 
-// Each function takes few tables, since a refused request gives back all that were taken before it.
 fn reserve_growing(alloc: Global, nodes: u32) -> Result<(Arena, Work), AllocError>
     ensures arena { IfOk result (λ tables. tables.0.bound ≡ nodes) }
     ensures work { IfOk result (λ tables. tables.1.bound ≡ nodes) }
 {
-    let arena = Arena::reserve(alloc, nodes)?;
-    let work = Work::reserve(alloc, nodes)?;
-    Ok((arena, work))
+    both(Arena::reserve(alloc, nodes)?, Work::reserve(alloc, nodes))
 }
 
 fn reserve_sights(alloc: Global, nodes: u32) -> Result<Sights, AllocError>
     requires { nodes < 2 ^ 31 }
     ensures { IfOk result (λ sights. sights.views.bound ≡ nodes) }
 {
-    let pruner = Pruner::reserve(alloc, nodes)?;
-    let views = Views::reserve(alloc, nodes)?;
-    Ok(Sights { views, pruner })
+    let tables = both(Near::reserve(alloc, nodes)?, Pruner::reserve(alloc, nodes))?;
+    let ((near, pruner), views) = both(tables, Views::reserve(alloc, nodes))?;
+    Ok(Sights {
+        near,
+        views,
+        pruner,
+    })
 }
 
 fn reserve_ranking(alloc: Global, nodes: u32) -> Result<(Sights, Descriptors), AllocError>
@@ -142,9 +146,10 @@ fn reserve_ranking(alloc: Global, nodes: u32) -> Result<(Sights, Descriptors), A
     ensures sights { IfOk result (λ tables. tables.0.views.bound ≡ nodes) }
     ensures marks { IfOk result (λ tables. tables.1.bound ≡ nodes) }
 {
-    let marks = Descriptors::reserve(alloc, nodes)?;
-    let sights = reserve_sights(alloc, nodes)?;
-    Ok((sights, marks))
+    both(
+        reserve_sights(alloc, nodes)?,
+        Descriptors::reserve(alloc, nodes),
+    )
 }
 
 // Grows the digraph of a root until its ligands are settled.

@@ -1,8 +1,7 @@
 -- The table of what is below a node, seen from there, can be ranked, and pairs have their places in it.
-use Rattle.std.proofs.Common.{◌≡◌, ◌<◌, ◌≤◌, ℕ, Bool, true, false, cond, List, [], ◌∷◌, map, length, nat_lt, slice_index, refl, sym, ap, ◌∙◌, subst, arith}
+use Rattle.std.proofs.Common.{◌≡◌, ◌<◌, ◌≤◌, ℕ, Bool, true, false, cond, List, [], ◌∷◌, map, length, nat_lt, slice_index, refl, ap, ◌∙◌, subst, arith}
 use Rattle.std.specs.List.{AllByRecursion}
 use Rattle.std.specs.declared.option.Option.{Option}
-use Rattle.std.specs.declared.cmp.Ordering.{Ordering}
 use Rattle.std.proofs.lemmas.Bool.{ltb-true}
 use Rattle.std.proofs.lemmas.List.{length-map}
 use Rattle.cip_mol.specs.declared.descriptor.Descriptor.{Descriptor}
@@ -17,7 +16,7 @@ use Rattle.cip_inside.specs.Pruning.{Pruning, all_pruned, marks_kept}
 use Rattle.cip_inside.proofs.KeptChildren.{kept_few}
 use Rattle.cip_inside.proofs.PrunedKeys.{parents_are, pruned_len}
 use Rattle.cip_inside.proofs.PrunedOrders.{ready_pruned}
-use Rattle.cip_inside.specs.Below.{IsSeenBelow, place_below, placed}
+use Rattle.cip_inside.specs.Below.{IsSeenBelow, placed}
 
 -- one map after two others
 pub map_both : {X Y Z W : Type 0} (f : X → Y) (g : Y → Z) (h : Z → W) (xs : List X)

@@ -1,5 +1,5 @@
 -- What a part of a digraph tells of a node's ligands is what all of it tells.
-use Rattle.std.proofs.Common.{◌≡◌, ◌<◌, ℕ, Bool, true, false, cond, not, List, map, length, nat_lt, slice_index, slice_index_or, refl, sym, ap, ◌∙◌, subst, arith, None, Some, eqb-true, ◌==◌, ◌&&◌, zero, suc}
+use Rattle.std.proofs.Common.{◌≡◌, ◌<◌, ℕ, Bool, true, false, cond, not, List, map, length, nat_lt, slice_index, slice_index_or, refl, sym, ap, ◌∙◌, arith, None, eqb-true, ◌==◌, ◌&&◌, zero, suc}
 use Rattle.std.specs.List.{list_all}
 use Rattle.std.specs.declared.option.Option.{Option}
 use Rattle.std.specs.declared.cmp.Ordering.{Ordering}
@@ -18,8 +18,9 @@ use Rattle.cip_aux.specs.Sights.{Sight, seen_sides}
 use Rattle.cip_inside.specs.Pruning.{Pruning, IsBelow, StandsAbove, AreMarksBelow, all_pruned, place_seen}
 use Rattle.cip_inside.proofs.PrunedMarks.{mark_kept}
 use Rattle.cip_inside.proofs.PrunedOrders.{order_below}
-use Rattle.cip_inside.specs.Asking.{asked_between, near_pairs, side_at}
-use Rattle.cip_inside.specs.Below.{near_numbered, AreNear, is_child, is_told_below, place_below, IsSeenBelow, below_side}
+use Rattle.cip_inside.specs.Asking.{asked_between, side_at}
+use Rattle.cip_inside.specs.Near.{AreNear}
+use Rattle.cip_inside.specs.Below.{is_child, is_told_below, place_below, IsSeenBelow, below_side}
 use Rattle.cip_inside.proofs.BelowTables.{view_below}
 use Rattle.cip_inside.proofs.NearSides.{near_sides}
 
@@ -55,8 +56,8 @@ module _ (inner : Inner) (node : ℕ) (r : Ready inner node) (ligands : List (Op
       → map side_at pairs ≡ pair_sides (seen_sides sight node mark r_first) ligands
   decided_sides all mark r_first =
       ap (map side_at) near.found
-      ∙ near_sides sight r.shows node r.real near.spheres near.number near.view near.cut mark r_first is_decided side_at
-      (λ first second decision. refl) (λ h. let bad : false ≡ true = h in cc)
+      ∙ near_sides near.find (seen_sides sight node mark r_first) (λ a b decision is. near.right a b decision is mark
+      r_first) is_decided side_at (λ first second decision. refl) (λ h. let bad : false ≡ true = h in cc)
       (λ a b h. let bad : false ≡ true = h in cc) ligands (sym (ap (list_all is_decided) near.found) ∙ all)
 
   pub decided_early : list_all is_decided pairs ≡ true
@@ -113,12 +114,10 @@ module _ (inner : Inner) (node : ℕ) (r : Ready inner node) (ligands : List (Op
           let parts = and_parts (is_child parents node a) (is_child parents node b) h in
           (child_below parents node a parts.0, child_below parents node b parts.1) in
           ap (map (below_side sight pruning marks view r_first)) near.found
-          ∙ near_sides sight r.shows node r.real near.spheres near.number near.view near.cut mark r_first
-          (is_told_below parents node) (below_side sight pruning marks view r_first)
+          ∙ near_sides near.find (seen_sides sight node mark r_first) (λ a b decision is. near.right a b decision is
+          mark r_first) (is_told_below parents node) (below_side sight pruning marks view r_first)
           (λ first second decision. refl)
-          (λ h. let of = (child node node h).0 in
-          let behind = r.shows.told.whole.tree.behind node of.some of.within in
-          absurd (omega (arith, behind, of.parent)))
+          (λ h. let some = (child 0 0 h).0.some in absurd (omega (arith, some)))
           (λ a b h. let both = child a b h in open_side r_first a b both.0 both.1) ligands
           (sym (ap (list_all (is_told_below parents node)) near.found) ∙ all)
 

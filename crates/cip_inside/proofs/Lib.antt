@@ -1,7 +1,11 @@
 pub mod Ascending
 pub mod AskedPairs
+pub mod AskedTops
+pub mod AwayNodes
 pub mod BelowTables
 pub mod EarlySides
+pub mod FirstSides
+pub mod FollowedViews
 pub mod Grown
 pub mod KeptChildren
 pub mod MappedPairs

@@ -1,5 +1,5 @@
 -- Descriptors strictly below a node on the way are those of all nodes below the one that a digraph is pruned for.
-use Rattle.std.proofs.Common.{◌≡◌, ℕ, zero, suc, ◌+◌, ◌<◌, ◌≤◌, ◌==◌, ◌||◌, Bool, true, cond, List, map, length, slice_index, refl, sym, ap, ◌∙◌, arith, eq-eqb, inl, inr}
+use Rattle.std.proofs.Common.{◌≡◌, ℕ, zero, suc, ◌+◌, ◌<◌, ◌≤◌, ◌==◌, true, cond, List, length, slice_index, sym, ap, ◌∙◌, arith, eq-eqb, inl, inr}
 use Rattle.std.specs.Prelude.{None, slice_index_or}
 use Rattle.std.specs.declared.option.Option.{Option}
 use Rattle.std.proofs.lemmas.Bool.{cases_order, or_left, or_right}

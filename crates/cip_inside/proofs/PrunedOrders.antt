@@ -1,10 +1,10 @@
 -- Branches below a node stand in the view of the pruned digraph as they do in the whole one seen from there.
-use Rattle.std.proofs.Common.{◌≡◌, ℕ, zero, suc, ◌+◌, ◌<◌, ◌≤◌, pos, Bool, true, false, cond, List, [], ◌∷◌, map, length, slice_index, refl, sym, ap, ◌∙◌, subst, arith, inl, inr, not, ◌++◌}
+use Rattle.std.proofs.Common.{◌≡◌, ℕ, ◌<◌, ◌≤◌, pos, Bool, true, false, cond, List, [], ◌∷◌, map, length, slice_index, refl, sym, ap, ◌∙◌, subst, arith, inl, inr, not, ◌++◌}
 use Rattle.std.specs.Prelude.{filter}
 use Rattle.std.specs.List.{AllByRecursion}
 use Rattle.std.specs.declared.option.Option.{Option}
 use Rattle.std.proofs.lemmas.Bool.{cases_order, false_from_ne_true}
-use Rattle.cip_rank.specs.Tree.{IsTree, children_of, spheres_of, height_of}
+use Rattle.cip_rank.specs.Tree.{IsTree, children_of, height_of}
 use Rattle.cip_rank.specs.declared.rules.Rules.{Rules}
 use Rattle.cip_rank.proofs.Children.{IsChild, children_are}
 use Rattle.cip_mol.specs.declared.descriptor.Descriptor.{Descriptor}
@@ -30,7 +30,6 @@ use Rattle.cip_views.proofs.Members.{all_images}
 use Rattle.cip_views.proofs.MovedOrders.{moved_order}
 use Rattle.cip_views.proofs.SeenChildren.{seen_are}
 use Rattle.cip_views.proofs.SeenSpheres.{map_map}
-use Rattle.cip_views.proofs.Spheres.{sphere_next, outermost}
 use Rattle.cip_views.proofs.Unmarked.{branch_ends}
 use Rattle.cip_inside.specs.Pruning.{Pruning, IsKept, IsPruned, IsBelow, told_pruned, all_pruned, place_seen, AreMarksBelow}
 use Rattle.cip_inside.proofs.KeptChildren.{children_kept}

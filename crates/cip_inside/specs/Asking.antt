@@ -1,9 +1,8 @@
 -- Two ligands as they are asked about in the table of a view, and their sides there. Own.
-use Rattle.std.specs.Prelude.{◌==◌, ℕ, List, [], ◌∷◌, ◌++◌, map, None, Some, slice_index}
+use Rattle.std.specs.Prelude.{ℕ, List, [], ◌∷◌, ◌++◌, map, None, Some, slice_index}
 use Rattle.std.specs.declared.option.Option.{Option}
 use Rattle.std.specs.declared.cmp.Ordering.{Ordering}
 use Rattle.std.specs.declared.cmp.Ordering.TheVariants.{Less, Greater}
-use Rattle.cip_rank.specs.Tree.{children_of}
 use Rattle.cip_rank.specs.declared.rules.Rules.{Rules}
 use Rattle.cip_mol.specs.declared.descriptor.Descriptor.{Descriptor}
 use Rattle.cip_mol.specs.declared.outcome.Rule.TheVariants.{R1a}
@@ -13,7 +12,6 @@ use Rattle.cip_digraph.specs.rules.Decisions.{order}
 use Rattle.cip_reroot.specs.View.{View}
 use Rattle.cip_views.specs.TableView.{seen_in_table}
 use Rattle.cip_views.specs.declared.asked.Asked.{Asked}
-use Rattle.cip_aux.specs.Neighbours.{first_where}
 use Rattle.cip_aux.specs.Sides.{found_side, Sides}
 
 -- by the places of a view, with its descriptors by place
@@ -25,7 +23,7 @@ table_sides rules all marks view r_first a b =
 abbrev pub asked_between : ℕ → ℕ → Option Decision → Asked
 asked_between first second decision = record { first = first; second = second; decision = decision }
 
--- a pair of which one is a lone pair
+-- decided by Rule 1a, in a sphere that isn't told
 abbrev pub known : Ordering → Option Decision
 known side = Some (record { side = side; rule = R1a; sphere = 1 })
 
@@ -39,27 +37,6 @@ asked_of places (Some a) (Some b) = asked_between (slice_index places a) (slice_
 abbrev pub asked_pairs : List ℕ → List (Option ℕ) → List Asked
 asked_pairs places [] = []
 asked_pairs places (ligand ∷ ligands) = map (asked_of places ligand) ligands ++ asked_pairs places ligands
-
--- where a node next to the root of a view stands in it
-abbrev pub near_place : View → ℕ → Option ℕ
-near_place view node = first_where (λ place. slice_index view.originals place == node) (children_of view.tree 0)
-
--- what doesn't stand there is asked about as the root against itself
-abbrev pub asked_places : Option ℕ → Option ℕ → Asked
-asked_places None other = asked_between 0 0 None
-asked_places (Some first) None = asked_between 0 0 None
-asked_places (Some first) (Some second) = asked_between first second None
-
--- two ligands next to the root of a view
-abbrev pub near_asked : View → Option ℕ → Option ℕ → Asked
-near_asked view None None = asked_between 0 0 None
-near_asked view None (Some b) = asked_between 0 0 (known Less)
-near_asked view (Some a) None = asked_between 0 0 (known Greater)
-near_asked view (Some a) (Some b) = asked_places (near_place view a) (near_place view b)
-
-abbrev pub near_pairs : View → List (Option ℕ) → List Asked
-near_pairs view [] = []
-near_pairs view (ligand ∷ ligands) = map (near_asked view ligand) ligands ++ near_pairs view ligands
 
 -- which of them precedes
 abbrev pub side_at : Asked → Option Ordering

@@ -1,5 +1,5 @@
 -- Pairs of a node's children, asked about in what is below the node. Own.
-use Rattle.std.specs.Prelude.{◌≡◌, ℕ, Bool, cond, not, ◌==◌, ◌&&◌, ◌||◌, List, map, length, nat_lt, slice_index}
+use Rattle.std.specs.Prelude.{◌≡◌, ℕ, Bool, cond, not, ◌==◌, ◌&&◌, ◌||◌, List, length, nat_lt, slice_index}
 use Rattle.std.specs.declared.option.Option.{Option}
 use Rattle.std.specs.declared.cmp.Ordering.{Ordering}
 use Rattle.cip_mol.specs.declared.descriptor.Descriptor.{Descriptor}
@@ -7,33 +7,13 @@ use Rattle.cip_digraph.specs.digraph.NodeList.{parents_of}
 use Rattle.cip_aux.specs.Inner.{Inner}
 use Rattle.cip_aux.specs.Sights.{Sight}
 use Rattle.cip_inside.specs.Pruning.{Pruning, IsPruned, all_pruned, marks_kept, place_seen}
-use Rattle.cip_reroot.specs.View.{View, IsView, IsCut}
+use Rattle.cip_reroot.specs.View.{View, IsView}
 use Rattle.cip_views.specs.Asking.{is_decided, with_found}
 use Rattle.cip_views.specs.Finding.{found_by_all}
 use Rattle.cip_views.specs.Laws.{placed_marks}
-use Rattle.cip_views.specs.Near.{found_near}
 use Rattle.cip_views.specs.TableView.{seen_in_table}
 use Rattle.cip_views.specs.declared.asked.Asked.{Asked}
-use Rattle.cip_inside.specs.Asking.{near_pairs, side_at}
-
--- by the numbers of the nodes at the places of a view
-abbrev pub numbered : View → Asked → Asked
-numbered view asked = record asked {
-  first = slice_index view.originals asked.first;
-  second = slice_index view.originals asked.second;
-}
-
--- what Rule 1a finds in the first spheres of a view
-abbrev pub near_numbered : Sight → ℕ → View → Asked → Asked
-near_numbered sight spheres view asked = numbered view (with_found (found_near sight.told spheres view) asked)
-
--- each two ligands by number, and what some spheres around a node tell of them
-pub record AreNear (sight : Sight) (node : ℕ) (ligands : List (Option ℕ)) (pairs : List Asked) : Type 0 where
-  pub spheres : ℕ
-  pub number : ℕ
-  pub view : View
-  pub cut : IsCut (parents_of sight.told) node spheres number view
-  pub found : pairs ≡ map (near_numbered sight spheres view) (near_pairs view ligands)
+use Rattle.cip_inside.specs.Asking.{side_at}
 
 abbrev pub is_child : List ℕ → ℕ → ℕ → Bool
 is_child parents node child =

@@ -1,5 +1,5 @@
 // Pairs of ligands that are asked about in a view.
-ghost use Rattle.std.specs.Prelude.{◌≡◌, ◌<◌, ◌++◌, All, IfOk, IfSome, OnOk, length, map};
+ghost use Rattle.std.specs.Prelude.{◌≡◌, ◌<◌, ◌++◌, All, IfOk, IfSome, OnOk, Some, length, map};
 ghost use Rattle.cip_inside.specs.Asking.{asked_between, known, asked_of, asked_pairs, side_at};
 
 use cip_digraph::Decision;
@@ -19,6 +19,17 @@ pub fn open_pair(first: u32, second: u32) -> Asked
     }
 }
 
+/// By Rule 1a, in a sphere that isn't told.
+pub fn known_side(side: Ordering) -> Decision
+    ensures { Some result ≡ known side }
+{
+    Decision {
+        side,
+        rule: Rule::R1a,
+        sphere: 1,
+    }
+}
+
 /// A pair of which one is a lone pair.
 pub fn known_pair(side: Ordering) -> Asked
     ensures { result ≡ asked_between 0 0 (known side) }
@@ -26,11 +37,7 @@ pub fn known_pair(side: Ordering) -> Asked
     Asked {
         first: 0,
         second: 0,
-        decision: Some(Decision {
-            side,
-            rule: Rule::R1a,
-            sphere: 1,
-        }),
+        decision: Some(known_side(side)),
     }
 }
 

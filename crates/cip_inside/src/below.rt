@@ -1,33 +1,12 @@
 // Pairs of a node's children, asked about in what is below the node.
-ghost use Rattle.std.specs.Prelude.{◌≡◌, ◌<◌, ◌≤◌, All, length, map, slice_index};
+ghost use Rattle.std.specs.Prelude.{◌≡◌, ◌<◌, ◌≤◌, length, map, slice_index};
 ghost use Rattle.std.specs.List.{list_all};
-ghost use Rattle.cip_views.specs.Asking.{AreWithin, is_decided};
-ghost use Rattle.cip_inside.specs.Below.{numbered, is_child, is_told_below, place_below, placed};
+ghost use Rattle.cip_views.specs.Asking.{is_decided};
+ghost use Rattle.cip_inside.specs.Below.{is_child, is_told_below, place_below, placed};
 
 use crate::pruner::Pruner;
 use cip_rank::Table;
 use cip_views::{Asked, Views};
-
-fn number_pair(views: &Views, asked: Asked) -> Asked
-    requires { AreWithin (length views.now.view.originals) asked }
-    ensures { result ≡ numbered views.now.view asked }
-{
-    Asked {
-        first: views.original(asked.first),
-        second: views.original(asked.second),
-        decision: asked.decision,
-    }
-}
-
-/// Names pairs by the numbers of the nodes at the places of a view.
-pub fn number_all(views: &Views, pairs: &mut [Asked])
-    requires { All (AreWithin (length views.now.view.originals)) pairs.old }
-    ensures { pairs.new ≡ map (numbered views.now.view) pairs.old }
-{
-    for pair in pairs.iter_mut() {
-        *pair = number_pair(views, *pair);
-    }
-}
 
 fn is_child(tree: &Table, node: u32, child: u32) -> bool
     ensures { result ≡ is_child tree.now.parents node child }

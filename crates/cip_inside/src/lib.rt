@@ -15,6 +15,7 @@ mod way;
 
 pub use inside::{descriptors_inside, descriptors_where};
 pub use laws::{pruned_digraphs_are_ready, pruned_digraphs_are_seen, whole_digraphs_ascend};
+pub use near::Near;
 pub use pruned::Pruned;
 pub use pruner::Pruner;
 pub use sights::Sights;

@@ -1,5 +1,5 @@
 // Whole digraphs looked at by views in tables.
-ghost use Rattle.std.specs.Prelude.{◌≡◌, ◌<◌, ◌≤◌, ℕ, List, true, false, length, map, IfOk, IfSome};
+ghost use Rattle.std.specs.Prelude.{◌≡◌, ◌≤◌, ℕ, List, true, false, length, map, IfOk, IfSome};
 ghost use Rattle.std.specs.List.{list_all};
 ghost use Rattle.std.specs.declared.option.Option.{Option};
 ghost use Rattle.cip_digraph.specs.digraph.NodeList.{parents_of};
@@ -7,28 +7,24 @@ ghost use Rattle.cip_aux.specs.Early.{AreEarly};
 ghost use Rattle.cip_aux.specs.Inner.{Ready};
 ghost use Rattle.cip_aux.specs.Sights.{IsReal, sight_of};
 ghost use Rattle.cip_inside.specs.Asking.{table_sides, side_at};
-ghost use Rattle.cip_inside.specs.Below.{AreNear, IsSeenBelow, below_side, is_told_below};
+ghost use Rattle.cip_inside.specs.Near.{AreNear};
+ghost use Rattle.cip_inside.specs.Below.{IsSeenBelow, below_side, is_told_below};
 ghost use Rattle.cip_views.specs.RuleKeys.{IsReady};
 
 use crate::asking::{ask_all, sides};
-use crate::below::{are_decided, are_told_below, number_all, place_all};
-use crate::near::ask_all_near;
+use crate::below::{are_decided, are_told_below, place_all};
+use crate::near::Near;
 use crate::pruned::Pruned;
 use crate::pruner::Pruner;
 use cip_aux::{BothSides, Inner, Viewer, Whole};
 use cip_digraph::Nodes;
-use cip_rank::Table;
 use cip_views::{Asked, Views};
 use std::alloc::{AllocError, Global};
-
-/// In how many spheres around a node a pair is asked about at most, before the whole view is made.
-const MOST_SPHERES: u32 = 16;
-/// And where only pairs of the node's children are left, before the view of what is below it is made.
-const FEW_SPHERES: u32 = 4;
 
 /// What looks at digraphs by views, in their memory.
 #[derive(Drop)]
 pub struct Sights {
+    pub near: Near,
     pub views: Views,
     pub pruner: Pruner,
 }
@@ -43,65 +39,23 @@ fn both(alloc: Global, asked: &[Asked], turned: &[Asked]) -> Result<BothSides, A
     })
 }
 
-fn most_spheres(tree: &Table, node: u32, pairs: &[Asked]) -> u32
-    ensures { result ≤ 16 }
-{
-    if are_told_below(tree, node, pairs) {
-        FEW_SPHERES
-    } else {
-        MOST_SPHERES
-    }
-}
-
 impl Sights {
-    // How ligands stand by the first spheres around a node, and whether more of them can't tell more.
-    fn ask_near<N: Nodes>(
-        &mut self,
-        alloc: Global,
-        whole: &Whole<'_, N>,
-        node: u32,
-        spheres: u32,
-        ligands: &[Option<u32>],
-    ) -> Result<(Vec<Asked>, bool), AllocError>
-        requires room { length whole.now.told ≤ self.old.views.bound }
-        requires real { IsReal (sight_of whole.now).nodes node }
-        requires some { 0 < spheres }
-        ensures bound { self.new.views.bound ≡ self.old.views.bound }
-        ensures kept { self.new.pruner ≡ self.old.pruner }
-        ensures near { IfOk result (λ found. AreNear (sight_of whole.now) node ligands.now found.0.items) }
-    {
-        let nodes = whole.nodes();
-        let count = self.views.see_near(nodes, node, spheres);
-        let mut pairs = ask_all_near(alloc, &self.views, ligands)?;
-        let asked = pairs.as_mut_slice();
-        let is_told = self.views.decide_near(nodes, spheres, asked);
-        let is_done = is_told || count == self.views.seen().len();
-        number_all(&self.views, asked);
-        Ok((pairs, is_done))
-    }
-
-    // How ligands stand by as many spheres around a node as it takes.
-    fn near<N: Nodes>(
+    // How ligands stand by Rule 1a, seen from a node.
+    fn look_near<N: Nodes>(
         &mut self,
         alloc: Global,
         whole: &Whole<'_, N>,
         node: u32,
         ligands: &[Option<u32>],
     ) -> Result<Vec<Asked>, AllocError>
-        requires room { length whole.now.told ≤ self.old.views.bound }
+        requires room { length whole.now.told ≤ self.old.near.bound }
         requires real { IsReal (sight_of whole.now).nodes node }
-        ensures bound { self.new.views.bound ≡ self.old.views.bound }
-        ensures kept { self.new.pruner ≡ self.old.pruner }
+        ensures views { self.new.views ≡ self.old.views }
+        ensures pruner { self.new.pruner ≡ self.old.pruner }
         ensures near { IfOk result (λ found. AreNear (sight_of whole.now) node ligands.now found.items) }
     {
-        let tree = whole.nodes().table();
-        let mut spheres = 1;
-        let (mut pairs, mut is_done) = self.ask_near(alloc, whole, node, spheres, ligands)?;
-        while !is_done && spheres < most_spheres(tree, node, pairs.as_slice()) {
-            spheres *= 2;
-            (pairs, is_done) = self.ask_near(alloc, whole, node, spheres, ligands)?;
-        }
-        Ok(pairs)
+        self.near.follow(whole, node, ligands);
+        self.near.ask_all(alloc, ligands)
     }
 
     // Sees what is below a node from it.
@@ -190,7 +144,10 @@ impl Viewer for Sights {
     ) -> Result<Option<BothSides>, AllocError> {
         let whole = inner.whole();
         let tree = whole.nodes().table();
-        let mut near = self.near(alloc, whole, node, ligands)?;
+        if self.near.bound() < tree.len() {
+            return Ok(None);
+        }
+        let mut near = self.look_near(alloc, whole, node, ligands)?;
         let pairs = near.as_mut_slice();
         if are_decided(pairs) {
             return Ok(Some(both(alloc, pairs, pairs)?));

@@ -1,7 +1,7 @@
 -- The steps of a walk, and what it ends with.
 use Rattle.std.proofs.Common.{◌≡◌, ℕ, zero, suc, ◌+◌, ◌-◌, ◌<◌, ◌≤◌, ◌==◌, Bool, true, false, not, cond, List, [], ◌∷◌, ◌++◌, filter, map, length, slice_index, get_or, take, replicate, refl, sym, ap, ◌∙◌, arith, subst, inl, inr, eq-eqb, length-append, add-zero}
 use Rattle.std.specs.List.{flat_map, AllByRecursion, range_with_len}
-use Rattle.std.proofs.lemmas.List.{take-append-le, take_more, take_all, get_or-take, flat_map_more, length-replicate}
+use Rattle.std.proofs.lemmas.List.{take-append-le, take_more, take_all, flat_map_more, length-replicate}
 use Rattle.std.proofs.lemmas.List.Elements.{filter-append}
 use Rattle.cip_rank.proofs.Ranges.{range_more}
 use Rattle.std.proofs.lemmas.Bool.{ne_eqb, both_ways, cases_order, cases_lt}
@@ -282,31 +282,3 @@ kept_part p a (suc n) (suc m) h =
     let rest = kept_part p (a + 1) n m (omega arith) in
     elim (p a) as (λ b. length (cond b (a ∷ filter p (range_with_len (a + 1) n)) (filter p (range_with_len (a + 1) n))) ≤ length (cond b (a ∷ filter p (range_with_len (a + 1) m)) (filter p (range_with_len (a + 1) m))))
     [ true ↦ omega (arith, rest) | false ↦ rest ]
-
--- the children of the first nodes, in a walk that may have come part of the way
-pub part_children : (ps : List ℕ) (from m : ℕ) (t xs : List ℕ) → IsWalk ps from m t xs → (n : ℕ) → n < m → map (slice_index xs) (children_of t n) ≡ children_seen ps from (slice_index xs n)
-part_children ps from m t xs w n h =
-    let vk = children_seen ps from in
-    let same : n ≡ 0 + n = omega arith in
-    let long = length_take m xs w.reached in
-    ap (λ q. map (slice_index xs) (children_of q n)) w.parents
-    ∙ ap (λ q. map (slice_index xs) (children_from 1 (numbered 0 (map (λ n. length (vk n)) (take m xs))) q)) same
-    ∙ children_walked vk xs (from ∷ []) (take m xs) 1 0 n w.nodes refl (omega (arith, long, h))
-    ∙ ap vk (get_or-take m xs n 0 h)
-
-numbered_low : (top i : ℕ) (cs : List ℕ) → i + length cs ≤ top → AllByRecursion (λ p. p < top) (numbered i cs)
-numbered_low top i [] le = tt
-numbered_low top i (c ∷ cs) le = low_replicate c (numbered_low top (i + 1) cs (omega arith))
-  where
-    low_replicate : (c : ℕ) → AllByRecursion (λ p. p < top) (numbered (i + 1) cs) → AllByRecursion (λ p. p < top) (replicate c i ++ numbered (i + 1) cs)
-    low_replicate zero all = all
-    low_replicate (suc c) all = (omega arith, low_replicate c all)
-
--- only the first nodes have children
-pub part_parents : (ps : List ℕ) (from m : ℕ) (t xs : List ℕ) → IsWalk ps from m t xs → (n : ℕ) → 0 < n → n < length t → slice_index t n < m
-part_parents ps from m t xs w zero some h = absurd (omega arith)
-part_parents ps from m t xs w (suc n) some h =
-    let cs = map (λ k. length (children_seen ps from k)) (take m xs) in
-    let long = length_take m xs w.reached in
-    subst (λ ys. slice_index ys (suc n) < m) (sym w.parents)
-    (all_at (λ p. p < m) (numbered 0 cs) n (numbered_low m 0 cs (omega (arith, length_map (λ k. length (children_seen ps from k)) (take m xs), long))) (omega (arith, ap length w.parents, h)))

@@ -1,7 +1,7 @@
 -- A tree seen from one of its nodes: the same nodes and neighbours, with another root. Hanson et al. 2018, digraphs of auxiliary
 -- descriptors; own: children by number, then the parent.
 use Rattle.std.specs.Prelude.{◌≡◌, ◌<◌, ◌≤◌, ℕ, zero, suc, Bool, cond, not, ◌==◌, ◌&&◌, ◌||◌, List, [], ◌∷◌, ◌++◌, map, filter, length, slice_index}
-use Rattle.cip_rank.specs.Tree.{IsTree, children_of, spheres_of}
+use Rattle.cip_rank.specs.Tree.{IsTree, children_of}
 
 -- whether x is n or stands above it; k is any number that n isn't above
 abbrev pub is_above : List ℕ → ℕ → ℕ → ℕ → Bool
@@ -45,20 +45,4 @@ pub record IsView (ps : List ℕ) (from : ℕ) (s : View) : Type 0 where
   pub is_tree : IsTree s.tree
   pub ordered : (m n : ℕ) → m ≤ n → n < length ps → slice_index s.tree m ≤ slice_index s.tree n
   pub children : (n : ℕ) → n < length ps → map (slice_index s.originals) (children_of s.tree n)
-      ≡ children_seen ps from (slice_index s.originals n)
-
--- The first spheres of the tree with these parents, seen from a node: so many nodes have their children there, and these are all
--- nodes within so many spheres.
-pub record IsCut (ps : List ℕ) (from spheres number : ℕ) (s : View) : Type 0 where
-  pub some : 0 < length s.tree
-  pub few : length s.tree ≤ length ps
-  pub originals_len : length s.originals ≡ length s.tree
-  pub originals : (n : ℕ) → n < length s.tree → slice_index s.originals n < length ps
-  pub root : slice_index s.originals 0 ≡ from
-  pub is_tree : IsTree s.tree
-  pub ordered : (m n : ℕ) → m ≤ n → n < length s.tree → slice_index s.tree m ≤ slice_index s.tree n
-  pub reached : number ≤ length s.tree
-  pub parents : (n : ℕ) → 0 < n → n < length s.tree → slice_index s.tree n < number
-  pub stopped : number < length s.tree → spheres ≤ slice_index (spheres_of s.tree) number
-  pub children : (n : ℕ) → n < number → map (slice_index s.originals) (children_of s.tree n)
       ≡ children_seen ps from (slice_index s.originals n)

@@ -1,10 +1,10 @@
 // Trees seen from another node.
 ghost use Rattle.std.specs.Prelude.{◌≡◌, ℕ, ◌<◌, ◌≤◌, [], length, slice_index, IfOk};
-ghost use Rattle.cip_reroot.specs.View.{IsView, IsCut};
+ghost use Rattle.cip_reroot.specs.View.{IsView};
 
 use crate::marks::{cover, mark_way, take_off};
 use crate::places::find_places;
-use crate::walk::{walk, walk_within};
+use crate::walk::walk;
 use cip_rank::Table;
 use std::alloc::{AllocError, Global};
 use std::marker::Model;
@@ -70,29 +70,6 @@ impl Reroot {
         take_off(table, node, &mut self.marks);
         find_places(&self.originals, &mut self.places);
         let _seen = self.tree.len();
-    }
-
-    /// Sees the first spheres of a tree from one of its nodes, and says how many nodes have their children there. Places
-    /// aren't kept. No memory is taken.
-    pub fn view_within(&mut self, table: &Table, node: u32, spheres: u32) -> u32
-        requires node { node < length table.now.parents }
-        requires room { length table.now.parents ≤ self.old.bound }
-        ensures view { IsCut table.now.parents node spheres result self.new }
-        ensures bound { self.new.bound ≡ self.old.bound }
-    {
-        cover(&mut self.marks, table.len());
-        mark_way(table, node, &mut self.marks);
-        let number = walk_within(
-            table,
-            &self.marks,
-            node,
-            spheres,
-            &mut self.tree,
-            &mut self.originals,
-        );
-        take_off(table, node, &mut self.marks);
-        let _seen = self.tree.len();
-        number
     }
 
     /// The tree of the view.

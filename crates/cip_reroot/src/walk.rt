@@ -1,7 +1,7 @@
 // Nodes in order of spheres from another root.
 ghost use Rattle.std.specs.Prelude.{◌≡◌, ◌≢◌, ℕ, ◌<◌, ◌≤◌, ◌+◌, ◌-◌, ◌^◌, ◌||◌, not, false, [], ◌∷◌, ◌++◌, filter, length, replicate, slice_index, vec_capacity, vec_len, All};
 ghost use Rattle.std.specs.List.{slice_index_or, range_with_len};
-ghost use Rattle.cip_rank.specs.Tree.{last_parent, spheres_of};
+ghost use Rattle.cip_rank.specs.Tree.{last_parent};
 ghost use Rattle.cip_reroot.specs.View.{on_way, children_off, children_seen};
 ghost use Rattle.cip_reroot.specs.Walk.{IsWalk};
 
@@ -159,37 +159,4 @@ pub fn walk(table: &Table, marks: &[bool], from: u32, tree: &mut Table, original
     for number in 0..table.len() {
         go_on(table, marks, from, number, tree, originals);
     }
-}
-
-/// Puts the nodes of the first spheres in order from a node, and says how many of them have their children there.
-pub fn walk_within(
-    table: &Table,
-    marks: &[bool],
-    from: u32,
-    spheres: u32,
-    tree: &mut Table,
-    originals: &mut Vec<u32>,
-) -> u32
-    requires from { from < length table.now.parents }
-    requires marks { length table.now.parents ≤ length marks.now }
-    requires way { (x : ℕ) → x < length table.now.parents → slice_index_or marks.now x false
-        ≡ on_way table.now.parents from x }
-    requires room { length table.now.parents ≤ vec_capacity originals.old }
-    requires tree_room { length table.now.parents ≤ tree.old.bound }
-    ensures walk { IsWalk table.now.parents from result tree.new.parents originals.new.items }
-    ensures stopped { result < length tree.new.parents → spheres ≤ slice_index (spheres_of tree.new.parents) result }
-    ensures room { vec_capacity originals.old ≤ vec_capacity originals.new }
-    ensures bound { tree.new.bound ≡ tree.old.bound }
-{
-    tree.clear();
-    tree.push(None);
-    originals.clear();
-    push_reserved(originals, from);
-    let _count = table.len();
-    let mut number = 0;
-    while number < tree.len() && tree.sphere(number) < spheres {
-        go_on(table, marks, from, number, tree, originals);
-        number += 1;
-    }
-    number
 }

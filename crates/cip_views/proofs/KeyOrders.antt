@@ -1,5 +1,5 @@
 -- Keys as they compare, and keys of places in a list.
-use Rattle.std.proofs.Common.{◌≡◌, ℕ, zero, suc, ◌<◌, pos, Bool, List, length, slice_index, ap, ◌∙◌, arith}
+use Rattle.std.proofs.Common.{◌≡◌, ℕ, zero, suc, ◌<◌, pos, Bool, List, length, ap, ◌∙◌, arith}
 use Rattle.std.specs.List.{range_with_len}
 use Rattle.std.specs.Ordering.{int_cmp, nat_cmp}
 use Rattle.std.proofs.lemmas.Bool.Decides.{nat_tests}
@@ -11,7 +11,7 @@ use Rattle.cip_digraph.specs.rules.Keys.{lower_precedes}
 use Rattle.cip_digraph.specs.rules.Orders.{Seen}
 use Rattle.cip_digraph.specs.declared.nodes.Told.{Told}
 use Rattle.cip_digraph.specs.digraph.NodeList.{nothing_told, told_at}
-use Rattle.cip_views.specs.Near.{near_keys, root_keys}
+use Rattle.cip_views.specs.RootKeys.{root_keys}
 use Rattle.cip_views.specs.RuleKeys.{rule_key, keys_by}
 
 pub lower_compare : (m n : ℕ) → int_cmp (lower_precedes m) (lower_precedes n) ≡ nat_cmp n m
@@ -26,10 +26,6 @@ key_is seen r_first rule count place h =
     let len = length-range_with_len 0 count in
     get_or-map (rule_key seen r_first rule) (range_with_len 0 count) place 0 (pos 0) (omega (arith, len, h))
     ∙ ap (rule_key seen r_first rule) (get_or-range_with_len 0 count place 0 h ∙ omega arith)
-
-pub near_key_is : (all : List Told) (originals : List ℕ) (place : ℕ) → place < length originals
-    → key_at (near_keys all originals) place ≡ pos (told_at all (slice_index originals place)).atomic
-near_key_is all originals place h = get_or-map (λ node. pos (told_at all node).atomic) originals place 0 (pos 0) h
 
 pub root_key_is : (all : List Told) (node : ℕ) → node < length all
     → key_at (root_keys all) node ≡ pos (told_at all node).atomic

@@ -3,7 +3,6 @@ pub mod FoundWithin
 pub mod KeyOrders
 pub mod Members
 pub mod MovedOrders
-pub mod NearViews
 pub mod Noted
 pub mod PathEnds
 pub mod Reaching

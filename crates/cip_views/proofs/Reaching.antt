@@ -20,7 +20,7 @@ module _ {N : Type 0} (below : N → List N) where
   none_below zero = refl
   none_below (suc s) = ap (flat_map below) (none_below s)
 
-  all_each : (P : N → Type 0) (ns : List N) → AllByRecursion P (flat_map below ns)
+  pub all_each : (P : N → Type 0) (ns : List N) → AllByRecursion P (flat_map below ns)
       → AllByRecursion (λ n. AllByRecursion P (below n)) ns
   all_each P [] all = tt
   all_each P (n ∷ ns) all = let both = split_all below P (below n) (flat_map below ns) all in
@@ -34,7 +34,7 @@ module _ {N : Type 0} (below : N → List N) where
   at_least_by s more (n ∷ ns) some le = omega arith
 
   -- where there are nodes so many spheres below, the height is at least that
-  at_least : (s most : ℕ) (ns : List N) → s ≤ most → (nodes_below below s ns ≡ [] → ⊥) → s ≤ height_below below most ns
+  pub at_least : (s most : ℕ) (ns : List N) → s ≤ most → (nodes_below below s ns ≡ [] → ⊥) → s ≤ height_below below most ns
   at_least zero most ns le some = omega arith
   at_least (suc s) zero ns le some = absurd (omega arith)
   at_least (suc s) (suc most) ns le some =

@@ -1,5 +1,5 @@
 -- What holds of every view in a table. Own.
-use Rattle.std.specs.Prelude.{◌≡◌, ◌<◌, ◌≤◌, ℕ, Bool, List, map, length, None, slice_index, slice_index_or}
+use Rattle.std.specs.Prelude.{◌≡◌, ◌<◌, ℕ, Bool, List, map, length, None, slice_index, slice_index_or}
 use Rattle.std.specs.declared.option.Option.{Option}
 use Rattle.cip_rank.specs.declared.rules.Rules.{Rules}
 use Rattle.cip_mol.specs.declared.descriptor.Descriptor.{Descriptor}
@@ -13,10 +13,7 @@ use Rattle.cip_digraph.specs.digraph.NodeList.{told_at, parents_of}
 use Rattle.cip_digraph.specs.graph.SoundGraphs.{IsSound}
 use Rattle.cip_digraph.specs.digraph.Telling.{node_at, TellsWhole}
 use Rattle.cip_digraph.specs.digraph.View.{seen_from}
-use Rattle.cip_reroot.specs.View.{View, IsView, IsCut}
-use Rattle.cip_rank.specs.Tree.{spheres_of}
-use Rattle.cip_views.specs.Asking.{kept_or}
-use Rattle.cip_views.specs.Near.{found_near}
+use Rattle.cip_reroot.specs.View.{View, IsView}
 use Rattle.cip_views.specs.TableView.{seen_in_table}
 use Rattle.cip_views.specs.Whole.{AreMarks, MarksOf}
 use Rattle.cip_views.specs.Below.{placed_below, MarksBehind}
@@ -83,20 +80,3 @@ InsideMarksArePlaced =
     AreMarks (digraph graph positions root last) view.originals
     (inside mark (node_at (digraph graph positions root last) from).path)
     (placed_below (parents_of all) from marks view)
-
--- What Rule 1a finds between two nodes next to the root in the first spheres of a view is what the order by all rules
--- finds.
-abbrev pub NearViewsAreSeen : Type 0
-NearViewsAreSeen = (rules : Rules) (graph : Graph) (positions : List (List ℕ)) (root last : ℕ) (all : List Told)
-    (mark : List ℕ → Option Descriptor) (from spheres number : ℕ) (view : View) (r_first : Bool) (a b : ℕ) →
-    IsSound graph → root < length graph.vertices → TellsWhole graph positions root last all →
-    from < length all → (told_at all from).kind ≡ Real → IsCut (parents_of all) from spheres number view →
-    a < length view.tree → b < length view.tree → slice_index (spheres_of view.tree) a ≤ 1
-    → slice_index (spheres_of view.tree) b ≤ 1 →
-    kept_or (found_near all spheres view a b)
-    (order (seen_from rules graph positions (node_at (digraph graph positions root last) from).path mark) r_first
-    (node_at (digraph graph positions root last) (slice_index view.originals a))
-    (node_at (digraph graph positions root last) (slice_index view.originals b)))
-    ≡ order (seen_from rules graph positions (node_at (digraph graph positions root last) from).path mark) r_first
-    (node_at (digraph graph positions root last) (slice_index view.originals a))
-    (node_at (digraph graph positions root last) (slice_index view.originals b))

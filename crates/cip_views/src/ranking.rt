@@ -1,5 +1,5 @@
 // Pairs of branches decided by one rule, depth by depth.
-ghost use Rattle.std.specs.Prelude.{◌≡◌, ◌<◌, ◌≤◌, ◌+◌, ◌-◌, false, length, min, map, All};
+ghost use Rattle.std.specs.Prelude.{◌≡◌, ◌<◌, ◌≤◌, ◌+◌, ◌-◌, false, length, map, All};
 ghost use Rattle.std.specs.List.{list_all};
 ghost use Rattle.cip_rank.specs.Calm.{AreCalm};
 ghost use Rattle.cip_rank.specs.Ranking.{OrdersAs, comparison_at};
@@ -55,12 +55,4 @@ pub fn depths_of(table: &Table) -> u32
     ensures few { result ≤ length table.now.parents }
 {
     table.height() + 1
-}
-
-/// How many depths are there in the first spheres of a view.
-pub fn depths_near(table: &Table, spheres: u32) -> u32
-    requires { 0 < length table.now.parents }
-    ensures { result ≡ min spheres (height_of table.now.parents + 1) }
-{
-    spheres.min(depths_of(table))
 }

@@ -7,22 +7,22 @@ ghost use Rattle.cip_mol.specs.declared.descriptor.Descriptor.{Descriptor};
 ghost use Rattle.cip_mol.specs.declared.outcome.Rule.TheVariants.{R1a, R1b, R2, R3};
 ghost use Rattle.cip_rank.specs.Ranking.{OrdersAs};
 ghost use Rattle.cip_digraph.specs.digraph.NodeList.{parents_of};
-ghost use Rattle.cip_reroot.specs.View.{IsView, IsCut};
+ghost use Rattle.cip_reroot.specs.View.{IsView};
 ghost use Rattle.cip_views.specs.Asking.{AreWithin, is_decided, with_found};
 ghost use Rattle.cip_views.specs.Below.{placed_below};
 ghost use Rattle.cip_views.specs.Finding.{found_within, found_in_turn, found_by_all};
-ghost use Rattle.cip_views.specs.Near.{IsNear, found_near, root_keys};
+ghost use Rattle.cip_views.specs.RootKeys.{root_keys};
 ghost use Rattle.cip_views.specs.RuleKeys.{IsBare, IsReady, before};
 ghost use Rattle.cip_views.specs.TableView.{seen_in_table};
 
 use crate::asked::Asked;
 use crate::below::{mark_below, place_below, place_marks};
-use crate::near::{NearKeys, RootKeys};
-use crate::ranking::{depths_near, rank_rule};
+use crate::ranking::rank_rule;
+use crate::root_keys::RootKeys;
 use cip_digraph::Nodes;
 use cip_mol::Rule;
 use cip_pairs::{Descriptors, PairWork};
-use cip_rank::{Ranks, Rules, Table};
+use cip_rank::{Ranks, Rules, Table, both};
 use cip_reroot::Reroot;
 use std::alloc::{AllocError, Global};
 use std::marker::Model;
@@ -60,14 +60,23 @@ impl Views {
         requires few { bound < 2 ^ 31 }
         ensures room { IfOk result (λ views. views.bound ≡ bound) }
     {
+        let seen = both(
+            Reroot::reserve(alloc, bound)?,
+            Descriptors::reserve(alloc, bound),
+        )?;
+        let seen = both(seen, Vec::with_capacity(alloc, bound as usize))?;
+        let (((view, marks), below), (ranks, next, pairs)) = both(
+            seen,
+            reserve_ranks(alloc, bound),
+        )?;
         Ok(Views {
             bound,
-            view: Reroot::reserve(alloc, bound)?,
-            marks: Descriptors::reserve(alloc, bound)?,
-            ranks: Ranks::reserve(alloc, bound)?,
-            next: Ranks::reserve(alloc, bound)?,
-            pairs: PairWork::reserve(alloc, bound)?,
-            below: Vec::with_capacity(alloc, bound as usize)?,
+            view,
+            marks,
+            ranks,
+            next,
+            pairs,
+            below,
         })
     }
 
@@ -116,19 +125,6 @@ impl Views {
         place_below(&self.view, table.len(), marks, &self.below, &mut self.marks);
     }
 
-    /// Sees the first spheres of a digraph from one of its nodes, and says how many nodes have their children there. No
-    /// memory is taken.
-    pub fn see_near<N: Nodes>(&mut self, nodes: &N, node: u32, spheres: u32) -> u32
-        requires node { node < length (N.nodes nodes.now) }
-        requires room { length (N.nodes nodes.now) ≤ self.old.bound }
-        ensures view { IsCut (parents_of (N.nodes nodes.now)) node spheres result self.new.view }
-        ensures near { IsNear (N.nodes nodes.now) self.new.view }
-        ensures bound { self.new.bound ≡ self.old.bound }
-    {
-        self.ranks.stir_all();
-        self.view.view_within(nodes.table(), node, spheres)
-    }
-
     /// The tree of the view.
     pub fn seen(&self) -> &Table
         ensures { result.now.parents ≡ self.now.view.tree }
@@ -175,35 +171,6 @@ impl Views {
                 asked,
             );
         }
-    }
-
-    /// Decides pairs of branches by Rule 1a, as far as the spheres of a near view tell; and says whether all are
-    /// decided. No memory is taken.
-    pub fn decide_near<N: Nodes>(&mut self, nodes: &N, spheres: u32, asked: &mut [Asked]) -> bool
-        requires near { IsNear (N.nodes nodes.now) self.old.view }
-        requires some { 0 < spheres }
-        requires room { length self.old.view.tree ≤ self.old.bound }
-        requires within { All (AreWithin (length self.old.view.tree)) asked.old }
-        ensures found { asked.new ≡ map (with_found (found_near (N.nodes nodes.now) spheres self.old.view)) asked.old }
-        ensures all { result ≡ list_all is_decided asked.new }
-        ensures kept { self.new ≡ record self.old { numbers = self.new.numbers } }
-    {
-        let table = self.view.seen();
-        self.ranks.level(table);
-        let keys = NearKeys {
-            nodes,
-            view: &self.view,
-        };
-        let depths = depths_near(table, spheres);
-        rank_rule(
-            table,
-            &keys,
-            Rule::R1a,
-            depths,
-            &self.ranks,
-            &mut self.next,
-            asked,
-        )
     }
 
     /// Decides pairs of branches by Rules 1a, 1b and 2 in turn, which look at no descriptor; and says whether all are
@@ -270,4 +237,16 @@ impl Views {
             self.decide_last(nodes, rules, false, turned);
         }
     }
+}
+
+// The rank numbers by the rules so far and those to be, and those of branches in both readings.
+fn reserve_ranks(alloc: Global, bound: u32) -> Result<(Ranks, Ranks, PairWork), AllocError>
+    requires few { bound < 2 ^ 31 }
+    ensures ranks { IfOk result (λ tables. tables.0 ≡ record { bound = bound; numbers = []; stirred = [] }) }
+    ensures next { IfOk result (λ tables. tables.1.bound ≡ bound) }
+    ensures pairs { IfOk result (λ tables. tables.2.bound ≡ bound) }
+{
+    let ranks = both(Ranks::reserve(alloc, bound)?, Ranks::reserve(alloc, bound))?;
+    let ((ranks, next), pairs) = both(ranks, PairWork::reserve(alloc, bound))?;
+    Ok((ranks, next, pairs))
 }

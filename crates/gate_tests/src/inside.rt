@@ -9,7 +9,7 @@ use cip_arena::{Arena, Grown};
 use cip_aux::{UnitsAt, Whole};
 use cip_digraph::{Graph, Nodes, Positions};
 use cip_hydro::graph_of;
-use cip_inside::{Pruner, Sights, descriptors_inside};
+use cip_inside::{Near, Pruner, Sights, descriptors_inside};
 use cip_mancude::positions;
 use cip_mol::{Molecule, Unit};
 use cip_pairs::Descriptors;
@@ -96,6 +96,7 @@ fn marks_inside(
 {
     let count = arena.len();
     let mut sights = Sights {
+        near: Near::reserve(alloc, count)?,
         views: Views::reserve(alloc, count)?,
         pruner: Pruner::reserve(alloc, count)?,
     };

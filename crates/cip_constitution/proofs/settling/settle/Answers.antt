@@ -1,11 +1,9 @@
-use Rattle.std.proofs.Common.{rules, ap, ◌≡◌, ◌<◌, ◌+◌, ◌-◌, sym, ◌∙◌, subst, length}
+use Rattle.std.proofs.Common.{rules, refl, ap, ◌≡◌, ◌<◌, ◌+◌, ◌-◌, sym, ◌∙◌, subst, length}
 use Rattle.cip_arena.specs.declared.arena.Grown.TheVariants.{Grown, Whole, Over}
 use Rattle.cip_constitution.specs.declared.settling.Settled.TheVariants as settled
 use Rattle.cip_constitution.specs.Settling.{setting_of, Kept, one_if_grown}
 use Rattle.cip_constitution.specs.Following.{Trying, Follows}
-use Rattle.cip_constitution.proofs.Diagonals.{grown_leaves}
-use Rattle.cip_constitution.specs.Tops.{TopsUpTo}
-use Rattle.cip_constitution.proofs.TopNodes.{tops_left}
+use Rattle.cip_constitution.proofs.FollowedBranches.{grown_first, grown_next}
 use Rattle.cip_constitution.proofs.Rounds.{
   none_before,
   first_keeps,
@@ -76,17 +74,10 @@ loop-grown-init g c =
       kept = first_keeps t c.vertices-vertices.ensures.sound c.args.arena.now next.new.self c.args.steps.now
           next.new.steps next.result c.requires.holds c.requires.started c.requires.fits c.requires.root
           next.ensures.holds next.ensures.fits next.ensures.answer;
-      followed = λ is. grown_leaves c.args.graph.now c.args.positions.now c.args.arena.now next.new.self
-          c.args.steps.now next.new.steps next.result c.start.new.self.firsts c.start.new.self.numbers
-          next.ensures.answer is
-          (subst (λ s. Follows c.args.graph.now c.args.positions.now c.args.arena.now.root s c.start.new.self.firsts
-          c.start.new.self.numbers) (sym c.requires.started) c.start.ensures.followed);
-      tops = λ is. tops_left c.args.graph.now c.args.positions.now c.args.arena.now next.new.self c.args.steps.now
-          next.new.steps
-          next.result c.start.new.self.tops next.ensures.answer is
-          (subst (λ s. TopsUpTo c.args.graph.now c.args.positions.now c.args.arena.now.root s c.start.new.self.tops)
-          (sym c.requires.started) c.start.ensures.tops);
-      work = c.start.ensures.bound;
+      followed = λ is. grown_first c.args.graph.now c.args.positions.now c.args.arena.now next.new.self
+          c.args.steps.now next.new.steps next.result next.ensures.answer is c.args.work.now.branched
+          c.requires.started;
+      work = refl;
     }
 
 pub loop-grown-preserved : goal.loop-grown-preserved
@@ -102,17 +93,11 @@ loop-grown-preserved g c =
           (sym (c.all_differ.ensures.result c.args.rules c.args.units.now) ∙ c.if-all_differ.false)
           (sym c.some_alike.ensures.result ∙ c.if-some_alike.false)
           next.ensures.holds next.ensures.fits next.ensures.answer;
-      followed = λ grown. grown_leaves c.args.graph.now c.args.positions.now c.loop-grown.arena next.new.self
-          c.loop-grown.steps next.new.steps next.result c.some_alike.new.self.firsts c.some_alike.new.self.numbers
-          next.ensures.answer grown
+      followed = λ grown. grown_next c.args.graph.now c.args.positions.now c.loop-grown.arena next.new.self
+          c.loop-grown.steps next.new.steps next.result next.ensures.answer grown c.some_alike.new.self.branched
           (subst (λ (w : Trying). Follows c.args.graph.now c.args.positions.now c.loop-grown.arena.root
-          c.loop-grown.arena.sphere w.firsts w.numbers) (sym c.some_alike.ensures.kept) c.follow.ensures.followed);
-      tops = λ grown. tops_left c.args.graph.now c.args.positions.now c.loop-grown.arena next.new.self
-          c.loop-grown.steps
-          next.new.steps next.result c.some_alike.new.self.tops next.ensures.answer grown
-          (subst (λ (w : Trying). TopsUpTo c.args.graph.now c.args.positions.now c.loop-grown.arena.root
-          c.loop-grown.arena.sphere w.tops)
-          (sym c.some_alike.ensures.kept) c.follow.ensures.tops);
+          c.loop-grown.arena.bound c.loop-grown.arena.sphere w.branched) (sym c.some_alike.ensures.kept)
+          c.follow.ensures.followed);
       work = ap (λ (w : Trying). w.bound) c.some_alike.ensures.kept ∙ c.follow.ensures.bound
           ∙ c.loop-grown.invariant.work;
     }

@@ -1,4 +1,4 @@
-use Rattle.std.proofs.Common.{◌≡◌, ◌∙◌, true, false, List, sym, ap, subst, arith, length, map, All}
+use Rattle.std.proofs.Common.{◌∙◌, true, false, List, sym, ap, subst, arith, length, map, All}
 use Rattle.std.proofs.lemmas.List.Elements.{All-from_recursion}
 use Rattle.cip_digraph.specs.declared.nodes.Told.{Told}
 use Rattle.cip_views.specs.Asking.{AreWithin, with_found}
@@ -6,7 +6,7 @@ use Rattle.cip_views.specs.Finding.{found_by_all}
 use Rattle.cip_views.specs.RuleKeys.{IsReady}
 use Rattle.cip_views.specs.TableView.{seen_in_table}
 use Rattle.cip_aux.specs.Sights.{Sight}
-use Rattle.cip_inside.specs.Pruning.{Pruning, PrunedDigraph, all_pruned}
+use Rattle.cip_inside.specs.Pruning.{PrunedDigraph, all_pruned}
 use Rattle.cip_inside.specs.Asking.{side_at}
 use Rattle.cip_inside.specs.Below.{placed}
 use Rattle.cip_inside.proofs.BelowTables.{map_both, places_below, few_below, ready_below, within_below}

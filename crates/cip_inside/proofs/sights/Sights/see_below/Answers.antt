@@ -1,9 +1,9 @@
-use Rattle.std.proofs.Common.{◌≡◌, ◌∙◌, sym, ap, subst, arith, length}
+use Rattle.std.proofs.Common.{◌∙◌, sym, ap, subst, arith, length}
 use Rattle.cip_digraph.specs.digraph.NodeList.{parents_of}
 use Rattle.cip_views.proofs.WholeTold.{parents_len}
 use Rattle.cip_aux.specs.Sights.{Sight}
 use Rattle.cip_inside.specs.Growing.{Ascend}
-use Rattle.cip_inside.specs.Pruning.{Pruning, PrunedDigraph}
+use Rattle.cip_inside.specs.Pruning.{PrunedDigraph}
 use Rattle.cip_inside.proofs.Ascending.{told_ascend}
 use Rattle.cip_inside.proofs.KeptChildren.{kept_few}
 use Rattle.cip_inside.proofs.PrunedKeys.{pruned_len}

@@ -1,8 +1,8 @@
-use Rattle.std.proofs.Common.{true, ◌≡◌, ◌∙◌, sym, ap, subst, List, map}
+use Rattle.std.proofs.Common.{◌∙◌, sym, subst, List, map}
 use Rattle.cip_views.specs.declared.asked.Asked.{Asked}
 use Rattle.cip_aux.specs.Sights.{Sight}
 use Rattle.cip_inside.specs.Asking.{side_at}
-use Rattle.cip_inside.specs.Below.{AreNear}
+use Rattle.cip_inside.specs.Near.{AreNear}
 use Rattle.cip_inside.proofs.EarlySides.{early_by, decided_early}
 use Rattle.cip_inside.proofs.sights.SightsViewer.look.Goals as goal
 

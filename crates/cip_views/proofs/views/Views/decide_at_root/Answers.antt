@@ -3,7 +3,7 @@ use Rattle.cip_mol.specs.declared.outcome.Rule.TheVariants.{R1a}
 use Rattle.cip_digraph.specs.digraph.NodeList.{parents_of}
 use Rattle.cip_views.specs.Asking.{with_found}
 use Rattle.cip_views.specs.Finding.{found_within}
-use Rattle.cip_views.specs.Near.{root_keys}
+use Rattle.cip_views.specs.RootKeys.{root_keys}
 use Rattle.cip_views.proofs.FoundWithin.{nothing_found}
 use Rattle.cip_views.proofs.views.Views.decide_at_root.Goals as goal
 

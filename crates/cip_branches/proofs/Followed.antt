@@ -1,0 +1,70 @@
+-- A sphere walked and ranked: what stands behind it.
+use Rattle.std.proofs.Common.{◌≡◌, ◌+◌, ℕ, ℤ, suc, Bool, List, length, slice_index, sym, ap, ◌∙◌, arith}
+use Rattle.std.specs.declared.cmp.Ordering.TheVariants.{Equal}
+use Rattle.std.specs.Ordering.{nat_cmp}
+use Rattle.std.specs.Cmp.Lexicographic.{slice_cmp}
+use Rattle.std.proofs.lemmas.Cmp.{tied_itself, nat_cmp_total}
+use Rattle.cip_rank.specs.Ranking.{by_number}
+use Rattle.cip_rank.proofs.CalmRanks.{both_tie, tied_lists}
+use Rattle.cip_branches.specs.Following.{AreRanked}
+use Rattle.cip_branches.specs.Kids.{kid_set, kids_of}
+use Rattle.cip_branches.specs.Layers.{Layers}
+use Rattle.cip_branches.specs.Passing.{Passes}
+use Rattle.cip_branches.specs.Ranked.{Ranked}
+use Rattle.cip_branches.specs.Turning.{in_sphere, AreSpheres, SamePlaces}
+use Rattle.cip_branches.specs.Walking.{IsWalked, LastPlaces, MayWalk}
+use Rattle.cip_branches.proofs.GrownPlaces.{one_more, is_last}
+
+-- where a sphere was walked, there is one start more, behind all rows
+module _ (begin : Layers) (first last size : ℕ) (kids_at : ℕ → List ℕ) (wanted : List Bool)
+    (may : MayWalk size kids_at wanted first last begin) (mid : Layers) (walked : IsWalked begin first size kids_at wanted mid)
+  where
+    before_it : length walked.walked.starts ≡ last + 2
+    before_it = ap (λ (ns : List ℕ). length ns) walked.walks.grows.starts ∙ may.count
+
+    pub starts_more : length mid.starts ≡ last + 3
+    starts_more =
+        let one = one_more walked.walked.starts (length walked.walked.ranked.rows) in
+        let is = ap (λ (s : Layers). length s.starts) walked.ended in
+        omega (arith, before_it, one, is)
+
+    pub ends_behind : slice_index mid.starts (suc (suc last)) ≡ length mid.ranked.rows
+    ends_behind = ap (λ (s : Layers). slice_index s.starts (suc (suc last))) walked.ended
+        ∙ is_last walked.walked.starts (length walked.walked.ranked.rows) (suc (suc last)) (omega (arith, before_it))
+        ∙ ap (λ (s : Layers). length s.ranked.rows) (sym walked.ended)
+
+module _ (mid : Layers) (ranked : Ranked) (before : List ℕ)
+    (places : SamePlaces mid.ranked.rows ranked.rows mid.starts) where
+  abbrev now : Layers
+  now = record mid { ranked = ranked; before = before }
+
+  pub ranked_after : (last : ℕ) (key : ℕ → ℤ) → length mid.starts ≡ last + 3
+      → slice_index mid.starts (suc (suc last)) ≡ length mid.ranked.rows
+      → Passes (kids_of mid.kin) (in_sphere mid.ranked.rows mid.starts) last key mid.ranked.numbers ranked.numbers
+      → AreSpheres (kids_of mid.kin) mid.kin.ups ranked.rows mid.starts (suc last) ranked.numbers
+      → before ≡ ranked.numbers → AreRanked now (suc last)
+  ranked_after last key count ends passed spheres noted = record {
+    spheres = spheres;
+    count = omega (arith, count);
+    ends = ends ∙ sym places.len;
+    before = noted;
+    steady = λ t a b lt p q tie.
+        let kids = kids_of mid.kin in
+        let equal : by_number ranked.numbers a b ≡ Equal = ap (λ n. nat_cmp n (slice_index ranked.numbers b)) tie
+        ∙ tied_itself nat_cmp_total (slice_index ranked.numbers b) in
+        let order = (passed.refines.ordered t (omega arith) (omega (arith, lt))).each a b (places.there t a p)
+        (places.there t b q) in
+        tied_lists (kid_set kids ranked.numbers a) (kid_set kids ranked.numbers b)
+        (both_tie (by_number passed.start a b) (slice_cmp nat_cmp (kid_set kids ranked.numbers a)
+        (kid_set kids ranked.numbers b)) (sym order ∙ equal)).1;
+  }
+
+  pub last_after : (wanted : List Bool) (first last : ℕ) → LastPlaces mid wanted first last
+      → LastPlaces now wanted first last
+  last_after wanted first last lasts = record {
+    low = λ p at. lasts.low p (places.there last p at);
+    high = λ p at. lasts.high p (places.there last p at);
+    back = λ p low high is. places.here last p (lasts.back p low high is);
+    inner = λ t p lt at. lasts.inner t p lt (places.there t p at);
+    bare = lasts.bare;
+  }

@@ -1,0 +1,92 @@
+-- A rule taken one sphere further: what the spheres further in are refined by, and what the pass leaves.
+use Rattle.std.proofs.Common.{◌≡◌, ◌≢◌, ◌<◌, ◌≤◌, ℕ, ℤ, suc, List, length, slice_index, ◌∙◌, arith, inl, inr}
+use Rattle.std.specs.List.{AllByRecursion}
+use Rattle.std.specs.Ordering.{int_cmp, then_cmp, on}
+use Rattle.std.proofs.lemmas.Bool.{cases_lt}
+use Rattle.cip_rank.specs.Ranking.{by_number}
+use Rattle.cip_rank.proofs.Descending.{all_by}
+use Rattle.cip_branches.specs.Parting.{KeepsSphere}
+use Rattle.cip_branches.specs.Passing.{AreSteadyButNew, Passes}
+use Rattle.cip_branches.specs.Refining.{Refines}
+use Rattle.cip_branches.specs.Rows.{IsRow, OrdersPlaces}
+use Rattle.cip_branches.specs.Turning.{in_sphere, AreSpheres, AreSteadyBefore, SamePlaces}
+use Rattle.cip_branches.proofs.Cases.{both, cases_same}
+use Rattle.cip_branches.proofs.ClassInSphere.{place_high}
+use Rattle.cip_branches.proofs.KeptSpheres.{other_place, places_kept, spheres_kept}
+
+-- the same children in other rows
+module _ (kids : ℕ → List ℕ) (ups rows starts : List ℕ) (last far room : ℕ) (far_in : far < last)
+    (old before : List ℕ) (are : AreSpheres kids ups rows starts last old) (fits : length rows ≤ room)
+    (begins : (t place : ℕ) → t ≤ far → in_sphere rows starts t place → slice_index old place ≡ slice_index before place)
+    (steady : AreSteadyButNew kids (in_sphere rows starts) far room before)
+    (new_rows start : List ℕ)
+    (kept : KeepsSphere (slice_index starts (suc far)) (slice_index starts (suc (suc far))) rows new_rows old start) where
+  pub places : SamePlaces rows new_rows starts
+  places = places_kept kids ups rows starts last old are (suc far) (omega (arith, far_in)) new_rows start kept
+
+  pub split_spheres : AreSpheres kids ups new_rows starts last start
+  split_spheres = spheres_kept kids ups rows starts last old are (suc far) (omega (arith, far_in)) new_rows start kept
+
+  other : (t place : ℕ) → t ≢ suc far → in_sphere rows starts t place → slice_index start place ≡ slice_index old place
+  other = other_place kids ups rows starts last old are (suc far) (omega (arith, far_in)) new_rows start kept
+
+  still : (t place : ℕ) → t ≤ far → in_sphere rows starts t place → slice_index start place ≡ slice_index before place
+  still t place le p = other t place (λ e. absurd (omega (arith, e, le))) p ∙ begins t place le p
+
+  -- a number at the start is a row
+  is_row : (t place : ℕ) → t ≤ last → in_sphere new_rows starts t place → slice_index start place ≢ room
+  is_row t place le p e =
+      let high = place_high new_rows start (slice_index starts t) (slice_index starts (suc t)) (split_spheres.classed t le)
+      place p in
+      let within = split_spheres.within t le in
+      let len = places.len in
+      absurd (omega (arith, high, within, len, fits, e))
+
+  known : (t place : ℕ) → t ≤ far → in_sphere new_rows starts t place
+      → AllByRecursion (λ kid. slice_index start kid ≡ slice_index before kid) (kids place)
+      → AllByRecursion (λ kid. slice_index before kid ≢ room) (kids place)
+  known t place le p same = all_by (λ kid h. λ e. is_row (suc t) kid (omega (arith, le, far_in)) h.1.0 (h.0 ∙ e))
+      (kids place) (both (λ kid. slice_index start kid ≡ slice_index before kid)
+      (λ kid. in_sphere new_rows starts (suc t) kid × (slice_index ups kid ≡ place)) (kids place) same
+      (split_spheres.told t place (omega (arith, le, far_in)) p))
+
+  pub split_steady : AreSteadyBefore kids new_rows starts far before start
+  split_steady = record {
+    begins = λ t place le p. still t place le (places.there t place p);
+    same = λ t a b le p q tie as_before so_too.
+        steady.same t a b le (places.there t a p) (places.there t b q) tie
+        (known t a le p (kids_still t a le p as_before)) (known t b le q (kids_still t b le q so_too));
+  }
+    where
+      kids_still : (t place : ℕ) → t ≤ far → in_sphere new_rows starts t place
+          → (t ≡ far → AllByRecursion (λ kid. slice_index start kid ≡ slice_index before kid) (kids place))
+          → AllByRecursion (λ kid. slice_index start kid ≡ slice_index before kid) (kids place)
+      kids_still t place le p outer = elim (cases_same t far) [
+        | inl same ↦ outer same
+        | inr differ ↦ all_by (λ kid h. still (suc t) kid (inner t le differ) (places.there (suc t) kid h.0)) (kids place)
+            (split_spheres.told t place (omega (arith, le, far_in)) p)
+      ]
+        where
+          inner : (t : ℕ) → t ≤ far → t ≢ far → suc t ≤ far
+          inner t le differ = elim (cases_lt t far) [
+            | inl below ↦ omega (arith, below)
+            | inr above ↦ absurd (differ (omega (arith, le, above)))
+          ]
+
+  pub passed : (key : ℕ → ℤ) (now : List ℕ)
+      → OrdersPlaces (IsRow rows (slice_index starts (suc far)) (slice_index starts (suc (suc far))))
+      (then_cmp (by_number old) (on key int_cmp)) start
+      → Refines kids (in_sphere new_rows starts) far 0 start now
+      → Passes kids (in_sphere rows starts) far key old now
+  passed key now split refines = record {
+    start = start;
+    split = split;
+    others = other;
+    refines = record {
+      ordered = λ t low high. record {
+        each = λ a b p q. (refines.ordered t low high).each a b (places.here t a p) (places.here t b q);
+      };
+      inside = λ t place lt p. refines.inside t place lt (places.here t place p);
+      outside = λ t place lt p. refines.outside t place lt (places.here t place p);
+    };
+  }

@@ -1,0 +1,92 @@
+-- The nodes at the places that were walked rise, and are few.
+use Rattle.std.proofs.Common.{◌<◌, ◌≤◌, ◌+◌, ◌-◌, ℕ, zero, suc, Bool, true, false, cond, List, [], ◌∷◌, length, slice_index, sym, subst, arith}
+use Rattle.std.specs.List.{AllByRecursion}
+use Rattle.std.proofs.lemmas.List.Elements.{All-from_recursion}
+use Rattle.cip_rank.specs.Tree.{children_of}
+use Rattle.cip_rank.proofs.Children.{children_are}
+use Rattle.cip_rank.proofs.Descending.{all_by}
+use Rattle.cip_branches.specs.Kin.{Kin}
+use Rattle.cip_branches.specs.Parting.{has_flag}
+use Rattle.cip_branches.specs.Rising.{Rises, IsAscending, kids_list}
+use Rattle.cip_branches.specs.Walking.{kids_left, wanted_kids}
+use Rattle.cip_branches.proofs.FewKids.{rises_few, children_rise, rises_append, lower, kids_rise}
+use Rattle.cip_branches.proofs.ToldKids.{all_if, all_walked, kids_count, list_all}
+
+-- numbers that rise do so place by place
+pub rises_at : (ns : List ℕ) → Rises ns → (i j : ℕ) → i < j → j < length ns → slice_index ns i < slice_index ns j
+rises_at [] rises i j lt high = absurd (omega (arith, high))
+rises_at (n ∷ ns) rises i zero lt high = absurd (omega (arith, lt))
+rises_at (n ∷ ns) rises zero (suc j) lt high = All-from_recursion (λ m. n < m) ns rises.0 j 0 (omega (arith, high))
+rises_at (n ∷ ns) rises (suc i) (suc j) lt high = rises_at ns rises.1 i j (omega (arith, lt)) (omega (arith, high))
+
+module _ (parents : List ℕ) (asc : IsAscending parents) (wanted : List Bool) (kin : Kin) (first : ℕ)
+    (rise : (p q : ℕ) → first ≤ p → p < q → q < length kin.nodes → slice_index kin.nodes p < slice_index kin.nodes q)
+  where
+    abbrev node : ℕ → ℕ
+    node = slice_index kin.nodes
+
+    abbrev walked : ℕ → List ℕ
+    walked = wanted_kids (children_of parents) wanted kin first
+
+    -- a child of a lower node than another one
+    record IsUnder (high child : ℕ) : Type 0 where
+      within : child < length parents
+      under : slice_index parents child < high
+
+    under_all : (more : ℕ) → first + more < length kin.nodes
+        → AllByRecursion (IsUnder (node (first + more))) (walked more)
+    under_all more lt = all_walked (IsUnder (node (first + more))) (children_of parents) wanted kin first more
+        (λ p low high.
+        all_by (λ c is. record {
+          within = is.below;
+          under = subst (λ n. n < node (first + more)) (sym is.parent) (rise p (first + more) low high lt);
+        }) (children_of parents (node p)) (children_are parents (node p)))
+
+    rises_if : (b : Bool) (kids : List ℕ) → Rises kids → Rises (cond b kids [])
+    rises_if true kids rises = rises
+    rises_if false kids rises = tt
+
+    pub walked_rise : (more : ℕ) → first + more ≤ length kin.nodes → Rises (walked more)
+    walked_rise zero le = tt
+    walked_rise (suc more) le =
+        let place = first + more in
+        let b = has_flag wanted (slice_index kin.branches place) in
+        let kids = children_of parents (node place) in
+        rises_append (walked more) (cond b kids []) (walked_rise more (omega (arith, le)))
+        (rises_if b kids (children_rise parents (node place)))
+        (all_by (λ c under. all_if (λ m. c < m) b kids (all_by (λ m is.
+        let parent = is.parent in
+        let low = under.under in
+        lower parents kin.nodes asc (slice_index parents c) c m under.within (omega arith) (record {
+          behind = is.behind;
+          within = is.below;
+          above = omega (arith, low, parent);
+        })) kids (children_are parents (node place)))) (walked more) (under_all more (omega (arith, le))))
+
+    -- children that stand from a number on are no more than the nodes from there on
+    module _ (count : ℕ) (enough : count ≤ length parents) (within : first ≤ length kin.nodes)
+        (far : (p : ℕ) → first ≤ p → p < length kin.nodes → AllByRecursion (λ c. count ≤ c)
+        (children_of parents (node p))) where
+      pub walked_far : AllByRecursion (λ c. count ≤ c) (walked (length kin.nodes - first))
+      walked_far = all_walked (λ c. count ≤ c) (children_of parents) wanted kin first (length kin.nodes - first)
+          (λ p low high. far p low (omega (arith, high, within)))
+
+      pub walked_within : AllByRecursion (λ c. c < length parents) (walked (length kin.nodes - first))
+      walked_within = all_walked (λ c. c < length parents) (children_of parents) wanted kin first
+          (length kin.nodes - first) (λ p low high. all_by (λ c is. is.below) (children_of parents (node p)) (children_are parents (node p)))
+
+      pub few_walked : count + length (walked (length kin.nodes - first)) ≤ length parents
+      few_walked = rises_few count (length parents) (walked (length kin.nodes - first)) enough
+          (walked_rise (length kin.nodes - first) (omega (arith, within))) walked_far walked_within
+
+      pub few_left : count + kids_left (children_of parents) kin.nodes first (length kin.nodes - first) ≤ length parents
+      few_left =
+          let more = length kin.nodes - first in
+          let few = rises_few count (length parents) (kids_list (children_of parents) kin.nodes first more) enough
+          (kids_rise parents kin.nodes asc first more (λ p q low lt high. rise p q low lt
+          (omega (arith, high, within))))
+          (list_all (λ c. count ≤ c) (children_of parents) kin.nodes first more (λ p low high. far p low (omega (arith, high, within))))
+          (list_all (λ c. c < length parents) (children_of parents) kin.nodes first more (λ p low high. all_by (λ c is. is.below)
+          (children_of parents (node p)) (children_are parents (node p)))) in
+          let same = kids_count (children_of parents) kin.nodes first more in
+          omega (arith, few, same)

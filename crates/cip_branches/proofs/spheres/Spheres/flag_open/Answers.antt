@@ -1,0 +1,14 @@
+use Rattle.std.proofs.Common.{length, ◌≡◌, arith, ◌∙◌, subst}
+use Rattle.cip_branches.specs.Closing.{FlagOpen}
+use Rattle.cip_branches.proofs.OpenBranches.{open_fewer}
+use Rattle.cip_branches.proofs.spheres.Spheres.flag_open.Goals as goal
+
+pub returns-clause-fewer : goal.returns-clause-fewer
+returns-clause-fewer c =
+    let over = c.loop-branch-test.false in
+    let high = c.loop-branch.auto.branch-end in
+    let at : c.loop-branch.branch ≡ length c.args.wanted.now = omega (arith, over, high) in
+    open_fewer c.args.self.now.ranked.numbers c.args.wanted.now c.loop-branch.flags
+    (c.loop-branch.auto.flags ∙ c.requires.len)
+    (subst (λ n. FlagOpen c.args.self.now.ranked.numbers c.args.wanted.now n c.loop-branch.flags) at
+    c.loop-branch.invariant)

@@ -1,0 +1,185 @@
+use Rattle.std.proofs.Common.{arith, ◌≡◌, ◌≤◌, ℕ, Bool, List, true, false, length, slice_index, ◌∙◌, sym, ap, subst}
+use Rattle.std.specs.Vec.{with_items}
+use Rattle.std.proofs.lemmas.List.{with_items_is}
+use Rattle.cip_branches.specs.Kids.{kids_of, by_kids, AreCalm}
+use Rattle.cip_branches.specs.Layers.{Layers}
+use Rattle.cip_branches.specs.Parting.{FlagHeads, has_flag}
+use Rattle.cip_branches.specs.Reserved.{Reserved}
+use Rattle.cip_branches.specs.Rows.{IsRow, AreClassed, OrdersPlaces}
+use Rattle.cip_branches.specs.Stirring.{KnowParents, StirsAbove, TieUnlessStirred, NoFlags}
+use Rattle.cip_branches.proofs.Turned.{above_within, heads_after, calm_after, none_after, stands, knows, wider}
+use Rattle.cip_branches.proofs.spheres.Spheres.turn_inwards.Goals as goal
+
+pub stir_above-requires-clause-parents : goal.stir_above-requires-clause-parents
+stir_above-requires-clause-parents c =
+    let kids = kids_of c.self.inside.family in
+    let ups = c.self.inside.family.ups in
+    let rows = c.self.inside.order.rows in
+    let numbers = c.self.inside.order.numbers in
+    let before = c.as_slice.result.now in
+    let flags = c.deref_mut.result.now in
+    let back = sym c.self.view_is in
+    let classed = subst (λ (s : Layers). AreClassed s.ranked.rows s.ranked.numbers c.args.from c.args.to) back
+    c.requires.classed in
+    let parents = subst (λ (s : Layers). KnowParents (kids_of s.kin) s.kin.ups s.ranked.rows c.args.from c.args.to
+    c.args.past) back c.requires.parents in
+    let within = subst (λ (s : Layers). c.args.past ≤ length s.ranked.rows) back c.requires.within in
+    λ k low high. wider rows c.args.from c.args.to (length rows)
+    (let behind = c.requires.behind in omega (arith, behind, within)) (slice_index ups (slice_index rows k))
+    (parents.up k low high)
+
+pub stir_above-requires-clause-above : goal.stir_above-requires-clause-above
+stir_above-requires-clause-above c =
+    let kids = kids_of c.self.inside.family in
+    let ups = c.self.inside.family.ups in
+    let rows = c.self.inside.order.rows in
+    let numbers = c.self.inside.order.numbers in
+    let before = c.as_slice.result.now in
+    let back = sym c.self.view_is in
+    let classed = subst (λ (s : Layers). AreClassed s.ranked.rows s.ranked.numbers c.args.from c.args.to) back
+    c.requires.classed in
+    let parents = subst (λ (s : Layers). KnowParents (kids_of s.kin) s.kin.ups s.ranked.rows c.args.from c.args.to
+    c.args.past) back c.requires.parents in
+    above_within kids ups rows before numbers c.args.from c.args.to c.args.past classed parents
+
+pub stir_above-requires-clause-flags : goal.stir_above-requires-clause-flags
+stir_above-requires-clause-flags c =
+    let within = subst (λ (s : Layers). c.args.past ≤ length s.ranked.rows) (sym c.self.view_is) c.requires.within in
+    let behind = c.requires.behind in
+    let rows_len = c.self.invariant.rows_len in
+    let flags_len = c.self.invariant.flags_len in
+    let len = ap (λ (fs : List Bool). length fs) (c.deref_mut.ensures.value ∙ ap (λ (column : Reserved Bool).
+    column.items) c.flags.view_is) in
+    omega (arith, within, behind, rows_len, flags_len, len)
+
+pub returns-then-not-stir_above-clause-ordered : goal.returns-then-not-stir_above-clause-ordered
+returns-then-not-stir_above-clause-ordered c =
+    let kids = kids_of c.self.inside.family in
+    let ups = c.self.inside.family.ups in
+    let rows = c.self.inside.order.rows in
+    let numbers = c.self.inside.order.numbers in
+    let before = c.as_slice.result.now in
+    let flags = c.deref_mut.result.now in
+    let back = sym c.self.view_is in
+    let classed = subst (λ (s : Layers). AreClassed s.ranked.rows s.ranked.numbers c.args.from c.args.to) back
+    c.requires.classed in
+    let parents = subst (λ (s : Layers). KnowParents (kids_of s.kin) s.kin.ups s.ranked.rows c.args.from c.args.to
+    c.args.past) back c.requires.parents in
+    let tie = subst (λ (b : List ℕ). TieUnlessStirred kids b rows numbers c.args.from c.args.to) (sym c.as_slice.ensures)
+    (subst (λ (s : Layers). TieUnlessStirred (kids_of s.kin) s.before s.ranked.rows s.ranked.numbers c.args.from
+    c.args.to) back c.requires.tie) in
+    let none : NoFlags flags = subst NoFlags (sym (c.deref_mut.ensures.value ∙ ap (λ (column : Reserved Bool). column.items)
+    c.flags.view_is)) c.self.invariant.none in
+    let still = c.stir_above.ensures.none c.if-not-stir_above.true in
+    let stirred = subst (λ (fs : List Bool). StirsAbove ups rows before numbers c.args.to c.args.past flags fs) still
+    c.stir_above.ensures.stirred in
+    subst (λ (s : Layers). OrdersPlaces (IsRow s.ranked.rows c.args.from c.args.to) (by_kids (kids_of s.kin)
+    s.ranked.numbers) numbers) c.self.view_is
+    (stands kids ups rows before numbers c.args.from c.args.to c.args.past classed parents flags stirred none tie)
+
+pub refine_sphere-requires-clause-known : goal.refine_sphere-requires-clause-known
+refine_sphere-requires-clause-known c =
+    let kids = kids_of c.self.inside.family in
+    let ups = c.self.inside.family.ups in
+    let rows = c.self.inside.order.rows in
+    let numbers = c.self.inside.order.numbers in
+    let before = c.as_slice.result.now in
+    let flags = c.deref_mut.result.now in
+    let back = sym c.self.view_is in
+    let classed = subst (λ (s : Layers). AreClassed s.ranked.rows s.ranked.numbers c.args.from c.args.to) back
+    c.requires.classed in
+    let parents = subst (λ (s : Layers). KnowParents (kids_of s.kin) s.kin.ups s.ranked.rows c.args.from c.args.to
+    c.args.past) back c.requires.parents in
+    knows kids ups rows before numbers c.args.from c.args.to c.args.past classed parents
+
+pub refine_sphere-requires-clause-heads : goal.refine_sphere-requires-clause-heads
+refine_sphere-requires-clause-heads c =
+    let kids = kids_of c.self.inside.family in
+    let ups = c.self.inside.family.ups in
+    let rows = c.self.inside.order.rows in
+    let numbers = c.self.inside.order.numbers in
+    let before = c.as_slice.result.now in
+    let flags = c.deref_mut.result.now in
+    let back = sym c.self.view_is in
+    let classed = subst (λ (s : Layers). AreClassed s.ranked.rows s.ranked.numbers c.args.from c.args.to) back
+    c.requires.classed in
+    let parents = subst (λ (s : Layers). KnowParents (kids_of s.kin) s.kin.ups s.ranked.rows c.args.from c.args.to
+    c.args.past) back c.requires.parents in
+    let none : NoFlags flags = subst NoFlags (sym (c.deref_mut.ensures.value ∙ ap (λ (column : Reserved Bool). column.items)
+    c.flags.view_is)) c.self.invariant.none in
+    let read : c.deref.result.now ≡ c.stir_above.new.flags = c.deref.ensures.value ∙ with_items_is c.flags.inside.items
+    c.stir_above.new.flags (c.stir_above.auto.flags ∙ c.deref_mut.ensures.len) in
+    subst (FlagHeads rows numbers c.args.from c.args.to) (sym read)
+    (heads_after kids ups rows before numbers c.args.from c.args.to c.args.past classed parents flags c.stir_above.new.flags c.stir_above.ensures.stirred none)
+
+pub refine_sphere-requires-clause-calm : goal.refine_sphere-requires-clause-calm
+refine_sphere-requires-clause-calm c =
+    let kids = kids_of c.self.inside.family in
+    let ups = c.self.inside.family.ups in
+    let rows = c.self.inside.order.rows in
+    let numbers = c.self.inside.order.numbers in
+    let before = c.as_slice.result.now in
+    let flags = c.deref_mut.result.now in
+    let back = sym c.self.view_is in
+    let classed = subst (λ (s : Layers). AreClassed s.ranked.rows s.ranked.numbers c.args.from c.args.to) back
+    c.requires.classed in
+    let parents = subst (λ (s : Layers). KnowParents (kids_of s.kin) s.kin.ups s.ranked.rows c.args.from c.args.to
+    c.args.past) back c.requires.parents in
+    let tie = subst (λ (b : List ℕ). TieUnlessStirred kids b rows numbers c.args.from c.args.to) (sym c.as_slice.ensures)
+    (subst (λ (s : Layers). TieUnlessStirred (kids_of s.kin) s.before s.ranked.rows s.ranked.numbers c.args.from
+    c.args.to) back c.requires.tie) in
+    let read : c.deref.result.now ≡ c.stir_above.new.flags = c.deref.ensures.value ∙ with_items_is c.flags.inside.items
+    c.stir_above.new.flags (c.stir_above.auto.flags ∙ c.deref_mut.ensures.len) in
+    subst (λ (fs : List Bool). AreCalm kids (IsRow rows c.args.from c.args.to) (λ number. has_flag fs number ≡ false)
+    numbers) (sym read)
+    (calm_after kids ups rows before numbers c.args.from c.args.to c.args.past classed parents flags c.stir_above.new.flags c.stir_above.ensures.stirred tie)
+
+pub invariant_of-self-2 : goal.invariant_of-self-2
+invariant_of-self-2 c =
+    let kids = kids_of c.self.inside.family in
+    let ups = c.self.inside.family.ups in
+    let rows = c.self.inside.order.rows in
+    let numbers = c.self.inside.order.numbers in
+    let before = c.as_slice.result.now in
+    let flags = c.deref_mut.result.now in
+    let back = sym c.self.view_is in
+    let classed = subst (λ (s : Layers). AreClassed s.ranked.rows s.ranked.numbers c.args.from c.args.to) back
+    c.requires.classed in
+    let parents = subst (λ (s : Layers). KnowParents (kids_of s.kin) s.kin.ups s.ranked.rows c.args.from c.args.to
+    c.args.past) back c.requires.parents in
+    let none : NoFlags flags = subst NoFlags (sym (c.deref_mut.ensures.value ∙ ap (λ (column : Reserved Bool). column.items)
+    c.flags.view_is)) c.self.invariant.none in
+    let was = c.self.invariant in
+    let kept = c.refine_sphere.ensures.kept in
+    let read : c.deref_mut-3.result.now ≡ c.stir_above.new.flags = c.deref_mut-3.ensures.value ∙ with_items_is c.flags.inside.items
+    c.stir_above.new.flags (c.stir_above.auto.flags ∙ c.deref_mut.ensures.len) in
+    let left : (with_items (with_items c.flags.inside.items c.stir_above.new.flags) c.clear_flags.new.flags).items
+    ≡ c.clear_flags.new.flags = with_items_is (with_items c.flags.inside.items c.stir_above.new.flags)
+    c.clear_flags.new.flags (c.clear_flags.auto.flags ∙ c.deref_mut-3.ensures.len) in
+    let sets : (with_items c.sets.inside.items c.refine_sphere.new.sets).items ≡ c.refine_sphere.new.sets =
+    with_items_is c.sets.inside.items c.refine_sphere.new.sets (c.refine_sphere.auto.sets ∙ c.deref_mut-2.ensures.len) in
+    record {
+      fits = was.fits;
+      ranked_room = c.refine_sphere.ensures.room ∙ was.ranked_room;
+      starts_room = was.starts_room;
+      before_room = was.before_room;
+      flags_room = ap (λ (column : Reserved Bool). column.room) c.flags.view_is ∙ was.flags_room;
+      sets_room = ap (λ (column : Reserved ℕ). column.room) c.sets.view_is ∙ was.sets_room;
+      rows_len = let len = kept.kept.len in let le = was.rows_len in omega (arith, len, le);
+      numbers_len = kept.len ∙ was.numbers_len;
+      before_len = was.before_len;
+      flags_len = ap (λ (fs : List Bool). length fs) left ∙ c.clear_flags.auto.flags ∙ ap (λ (fs : List Bool). length fs)
+          read ∙ c.stir_above.auto.flags ∙ ap (λ (fs : List Bool). length fs) c.deref_mut.ensures.value
+          ∙ ap (λ (column : Reserved Bool). length column.items) c.flags.view_is ∙ was.flags_len;
+      sets_len = ap (λ (ns : List ℕ). length ns) sets ∙ c.refine_sphere.auto.sets ∙ ap (λ (ns : List ℕ). length ns)
+          c.deref_mut-2.ensures.value ∙ ap (λ (column : Reserved ℕ). length column.items) c.sets.view_is
+          ∙ was.sets_len;
+      none = subst NoFlags (sym left) (none_after kids ups rows before numbers c.args.from c.args.to c.args.past classed parents flags c.stir_above.new.flags c.stir_above.ensures.stirred none
+          c.clear_flags.new.flags c.clear_flags.ensures.cleared
+          (λ row has. subst (λ (fs : List Bool). has_flag fs row ≡ true) read (c.clear_flags.ensures.fewer row has)));
+    }
+
+pub returns-clause-ordered : goal.returns-clause-ordered
+returns-clause-ordered c =
+    subst (λ (s : Layers). OrdersPlaces (IsRow s.ranked.rows c.args.from c.args.to) (by_kids (kids_of s.kin)
+    s.ranked.numbers) c.refine_sphere.new.order.numbers) c.self.view_is c.refine_sphere.ensures.ordered

@@ -1,0 +1,33 @@
+-- A rule taken one sphere further, over numbers that stand. Own.
+use Rattle.std.specs.Prelude.{◌≡◌, ◌≢◌, ◌<◌, ◌≤◌, ℕ, ℤ, suc, List, length, slice_index}
+use Rattle.std.specs.List.{AllByRecursion}
+use Rattle.std.specs.Ordering.{int_cmp, then_cmp, on}
+use Rattle.cip_rank.specs.Ranking.{by_number, key_at}
+use Rattle.cip_branches.specs.Kids.{kid_set}
+use Rattle.cip_branches.specs.Kin.{Kin}
+use Rattle.cip_branches.specs.Refining.{Refines}
+use Rattle.cip_branches.specs.Rows.{OrdersPlaces}
+
+-- the key of the node at a place
+abbrev pub key_of : List ℤ → Kin → ℕ → ℤ
+key_of keys kin place = key_at keys (slice_index kin.nodes place)
+
+-- the node at each place has a key
+pub record AreKeyed (count : ℕ) (kin : Kin) : Type 0 where
+  pub each : (place : ℕ) → place < length kin.ups → slice_index kin.nodes place < count
+
+-- Numbers order each sphere up to `far` by the sets of children as well, where no child is new. A new place has a
+-- number that no row has.
+pub record AreSteadyButNew (kids : ℕ → List ℕ) (At : ℕ → ℕ → Type 0) (far new : ℕ) (numbers : List ℕ) : Type 0 where
+  pub same : (t a b : ℕ) → t ≤ far → At t a → At t b → slice_index numbers a ≡ slice_index numbers b
+      → AllByRecursion (λ kid. slice_index numbers kid ≢ new) (kids a)
+      → AllByRecursion (λ kid. slice_index numbers kid ≢ new) (kids b)
+      → kid_set kids numbers a ≡ kid_set kids numbers b
+
+-- The sphere behind `far` is split by keys, and the spheres further in are refined by it. The others stand.
+pub record Passes (kids : ℕ → List ℕ) (At : ℕ → ℕ → Type 0) (far : ℕ) (key : ℕ → ℤ) (before now : List ℕ) : Type 0
+  where
+    pub start : List ℕ
+    pub split : OrdersPlaces (At (suc far)) (then_cmp (by_number before) (on key int_cmp)) start
+    pub others : (t place : ℕ) → t ≢ suc far → At t place → slice_index start place ≡ slice_index before place
+    pub refines : Refines kids At far 0 start now

@@ -1,0 +1,46 @@
+-- Spheres of rows, refined one after another from the outside inwards. Own.
+use Rattle.std.specs.Prelude.{◌≡◌, ◌<◌, ◌≤◌, ℕ, suc, List, length, slice_index}
+use Rattle.std.specs.List.{AllByRecursion}
+use Rattle.cip_branches.specs.Kids.{kid_set}
+use Rattle.cip_branches.specs.Refining.{Refines}
+use Rattle.cip_branches.specs.Rows.{IsRow, AreClassed}
+
+abbrev pub in_sphere : List ℕ → List ℕ → ℕ → ℕ → Type 0
+in_sphere rows starts t place = IsRow rows (slice_index starts t) (slice_index starts (suc t)) place
+
+-- The spheres up to the last one stand in rows, each behind the one before, in classes. Children stand in the next
+-- sphere and know their parents.
+pub record AreSpheres (kids : ℕ → List ℕ) (ups rows starts : List ℕ) (last : ℕ) (numbers : List ℕ) : Type 0 where
+  pub rise : (t : ℕ) → t ≤ last → slice_index starts t ≤ slice_index starts (suc t)
+  pub ends : (t row : ℕ) → slice_index starts t ≤ row → row < slice_index starts (suc t) → t ≤ last
+  pub within : (t : ℕ) → t ≤ last → slice_index starts (suc t) ≤ length rows
+  pub classed : (t : ℕ) → t ≤ last → AreClassed rows numbers (slice_index starts t) (slice_index starts (suc t))
+  pub once : (t u place : ℕ) → in_sphere rows starts t place → in_sphere rows starts u place → t ≡ u
+  pub told : (t place : ℕ) → t < last → in_sphere rows starts t place
+      → AllByRecursion (λ kid. in_sphere rows starts (suc t) kid × (slice_index ups kid ≡ place)) (kids place)
+  pub up : (t place : ℕ) → t < last → in_sphere rows starts (suc t) place
+      → in_sphere rows starts t (slice_index ups place)
+
+-- Places that tied before have the same sets of before. In the sphere next to the new one only where the children
+-- have their numbers of before.
+pub record AreSteadyBefore (kids : ℕ → List ℕ) (rows starts : List ℕ) (far : ℕ) (before start : List ℕ) : Type 0 where
+  pub begins : (t place : ℕ) → t ≤ far → in_sphere rows starts t place
+      → slice_index start place ≡ slice_index before place
+  pub same : (t a b : ℕ) → t ≤ far → in_sphere rows starts t a → in_sphere rows starts t b
+      → slice_index before a ≡ slice_index before b
+      → (t ≡ far → AllByRecursion (λ kid. slice_index start kid ≡ slice_index before kid) (kids a))
+      → (t ≡ far → AllByRecursion (λ kid. slice_index start kid ≡ slice_index before kid) (kids b))
+      → kid_set kids before a ≡ kid_set kids before b
+
+-- each sphere has the same places in other rows
+pub record SamePlaces (rows new_rows starts : List ℕ) : Type 0 where
+  pub here : (t place : ℕ) → in_sphere rows starts t place → in_sphere new_rows starts t place
+  pub there : (t place : ℕ) → in_sphere new_rows starts t place → in_sphere rows starts t place
+  pub len : length new_rows ≡ length rows
+
+-- the spheres from t on are refined
+pub record Turns (kids : ℕ → List ℕ) (ups rows starts : List ℕ) (far last : ℕ) (start : List ℕ) (t : ℕ)
+    (new_rows numbers : List ℕ) : Type 0 where
+  pub refines : Refines kids (in_sphere rows starts) far t start numbers
+  pub places : SamePlaces rows new_rows starts
+  pub spheres : AreSpheres kids ups new_rows starts last numbers

@@ -1,0 +1,26 @@
+//! Branches ranked sphere by sphere, by a rule after another, over the same places.
+#![tactic(auto)]
+
+mod around;
+mod classes;
+mod closing;
+mod column;
+mod deciding;
+mod family;
+mod following;
+mod keys;
+mod kids;
+mod order;
+mod parting;
+mod passing;
+mod refining;
+mod spheres;
+mod splitting;
+mod stirring;
+mod turning;
+mod walking;
+
+pub use around::Around;
+pub use column::Column;
+pub use deciding::Branches;
+pub use spheres::Spheres;

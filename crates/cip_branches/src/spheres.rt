@@ -1,0 +1,79 @@
+// All columns of branches.
+ghost use Rattle.std.specs.Prelude.{◌≡◌, ◌<◌, ◌+◌, ◌^◌, [], IfOk};
+
+use crate::column::Column;
+use crate::family::Family;
+use crate::order::Order;
+use cip_rank::both;
+use std::alloc::{AllocError, Global};
+use std::marker::Model;
+
+/// Places sphere by sphere, in memory that is taken at once.
+#[derive(Drop)]
+pub struct Spheres {
+    pub(crate) family: Family,
+    pub(crate) order: Order,
+    // the first row of each sphere, and the row behind the last one
+    pub(crate) starts: Column<u32>,
+    // of each place its number before the pass that is under way
+    pub(crate) before: Column<u32>,
+    // of each row whether the class that begins there is to be looked at: none between turns
+    pub(crate) flags: Column<bool>,
+    // at each place's children their numbers, the highest first
+    pub(crate) sets: Column<u32>,
+}
+
+impl Model for Spheres {
+    ghost use Rattle.cip_branches.specs.Layers.{Layers, KeepLayers};
+
+    ghost Value = { Layers };
+
+    ghost view = { λ spheres. record {
+      kin = spheres.family;
+      ranked = spheres.order;
+      starts = spheres.starts.items;
+      before = spheres.before.items;
+    } };
+
+    ghost invariant = { λ spheres. KeepLayers spheres.family spheres.order spheres.starts spheres.before spheres.flags
+        spheres.sets };
+}
+
+impl Spheres {
+    /// Nothing, and room for so many places.
+    pub fn reserve(alloc: Global, room: u32) -> Result<Spheres, AllocError>
+        requires { room + 1 < 2 ^ 32 }
+        ensures { IfOk result (λ spheres. spheres ≡ record {
+          kin = record { room = room; nodes = []; branches = []; ups = []; firsts = []; counts = [] };
+          ranked = record { room = room; rows = []; numbers = [] };
+          starts = [];
+          before = [];
+        }) }
+    {
+        let places = both(Family::reserve(alloc, room)?, Order::reserve(alloc, room))?;
+        let (places, starts) = both(places, Column::reserve(alloc, room + 1))?;
+        let ((family, order), (before, flags, sets)) = both(places, reserve_columns(alloc, room))?;
+        Ok(Spheres {
+            family,
+            order,
+            starts,
+            before,
+            flags,
+            sets,
+        })
+    }
+}
+
+// The columns that a pass needs.
+fn reserve_columns(
+    alloc: Global,
+    room: u32,
+) -> Result<(Column<u32>, Column<bool>, Column<u32>), AllocError>
+    ensures before { IfOk result (λ columns. columns.0 ≡ record { room = room; items = [] }) }
+    ensures flags { IfOk result (λ columns. columns.1 ≡ record { room = room; items = [] }) }
+    ensures sets { IfOk result (λ columns. columns.2 ≡ record { room = room; items = [] }) }
+{
+    let columns = both(Column::reserve(alloc, room)?, Column::reserve(alloc, room))?;
+    let ((before, flags), sets) = both(columns, Column::reserve(alloc, room))?;
+    Ok((before, flags, sets))
+}

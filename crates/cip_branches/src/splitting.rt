@@ -1,0 +1,52 @@
+// One sphere split by keys.
+ghost use Rattle.std.specs.Prelude.{◌≡◌, ◌≤◌, length};
+ghost use Rattle.std.specs.Ordering.{int_cmp, then_cmp, on};
+ghost use Rattle.cip_rank.specs.Ranking.{by_number};
+ghost use Rattle.cip_branches.specs.Parting.{FlagClasses, KeepsSphere};
+ghost use Rattle.cip_branches.specs.Passing.{AreKeyed, key_of};
+ghost use Rattle.cip_branches.specs.Rows.{IsRow, AreClassed, OrdersPlaces};
+ghost use Rattle.cip_branches.specs.Stirring.{NoFlags};
+
+use crate::keys::ByKeys;
+use crate::order::Order;
+use crate::parting::part_sphere;
+use crate::spheres::Spheres;
+use crate::stirring::{clear_flags, set_flag_if};
+use cip_rank::Keyed;
+
+// Sets the flag of each class of two places and more.
+fn flag_classes(order: &Order, from: u32, to: u32, flags: &mut [bool])
+    requires ordered { from ≤ to }
+    requires within { to ≤ length order.now.rows }
+    requires flags { to ≤ length flags.old }
+    requires none { NoFlags flags.old }
+    ensures { FlagClasses order.now.rows order.now.numbers from to to flags.new }
+{
+    for row in from..to {
+        let is_wanted = order.is_shared(row, to);
+        set_flag_if(is_wanted, flags, row);
+    }
+}
+
+impl Spheres {
+    /// Splits the classes of the sphere in the rows `from` to `to` by keys.
+    pub(crate) fn split_sphere<K: Keyed>(&mut self, keys: &K, from: u32, to: u32)
+        requires ordered { from ≤ to }
+        requires within { to ≤ length self.old.ranked.rows }
+        requires classed { AreClassed self.old.ranked.rows self.old.ranked.numbers from to }
+        requires keyed { AreKeyed (K.nodes keys.now) self.old.kin }
+        ensures split { OrdersPlaces (IsRow self.old.ranked.rows from to) (then_cmp (by_number self.old.ranked.numbers)
+            (on (key_of (K.key keys.now) self.old.kin) int_cmp)) self.new.ranked.numbers }
+        ensures kept { KeepsSphere from to self.old.ranked.rows self.new.ranked.rows self.old.ranked.numbers
+            self.new.ranked.numbers }
+        ensures others { self.new ≡ record self.old { ranked = self.new.ranked } }
+        ensures room { self.new.ranked.room ≡ self.old.ranked.room }
+    {
+        let flags = &mut self.flags;
+        flag_classes(&self.order, from, to, &mut flags.items);
+        let family = &self.family;
+        let by = ByKeys { family, keys };
+        part_sphere(&by, &mut self.order, from, to, &flags.items);
+        clear_flags(&mut flags.items, from, to);
+    }
+}

@@ -1,0 +1,86 @@
+// Spheres refined from the outside inwards.
+ghost use Rattle.std.specs.Prelude.{◌≡◌, ◌<◌, ◌≤◌, ◌+◌, ◌^◌, false, length};
+ghost use Rattle.cip_branches.specs.Kids.{kids_of, by_kids};
+ghost use Rattle.cip_branches.specs.Parting.{KeepsSphere};
+ghost use Rattle.cip_branches.specs.Refining.{Refines};
+ghost use Rattle.cip_branches.specs.Rows.{IsRow, AreClassed, OrdersPlaces};
+ghost use Rattle.cip_branches.specs.Stirring.{KnowParents, TieUnlessStirred};
+ghost use Rattle.cip_branches.specs.Turning.{in_sphere, AreSpheres, AreSteadyBefore, SamePlaces};
+
+use crate::refining::refine_sphere;
+use crate::spheres::Spheres;
+use crate::stirring::{clear_flags, stir_above};
+
+impl Spheres {
+    // Refines the sphere in the rows `from` to `to` by the one in those from `to` to `past`. Only classes are looked at
+    // of which a member's child has another number than before. Says whether there is any.
+    fn turn_inwards(&mut self, from: u32, to: u32, past: u32) -> bool
+        requires ordered { from ≤ to }
+        requires behind { to ≤ past }
+        requires within { past ≤ length self.old.ranked.rows }
+        requires classed { AreClassed self.old.ranked.rows self.old.ranked.numbers from to }
+        requires parents { KnowParents (kids_of self.old.kin) self.old.kin.ups self.old.ranked.rows from to past }
+        requires tie { TieUnlessStirred (kids_of self.old.kin) self.old.before self.old.ranked.rows
+            self.old.ranked.numbers from to }
+        ensures ordered { OrdersPlaces (IsRow self.old.ranked.rows from to) (by_kids (kids_of self.old.kin)
+            self.old.ranked.numbers) self.new.ranked.numbers }
+        ensures kept { KeepsSphere from to self.old.ranked.rows self.new.ranked.rows self.old.ranked.numbers
+            self.new.ranked.numbers }
+        ensures still { result ≡ false → self.new ≡ self.old }
+        ensures others { self.new ≡ record self.old { ranked = self.new.ranked } }
+        ensures room { self.new.ranked.room ≡ self.old.ranked.room }
+    {
+        let flags = &mut self.flags;
+        if !stir_above(
+            &self.family,
+            &self.order,
+            self.before.as_slice(),
+            to,
+            past,
+            &mut flags.items,
+        ) {
+            return false;
+        }
+        let sets = &mut self.sets;
+        refine_sphere(
+            &self.family,
+            &mut self.order,
+            from,
+            to,
+            &flags.items,
+            &mut sets.items,
+        );
+        clear_flags(&mut flags.items, from, to);
+        true
+    }
+
+    /// Refines all spheres up to `far` by the one behind, which has its new numbers. Where a sphere stands, so do all
+    /// further in.
+    pub(crate) fn refine_inwards(&mut self, far: u32, last: u32)
+        requires far { far < last }
+        requires last { last + 2 ≡ length self.old.starts }
+        requires few { last + 2 < 2 ^ 32 }
+        requires spheres { AreSpheres (kids_of self.old.kin) self.old.kin.ups self.old.ranked.rows self.old.starts last
+            self.old.ranked.numbers }
+        requires steady { AreSteadyBefore (kids_of self.old.kin) self.old.ranked.rows self.old.starts far
+            self.old.before self.old.ranked.numbers }
+        ensures refined { Refines (kids_of self.old.kin) (in_sphere self.old.ranked.rows self.old.starts) far 0
+            self.old.ranked.numbers self.new.ranked.numbers }
+        ensures spheres { AreSpheres (kids_of self.old.kin) self.old.kin.ups self.new.ranked.rows self.old.starts last
+            self.new.ranked.numbers }
+        ensures places { SamePlaces self.old.ranked.rows self.new.ranked.rows self.old.starts }
+        ensures others { self.new ≡ record self.old { ranked = self.new.ranked } }
+        ensures room { self.new.ranked.room ≡ self.old.ranked.room }
+    {
+        let mut t = far + 1;
+        while t > 0 {
+            t -= 1;
+            let from = self.starts.as_slice()[t as usize];
+            let to = self.starts.as_slice()[t as usize + 1];
+            let past = self.starts.as_slice()[t as usize + 2];
+            if !self.turn_inwards(from, to, past) {
+                return;
+            }
+        }
+    }
+}

@@ -1,0 +1,68 @@
+// The branches of a root's children, followed with its digraph.
+ghost use Rattle.std.specs.Prelude.{◌≡◌, ◌<◌, ◌≤◌, ◌+◌, ◌-◌, length};
+ghost use Rattle.std.specs.List.{range_with_len};
+ghost use Rattle.cip_digraph.specs.digraph.Digraph.{sphere as sphere_of};
+ghost use Rattle.cip_arena.specs.Growth.{Holds};
+ghost use Rattle.cip_constitution.specs.Following.{Follows};
+
+use crate::keys::ByAtom;
+use cip_arena::Arena;
+use cip_branches::{Around, Branches, Column};
+use cip_digraph::{Graph, Nodes, Positions};
+
+// Numbers the nodes behind the root.
+fn fill_tops(tops: &mut Column<u32>, past: u32)
+    requires some { 0 < past }
+    requires room { past ≤ tops.old.room }
+    ensures { tops.new ≡ record tops.old { items = range_with_len 1 (past - 1) } }
+{
+    tops.clear();
+    for node in 1..past {
+        tops.push(node);
+    }
+}
+
+/// Begins with the branches of the root's children, where there are no nodes beyond these.
+pub fn begin_branches(
+    arena: &Arena,
+    graph: &Graph,
+    positions: &Positions,
+    tops: &mut Column<u32>,
+    branches: &mut Branches,
+)
+    requires holds { Holds graph.now positions.now arena.now }
+    requires first { arena.now.sphere ≡ 1 }
+    requires last { 0 < length (sphere_of graph.now positions.now arena.now.root arena.now.sphere) }
+    requires tops_room { arena.now.bound ≤ tops.old.room }
+    requires room { arena.now.bound ≤ branches.old.layers.kin.room + 1 }
+    ensures followed { Follows graph.now positions.now arena.now.root arena.now.bound arena.now.sphere branches.new }
+    ensures tops_room { tops.new.room ≡ tops.old.room }
+    ensures room { branches.new.layers.kin.room ≡ branches.old.layers.kin.room }
+{
+    let _graph = graph;
+    let _positions = positions;
+    let past = arena.len();
+    fill_tops(tops, past);
+    branches.begin(tops.as_slice(), &ByAtom { nodes: arena });
+}
+
+/// Follows the branches that are wanted still to the sphere that was grown.
+pub fn follow_branches(arena: &Arena, graph: &Graph, positions: &Positions, branches: &mut Branches)
+    requires holds { Holds graph.now positions.now arena.now }
+    requires further { 1 < arena.now.sphere }
+    requires last { 0 < length (sphere_of graph.now positions.now arena.now.root arena.now.sphere) }
+    requires room { arena.now.bound ≤ branches.old.layers.kin.room + 1 }
+    requires followed { Follows graph.now positions.now arena.now.root arena.now.bound (arena.now.sphere - 1)
+        branches.old }
+    ensures followed { Follows graph.now positions.now arena.now.root arena.now.bound arena.now.sphere branches.new }
+    ensures room { branches.new.layers.kin.room ≡ branches.old.layers.kin.room }
+{
+    let _graph = graph;
+    let _positions = positions;
+    let _count = arena.len();
+    let around = Around {
+        table: arena.table(),
+        way: &[],
+    };
+    branches.follow(&around, &ByAtom { nodes: arena });
+}

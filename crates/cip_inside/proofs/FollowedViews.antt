@@ -1,0 +1,316 @@
+-- The branches of a node's ligands seen from it: begun, and followed by a sphere.
+use Rattle.std.proofs.Common.{◌≡◌, ◌<◌, ◌≤◌, ◌+◌, ◌-◌, ◌*◌, ◌++◌, ◌∷◌, ℕ, ℤ, suc, pos, Bool, true, List, [], map, replicate, length, slice_index, refl, sym, ap, ◌∙◌, subst, arith, None, Some, length-append}
+use Rattle.std.specs.List.{AllByRecursion}
+use Rattle.std.proofs.lemmas.List.{get_or_append_left, get_or-append_right, length-replicate}
+use Rattle.std.proofs.lemmas.List.Elements.{All-from_recursion}
+use Rattle.cip_rank.specs.Ranking.{key_at}
+use Rattle.cip_rank.specs.Tree.{IsTree, children_of}
+use Rattle.cip_reroot.specs.View.{on_way, parent_list, children_seen}
+use Rattle.cip_reroot.proofs.SeenRoot.{seen_root}
+use Rattle.cip_reroot.proofs.Steps.{all_at, all_kept, off_below}
+use Rattle.cip_reroot.proofs.Times.{times}
+use Rattle.cip_branches.specs.Around.{kids_around}
+use Rattle.cip_branches.specs.Deciding.{Branched, AreFollowed, FlagsOpen, AreDecided}
+use Rattle.cip_branches.specs.Following.{Begins, Follows}
+use Rattle.cip_branches.specs.Kids.{IsAmong}
+use Rattle.cip_branches.specs.Kin.{Kin}
+use Rattle.cip_branches.specs.Layers.{Layers}
+use Rattle.cip_branches.specs.Parting.{has_flag}
+use Rattle.cip_branches.specs.Passing.{AreKeyed}
+use Rattle.cip_branches.specs.Ruled.{Names}
+use Rattle.cip_branches.specs.Walking.{MayWalk, kids_left, wanted_kids}
+use Rattle.cip_branches.proofs.DecidedBranches.{decided_first, decided_after}
+use Rattle.cip_branches.proofs.SeenNodes.{AreSeen, times_filter, around_is, seen_first, few_seen, seen_next}
+use Rattle.cip_branches.proofs.ToldKids.{all_walked}
+use Rattle.cip_digraph.specs.declared.nodes.Told.{Told}
+use Rattle.cip_digraph.specs.digraph.Digraph.{Node}
+use Rattle.cip_digraph.specs.digraph.NodeList.{parents_of}
+use Rattle.cip_digraph.specs.digraph.Telling.{node_at}
+use Rattle.cip_digraph.specs.digraph.View.{real_at, view_children, height_below, seen_from}
+use Rattle.cip_digraph.specs.rules.Keys.{atomic_key}
+use Rattle.cip_digraph.specs.rules.Orders.{Seen, all_tie, rule_1a}
+use Rattle.cip_digraph.proofs.ExchangedOrders.{all_tie_total}
+use Rattle.cip_views.specs.RootKeys.{root_keys}
+use Rattle.cip_views.proofs.KeyOrders.{root_key_is}
+use Rattle.cip_views.proofs.SeenChildren.{seen_are}
+use Rattle.cip_aux.specs.Sights.{Sight, Shows, IsReal, path_at, seen_sides}
+use Rattle.cip_inside.specs.Near.{AreTold, AreTops}
+use Rattle.cip_inside.proofs.AwayNodes.{IsAway, away_below, height_away}
+use Rattle.cip_inside.proofs.FirstSides.{rule_side}
+
+-- Branches are ranked as Rule 1a does so far out. Each node has one place at most, and those of the last sphere are so
+-- far away.
+pub record AreAround (sight : Sight) (way : List Bool) (from : ℕ) (tops : List ℕ) (now : Branched) : Type 0 where
+  pub followed : AreFollowed now
+  pub decided : AreDecided (view_children sight.graph sight.positions (path_at sight.nodes from)) all_tie
+      (λ node. pos (atomic_key sight.graph sight.positions node)) (node_at sight.nodes) now
+  pub seen : AreSeen (parents_of sight.told) way from now.first now.layers.kin.nodes
+  pub away : (p : ℕ) → now.first ≤ p → p < length now.layers.kin.nodes
+      → IsAway (children_seen (parents_of sight.told) from) from (suc now.last) (slice_index now.layers.kin.nodes p)
+  pub low : now.last ≤ now.first
+  pub high : now.last ≤ height_below (view_children sight.graph sight.positions (path_at sight.nodes from))
+      (2 * length sight.graph.vertices + 2) (real_at (path_at sight.nodes from) ∷ [])
+  pub count : length now.wanted ≡ length tops
+  pub begun : length tops ≤ length now.layers.kin.nodes
+  pub top : (k : ℕ) → k < length tops → slice_index now.layers.kin.nodes k ≡ slice_index tops k
+
+all_among : (P : ℕ → Type 0) (ns : List ℕ) → ((n : ℕ) → IsAmong ns n → P n) → AllByRecursion P ns
+all_among P [] each = tt
+all_among P (n ∷ ns) each = (
+  each n (record { at = 0; within = omega arith; here = refl }),
+  all_among P ns (λ m is. each m (record {
+    at = suc is.at;
+    within = let lt = is.within in omega (arith, lt);
+    here = is.here;
+  })),
+)
+
+module _ (sight : Sight) (shows : Shows sight) (from : ℕ) (real : IsReal sight.nodes from) (way : List Bool)
+    (on : (x : ℕ) → x < length (parents_of sight.told) → has_flag way x ≡ on_way (parents_of sight.told) from x) where
+  abbrev parents : List ℕ
+  parents = parents_of sight.told
+
+  abbrev path : List ℕ
+  path = path_at sight.nodes from
+
+  abbrev next : Node → List Node
+  next = view_children sight.graph sight.positions path
+
+  abbrev key : Node → ℤ
+  key node = pos (atomic_key sight.graph sight.positions node)
+
+  abbrev named : ℕ → Node
+  named = node_at sight.nodes
+
+  abbrev keys : List ℤ
+  keys = root_keys sight.told
+
+  abbrev around : ℕ → List ℕ
+  around = kids_around parents way
+
+  tree : IsTree parents
+  tree = shows.told.whole.tree
+
+  inside : from < length parents
+  inside = let lt = real.within in let len = shows.told.len in omega (arith, lt, len)
+
+  pub told_len : length sight.told ≡ length parents
+  told_len = sym (length_told sight.told)
+    where
+      length_told : (all : List Told) → length (parents_of all) ≡ length all
+      length_told [] = refl
+      length_told (told ∷ all) = ap (λ n. suc n) (length_told all)
+
+  -- all nodes have their keys
+  named_key : (n : ℕ) → n < length parents → key_at keys n ≡ key (named n)
+  named_key n lt =
+      let len = shows.told.len in
+      root_key_is sight.told n (omega (arith, lt, told_len)) ∙ ap pos (shows.told.each n (omega (arith, lt, len))).atomic
+
+  named_kids : (n : ℕ) → n < length parents → map named (around n) ≡ next (named n)
+  named_kids n lt =
+      ap (map named) (around_is parents tree from inside way on n lt)
+      ∙ seen_are sight.graph sight.positions sight.root sight.nodes parents shows.told.whole shows.sound from inside
+      real.real n lt
+
+  -- the first sphere
+  module _ (tops : List ℕ) (are : AreTops parents from tops) where
+    abbrev neighbours : List ℕ
+    neighbours = children_of parents from ++ parent_list parents from
+
+    -- all neighbours of the node lead away from it
+    lead_away : around from ≡ neighbours
+    lead_away = around_is parents tree from inside way on from inside ∙ seen_root parents tree from inside
+
+    -- what they have, some of them have
+    tops_all : (P : ℕ → Type 0) → AllByRecursion P (around from) → AllByRecursion P tops
+    tops_all P all = subst (AllByRecursion P) (sym are.are) (all_kept P are.test neighbours
+        (subst (AllByRecursion P) lead_away all))
+
+    below : AllByRecursion (λ n. n < length parents) tops
+    below = tops_all (λ n. n < length parents) (off_below (has_flag way) parents tree from inside)
+
+    of : AllByRecursion (IsAmong (around from)) tops
+    of = tops_all (IsAmong (around from)) (all_among (IsAmong (around from)) (around from) (λ n is. is))
+
+    few : (x : ℕ) → times x tops ≤ times x (around from)
+    few x =
+        let le = times_filter x are.test neighbours in
+        let is = ap (times x) are.are in
+        let all = ap (times x) lead_away in
+        omega (arith, le, is, all)
+
+    seen_tops : AreSeen parents way from 0 tops
+    seen_tops = seen_first parents tree from inside way on tops below few
+
+    -- there is room for it
+    pub tops_few : length tops < length parents
+    tops_few = let all = few_seen parents tree from inside way on 0 tops (omega arith) seen_tops in omega (arith, all)
+
+    pub tops_keyed : (k : ℕ) → k < length tops → slice_index tops k < length sight.told
+    tops_keyed k lt = let low = all_at (λ n. n < length parents) tops k below lt in omega (arith, low, told_len)
+
+    module _ (new : Branched) (begins : Begins tops keys new.layers) (followed : AreFollowed new)
+        (first : new.first ≡ 0) (last : new.last ≡ 0)
+        (chosen : FlagsOpen new.layers.ranked.numbers (replicate (length tops) true) new.wanted) where
+      top_low : (k : ℕ) → k < length tops → slice_index tops k < length parents
+      top_low k lt = all_at (λ n. n < length parents) tops k below lt
+
+      nodes_count : length new.layers.kin.nodes ≡ length tops
+      nodes_count = ap (λ (ns : List ℕ). length ns) begins.nodes
+
+      pub around_first : AreAround sight way from tops new
+      around_first = record {
+        followed = followed;
+        decided = decided_first next all_tie (all_tie_total (seen_from sight.rules sight.graph sight.positions path
+            (λ p. None))) (λ a b. refl) key named new tops keys begins followed first last chosen
+            (λ k lt. named_key (slice_index tops k) (top_low k lt));
+        seen = subst (λ (ns : List ℕ). AreSeen parents way from new.first ns) (sym begins.nodes)
+            (subst (λ n. AreSeen parents way from n tops) (sym first) seen_tops);
+        away = λ p low lt.
+            let here = all_at (IsAmong (around from)) tops p of (omega (arith, lt, nodes_count)) in
+            let is = subst (λ (ns : List ℕ). IsAmong ns (slice_index tops p))
+            (around_is parents tree from inside way on from inside) here in
+            subst (λ s. IsAway (children_seen parents from) from (suc s) (slice_index new.layers.kin.nodes p)) (sym last)
+            (subst (λ (ns : List ℕ). IsAway (children_seen parents from) from (suc 0) (slice_index ns p))
+            (sym begins.nodes) (from, refl, is));
+        low = omega (arith, first, last);
+        high = omega (arith, last);
+        count = chosen.len ∙ length-replicate (length tops) true;
+        begun = omega (arith, nodes_count);
+        top = λ k lt. ap (λ (ns : List ℕ). slice_index ns k) begins.nodes;
+      }
+
+  -- the next sphere
+  module _ (tops : List ℕ) (old : Branched) (was : AreAround sight way from tops old) where
+    abbrev kin : Kin
+    kin = old.layers.kin
+
+    abbrev known : ℕ
+    known = length kin.ups
+
+    abbrev walked : List ℕ
+    walked = wanted_kids around old.wanted kin old.first (length kin.nodes - old.first)
+
+    nodes_len : length kin.nodes ≡ known
+    nodes_len = was.followed.nodes_len
+
+    within : old.first ≤ length kin.nodes
+    within = let le = was.followed.within in omega (arith, le, nodes_len)
+
+    node_low : (p : ℕ) → p < known → slice_index kin.nodes p < length parents
+    node_low p lt = all_at (λ n. n < length parents) kin.nodes p was.seen.below (omega (arith, lt, nodes_len))
+
+    -- all nodes are nodes of the tree
+    pub around_keyed : AreKeyed (length parents) kin
+    around_keyed = record { each = node_low }
+
+    -- there is room for the next sphere
+    pub around_room : known + kids_left around kin.nodes old.first (known - old.first) < length parents
+    around_room = subst (λ n. n + kids_left around kin.nodes old.first (n - old.first) < length parents) nodes_len
+        (few_seen parents tree from inside way on old.first kin.nodes within was.seen)
+
+    pub around_last : old.first < known → old.last + 2 ≤ length parents
+    around_last some = let room = around_room in let low = was.low in omega (arith, room, low, some)
+
+    may : old.first < known → length parents ≤ kin.room → MayWalk (length parents) around old.wanted old.first old.last
+        old.layers
+    may some wide =
+        let room = around_room in
+        let last = around_last some in
+        record {
+          spheres = was.followed.ranked.spheres;
+          count = was.followed.ranked.count;
+          ends = was.followed.ranked.ends;
+          places = was.followed.places old.wanted;
+          within = was.followed.within;
+          nodes = λ p low high. node_low p high;
+          room = omega (arith, room, wide);
+          sphere_room = omega (arith, last, wide);
+        }
+
+    names : Names next all_tie key named old.layers old.wanted old.last (length parents) around keys
+    names = record {
+      told = λ place p. named_kids (slice_index kin.nodes place)
+          (node_low place ((was.followed.places old.wanted).high place p.at));
+      same_key = named_key;
+    }
+
+    -- a child of a node so far away is a step further away
+    all_away : (s n : ℕ) → IsAway (children_seen parents from) from s n
+        → AllByRecursion (IsAway (children_seen parents from) from (suc s)) (around n)
+    all_away s n is = all_among (IsAway (children_seen parents from) from (suc s)) (around n) (λ m here. (
+      n,
+      is,
+      subst (λ (ns : List ℕ). IsAmong ns m) (around_is parents tree from inside way on n
+          (away_below sight.graph sight.positions sight.root sight.nodes parents shows.told.whole shows.sound shows.low
+          from inside real.real s n is)) here,
+    ))
+
+    module _ (some : old.first < known) (wide : length parents ≤ kin.room) (new : Branched)
+        (walks : Follows old.layers old.first old.last (length parents) around old.wanted keys new.layers)
+        (followed : AreFollowed new) (first : new.first ≡ known) (last : new.last ≡ suc old.last)
+        (chosen : FlagsOpen new.layers.ranked.numbers old.wanted new.wanted) where
+      listed : new.layers.kin.nodes ≡ kin.nodes ++ walked
+      listed =
+          let w = walks.walked in
+          ap (λ (k : Kin). k.nodes) (walks.kin ∙ ap (λ (l : Layers). l.kin) w.ended) ∙ w.walks.listed
+          ∙ ap (λ n. kin.nodes ++ wanted_kids around old.wanted kin old.first (n - old.first)) (sym nodes_len)
+
+      sum : length new.layers.kin.nodes ≡ length kin.nodes + length walked
+      sum = ap (λ (ns : List ℕ). length ns) listed ∙ length-append kin.nodes walked
+
+      old_node : (p : ℕ) → p < length kin.nodes → slice_index new.layers.kin.nodes p ≡ slice_index kin.nodes p
+      old_node p lt = ap (λ (ns : List ℕ). slice_index ns p) listed ∙ get_or_append_left kin.nodes walked 0 p lt
+
+      new_node : (p : ℕ) → length kin.nodes ≤ p
+          → slice_index new.layers.kin.nodes p ≡ slice_index walked (p - length kin.nodes)
+      new_node p le = ap (λ (ns : List ℕ). slice_index ns p) listed
+          ∙ get_or-append_right kin.nodes walked (length kin.nodes) p 0 refl le
+
+      further : AllByRecursion (IsAway (children_seen parents from) from (suc (suc old.last))) walked
+      further = all_walked (IsAway (children_seen parents from) from (suc (suc old.last))) around old.wanted kin old.first
+          (length kin.nodes - old.first) (λ p low high. all_away (suc old.last) (slice_index kin.nodes p)
+          (was.away p low (omega (arith, high, within))))
+
+      pub around_next : AreAround sight way from tops new
+      around_next = record {
+        followed = followed;
+        decided = decided_after next all_tie (all_tie_total (seen_from sight.rules sight.graph sight.positions path
+            (λ p. None))) (λ a b. refl) key named old was.decided (length parents) around keys (may some wide) names
+            around_keyed new last chosen walks;
+        seen = subst (λ n. AreSeen parents way from n new.layers.kin.nodes) (nodes_len ∙ sym first)
+            (seen_next parents tree from inside way on old.first kin.nodes within was.seen old.wanted kin refl
+            new.layers.kin.nodes listed);
+        away = λ p low lt.
+            let behind : length kin.nodes ≤ p = omega (arith, low, first, nodes_len) in
+            subst (λ s. IsAway (children_seen parents from) from (suc s) (slice_index new.layers.kin.nodes p)) (sym last)
+            (subst (IsAway (children_seen parents from) from (suc (suc old.last))) (sym (new_node p behind))
+            (All-from_recursion (IsAway (children_seen parents from) from (suc (suc old.last))) walked further
+            (p - length kin.nodes) 0 (omega (arith, lt, sum, behind))));
+        low = let before = was.low in omega (arith, first, last, before, some);
+        high =
+            let far = height_away sight.graph sight.positions sight.root sight.nodes parents shows.told.whole shows.sound
+            shows.low from inside real.real (suc old.last) (slice_index kin.nodes old.first)
+            (was.away old.first (omega arith) (omega (arith, some, nodes_len))) in
+            omega (arith, far, last);
+        count = chosen.len ∙ was.count;
+        begun = let before = was.begun in omega (arith, before, sum);
+        top = λ k lt. old_node k (let before = was.begun in omega (arith, lt, before)) ∙ was.top k lt;
+      }
+
+    -- what numbers tell, all rules tell
+    pub around_told : AreTold sight from tops old.layers.ranked.numbers
+    unfolding rule_1a
+    around_told = record {
+      each = λ p q lp lq differ mark r_first.
+          let seen : Seen Node = seen_from sight.rules sight.graph sight.positions path mark in
+          let count = was.count in
+          let told = was.decided.told p q (omega (arith, lp, count)) (omega (arith, lq, count)) in
+          let one = slice_index kin.nodes p in
+          let other = slice_index kin.nodes q in
+          ap (λ o. Some o) told
+          ∙ rule_side seen r_first (named one) (named other) old.last was.high (λ tied. differ (told ∙ tied))
+          ∙ ap (λ n. seen_sides sight from mark r_first n other) (was.top p lp)
+          ∙ ap (λ n. seen_sides sight from mark r_first (slice_index tops p) n) (was.top q lq);
+    }

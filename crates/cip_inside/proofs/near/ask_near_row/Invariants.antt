@@ -1,7 +1,0 @@
-use Rattle.std.proofs.Common.{◌≡◌, ◌++◌, map, take}
-use Rattle.cip_inside.specs.Asking.{near_asked}
-use Rattle.cip_inside.proofs.near.ask_near_row.Given as goal
-
-abbrev pub invariant-loop-other : goal.invariant-loop-other
-invariant-loop-other l =
-    l.pairs.items ≡ l.initial.pairs.items ++ map (near_asked l.views.view l.one) (take l.other-index l.others)

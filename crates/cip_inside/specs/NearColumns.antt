@@ -1,0 +1,15 @@
+-- What holds of the columns of followed ligands. Own.
+use Rattle.std.specs.Prelude.{◌≡◌, ◌<◌, ◌≤◌, ◌+◌, ◌^◌, ℕ, false, slice_index_or, vec_capacity}
+use Rattle.cip_inside.specs.Near.{Nearing}
+use Rattle.cip_inside.specs.declared.near.Near.TheInside.{Inside}
+
+abbrev pub nearing_of : Inside → Nearing
+nearing_of a = record { bound = a.bound; tops = a.tops.items; numbers = a.branches.layers.ranked.numbers }
+
+-- there is room for all nodes, and no flag is set
+pub record HaveRoom (a : Inside) : Type 0 where
+  pub few : a.bound + 1 < 2 ^ 32
+  pub branches : a.branches.layers.kin.room ≡ a.bound
+  pub tops : a.tops.room ≡ a.bound + 1
+  pub way : a.bound ≤ vec_capacity a.way
+  pub off : (k : ℕ) → slice_index_or a.way.items k false ≡ false
