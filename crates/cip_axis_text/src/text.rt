@@ -53,7 +53,10 @@ fn axes_text_once(
     ensures flagged { IfOk result (λ axes. axes.flagged ≡ is_flagged_without_items rules nodes lines.now) }
 {
     let mut labeller = RecordLabeller::reserve(alloc, nodes)?;
-    axes_text_within(alloc, &mut labeller, lines, number, rules)
+    let axes = axes_text_within(alloc, &mut labeller, lines, number, rules);
+    // given back by a call of its own: written out at the end of this function it takes a minute to prove
+    drop(labeller);
+    axes
 }
 
 /// The same of a record that has no label items, in memory that was reserved before: once for many records.

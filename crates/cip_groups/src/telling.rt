@@ -69,7 +69,10 @@ fn tell_once(
     ensures { IfOk result (λ told. told ≡ with_number number (told_without_items rules nodes lines.now)) }
 {
     let mut labeller = Labeller::<Desk>::reserve(alloc, nodes)?;
-    group_text_within(alloc, &mut labeller, lines, number, rules)
+    let told = group_text_within(alloc, &mut labeller, lines, number, rules);
+    // given back by a call of its own: written out at the end of this function it takes a minute to prove
+    drop(labeller);
+    told
 }
 
 /// What is told of the groups of a record that has no label items, in memory that was reserved before.

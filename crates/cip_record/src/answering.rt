@@ -61,7 +61,10 @@ fn label_once(
     ensures room { IfOk result HasRoom }
 {
     let mut labeller = RecordLabeller::reserve(alloc, nodes)?;
-    label_within(alloc, &mut labeller, lines, rules)
+    let answer = label_within(alloc, &mut labeller, lines, rules);
+    // given back by a call of its own: written out at the end of this function it takes a minute to prove
+    drop(labeller);
+    answer
 }
 
 /// The answer to a record that has no label items, in memory that was reserved before: once for many records.

@@ -55,7 +55,10 @@ fn set_once(
     ensures few { IfOk result (λ answer. IsFew lines.now answer) }
 {
     let mut labeller = RecordLabeller::reserve(alloc, nodes)?;
-    set_within(alloc, &mut labeller, lines, atom, letter, rules)
+    let answer = set_within(alloc, &mut labeller, lines, atom, letter, rules);
+    // given back by a call of its own: written out at the end of this function it takes a minute to prove
+    drop(labeller);
+    answer
 }
 
 /// The same of a record that has no label items, with its lines at hand, in memory that was reserved before: once for

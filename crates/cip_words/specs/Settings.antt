@@ -13,6 +13,7 @@ use Rattle.cip_words.specs.Letters.{letter_named}
 use Rattle.cip_words.specs.declared.forms.Command.{Command}
 use Rattle.cip_words.specs.declared.forms.Command.TheVariants as commands
 use Rattle.cip_words.specs.declared.forms.TheConstants.{ATOM, FORMS, LETTER, NODES, RECORD, RECORDS, START, WORDING, WORKERS}
+use Rattle.cip_words.specs.declared.settings.Labelling.{Labelling}
 use Rattle.cip_words.specs.declared.settings.Settings.{Settings}
 use Rattle.cip_words.specs.declared.settings.Settings.TheVariants.{Annotate, Explain, Make, Trial, Set, Mirror, Groups, Axes, Help}
 
@@ -58,52 +59,51 @@ workers_of words = set_to WORKERS.0.now WORKERS.1 words
 abbrev pub rules_of : List (String Global) → Option Rules
 rules_of words = option_map wording_of (set_to WORDING.0.now WORDING.1 words)
 
--- what a command asks for with these names and values
-abbrev pub asked : Command → List (String Global) → Option Settings
-asked commands.Annotate words = do
+-- what all commands that label ask for
+abbrev pub labelling_of : List (String Global) → Option Labelling
+labelling_of words = do
   nodes ← nodes_of words
   workers ← workers_of words
   rules ← rules_of words
-  Some (Annotate nodes workers rules)
-asked commands.Explain words = do
-  nodes ← nodes_of words
-  workers ← workers_of words
-  rules ← rules_of words
-  Some (Explain nodes workers rules)
-asked commands.Make words = do
+  Some (record { nodes = nodes; workers = workers; rules = rules })
+
+-- the settings of a command that asks for no more
+abbrev pub labels_as : (ℕ → ℕ → Rules → Settings) → List (String Global) → Option Settings
+labels_as settings words = do
+  labelling ← labelling_of words
+  Some (settings labelling.nodes labelling.workers labelling.rules)
+
+abbrev pub making_of : List (String Global) → Option Settings
+making_of words = do
   start ← start_of words
   records ← records_of words
   Some (Make start records)
-asked commands.Trial words = do
+
+abbrev pub trial_of : List (String Global) → Option Settings
+trial_of words = do
   start ← start_of words
   records ← records_of words
-  nodes ← nodes_of words
-  workers ← workers_of words
-  rules ← rules_of words
-  Some (Trial start records nodes workers rules)
-asked commands.Set words = do
+  labelling ← labelling_of words
+  Some (Trial start records labelling.nodes labelling.workers labelling.rules)
+
+abbrev pub setting_of : List (String Global) → Option Settings
+setting_of words = do
   number ← record_of words
   atom ← atom_of words
   letter ← letter_of words
-  nodes ← nodes_of words
-  workers ← workers_of words
-  rules ← rules_of words
-  Some (Set number atom letter nodes workers rules)
-asked commands.Mirror words = do
-  nodes ← nodes_of words
-  workers ← workers_of words
-  rules ← rules_of words
-  Some (Mirror nodes workers rules)
-asked commands.Groups words = do
-  nodes ← nodes_of words
-  workers ← workers_of words
-  rules ← rules_of words
-  Some (Groups nodes workers rules)
-asked commands.Axes words = do
-  nodes ← nodes_of words
-  workers ← workers_of words
-  rules ← rules_of words
-  Some (Axes nodes workers rules)
+  labelling ← labelling_of words
+  Some (Set number atom letter labelling.nodes labelling.workers labelling.rules)
+
+-- what a command asks for with these names and values
+abbrev pub asked : Command → List (String Global) → Option Settings
+asked commands.Annotate words = labels_as Annotate words
+asked commands.Explain words = labels_as Explain words
+asked commands.Make words = making_of words
+asked commands.Trial words = trial_of words
+asked commands.Set words = setting_of words
+asked commands.Mirror words = labels_as Mirror words
+asked commands.Groups words = labels_as Groups words
+asked commands.Axes words = labels_as Axes words
 asked commands.Help words = Some Help
 
 abbrev pub asked_by : Form → List (String Global) → Option Settings

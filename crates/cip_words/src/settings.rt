@@ -1,9 +1,10 @@
 // What the words of a command line ask for.
 ghost use Rattle.std.specs.Prelude.{◌≡◌, IfSome, map};
 ghost use Rattle.std.specs.Option.{option_map};
-ghost use Rattle.cip_words.specs.Settings.{form_of, letter_of, workers_of, rules_of, asked, settings_of};
+ghost use Rattle.cip_words.specs.Settings.{form_of, letter_of, workers_of, rules_of, labelling_of, making_of, trial_of, setting_of};
+ghost use Rattle.cip_words.specs.Settings.{asked, settings_of};
 ghost use Rattle.cip_words.specs.Letters.{letter_named};
-ghost use Rattle.cip_words.specs.Ranges.{AreWithin, IsBetween};
+ghost use Rattle.cip_words.specs.Ranges.{AreWithin, CanLabel, IsBetween};
 
 use crate::forms::{
     ATOM, Command, FORMS, Form, LETTER, NODES, RECORD, RECORDS, START, WORDING, WORKERS,
@@ -105,52 +106,142 @@ fn asked(command: Command, words: &[String]) -> Option<Settings>
     ensures within { IfSome result AreWithin }
 {
     match command {
-        Command::Annotate => Some(Settings::Annotate {
-            nodes: set_to(&NODES, words)?,
-            workers: workers(words)?,
-            rules: rules(words)?,
-        }),
-        Command::Explain => Some(Settings::Explain {
-            nodes: set_to(&NODES, words)?,
-            workers: workers(words)?,
-            rules: rules(words)?,
-        }),
-        Command::Make => Some(Settings::Make {
-            start: set_to(&START, words)?,
-            records: set_to(&RECORDS, words)?,
-        }),
-        Command::Trial => Some(Settings::Trial {
-            start: set_to(&START, words)?,
-            records: set_to(&RECORDS, words)?,
-            nodes: set_to(&NODES, words)?,
-            workers: workers(words)?,
-            rules: rules(words)?,
-        }),
-        Command::Set => Some(Settings::Set {
-            number: set_to(&RECORD, words)?,
-            atom: set_to(&ATOM, words)?,
-            letter: letter(words)?,
-            nodes: set_to(&NODES, words)?,
-            workers: workers(words)?,
-            rules: rules(words)?,
-        }),
-        Command::Mirror => Some(Settings::Mirror {
-            nodes: set_to(&NODES, words)?,
-            workers: workers(words)?,
-            rules: rules(words)?,
-        }),
-        Command::Groups => Some(Settings::Groups {
-            nodes: set_to(&NODES, words)?,
-            workers: workers(words)?,
-            rules: rules(words)?,
-        }),
-        Command::Axes => Some(Settings::Axes {
-            nodes: set_to(&NODES, words)?,
-            workers: workers(words)?,
-            rules: rules(words)?,
-        }),
+        Command::Annotate => {
+            let Labelling {
+                nodes,
+                workers,
+                rules,
+            } = read_labelling(words)?;
+            Some(Settings::Annotate {
+                nodes,
+                workers,
+                rules,
+            })
+        }
+        Command::Explain => {
+            let Labelling {
+                nodes,
+                workers,
+                rules,
+            } = read_labelling(words)?;
+            Some(Settings::Explain {
+                nodes,
+                workers,
+                rules,
+            })
+        }
+        Command::Make => making(words),
+        Command::Trial => trial(words),
+        Command::Set => setting(words),
+        Command::Mirror => {
+            let Labelling {
+                nodes,
+                workers,
+                rules,
+            } = read_labelling(words)?;
+            Some(Settings::Mirror {
+                nodes,
+                workers,
+                rules,
+            })
+        }
+        Command::Groups => {
+            let Labelling {
+                nodes,
+                workers,
+                rules,
+            } = read_labelling(words)?;
+            Some(Settings::Groups {
+                nodes,
+                workers,
+                rules,
+            })
+        }
+        Command::Axes => {
+            let Labelling {
+                nodes,
+                workers,
+                rules,
+            } = read_labelling(words)?;
+            Some(Settings::Axes {
+                nodes,
+                workers,
+                rules,
+            })
+        }
         Command::Help => Some(Settings::Help),
     }
+}
+
+// What all commands that label ask for: the bound on the nodes of a digraph, the workers and the wording.
+#[derive(Clone, Copy)]
+struct Labelling {
+    nodes: u32,
+    workers: u8,
+    rules: Rules,
+}
+
+fn read_labelling(words: &[String]) -> Option<Labelling>
+    ensures meant { result ≡ labelling_of words.now }
+    ensures within { IfSome result (λ labelling. CanLabel labelling.nodes labelling.workers) }
+{
+    Some(Labelling {
+        nodes: set_to(&NODES, words)?,
+        workers: workers(words)?,
+        rules: rules(words)?,
+    })
+}
+
+fn making(words: &[String]) -> Option<Settings>
+    ensures meant { result ≡ making_of words.now }
+    ensures within { IfSome result AreWithin }
+{
+    Some(Settings::Make {
+        start: set_to(&START, words)?,
+        records: set_to(&RECORDS, words)?,
+    })
+}
+
+fn trial(words: &[String]) -> Option<Settings>
+    ensures meant { result ≡ trial_of words.now }
+    ensures within { IfSome result AreWithin }
+{
+    let start = set_to(&START, words)?;
+    let records = set_to(&RECORDS, words)?;
+    let Labelling {
+        nodes,
+        workers,
+        rules,
+    } = read_labelling(words)?;
+    Some(Settings::Trial {
+        start,
+        records,
+        nodes,
+        workers,
+        rules,
+    })
+}
+
+fn setting(words: &[String]) -> Option<Settings>
+    ensures meant { result ≡ setting_of words.now }
+    ensures within { IfSome result AreWithin }
+{
+    let number = set_to(&RECORD, words)?;
+    let atom = set_to(&ATOM, words)?;
+    let letter = letter(words)?;
+    let Labelling {
+        nodes,
+        workers,
+        rules,
+    } = read_labelling(words)?;
+    Some(Settings::Set {
+        number,
+        atom,
+        letter,
+        nodes,
+        workers,
+        rules,
+    })
 }
 
 fn letter(words: &[String]) -> Option<CentreLetter>

@@ -4,6 +4,6 @@ use Rattle.cip_record.proofs.answering.label_once.Goals as goal
 
 pub returns-clause-answer : goal.returns-clause-answer
 returns-clause-answer c =
-    subst (λ (bound : ℕ). IfOk c.label_within.result
+    subst (λ (bound : ℕ). IfOk c.label_within-answer.result
     (λ answer. answer ≡ answer_without_items c.args.rules bound c.args.lines.now)) c.in_ok-labeller.ensures.room
-    c.label_within.ensures.answer
+    c.label_within-answer.ensures.answer
