@@ -5,8 +5,6 @@ mod fault;
 mod framer;
 mod laws;
 mod record;
-#[cfg(test)]
-mod tests;
 
 pub use fault::FrameFault;
 pub use framer::Framer;

@@ -5,8 +5,6 @@
 mod memory;
 mod standard;
 mod stream;
-#[cfg(test)]
-mod tests;
 
 pub use memory::{MemSink, MemSource, SteadySource};
 pub use standard::{StdSink, StdSource};

@@ -7,8 +7,6 @@ mod labels;
 mod laws;
 mod part;
 mod putting;
-#[cfg(test)]
-mod tests;
 
 pub use items::{Item, Items, split_items};
 pub use labels::{has_label_item, lines_without_label_items, without_label_items};

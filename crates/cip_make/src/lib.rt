@@ -4,7 +4,5 @@
 mod chain;
 mod lines;
 mod making;
-#[cfg(test)]
-mod tests;
 
 pub use making::record;

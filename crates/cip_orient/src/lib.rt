@@ -3,8 +3,6 @@
 
 mod axis;
 mod bond;
-#[cfg(test)]
-mod cases;
 mod centre;
 mod drawing;
 mod drawn;
@@ -13,8 +11,6 @@ mod flat_centre;
 mod marks;
 mod pairs;
 mod site;
-#[cfg(test)]
-mod tests;
 
 pub use drawn::drawn_of;
 pub use marks::is_crossed;

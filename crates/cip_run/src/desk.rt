@@ -17,6 +17,7 @@ use cip_set::{SetAnswer, set_within};
 use cip_text::RecordLines;
 use std::alloc::{AllocError, Global};
 use std::marker::Model;
+use std::mem;
 
 /// Memory in which records are labelled, one after the other. It changes no answer. Contracts see the bound on the nodes
 /// of a digraph.
@@ -54,7 +55,9 @@ impl Desk {
         ensures { OnOk result (self.new ≡ nodes) }
     {
         if self.nodes != nodes {
-            *self = Desk::reserve(alloc, nodes)?;
+            let desk = Desk::reserve(alloc, nodes)?;
+            // given back by a call of its own: written out here it takes a minute to prove
+            drop(mem::replace(self, desk));
         }
         Ok(())
     }

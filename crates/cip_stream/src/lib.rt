@@ -9,8 +9,6 @@ mod reading;
 mod stop;
 mod streaming;
 mod teller;
-#[cfg(test)]
-mod tests;
 mod verdict;
 
 pub use crew::Crew;

@@ -10,8 +10,6 @@ mod laws;
 mod list;
 mod numbers;
 mod splitting;
-#[cfg(test)]
-mod tests;
 mod writing;
 
 pub use bodies::{RecordLines, body_contents, split_body_line};
