@@ -13,7 +13,7 @@ use cip_inside::{Near, Pruner, Sights, descriptors_inside};
 use cip_mancude::positions;
 use cip_mol::{Molecule, Unit};
 use cip_pairs::Descriptors;
-use cip_rank::Rules;
+use cip_rank::{Rules, both};
 use cip_steps::Steps;
 use cip_text::RecordLines;
 use cip_unit::units;
@@ -49,7 +49,21 @@ fn grow_whole<L: Ledger>(
     false
 }
 
-// Puts the descriptor of each node of a whole digraph into memory that was reserved.
+// What looks at digraphs of so many nodes.
+fn reserve_sights(alloc: Global, count: u32) -> Result<Sights, AllocError>
+    requires { count < 2 ^ 31 }
+    ensures { IfOk result (λ sights. sights.views.bound ≡ count) }
+{
+    let tables = both(Near::reserve(alloc, count)?, Views::reserve(alloc, count))?;
+    let ((near, views), pruner) = both(tables, Pruner::reserve(alloc, count))?;
+    Ok(Sights {
+        near,
+        views,
+        pruner,
+    })
+}
+
+// The descriptor of each node of a whole digraph, as it is looked at.
 fn mark(
     alloc: Global,
     arena: &Arena,
@@ -58,14 +72,12 @@ fn mark(
     units: &[Unit],
     root: u32,
     sights: &mut Sights,
-    marks: &mut Descriptors,
-) -> Result<(), AllocError>
+) -> Result<Descriptors, AllocError>
     requires whole { TellsWhole graph.now positions.now root arena.now.sphere arena.now.nodes }
     requires root { root < length graph.now.vertices }
     requires sites { map (λ unit. unit.site) units.now ≡ sites_of graph.now positions.now }
     requires room { length arena.now.nodes ≤ sights.old.views.bound }
-    requires bound { length arena.now.nodes ≤ marks.old.bound }
-    ensures { OnOk result (length marks.new.marks ≡ length arena.now.nodes) }
+    ensures { IfOk result (λ marks. length marks.marks ≡ length arena.now.nodes) }
 {
     let units = UnitsAt::new(alloc, units)?;
     let whole = Whole::new(
@@ -76,7 +88,9 @@ fn mark(
         root,
         arena.sphere(),
     );
-    descriptors_inside(alloc, &whole, &units, sights, marks)
+    let mut marks = Descriptors::reserve(alloc, arena.len())?;
+    descriptors_inside(alloc, &whole, &units, sights, &mut marks)?;
+    Ok(marks)
 }
 
 // The same in memory for this digraph alone.
@@ -94,24 +108,11 @@ fn marks_inside(
     requires few { length arena.now.nodes < 2 ^ 31 }
     ensures { IfOk result (λ marks. length marks.marks ≡ length arena.now.nodes) }
 {
-    let count = arena.len();
-    let mut sights = Sights {
-        near: Near::reserve(alloc, count)?,
-        views: Views::reserve(alloc, count)?,
-        pruner: Pruner::reserve(alloc, count)?,
-    };
-    let mut marks = Descriptors::reserve(alloc, count)?;
-    mark(
-        alloc,
-        arena,
-        graph,
-        positions,
-        units,
-        root,
-        &mut sights,
-        &mut marks,
-    )?;
-    Ok(marks)
+    let mut sights = reserve_sights(alloc, arena.len())?;
+    let marks = mark(alloc, arena, graph, positions, units, root, &mut sights);
+    // given back by a call of its own: written out at the end of this function it takes minutes to prove
+    drop(sights);
+    marks
 }
 
 // Each node with a descriptor, by the number of its atom in the record.

@@ -7,7 +7,7 @@ use cip_constitution::{MarkedUnits, Work, settle};
 use cip_digraph::{Graph, Positions};
 use cip_mancude::positions;
 use cip_mol::{Cause, Geometry, Ligand, Ligands, Site, Unit};
-use cip_rank::Rules;
+use cip_rank::{Rules, both};
 use cip_steps::Steps;
 use std::alloc::{AllocError, Global};
 use std::marker::Brand;
@@ -42,8 +42,8 @@ fn settled<L: Ledger>(
     requires bound { 0 < bound }
 {
     let mut steps = Steps::<L>::open(blank);
-    let mut arena = Arena::reserve(alloc, bound)?;
-    let mut work = Work::reserve(alloc, bound)?;
+    let arena = Arena::reserve(alloc, bound)?;
+    let (mut arena, mut work) = both(arena, Work::reserve(alloc, bound))?;
     arena.start(graph, 0);
     let _count = arena.len();
     let settled = settle(
@@ -56,6 +56,8 @@ fn settled<L: Ledger>(
         Rules::Wording2013,
         &mut steps,
     );
+    // given back by a call of its own: written out at the end of this function it takes minutes to prove
+    drop(work);
     format!(in alloc;
         "{settled:?}, sphere {}, {} nodes",
         arena.sphere(),
