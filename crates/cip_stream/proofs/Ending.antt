@@ -1,5 +1,5 @@
 -- How a run over a stream ends, by what the last turn brought.
-use Rattle.std.proofs.Common.{◌≡◌, ◌≤◌, ◌<◌, ◌+◌, ◌^◌, ℕ, List, [], ◌∷◌, ◌++◌, length, true, false, Bool, ◌||◌, Option, Some, None, Result, Ok, Err, IfSome, refl, sym, ◌∙◌, ap, arith, append_assoc, append-nil, length-append, subst, inl, inr, ◌⊎◌}
+use Rattle.std.proofs.Common.{◌≡◌, ◌≤◌, ◌<◌, ◌+◌, ◌^◌, ℕ, List, [], ◌∷◌, ◌++◌, length, true, false, Bool, Option, Some, None, Result, Ok, Err, IfSome, refl, sym, ◌∙◌, ap, arith, append_assoc, append-nil, length-append, subst, inl, inr, ◌⊎◌}
 use Rattle.std.specs.Option.{is_some}
 use Rattle.std.specs.List.{take_while}
 use Rattle.std.specs.Io.KnownBytes.{Appends, Consumes, IsAtEnd}

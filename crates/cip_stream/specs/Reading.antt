@@ -8,6 +8,12 @@ use Rattle.cip_stream.specs.declared.reading.Turn.TheVariants.{Piece, End, Fault
 use Rattle.cip_stream.specs.declared.stop.Stop.{Stop}
 use Rattle.cip_stream.specs.declared.stop.Stop.TheVariants as stops
 
+-- a framer that was fed nothing, by which a record may have so many bytes
+pub record IsFresh (limit : ℕ) (framer : Framing) : Type 0 where
+  pub holds : Holds [] [] framer
+  pub empty : framer.waiting ≡ []
+  pub within : framer.limit ≡ limit
+
 -- some bytes, at most so many, were taken from the front of what the source had left
 pub record TakesAtMost (most : ℕ) (left rest : Option (List ℕ)) : Type 0 where
   pub bytes : List ℕ

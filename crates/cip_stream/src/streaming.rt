@@ -1,9 +1,11 @@
 // Answering a whole stream.
-ghost use Rattle.std.specs.Prelude.{◌≡◌, ◌<◌, ◌+◌, ◌^◌, IfSome, IsErrOf, IsOk, length};
+ghost use Rattle.std.specs.Prelude.{◌≡◌, ◌<◌, ◌+◌, ◌^◌, ℕ, List, [], true, None, IfSome, IsErrOf, IsOk, length};
 ghost use Rattle.std.specs.Io.KnownBytes.{IsAtEnd};
+ghost use Rattle.cip_frame.specs.Framing.{Holds, is_within};
+ghost use Rattle.cip_frame.specs.Records.{cut_of, tail_of};
 ghost use Rattle.cip_io.specs.Faults.{Rose};
 ghost use Rattle.cip_stream.specs.Endings.{EndsAs, AnswersTaken};
-ghost use Rattle.cip_stream.specs.Reading.{TakesAtMost};
+ghost use Rattle.cip_stream.specs.Reading.{IsFresh, TakesAtMost};
 
 use crate::batch::{Batch, answer_batch, answer_tail, answer_waiting};
 use crate::crew::{Crew, Desks};
@@ -13,8 +15,10 @@ use crate::stop::Stop;
 use crate::teller::Teller;
 use crate::verdict::Verdict;
 use cip_batch::Gate;
-use cip_frame::Framer;
+use cip_frame::{Framer, Tail};
 use cip_io::{Sink, Source};
+use std::alloc::Global;
+use std::mem;
 use std::thread::Threads;
 
 /// Reads the source to its end, or to the first byte past a limit, and writes what is told of its records, batch by
@@ -38,29 +42,80 @@ pub fn answer_stream<R: Threads + Sync, G: Gate + Sync, T: Teller + Sync, S: Sou
     ensures sink_fault { IsErrOf result Stop.WriteFault → Rose (K.faults sink.old) (K.faults sink.new) }
 {
     let mut desks = Desks::reserve(crew, teller)?;
-    let mut piece = new_piece(crew.alloc)?;
-    let mut framer = Framer::new(crew.alloc, limits.record);
+    let mut inflow = Inflow {
+        alloc: crew.alloc,
+        piece: new_piece(crew.alloc)?,
+        framer: Framer::new(crew.alloc, limits.record),
+    };
     let mut batch = Batch::new(crew.alloc, teller, crew.workers);
+    answer_pieces(&mut desks, &mut inflow, &mut batch, limits, source, sink)
+}
+
+// What the bytes of a source come through: room for a piece, and the framer that cuts it.
+#[derive(Drop)]
+struct Inflow {
+    alloc: Global,
+    piece: Vec<u8>,
+    framer: Framer,
+}
+
+impl Inflow {
+    // What follows the last whole record. No more pieces come.
+    fn finish(&mut self) -> Tail
+        requires { self.old.framer.fault ≡ None }
+        ensures small { is_within self.old.framer.limit result ≡ true }
+        ensures rest { (given : List (List ℕ)) (fed : List ℕ) → Holds given fed self.old.framer
+            → result ≡ tail_of (cut_of fed).rest }
+    {
+        let framer = mem::replace(&mut self.framer, Framer::new(self.alloc, 0));
+        framer.finish()
+    }
+}
+
+// The same, from the first piece on.
+fn answer_pieces<'a, R: Threads + Sync, G: Gate + Sync, T: Teller + Sync, S: Source, K: Sink>(
+    desks: &mut Desks<'_, R, G, T>,
+    inflow: &mut Inflow,
+    batch: &mut Batch<'a, T>,
+    limits: Limits,
+    source: &mut S,
+    sink: &mut K,
+) -> Result<Verdict<T::Note>, Stop>
+    requires record { limits.record < 2 ^ 31 }
+    requires input { limits.input < 2 ^ 63 }
+    requires piece { 0 < length inflow.old.piece.items }
+    requires fresh { IsFresh limits.record inflow.old.framer }
+    requires first { batch.old.first ≡ 1 }
+    requires none { batch.old.records ≡ [] }
+    ensures ended { IfSome (S.left source.old) (EndsAs (T.manner batch.old.teller) limits result
+        (K.taken sink.old) (K.taken sink.new)) }
+    ensures whole { IsOk result → IsAtEnd (S.left source.new) }
+    ensures read_fault { IsErrOf result Stop.ReadFault → AnswersTaken (T.manner batch.old.teller) limits
+        (S.left source.old) (S.left source.new) (K.taken sink.old) (K.taken sink.new) }
+    ensures bounded { TakesAtMost (limits.input + 1) (S.left source.old) (S.left source.new) }
+    ensures source_fault { IsErrOf result Stop.ReadFault → Rose (S.faults source.old) (S.faults source.new) }
+    ensures sink_fault { IsErrOf result Stop.WriteFault → Rose (K.faults sink.old) (K.faults sink.new) }
+{
     let mut room = limits.input;
     let mut verdict = Verdict::clear();
     loop {
-        match feed_next(source, &mut piece, &mut framer, room)? {
+        match feed_next(source, &mut inflow.piece, &mut inflow.framer, room)? {
             Turn::Piece(count) => {
-                verdict = verdict.and(answer_waiting(&mut desks, &mut framer, &mut batch, sink)?);
+                verdict = verdict.and(answer_waiting(desks, &mut inflow.framer, batch, sink)?);
                 room -= count;
             }
             Turn::End => {
-                let tail = framer.finish();
-                verdict = verdict.and(answer_tail(&mut desks, tail, &mut batch, sink)?);
+                let tail = inflow.finish();
+                verdict = verdict.and(answer_tail(desks, tail, batch, sink)?);
                 return Ok(verdict);
             }
             Turn::Fault => {
-                answer_batch(&mut desks, &mut batch, sink)?;
+                answer_batch(desks, batch, sink)?;
                 return Err(Stop::ReadFault);
             }
             Turn::Limit => {
-                answer_waiting(&mut desks, &mut framer, &mut batch, sink)?;
-                answer_batch(&mut desks, &mut batch, sink)?;
+                answer_waiting(desks, &mut inflow.framer, batch, sink)?;
+                answer_batch(desks, batch, sink)?;
                 return Err(Stop::Limit);
             }
         }
