@@ -27,13 +27,13 @@ use Rattle.cip_branches.proofs.Filled.{all_set}
 use Rattle.cip_branches.proofs.RuledSpheres.{ruled_first, ruled_next, ruled_fewer, tops_told}
 use Rattle.cip_branches.proofs.WalkedSpheres.{old_at, at_old, is_known}
 
-first_stays : (r s : Ordering) → r ≢ Equal → ordering_then r s ≡ r
+pub first_stays : (r s : Ordering) → r ≢ Equal → ordering_then r s ≡ r
 first_stays Less s differ = refl
 first_stays Equal s differ = absurd (differ refl)
 first_stays Greater s differ = refl
 
 -- numbers that tie are the same
-same_number : (numbers : List ℕ) (a b : ℕ) → slice_index numbers a ≡ slice_index numbers b
+pub same_number : (numbers : List ℕ) (a b : ℕ) → slice_index numbers a ≡ slice_index numbers b
     → by_number numbers a b ≡ Equal
 same_number numbers a b tie = ap (λ n. nat_cmp n (slice_index numbers b)) tie
     ∙ tied_itself nat_cmp_total (slice_index numbers b)

@@ -106,7 +106,7 @@ module _ {N : Type 0} (children : N → List N) (node : ℕ → N) (kids : ℕ �
         p q)
         ∙ twice (rule k (node a) (node b)) (sets children (rule k) (node a) (node b))
 
-    deep : (depth t a b : ℕ) → last ≤ depth → At t a → At t b
+    pub deep : (depth t a b : ℕ) → last ≤ depth → At t a → At t b
         → rule depth (node a) (node b) ≡ rule (last - t) (node a) (node b)
     deep depth t a b le p q =
         let in_view = view.within t a p in

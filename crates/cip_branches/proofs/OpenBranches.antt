@@ -5,7 +5,7 @@ use Rattle.cip_branches.specs.Parting.{has_flag}
 use Rattle.cip_branches.specs.Ruled.{WantsFewer}
 
 -- a flag that is set stands within the flags
-flag_within : (flags : List Bool) (n : ℕ) → has_flag flags n ≡ true → n < length flags
+pub flag_within : (flags : List Bool) (n : ℕ) → has_flag flags n ≡ true → n < length flags
 flag_within [] n has = let bad : false ≡ true = has in cc
 flag_within (f ∷ flags) zero has = omega arith
 flag_within (f ∷ flags) (suc n) has = let lt = flag_within flags n has in omega (arith, lt)

@@ -11,7 +11,7 @@ use Rattle.cip_rank.proofs.NumberedNodes.{equal_is, less_is, greater_is}
 use Rattle.cip_branches.specs.Parting.{FlagClasses, PartsRows, IsClass, has_flag, is_shared, FlagHeads, PartsSphere, EndsClass, StepsOn, HaveFlags}
 use Rattle.cip_branches.specs.Rows.{OrdersPlaces, IsRow, number_in, AreClassed}
 use Rattle.cip_branches.proofs.Cases.{cases_flag, not_both}
-use Rattle.cip_branches.proofs.ClassInSphere.{num_high, rises, place_low, place_high, place_head, outside, inside, apart, there, back, still_classed, shared_tells, one_place}
+use Rattle.cip_branches.proofs.ClassInSphere.{place_low, place_high, place_head, outside, inside, apart, there, back, still_classed, shared_tells, one_place}
 
 module _ (compare : ℕ → ℕ → Ordering) (from to : ℕ) (flags : List Bool) (rows numbers : List ℕ)
     (classed : AreClassed rows numbers from to) where

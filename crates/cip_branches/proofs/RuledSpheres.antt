@@ -28,12 +28,12 @@ use Rattle.cip_branches.proofs.Cases.{both, holds_among}
 use Rattle.cip_branches.proofs.InwardSpheres.{reaches_next}
 use Rattle.cip_branches.proofs.WalkedSpheres.{old_at, at_old, is_known, at_new, which, told_at, up_at}
 
-map_map : {N : Type 0} (named : ℕ → N) (read : ℕ → ℕ) (places : List ℕ)
+pub map_map : {N : Type 0} (named : ℕ → N) (read : ℕ → ℕ) (places : List ℕ)
     → map (λ p. named (read p)) places ≡ map named (map read places)
 map_map named read [] = refl
 map_map named read (p ∷ places) = ap (λ ns. named (read p) ∷ ns) (map_map named read places)
 
-map_same : {N : Type 0} (f g : ℕ → N) (places : List ℕ) → AllByRecursion (λ p. f p ≡ g p) places
+pub map_same : {N : Type 0} (f g : ℕ → N) (places : List ℕ) → AllByRecursion (λ p. f p ≡ g p) places
     → map f places ≡ map g places
 map_same f g [] same = refl
 map_same f g (p ∷ places) same = ap (λ n. n ∷ map f places) same.0 ∙ ap (λ ns. g p ∷ ns) (map_same f g places same.1)

@@ -1,3 +1,4 @@
+pub mod Among
 pub mod Around
 pub mod Closing
 pub mod Deciding
@@ -13,7 +14,11 @@ pub mod Reserved
 pub mod Rising
 pub mod Rows
 pub mod Ruled
+pub mod Saving
+pub mod Standing
 pub mod Stirring
+pub mod Taking
 pub mod Turning
+pub mod Twins
 pub mod Views
 pub mod Walking

@@ -1,5 +1,5 @@
 // Memory that is taken at once.
-ghost use Rattle.std.specs.Prelude.{◌≡◌, ◌<◌, ◌≤◌, ◌^◌, ◌++◌, ◌∷◌, [], IfOk, length, replicate, slice_set};
+ghost use Rattle.std.specs.Prelude.{◌≡◌, ◌<◌, ◌≤◌, ◌+◌, ◌^◌, ◌++◌, ◌∷◌, [], IfOk, length, replicate, slice_set};
 
 use std::alloc::{AllocError, Global};
 use std::marker::Model;
@@ -7,7 +7,7 @@ use std::marker::Model;
 /// Items, and room for so many. All memory is taken when it is made, and none of it is touched before it is used.
 #[derive(Drop)]
 pub struct Column<T> {
-    pub(crate) items: Vec<T>,
+    pub items: Vec<T>,
     room: u32,
 }
 
@@ -56,6 +56,23 @@ impl<T: Copy + Drop> Column<T> {
         ensures { self.new ≡ record self.old { items = self.old.items ++ item ∷ [] } }
     {
         let _ = self.items.push(item);
+    }
+
+    /// Adds items at the end.
+    pub fn push_all(&mut self, items: &[T])
+        requires { length self.old.items + length items.now ≤ self.old.room }
+        ensures { self.new ≡ record self.old { items = self.old.items ++ items.now } }
+    {
+        let _ = self.items.extend_from_slice(items);
+    }
+
+    /// The same items as these.
+    pub fn copy(&mut self, items: &[T])
+        requires { length items.now ≤ self.old.room }
+        ensures { self.new ≡ record self.old { items = items.now } }
+    {
+        self.clear();
+        let _ = self.items.extend_from_slice(items);
     }
 
     /// So many items, all of them the same.

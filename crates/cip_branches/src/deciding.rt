@@ -22,14 +22,14 @@ use std::marker::Model;
 /// once its top is told apart from all others: what is told stays so.
 #[derive(Drop)]
 pub struct Branches {
-    spheres: Spheres,
+    pub(crate) spheres: Spheres,
     // of each branch, whether another one ties with it
-    wanted: Column<bool>,
+    pub(crate) wanted: Column<bool>,
     // the flags that are being set
-    opens: Column<bool>,
+    pub(crate) opens: Column<bool>,
     // the first place of the last sphere
-    first: u32,
-    last: u32,
+    pub(crate) first: u32,
+    pub(crate) last: u32,
 }
 
 impl Model for Branches {
@@ -129,6 +129,15 @@ impl Branches {
         ensures tops { length self.now.wanted ≤ length self.now.layers.kin.ups }
     {
         self.spheres.len()
+    }
+
+    /// How many branches there are, wanted still or let go.
+    pub fn branch_count(&self) -> u32
+        ensures count { result ≡ length self.now.wanted }
+        ensures tops { length self.now.wanted ≤ length self.now.layers.kin.ups }
+    {
+        let _places = self.spheres.len();
+        self.wanted.len()
     }
 
     /// The first place of the last sphere. Those of all branches that were wanted for it are behind.

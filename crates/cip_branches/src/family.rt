@@ -10,11 +10,11 @@ use std::marker::Model;
 /// stand.
 #[derive(Drop)]
 pub struct Family {
-    nodes: Column<u32>,
-    branches: Column<u32>,
-    ups: Column<u32>,
-    firsts: Column<u32>,
-    counts: Column<u32>,
+    pub(crate) nodes: Column<u32>,
+    pub(crate) branches: Column<u32>,
+    pub(crate) ups: Column<u32>,
+    pub(crate) firsts: Column<u32>,
+    pub(crate) counts: Column<u32>,
 }
 
 impl Model for Family {

@@ -1,0 +1,204 @@
+-- Places and their twins in the columns of branches that are doubled.
+use Rattle.std.proofs.Common.{◌≡◌, ◌<◌, ◌≤◌, ◌+◌, ◌^◌, ◌++◌, ℕ, zero, suc, Bool, false, List, length, map, replicate, slice_index, refl, sym, ap, ◌∙◌, subst, arith, inl, inr}
+use Rattle.std.specs.List.{range_with_len}
+use Rattle.std.proofs.lemmas.Bool.{cases_lt}
+use Rattle.std.proofs.lemmas.List.{length-append, length-map, length-replicate}
+use Rattle.std.proofs.lemmas.List.FromFn.{length-range_with_len, get_or-range_with_len}
+use Rattle.cip_branches.specs.Kin.{Kin, IsFamily, KeepKin, kin_of}
+use Rattle.cip_branches.specs.Layers.{KeepLayers}
+use Rattle.cip_branches.specs.Parting.{has_flag}
+use Rattle.cip_branches.specs.Passing.{AreKeyed}
+use Rattle.cip_branches.specs.Ranked.{Ranked, KeepOrder}
+use Rattle.cip_branches.specs.Reserved.{Reserved}
+use Rattle.cip_branches.specs.Twins.{moved_on, halves, twice, pairs, twin_kin, twin_ranked}
+use Rattle.cip_branches.proofs.TwinLists.{halves_length, in_first, in_second, in_front, in_back, moved_low, moved_high, is_twin, of_pair, pairs_length, pair_first, pair_second}
+
+module _ (kin : Kin) (family : IsFamily kin) where
+  abbrev count : ℕ
+  count = length kin.ups
+
+  -- where a number stands, among so many places
+  pub half_low : (ns : List ℕ) → length ns ≡ count → (p : ℕ) → p < count
+      → slice_index (halves count ns) p ≡ moved_on 0 count (slice_index ns p)
+  half_low ns e p lt = in_first (moved_on 0 count) (moved_on count count) ns p (omega (arith, lt, e))
+
+  pub half_high : (ns : List ℕ) → length ns ≡ count → (p : ℕ) → p < count
+      → slice_index (halves count ns) (count + p) ≡ moved_on count count (slice_index ns p)
+  half_high ns e p lt = in_second (moved_on 0 count) (moved_on count count) ns p (omega (arith, lt, e)) count e
+
+  within_moved : (by first some : ℕ) → by ≤ count → first + some ≤ count
+      → moved_on by count first + some ≤ count + count
+  within_moved by first some le fits = elim (cases_lt first count) [
+    | inl low ↦ let here = moved_low by count first low in omega (arith, here, le, fits)
+    | inr high ↦ let here = moved_high by count first high in omega (arith, here, high, fits)
+  ]
+
+  pub twin_family : (room : ℕ) → IsFamily (twin_kin room kin)
+  twin_family room = record {
+    nodes_len = length-range_with_len 0 (count + count) ∙ sym ups_len;
+    branches_len = halves_length count kin.branches ∙ ap (λ n. n + n) family.branches_len ∙ sym ups_len;
+    firsts_len = halves_length count kin.firsts ∙ ap (λ n. n + n) family.firsts_len ∙ sym ups_len;
+    counts_len = length-append kin.counts kin.counts ∙ ap (λ n. n + n) family.counts_len ∙ sym ups_len;
+    within = λ x lt. within x (omega (arith, lt, ups_len));
+  }
+    where
+      ups_len : length (halves count kin.ups) ≡ count + count
+      ups_len = halves_length count kin.ups
+
+      within : (x : ℕ) → x < count + count
+          → slice_index (halves count kin.firsts) x + slice_index (kin.counts ++ kin.counts) x ≤ length (halves count
+          kin.ups)
+      within x lt =
+          let twin = is_twin count x lt in
+          let firsts = family.firsts_len in
+          let counts = family.counts_len in
+          let fits = family.within twin.place twin.low in
+          elim twin.which [
+            | inl e ↦
+                let first = ap (slice_index (halves count kin.firsts)) e ∙ half_low kin.firsts firsts twin.place
+                twin.low in
+                let some = ap (slice_index (kin.counts ++ kin.counts)) e
+                ∙ in_front kin.counts twin.place (omega (arith, counts)) in
+                let bound = within_moved 0 (slice_index kin.firsts twin.place) (slice_index kin.counts twin.place)
+                (omega arith) fits in
+                omega (arith, first, some, bound, ups_len)
+            | inr e ↦
+                let first = ap (slice_index (halves count kin.firsts)) e ∙ half_high kin.firsts firsts twin.place
+                twin.low in
+                let some = ap (slice_index (kin.counts ++ kin.counts)) e
+                ∙ in_back kin.counts twin.place (omega (arith, counts)) count counts in
+                let bound = within_moved count (slice_index kin.firsts twin.place) (slice_index kin.counts twin.place)
+                (omega arith) fits in
+                omega (arith, first, some, bound, ups_len)
+          ]
+
+-- each row holds a place or a twin
+pub twin_below : (count : ℕ) (rows : List ℕ) → ((k : ℕ) → k < length rows → slice_index rows k < count) → (k : ℕ)
+    → k < length (pairs count rows) → slice_index (pairs count rows) k < count + count
+twin_below count rows below k lt =
+    let pair = of_pair k in
+    let len = pairs_length count rows in
+    elim pair.which [
+      | inl e ↦
+          let here = ap (slice_index (pairs count rows)) e ∙ pair_first count rows pair.row in
+          let low = below pair.row (omega (arith, lt, len, e)) in
+          omega (arith, here, low)
+      | inr e ↦
+          let in_it : pair.row < length rows = omega (arith, lt, len, e) in
+          let here = ap (slice_index (pairs count rows)) e ∙ pair_second count rows pair.row in_it in
+          let low = below pair.row in_it in
+          omega (arith, here, low)
+    ]
+
+-- columns that were written so keep their invariants
+module _ (nodes branches ups firsts counts : Reserved ℕ) (kin : Kin) (family : IsFamily kin)
+    (count : ℕ) (count_is : count ≡ length kin.ups) (few : ups.room < 2 ^ 32) (fits : length kin.ups + length kin.ups
+    ≤ ups.room)
+    (nodes_room : nodes.room ≡ ups.room) (branches_room : branches.room ≡ ups.room)
+    (firsts_room : firsts.room ≡ ups.room) (counts_room : counts.room ≡ ups.room)
+    (nodes_are : nodes.items ≡ range_with_len 0 (count + count))
+    (branches_are : branches.items ≡ halves count kin.branches)
+    (ups_are : ups.items ≡ halves count kin.ups)
+    (firsts_are : firsts.items ≡ halves count kin.firsts)
+    (counts_are : counts.items ≡ kin.counts ++ kin.counts) where
+  are_twins : kin_of nodes branches ups firsts counts ≡ twin_kin ups.room kin
+  are_twins =
+      let all : nodes.items ≡ range_with_len 0 (length kin.ups + length kin.ups) =
+      nodes_are ∙ ap (λ n. range_with_len 0 (n + n)) count_is in
+      let bs : branches.items ≡ halves (length kin.ups) kin.branches =
+      branches_are ∙ ap (λ n. halves n kin.branches) count_is in
+      let us : ups.items ≡ halves (length kin.ups) kin.ups = ups_are ∙ ap (λ n. halves n kin.ups) count_is in
+      let fs : firsts.items ≡ halves (length kin.ups) kin.firsts =
+      firsts_are ∙ ap (λ n. halves n kin.firsts) count_is in
+      cc
+
+  pub keep_twins : KeepKin nodes branches ups firsts counts
+  keep_twins =
+      let ups_len = ap (λ (ns : List ℕ). length ns) ups_are ∙ halves_length count kin.ups in
+      record {
+        few = few;
+        fits = omega (arith, ups_len, fits);
+        nodes_room = nodes_room;
+        branches_room = branches_room;
+        firsts_room = firsts_room;
+        counts_room = counts_room;
+        family = subst IsFamily (sym are_twins) (twin_family kin family ups.room);
+      }
+
+module _ (rows numbers offsets : Reserved ℕ) (count : ℕ) (from : Ranked) (few : rows.room < 2 ^ 32)
+    (numbers_room : numbers.room ≡ rows.room) (offsets_room : offsets.room ≡ rows.room)
+    (numbers_len : length from.numbers ≡ count) (fits : length from.rows + length from.rows ≤ rows.room)
+    (below : (k : ℕ) → k < length from.rows → slice_index from.rows k < count)
+    (rows_are : rows.items ≡ pairs count from.rows)
+    (numbers_are : numbers.items ≡ map (twice count) from.numbers ++ map (twice count) from.numbers) where
+  pub keep_rows : KeepOrder rows numbers offsets
+  keep_rows =
+      let rows_len = ap (λ (ns : List ℕ). length ns) rows_are ∙ pairs_length count from.rows in
+      let half : length (map (twice count) from.numbers) ≡ length from.numbers = simp length-map in
+      let len = ap (λ (ns : List ℕ). length ns) numbers_are
+      ∙ length-append (map (twice count) from.numbers) (map (twice count) from.numbers) in
+      record {
+        few = few;
+        fits = omega (arith, rows_len, fits);
+        numbers_room = numbers_room;
+        offsets_room = offsets_room;
+        below = λ k lt.
+            let here = ap (λ (ns : List ℕ). slice_index ns k) rows_are in
+            let there = ap (λ (ns : List ℕ). length ns) rows_are in
+            let low = twin_below count from.rows below k (omega (arith, lt, there)) in
+            omega (arith, here, low, len, half, numbers_len);
+      }
+
+pub no_flags : (n row : ℕ) → has_flag (replicate n false) row ≡ false
+no_flags zero row = refl
+no_flags (suc n) zero = refl
+no_flags (suc n) (suc row) = no_flags n row
+
+-- and so do all columns together
+module _ (kin : Kin) (ranked : Ranked) (starts before : Reserved ℕ) (flags : Reserved Bool) (sets : Reserved ℕ)
+    (room count : ℕ) (was : Kin) (was_ranked : Ranked) (kin_is : kin ≡ twin_kin room was)
+    (ranked_is : ranked ≡ twin_ranked room (length was_ranked.numbers) was_ranked) (fits : count + count ≤ room)
+    (ups_len : length was.ups ≡ count) (numbers_len : length was_ranked.numbers ≡ count)
+    (rows_len : length was_ranked.rows ≤ count) (starts_room : starts.room ≡ room + 1)
+    (before_room : before.room ≡ room) (flags_room : flags.room ≡ room) (sets_room : sets.room ≡ room)
+    (before_are : before.items ≡ ranked.numbers) (flags_are : flags.items ≡ replicate (count + count) false)
+    (sets_are : sets.items ≡ replicate (count + count) 0) where
+  pub keep_columns : KeepLayers kin ranked starts before flags sets
+  keep_columns =
+      let kin_room = ap (λ (k : Kin). k.room) kin_is in
+      let ranked_room = ap (λ (r : Ranked). r.room) ranked_is in
+      let ups = ap (λ (k : Kin). length k.ups) kin_is ∙ halves_length (length was.ups) was.ups in
+      let rows = ap (λ (r : Ranked). length r.rows) ranked_is ∙ pairs_length (length was_ranked.numbers)
+      was_ranked.rows in
+      let half : length (map (twice (length was_ranked.numbers)) was_ranked.numbers) ≡ length was_ranked.numbers =
+      simp length-map in
+      let numbers = ap (λ (r : Ranked). length r.numbers) ranked_is
+      ∙ length-append (map (twice (length was_ranked.numbers)) was_ranked.numbers)
+      (map (twice (length was_ranked.numbers)) was_ranked.numbers) in
+      let before_len = ap (λ (ns : List ℕ). length ns) before_are in
+      let flags_len = ap (λ (bs : List Bool). length bs) flags_are ∙ length-replicate (count + count) false in
+      let sets_len = ap (λ (ns : List ℕ). length ns) sets_are ∙ length-replicate (count + count) 0 in
+      record {
+        fits = omega (arith, kin_room, ups, fits, ups_len);
+        ranked_room = ranked_room ∙ sym kin_room;
+        starts_room = starts_room ∙ ap (λ n. n + 1) (sym kin_room);
+        before_room = before_room ∙ sym kin_room;
+        flags_room = flags_room ∙ sym kin_room;
+        sets_room = sets_room ∙ sym kin_room;
+        rows_len = omega (arith, rows, ups, rows_len, ups_len);
+        numbers_len = omega (arith, numbers, half, numbers_len, ups, ups_len);
+        before_len = omega (arith, before_len, numbers, half, numbers_len, ups, ups_len);
+        flags_len = omega (arith, flags_len, ups, ups_len);
+        sets_len = omega (arith, sets_len, ups, ups_len);
+        none = record { none = λ row. ap (λ bs. has_flag bs row) flags_are ∙ no_flags (count + count) row };
+      }
+
+-- a key of each place and of each twin is one of each node
+pub twins_keyed : (room : ℕ) (kin : Kin) → AreKeyed (length kin.ups + length kin.ups) (twin_kin room kin)
+twins_keyed room kin = record {
+  each = λ place lt.
+      let len = halves_length (length kin.ups) kin.ups in
+      let low : place < length kin.ups + length kin.ups = omega (arith, lt, len) in
+      let here = get_or-range_with_len 0 (length kin.ups + length kin.ups) place 0 low in
+      omega (arith, here, low);
+}

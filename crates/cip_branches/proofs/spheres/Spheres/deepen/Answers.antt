@@ -1,0 +1,27 @@
+use Rattle.std.proofs.Common.{sym, subst}
+use Rattle.cip_branches.specs.Following.{AreRanked}
+use Rattle.cip_branches.specs.Layers.{Layers}
+use Rattle.cip_branches.specs.Taking.{Deepens}
+use Rattle.cip_branches.proofs.TakenSpheres.{deeper_is, deeper_ranked, deeper_begins, deeper_steady}
+use Rattle.cip_branches.proofs.spheres.Spheres.deepen.Goals as goal
+
+pub pass-requires-clause-begins : goal.pass-requires-clause-begins
+pass-requires-clause-begins g c = deeper_begins c.args.self.now c.args.last c.requires.ranked c.args.far
+
+pub pass-requires-clause-steady : goal.pass-requires-clause-steady
+pass-requires-clause-steady g c = deeper_steady c.args.self.now c.args.last c.requires.ranked c.args.far c.requires.far
+
+pub returns-clause-deeper : goal.returns-clause-deeper
+returns-clause-deeper g c =
+    let now = c.pass.new.self in
+    subst (Deepens c.args.self.now c.args.far (g.K.Keyed.key c.args.keys.now)) (sym c.pass.ensures.others)
+    (deeper_is c.args.self.now c.args.last c.requires.ranked now.ranked now.before c.pass.ensures.before c.args.far
+    c.requires.far (g.K.Keyed.key c.args.keys.now) c.pass.ensures.passed c.pass.ensures.places c.pass.ensures.spheres
+    c.pass.ensures.room)
+
+pub returns-clause-ranked : goal.returns-clause-ranked
+returns-clause-ranked g c =
+    let now = c.pass.new.self in
+    subst (λ (s : Layers). AreRanked s c.args.last) (sym c.pass.ensures.others)
+    (deeper_ranked c.args.self.now c.args.last c.requires.ranked now.ranked now.before c.pass.ensures.before c.args.far
+    c.requires.far (g.K.Keyed.key c.args.keys.now) c.pass.ensures.passed c.pass.ensures.places c.pass.ensures.spheres)

@@ -1,0 +1,10 @@
+use Rattle.std.proofs.Common.{◌≡◌, ◌++◌, map, take}
+use Rattle.cip_branches.specs.Twins.{moved_on}
+use Rattle.cip_branches.proofs.twins.Column+u32.push_moved.Given as goal
+
+abbrev pub invariant-loop-number : goal.invariant-loop-number
+invariant-loop-number l = record {
+  added : l.self ≡ record l.fn.self {
+    items = l.fn.self.items ++ map (moved_on l.by l.count) (take l.number-index l.numbers);
+  };
+}

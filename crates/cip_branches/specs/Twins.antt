@@ -1,0 +1,81 @@
+-- Branches doubled, for a rule that reads each of them twice: behind all places stands the twin of each, and in the
+-- rows next to it. Own.
+use Rattle.std.specs.Prelude.{◌≡◌, ◌<◌, ◌≤◌, ◌+◌, ◌-◌, ◌++◌, ◌∷◌, ℕ, Bool, false, if◌then◌else◌, List, [], length, map, min, nat_lt, replicate, slice_index, take}
+use Rattle.std.specs.List.{range_with_len}
+use Rattle.cip_branches.specs.Deciding.{Branched}
+use Rattle.cip_branches.specs.Kin.{Kin, IsFamily}
+use Rattle.cip_branches.specs.Layers.{Layers}
+use Rattle.cip_branches.specs.Ranked.{Ranked}
+
+-- a number below a count, moved on; any other one behind all
+abbrev pub moved_on : ℕ → ℕ → ℕ → ℕ
+moved_on by count number = if nat_lt number count then by + number else count + count
+
+-- numbers as they are, and moved on by the count
+abbrev pub halves : ℕ → List ℕ → List ℕ
+halves count numbers = map (moved_on 0 count) numbers ++ map (moved_on count count) numbers
+
+abbrev pub twice : ℕ → ℕ → ℕ
+twice count number = if nat_lt number count then number + number else count + count
+
+-- each place, and its twin behind so many places
+abbrev pub pairs : ℕ → List ℕ → List ℕ
+pairs count [] = []
+pairs count (place ∷ places) = place ∷ (count + place) ∷ pairs count places
+
+-- at each place it stands itself for its node
+abbrev pub twin_kin : ℕ → Kin → Kin
+twin_kin room kin = record {
+  room = room;
+  nodes = range_with_len 0 (length kin.ups + length kin.ups);
+  branches = halves (length kin.ups) kin.branches;
+  ups = halves (length kin.ups) kin.ups;
+  firsts = halves (length kin.ups) kin.firsts;
+  counts = kin.counts ++ kin.counts;
+}
+
+abbrev pub twin_ranked : ℕ → ℕ → Ranked → Ranked
+twin_ranked room count ranked = record {
+  room = room;
+  rows = pairs count ranked.rows;
+  numbers = map (twice count) ranked.numbers ++ map (twice count) ranked.numbers;
+}
+
+-- spheres begin at twice the rows; behind the last one of so many is one without places
+abbrev pub twin_starts : ℕ → ℕ → ℕ → List ℕ → List ℕ
+twin_starts count kept rows starts = map (twice count) (take kept starts) ++ (rows + rows) ∷ []
+
+-- how many spheres before that one
+abbrev pub kept_spheres : ℕ → ℕ → ℕ
+kept_spheres last count = min count (last + 1)
+
+abbrev pub twin_layers : ℕ → ℕ → Layers → Layers
+twin_layers room last layers = record {
+  kin = twin_kin room layers.kin;
+  ranked = twin_ranked room (length layers.kin.ups) layers.ranked;
+  starts = twin_starts (length layers.kin.ups) (kept_spheres last (length layers.kin.ups) + 1)
+      (length layers.ranked.rows) layers.starts;
+  before = map (twice (length layers.kin.ups)) layers.ranked.numbers
+      ++ map (twice (length layers.kin.ups)) layers.ranked.numbers;
+}
+
+-- the twin of a branch is as far behind it as the twins of places are
+abbrev pub twin_wanted : ℕ → List Bool → List Bool
+twin_wanted count wanted = wanted ++ replicate (count - length wanted) false ++ wanted
+
+abbrev pub twins_of : ℕ → Branched → Branched
+twins_of room from = record {
+  layers = twin_layers room from.last from.layers;
+  wanted = twin_wanted (length from.layers.kin.ups) from.wanted;
+  first = length from.layers.kin.ups + length from.layers.kin.ups;
+  last = kept_spheres from.last (length from.layers.kin.ups);
+}
+
+-- what holds of branches that can be doubled
+pub record MayDouble (from : Branched) : Type 0 where
+  pub family : IsFamily from.layers.kin
+  pub rows_len : length from.layers.ranked.rows ≤ length from.layers.kin.ups
+  pub numbers_len : length from.layers.ranked.numbers ≡ length from.layers.kin.ups
+  pub below : (k : ℕ) → k < length from.layers.ranked.rows
+      → slice_index from.layers.ranked.rows k < length from.layers.kin.ups
+  pub tops : length from.wanted ≤ length from.layers.kin.ups

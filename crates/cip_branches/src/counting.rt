@@ -1,0 +1,30 @@
+// How many places branches have.
+ghost use Rattle.std.specs.Prelude.{◌≡◌, ◌<◌, ℕ, length, slice_index};
+ghost use Rattle.cip_branches.specs.Deciding.{AreFollowed};
+ghost use Rattle.cip_branches.specs.Turning.{in_sphere};
+
+use crate::deciding::Branches;
+use crate::spheres::Spheres;
+
+impl Spheres {
+    // How many places there are; those in rows are among them.
+    fn count(&self) -> u32
+        ensures count { result ≡ length self.now.kin.ups }
+        ensures below { (k : ℕ) → k < length self.now.ranked.rows → slice_index self.now.ranked.rows k < result }
+    {
+        let _rows = self.order.row_count();
+        self.len()
+    }
+}
+
+impl Branches {
+    /// How many places there are; those of all spheres are among them.
+    pub fn count(&self) -> u32
+        requires followed { AreFollowed self.now }
+        ensures count { result ≡ length self.now.layers.kin.ups }
+        ensures below { (t place : ℕ) → in_sphere self.now.layers.ranked.rows self.now.layers.starts t place
+            → place < result }
+    {
+        self.spheres.count()
+    }
+}

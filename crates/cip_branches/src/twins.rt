@@ -1,0 +1,224 @@
+// Branches doubled, for a rule that reads each of them twice.
+ghost use Rattle.std.specs.Prelude.{◌≡◌, ◌<◌, ◌≤◌, ◌+◌, ◌++◌, ◌^◌, ◌∷◌, [], ℕ, length, map};
+ghost use Rattle.std.specs.Prelude.{Bool, false, replicate, slice_index, take};
+ghost use Rattle.std.specs.List.{range_with_len};
+ghost use Rattle.cip_branches.specs.Deciding.{AreFollowed};
+ghost use Rattle.cip_branches.specs.Kin.{IsFamily};
+ghost use Rattle.cip_branches.specs.Twins.{moved_on, halves, twice, pairs, twin_kin, twin_ranked, twin_starts};
+ghost use Rattle.cip_branches.specs.Twins.{twin_wanted, twins_of, MayDouble};
+
+use crate::column::Column;
+use crate::deciding::Branches;
+use crate::family::Family;
+use crate::order::Order;
+use crate::spheres::Spheres;
+
+fn moved_on(by: u32, count: u32, number: u32) -> u32
+    requires few { by + count < 2 ^ 32 }
+    requires twice { count + count < 2 ^ 32 }
+    ensures { result ≡ moved_on by count number }
+{
+    if number < count {
+        by + number
+    } else {
+        count + count
+    }
+}
+
+fn twice(count: u32, number: u32) -> u32
+    requires { count + count < 2 ^ 32 }
+    ensures { result ≡ twice count number }
+{
+    if number < count {
+        number + number
+    } else {
+        count + count
+    }
+}
+
+impl Column<u32> {
+    // Adds numbers moved on.
+    fn push_moved(&mut self, by: u32, count: u32, numbers: &[u32])
+        requires room { length self.old.items + length numbers.now ≤ self.old.room }
+        requires few { by + count < 2 ^ 32 }
+        requires twice { count + count < 2 ^ 32 }
+        ensures { self.new ≡ record self.old { items = self.old.items ++ map (moved_on by count) numbers.now } }
+    {
+        for number in numbers {
+            self.push(moved_on(by, count, *number));
+        }
+    }
+
+    // Writes numbers as they are, and moved on.
+    fn write_halves(&mut self, count: u32, numbers: &[u32])
+        requires room { length numbers.now + length numbers.now ≤ self.old.room }
+        requires twice { count + count < 2 ^ 32 }
+        ensures { self.new ≡ record self.old { items = halves count numbers.now } }
+    {
+        self.clear();
+        self.push_moved(0, count, numbers);
+        self.push_moved(count, count, numbers);
+    }
+
+    // Adds the double of each number.
+    fn push_twice(&mut self, count: u32, numbers: &[u32])
+        requires room { length self.old.items + length numbers.now ≤ self.old.room }
+        requires twice { count + count < 2 ^ 32 }
+        ensures { self.new ≡ record self.old { items = self.old.items ++ map (twice count) numbers.now } }
+    {
+        for number in numbers {
+            self.push(twice(count, *number));
+        }
+    }
+
+    // Writes so many places.
+    fn write_places(&mut self, count: u32)
+        requires { count ≤ self.old.room }
+        ensures { self.new ≡ record self.old { items = range_with_len 0 count } }
+    {
+        self.clear();
+        for place in 0..count {
+            self.push(place);
+        }
+    }
+
+    // Writes each place and its twin.
+    fn write_pairs(&mut self, count: u32, places: &[u32])
+        requires room { length places.now + length places.now ≤ self.old.room }
+        requires twice { count + count < 2 ^ 32 }
+        requires below { (k : ℕ) → k < length places.now → slice_index places.now k < count }
+        ensures { self.new ≡ record self.old { items = pairs count places.now } }
+    {
+        self.clear();
+        for place in places {
+            self.push(*place);
+            self.push(count + *place);
+        }
+    }
+}
+
+impl Family {
+    // The places of another one, and their twins.
+    fn write_twins(&mut self, from: &Family)
+        requires { length from.now.ups + length from.now.ups ≤ self.old.room }
+        ensures twins { self.new ≡ twin_kin self.old.room from.now }
+        ensures family { IsFamily from.now }
+    {
+        let count = from.len();
+        let _room = self.len();
+        self.nodes.write_places(count + count);
+        self.branches.write_halves(count, from.branches.as_slice());
+        self.ups.write_halves(count, from.ups.as_slice());
+        self.firsts.write_halves(count, from.firsts.as_slice());
+        self.counts.copy(from.counts.as_slice());
+        self.counts.push_all(from.counts.as_slice());
+    }
+}
+
+impl Order {
+    // The rows of another one, each followed by one of the twin, and their numbers.
+    fn write_twins(&mut self, from: &Order)
+        requires room { length from.now.numbers + length from.now.numbers ≤ self.old.room }
+        requires rows { length from.now.rows ≤ length from.now.numbers }
+        ensures twins { self.new ≡ twin_ranked self.old.room (length from.now.numbers) from.now }
+        ensures below { (k : ℕ) → k < length from.now.rows → slice_index from.now.rows k < length from.now.numbers }
+    {
+        let count = from.numbers.len();
+        let _rows = from.row_count();
+        self.rows.write_pairs(count, from.rows.as_slice());
+        self.numbers.clear();
+        self.numbers.push_twice(count, from.numbers.as_slice());
+        self.numbers.push_twice(count, from.numbers.as_slice());
+    }
+}
+
+impl Column<u32> {
+    // Writes twice the rows at which spheres begin, and behind them that of one without places.
+    fn write_starts(&mut self, count: u32, starts: &[u32], rows: u32)
+        requires room { length starts.now < self.old.room }
+        requires twice { count + count < 2 ^ 32 }
+        requires rows { rows ≤ count }
+        ensures { self.new ≡ record self.old { items = map (twice count) starts.now ++ (rows + rows) ∷ [] } }
+    {
+        self.clear();
+        self.push_twice(count, starts);
+        self.push(rows + rows);
+    }
+}
+
+impl Spheres {
+    // The places of others and their twins, in so many spheres and one without places.
+    fn write_twins(&mut self, from: &Spheres, kept: u32)
+        requires room { length from.now.kin.ups + length from.now.kin.ups ≤ self.old.kin.room }
+        requires some { 0 < length from.now.kin.ups }
+        requires few { kept ≤ length from.now.kin.ups }
+        requires kept { kept < length from.now.starts }
+        ensures kin { self.new.kin ≡ twin_kin self.old.kin.room from.now.kin }
+        ensures ranked { self.new.ranked ≡ twin_ranked self.old.kin.room (length from.now.kin.ups) from.now.ranked }
+        ensures starts { self.new.starts ≡ twin_starts (length from.now.kin.ups) (kept + 1)
+            (length from.now.ranked.rows) from.now.starts }
+        ensures before { self.new.before ≡ self.new.ranked.numbers }
+        ensures family { IsFamily from.now.kin }
+        ensures rows_len { length from.now.ranked.rows ≤ length from.now.kin.ups }
+        ensures numbers_len { length from.now.ranked.numbers ≡ length from.now.kin.ups }
+        ensures below { (k : ℕ) → k < length from.now.ranked.rows → slice_index from.now.ranked.rows k
+            < length from.now.kin.ups }
+    {
+        let count = from.len();
+        let _room = self.before.len();
+        self.family.write_twins(&from.family);
+        self.order.write_twins(&from.order);
+        self.before.copy(self.order.numbers());
+        self.flags.fill(count + count, false);
+        self.sets.fill(count + count, 0);
+        let rows = from.order.row_count();
+        let starts = &from.starts.as_slice()[..kept as usize + 1];
+        self.starts.write_starts(count, starts, rows);
+    }
+}
+
+impl Column<bool> {
+    // Adds so many flags that aren't set.
+    fn push_unset(&mut self, count: u32)
+        requires { length self.old.items + count ≤ self.old.room }
+        ensures { self.new ≡ record self.old { items = self.old.items ++ replicate count false } }
+    {
+        for _ in 0..count {
+            self.push(false);
+        }
+    }
+
+    // The flags of branches, and of their twins.
+    fn write_wanted(&mut self, count: u32, wanted: &[bool])
+        requires tops { length wanted.now ≤ count }
+        requires room { count + length wanted.now ≤ self.old.room }
+        ensures { self.new ≡ record self.old { items = twin_wanted count wanted.now } }
+    {
+        self.copy(wanted);
+        let behind = count - self.len();
+        self.push_unset(behind);
+        self.push_all(wanted);
+    }
+}
+
+impl Branches {
+    /// Holds other branches and their twins: behind all places the twin of each of them, and so many branches behind a
+    /// branch its twin. Each place stands itself for its node. A place and its twin have the same number.
+    pub fn fill_twins(&mut self, from: &Branches)
+        requires followed { AreFollowed from.now }
+        requires some { 0 < length from.now.layers.kin.ups }
+        requires room { length from.now.layers.kin.ups + length from.now.layers.kin.ups ≤ self.old.layers.kin.room }
+        ensures twins { self.new ≡ twins_of self.old.layers.kin.room from.now }
+        ensures followed { AreFollowed self.new }
+        ensures may { MayDouble from.now }
+    {
+        let count = from.len();
+        let kept = count.min(from.last() + 1);
+        self.spheres.write_twins(&from.spheres, kept);
+        self.wanted.write_wanted(count, from.wanted.as_slice());
+        let branches = self.wanted.len();
+        self.opens.fill(branches, false);
+        self.first = count + count;
+        self.last = kept;
+    }
+}
