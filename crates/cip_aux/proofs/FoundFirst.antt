@@ -1,6 +1,7 @@
 -- Nodes found among the neighbours of a node.
-use Rattle.std.proofs.Common.{◌≡◌, ℕ, zero, suc, ◌+◌, ◌-◌, ◌<◌, Bool, true, false, cond, List, [], ◌∷◌, ◌++◌, slice_index, refl, arith, None, Some}
+use Rattle.std.proofs.Common.{◌≡◌, ℕ, zero, suc, ◌+◌, ◌-◌, ◌<◌, Bool, true, false, cond, List, [], ◌∷◌, ◌++◌, slice_index, length, refl, arith, None, Some, Contains, IfSome}
 use Rattle.std.specs.List.{range_with_len}
+use Rattle.std.specs.declared.option.Option.{Option}
 use Rattle.cip_aux.specs.Neighbours.{first_where, parent_of}
 
 pub first_passed : (test : ℕ → Bool) (start past : ℕ) → start < past → test start ≡ false
@@ -44,3 +45,17 @@ first_behind test (x ∷ xs) ys e = by (test x) (λ h. first_behind test xs ys h
 pub parent_is : (parents : List ℕ) (node : ℕ) → 0 < node → parent_of parents node ≡ slice_index parents node ∷ []
 parent_is parents zero some = absurd (omega arith)
 parent_is parents (suc before) some = refl
+
+if_more : (found : Option ℕ) (x : ℕ) (xs : List ℕ) → IfSome found (Contains xs) → IfSome found (Contains (x ∷ xs))
+if_more None x xs is = tt
+if_more (Some n) x xs is = let lt = is.1 in (suc (is.0), omega (arith, lt), is.2)
+
+-- the first that passes is one of them
+pub first_among : (test : ℕ → Bool) (xs : List ℕ) → IfSome (first_where test xs) (Contains xs)
+first_among test [] = tt
+first_among test (x ∷ xs) = by (test x) (first_among test xs)
+  where
+    by : (b : Bool) → IfSome (first_where test xs) (Contains xs)
+        → IfSome (cond b (Some x) (first_where test xs)) (Contains (x ∷ xs))
+    by true rest = (0, omega arith, refl)
+    by false rest = if_more (first_where test xs) x xs rest

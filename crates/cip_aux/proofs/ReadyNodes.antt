@@ -1,20 +1,24 @@
 -- What is known where a node is ready to be looked from.
-use Rattle.std.proofs.Common.{◌≡◌, ◌<◌, ℕ, List, map, length, true, false, refl, ◌∙◌, All, IfSome}
+use Rattle.std.proofs.Common.{◌≡◌, ◌<◌, ℕ, List, [], ◌∷◌, map, length, true, false, refl, ◌∙◌, All, Contains, IfSome}
+use Rattle.std.specs.List.{AllByRecursion}
 use Rattle.std.specs.declared.cmp.Ordering.{Ordering}
 use Rattle.std.specs.declared.option.Option.{Option}
 use Rattle.std.proofs.lemmas.List.Elements.{All-from_recursion}
 use Rattle.cip_mol.specs.declared.descriptor.Descriptor.{Descriptor}
 use Rattle.cip_mol.specs.declared.site.Ligand.{Ligand}
+use Rattle.cip_mol.specs.declared.site.Ligand.TheVariants.{Vertex, LonePair}
 use Rattle.cip_digraph.specs.digraph.NodeList.{parents_of}
+use Rattle.cip_digraph.specs.rules.Auxiliary.{stands_for}
 use Rattle.cip_aux.specs.Early.{AreEarly}
 use Rattle.cip_aux.specs.Inner.{Inner, AgreesInside, Ready}
 use Rattle.cip_aux.specs.Marking.{AreRootTurns}
-use Rattle.cip_aux.specs.Neighbours.{ligand_number, shape_at}
-use Rattle.cip_aux.specs.Sides.{Sides, pair_sides}
-use Rattle.cip_aux.specs.Sights.{SidesAre, seen_sides}
+use Rattle.cip_aux.specs.Neighbours.{ligand_number, neighbours_of, shape_at}
+use Rattle.cip_aux.specs.Sides.{pair_sides}
+use Rattle.cip_aux.specs.Sights.{seen_sides}
 use Rattle.cip_aux.specs.TurnsOf.{turns_of}
+use Rattle.cip_aux.proofs.FoundFirst.{first_among}
 use Rattle.cip_aux.proofs.Paths.{within_told}
-use Rattle.cip_aux.proofs.RootTurns.{numbers_within, root_is}
+use Rattle.cip_aux.proofs.RootTurns.{root_is}
 
 module _ (inner : Inner) (node : ℕ) (r : Ready inner node) where
   abbrev pub numbers_of : List Ligand → List (Option ℕ)
@@ -23,22 +27,24 @@ module _ (inner : Inner) (node : ℕ) (r : Ready inner node) where
   pub ready_within : node < length inner.sight.told
   ready_within = within_told inner.sight r.shows node r.real.within
 
-  pub ready_numbers : (ligands : List Ligand)
-      → All (λ number. IfSome number (λ n. n < length inner.sight.nodes)) (numbers_of ligands)
-  ready_numbers ligands =
-      All-from_recursion (λ number. IfSome number (λ n. n < length inner.sight.nodes)) (numbers_of ligands)
-      (numbers_within inner.sight r.shows node r.real.within ligands)
+  -- they are next to the node
+  pub ready_neighbours : (ligands : List Ligand)
+      → All (λ number. IfSome number (Contains (neighbours_of (parents_of inner.sight.told) node))) (numbers_of ligands)
+  ready_neighbours ligands =
+      let next = neighbours_of (parents_of inner.sight.told) node in
+      All-from_recursion (λ number. IfSome number (Contains next)) (numbers_of ligands) (each ligands)
+    where
+      each : (ligands : List Ligand)
+          → AllByRecursion (λ number. IfSome number (Contains (neighbours_of (parents_of inner.sight.told) node)))
+          (numbers_of ligands)
+      each [] = tt
+      each (LonePair ∷ ligands) = (tt, each ligands)
+      each (Vertex vertex ∷ ligands) = (
+        first_among (λ number. stands_for vertex (shape_at inner.sight.told number))
+            (neighbours_of (parents_of inner.sight.told) node),
+        each ligands,
+      )
 
-  pub ready_turns : (sides : Sides)
-      → ((mark : List ℕ → Option Descriptor) → AgreesInside inner mark → SidesAre inner.sight node mark sides)
-      → (ligands : List Ligand)
-      → AreRootTurns inner node ligands
-      (turns_of (pair_sides (sides true) (numbers_of ligands)) (pair_sides (sides false) (numbers_of ligands)))
-  ready_turns sides seen ligands = record {
-    each = λ mark agrees. root_is inner.sight r.shows mark sides node r.real (seen mark agrees) ligands;
-  }
-
-  -- without a look at the whole digraph
   pub ready_early : (ligands : List Ligand) (natural turned : List (Option Ordering))
       → AreEarly inner node (numbers_of ligands) natural turned
       → AreRootTurns inner node ligands (turns_of natural turned)

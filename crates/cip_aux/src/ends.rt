@@ -17,7 +17,7 @@ use cip_digraph::Nodes;
 use cip_mol::{Ligands, Site};
 use std::alloc::{AllocError, Global};
 
-// The turns of a root's ligands, seen from its node: by a part of the digraph where that tells, and else by all of it.
+// The turns of a root's ligands, seen from its node.
 fn turns_at<N: Nodes, V: Viewer>(
     alloc: Global,
     inner: &Inner<'_, N>,
@@ -30,14 +30,8 @@ fn turns_at<N: Nodes, V: Viewer>(
     ensures room { V.room viewer.new ≡ V.room viewer.old }
     ensures turns { IfOk result (AreRootTurns inner.now node ligands.now) }
 {
-    let whole = inner.whole();
-    let numbers = ligands_at(alloc, whole.nodes(), node, ligands)?;
-    let ligands = numbers.as_slice();
-    if let Some(sides) = viewer.look(alloc, inner, node, ligands)? {
-        return Ok(turns_from(&sides));
-    }
-    viewer.see(inner, node);
-    let sides = viewer.decide(alloc, whole, ligands)?;
+    let numbers = ligands_at(alloc, inner.whole().nodes(), node, ligands)?;
+    let sides = viewer.look(alloc, inner, node, numbers.as_slice())?;
     Ok(turns_from(&sides))
 }
 

@@ -13,8 +13,8 @@ use crate::units_at::UnitsAt;
 use crate::viewer::Viewer;
 use crate::whole::Whole;
 use cip_digraph::{NodeKind, Nodes};
+use cip_ligands::Descriptors;
 use cip_mol::Descriptor;
-use cip_pairs::Descriptors;
 use std::alloc::{AllocError, Global};
 
 // The vertex of a real node.

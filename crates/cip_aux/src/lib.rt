@@ -16,5 +16,5 @@ pub use filling::auxiliaries;
 pub use inner::Inner;
 pub use turns::Turns;
 pub use units_at::UnitsAt;
-pub use viewer::{BothSides, Viewer};
+pub use viewer::{BothSides, MOST_PAIRS, Viewer};
 pub use whole::Whole;

@@ -9,6 +9,7 @@ ghost use Rattle.cip_aux.specs.Neighbours.{real_child, shape_at, node_told};
 
 use cip_digraph::{NodeKind, Nodes};
 use cip_mol::{Ligand, Ligands};
+use smallvec::SmallVec;
 use std::alloc::{AllocError, Global};
 
 // A real node or a closure of this vertex.
@@ -99,19 +100,22 @@ fn ligand<N: Nodes>(nodes: &N, node: u32, ligand: Ligand) -> Option<u32>
     }
 }
 
+/// So many ligands stand without taking memory.
+const MOST_LIGANDS: usize = 4;
+
 /// The ligands of a root as nodes next to it; none for a lone pair.
 pub fn ligands_at<N: Nodes>(
     alloc: Global,
     nodes: &N,
     node: u32,
     ligands: &Ligands,
-) -> Result<Vec<Option<u32>>, AllocError>
+) -> Result<SmallVec<Option<u32>, MOST_LIGANDS>, AllocError>
     requires within { node < length (N.nodes nodes.now) }
     requires tree { IsTree (parents_of (N.nodes nodes.now)) }
     ensures { IfOk result (λ numbers. numbers.items
         ≡ map (ligand_number (shape_at (N.nodes nodes.now)) (parents_of (N.nodes nodes.now)) node) ligands.now) }
 {
-    let mut numbers = Vec::new(alloc);
+    let mut numbers = SmallVec::new(alloc);
     for place in ligands.as_slice() {
         numbers.push(ligand(nodes, node, *place))?;
     }

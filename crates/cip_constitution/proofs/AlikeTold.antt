@@ -1,32 +1,27 @@
--- Rank numbers by Rules 1a, 1b and 2 tell which closed ligands are alike.
+-- Numbers by Rules 1a, 1b and 2 tell which closed ligands are alike.
 use Rattle.std.proofs.Common.{◌≡◌, ◌<◌, ◌-◌, ◌==◌, ◌&&◌, ◌||◌, ℕ, ℤ, zero, suc, pos, Bool, true, false, not, List, [], ◌∷◌, map, length, None, Some, slice_index, refl, sym, ap, ◌∙◌, subst, arith}
 use Rattle.std.specs.declared.option.Option.{Option}
 use Rattle.std.specs.declared.cmp.Ordering.{Ordering}
 use Rattle.std.specs.declared.cmp.Ordering.TheVariants.{Less, Equal, Greater}
-use Rattle.std.specs.Cmp.{IsTotalOrder}
 use Rattle.std.specs.Cmp.Lexicographic.{slice_cmp}
 use Rattle.std.specs.List.{AllByRecursion, list_any}
 use Rattle.std.specs.Ordering.{is_eq, int_cmp, ordering_then}
 use Rattle.std.proofs.lemmas.Bool.{and_parts, both_ways}
 use Rattle.cip_rank.specs.Comparison.{sets, comparison}
-use Rattle.cip_rank.specs.Ranking.{by_number, comparison_at, OrdersAs}
+use Rattle.cip_rank.specs.Ranking.{by_number}
 use Rattle.cip_rank.specs.declared.rules.Rules.{Rules}
-use Rattle.cip_rank.specs.declared.rules.Rules.TheVariants.{Wording2013, Wording2018}
 use Rattle.cip_rank.proofs.CalmRanks.{both_tie}
-use Rattle.cip_rank.proofs.TotalOrder.{comparison_total}
 use Rattle.cip_mol.specs.declared.site.Ligand.{Ligand}
 use Rattle.cip_mol.specs.declared.site.Ligand.TheVariants.{Vertex, LonePair}
 use Rattle.cip_mol.specs.declared.site.Unit as units
-use Rattle.cip_digraph.specs.declared.nodes.Told.{Told}
 use Rattle.cip_digraph.specs.rules.Auxiliary.{stands_for, ligand_node, auxiliary}
 use Rattle.cip_digraph.specs.outcome.Deciding.{is_empty, nodes_below, nodes_within}
 use Rattle.cip_digraph.specs.digraph.Digraph.{Node, real_node, children, digraph}
 use Rattle.cip_digraph.specs.rules.EarlyOrder.{seen_at, are_alike_within}
 use Rattle.cip_digraph.specs.units.Ends.{end_at}
 use Rattle.cip_digraph.specs.graph.Graph.{Graph}
-use Rattle.cip_digraph.specs.rules.Keys.{atomic_key, mass_key, distance_key, sphere_in_digraph, lower_precedes}
-use Rattle.cip_digraph.specs.digraph.NodeList.{told_at, parents_of, distance_told}
-use Rattle.cip_digraph.specs.rules.Orders.{all_tie, rule_2}
+use Rattle.cip_digraph.specs.rules.Keys.{mass_key, distance_key, sphere_in_digraph, lower_precedes}
+use Rattle.cip_digraph.specs.rules.Orders.{rule_2}
 use Rattle.cip_digraph.specs.outcome.Outcomes.{is_in_unit}
 use Rattle.cip_digraph.specs.units.Ranked.{some_pair}
 use Rattle.cip_digraph.specs.digraph.SameBranch.{EndsWithin}
@@ -34,12 +29,7 @@ use Rattle.cip_digraph.specs.graph.SoundGraphs.{IsSound}
 use Rattle.cip_digraph.specs.digraph.Telling.{node_at}
 use Rattle.cip_digraph.specs.digraph.View.{view_children}
 use Rattle.cip_digraph.proofs.BranchesEnd.{at_root, further_out, ligands_end}
-use Rattle.cip_digraph.proofs.Cut.{size, Whole}
-use Rattle.cip_constitution.proofs.CutRanks.{KeysAre, later_rule, tie_total}
-use Rattle.cip_digraph.proofs.Hanging as hanging
 use Rattle.cip_digraph.proofs.Lists.{all_by, all_filtered}
-use Rattle.cip_digraph.proofs.Numbered.{at_number, count_is}
-use Rattle.cip_digraph.proofs.Placing.{placed, parents, placed_parents}
 use Rattle.cip_constitution.proofs.SeenDistances.{EndsAt, below_ends}
 use Rattle.cip_constitution.proofs.SeenRules.{
   IsFurther,
@@ -56,7 +46,6 @@ use Rattle.cip_constitution.specs.Alike.{is_closed_ligand, alike_told}
 use Rattle.cip_constitution.specs.Standing.{ligand_number, have_other_ranks, differ_told}
 use Rattle.cip_constitution.proofs.Closed.{seen_below}
 use Rattle.cip_constitution.proofs.DifferTold.{eq_by_cmp, IsFirst, LigandAt, ligand_at, OrderFirst}
-use Rattle.cip_constitution.proofs.NodeKeys.{keys_at}
 use Rattle.cip_constitution.proofs.Under.{none_ended}
 
 -- nodes that tie at a depth tie in the order before
@@ -261,102 +250,17 @@ module _ (rules : Rules) (g : Graph) (positions : List (List ℕ)) (all : List u
         ap (λ b. b && (closed_one y && not (differ_told ranks a.nodes x y))) parts.0
         ∙ ap (λ b. b && not (differ_told ranks a.nodes x y)) parts.1.0 ∙ ap not differ
 
-  -- rank numbers by all three rules
-  module _ (level r1 r2 r3 : List ℕ) (flat : (x y : ℕ) → by_number level x y ≡ Equal)
-      (ranked_1 : OrdersAs (length a.nodes) (comparison_at (parents_of a.nodes) level
-      (map (λ (told : Told). pos told.atomic) a.nodes) d) r1)
-      (ranked_2 : OrdersAs (length a.nodes) (comparison_at (parents_of a.nodes) r1
-      (map (λ (told : Told). lower_precedes (distance_told rules told)) a.nodes) d) r2)
-      (ranked_3 : OrdersAs (length a.nodes) (comparison_at (parents_of a.nodes) r2 (map (λ (told : Told). pos told.mass)
-      a.nodes) d) r3) where
-    abbrev at : ℕ → Node
-    at = hanging.node_at (placed g positions a.root a.sphere)
-
-    count : length a.nodes ≡ size g positions a.root a.sphere
-    count = h.tells.len ∙ sym (count_is g positions a.root a.sphere)
-
-    moved : (before : List ℕ) (keys : List ℤ) (ranks : List ℕ) → OrdersAs (length a.nodes)
-        (comparison_at (parents_of a.nodes) before keys d) ranks
-        → OrdersAs (size g positions a.root a.sphere) (comparison_at (parents (placed g positions a.root a.sphere))
-        before keys d) ranks
-    moved before keys ranks o =
-        subst (λ c. OrdersAs c (comparison_at (parents (placed g positions a.root a.sphere)) before keys d) ranks) count
-        (subst (λ ps. OrdersAs (length a.nodes) (comparison_at ps before keys d) ranks) (h.tells.parents
-        ∙ sym (placed_parents g positions a.root a.sphere)) o)
-
-    keys_by : (f : Told → ℤ) (key : Node → ℤ) → ((n : ℕ) → n < length a.nodes → f (told_at a.nodes n) ≡ key
-        (node_at nodes n)) → KeysAre g positions a.root a.sphere key (map f a.nodes)
-    keys_by f key same n lt =
-        let within : n < length a.nodes = omega (arith, lt, count) in
-        sym (keys_at f a.nodes n within ∙ same n within ∙ ap key (at_number g positions a.root a.sphere n
-        (let len = h.tells.len in omega (arith, within, len))))
-
-    distance_by : (w : Rules) (n : ℕ) → n < length a.nodes → distance_told w (told_at a.nodes n) ≡ distance_key w
-        sphere_in_digraph (node_at nodes n)
-    distance_by Wording2013 n lt = (h.tells.each n lt).as_printed
-    distance_by Wording2018 n lt = (h.tells.each n lt).as_corrected
-
-    abbrev W : ℕ → Type 0
-    W = Whole g positions a.root a.sphere
-
-    told_1 : (n m : ℕ) → W n → W m → by_number r1 n m ≡ by_atoms g positions a.root d high (at n) (at m)
-    told_1 n m p q =
-        later_rule g positions a.root a.sphere all_tie tie_total (λ node. pos (atomic_key g positions node))
-        (map (λ (told : Told). pos told.atomic) a.nodes)
-        (keys_by (λ (told : Told). pos told.atomic) (λ node. pos (atomic_key g positions node))
-        (λ n lt. ap (λ k. pos k) (h.tells.each n lt).atomic)) level r1
-        (λ x y _ _. flat x y) d (moved level (map (λ (told : Told). pos told.atomic) a.nodes) r1 ranked_1) n m p q
-
-    total_1 : IsTotalOrder (by_atoms g positions a.root d high)
-    total_1 = comparison_total (children g positions) (λ node. pos (atomic_key g positions node)) tie_total d
-
-    told_2 : (n m : ℕ) → W n → W m → by_number r2 n m ≡ by_distances g positions a.root d high rules (at n) (at m)
-    told_2 n m p q =
-        later_rule g positions a.root a.sphere (by_atoms g positions a.root d high) total_1
-        (λ node. lower_precedes (distance_key rules sphere_in_digraph node))
-        (map (λ (told : Told). lower_precedes (distance_told rules told)) a.nodes)
-        (keys_by (λ (told : Told). lower_precedes (distance_told rules told))
-        (λ node. lower_precedes (distance_key rules sphere_in_digraph node))
-        (λ n lt. ap lower_precedes (distance_by rules n lt))) r1 r2
-        told_1 d (moved r1 (map (λ (told : Told). lower_precedes (distance_told rules told)) a.nodes) r2 ranked_2) n m p
-        q
-
-    total_2 : IsTotalOrder (by_distances g positions a.root d high rules)
-    total_2 = comparison_total (children g positions) (λ node. lower_precedes (distance_key rules sphere_in_digraph
-        node)) total_1 d
-
-    told_3 : (n m : ℕ) → W n → W m → by_number r3 n m ≡ by_masses g positions a.root d high rules (at n) (at m)
-    told_3 n m p q =
-        later_rule g positions a.root a.sphere (by_distances g positions a.root d high rules) total_2
-        (λ node. pos (mass_key g node)) (map (λ (told : Told). pos told.mass) a.nodes)
-        (keys_by (λ (told : Told). pos told.mass) (λ node. pos (mass_key g node))
-        (λ n lt. ap (λ k. pos k) (h.tells.each n lt).mass)) r2 r3
-        told_2 d (moved r2 (map (λ (told : Told). pos told.mass) a.nodes) r3 ranked_3) n m p q
-
-    whole_at : (n : ℕ) → First n → EndsWithin (children g positions) d (node_at nodes n) → W n
-    whole_at n p e =
-        let one : 1 ≡ a.sphere - d = omega (arith, some) in
-        record {
-          depth = d;
-          few = omega arith;
-          low = subst (λ t. n < size g positions a.root t) one p.low;
-          ends = subst (EndsWithin (children g positions) d) (at_number g positions a.root a.sphere n
-              (let w = p.within in let len = h.tells.len in omega (arith, w, len))) e;
-        }
-
+  -- numbers that compare ended branches by all three rules
+  module _ (r3 : List ℕ) (told : (n m : ℕ) → First n → First m → IsEnded g positions a.root d high (node_at nodes n)
+      → IsEnded g positions a.root d high (node_at nodes m)
+      → by_number r3 n m ≡ by_masses g positions a.root d high rules (node_at nodes n) (node_at nodes m)) where
     rule_is : (n m : ℕ) → First n → First m → IsEnded g positions a.root d high (node_at nodes n) → IsEnded g positions
         a.root d high (node_at nodes m)
         → rule_2 (seen_at rules g positions all a.root) high (node_at nodes n) (node_at nodes m) ≡ by_number r3 n m
     rule_is n m p q e f =
-        let at_n = at_number g positions a.root a.sphere n (let w = p.within in let len = h.tells.len in omega
-        (arith, w, len)) in
-        let at_m = at_number g positions a.root a.sphere m (let w = q.within in let len = h.tells.len in omega
-        (arith, w, len)) in
         ended_2 g positions a.root d high rules (auxiliary rules g positions all) refl (node_at nodes n)
         (node_at nodes m) e f
-        ∙ ap (λ x. by_masses g positions a.root d high rules x (node_at nodes m)) at_n
-        ∙ ap (by_masses g positions a.root d high rules (at n)) at_m
-        ∙ sym (told_3 n m (whole_at n p e.within) (whole_at m q f.within))
+        ∙ sym (told n m p q e f)
 
     not_not : (b : Bool) → b ≡ not (not b)
     not_not true = refl

@@ -1,36 +1,5 @@
 -- Rank numbers of the digraph up to a sphere tell which ligands differ by Rule 1a within it.
-use Rattle.std.proofs.Common.{
-  ◌≡◌,
-  ◌<◌,
-  ◌≤◌,
-  ◌-◌,
-  ◌==◌,
-  ◌&&◌,
-  ℕ,
-  zero,
-  suc,
-  pos,
-  Bool,
-  true,
-  false,
-  cond,
-  not,
-  List,
-  [],
-  ◌∷◌,
-  map,
-  replicate,
-  length,
-  None,
-  Some,
-  slice_index,
-  refl,
-  sym,
-  ap,
-  ◌∙◌,
-  subst,
-  arith,
-}
+use Rattle.std.proofs.Common.{◌≡◌, ◌<◌, ◌≤◌, ◌-◌, ◌==◌, ◌&&◌, ℕ, zero, suc, pos, Bool, true, false, cond, not, List, [], ◌∷◌, map, length, None, Some, slice_index, refl, sym, ap, ◌∙◌, subst, arith}
 use Rattle.std.specs.Prelude.{filter}
 use Rattle.std.specs.declared.option.Option.{Option}
 use Rattle.std.specs.declared.cmp.Ordering.{Ordering}
@@ -255,12 +224,3 @@ module _ (g : Graph) (positions : List (List ℕ)) (a : Growth) (h : Holds g pos
           pairs_by (ligand_node around) (λ xs ys. not (is_eq (slice_cmp rule xs ys))) (differ_told ranks a.nodes)
           (λ x y. pair_by (ligand_number a.nodes x) (ligand_number a.nodes y) (ligand_node around x)
           (ligand_node around y) (ligand_at x) (ligand_at y)) ligands
-
-pub all_level : (count x y : ℕ) → by_number (replicate count 0) x y ≡ Equal
-all_level count x y = ap (λ i. nat_cmp i (slice_index (replicate count 0) y)) (nought count x)
-    ∙ ap (nat_cmp 0) (nought count y)
-  where
-    nought : (count x : ℕ) → slice_index (replicate count 0) x ≡ 0
-    nought zero x = refl
-    nought (suc count) zero = refl
-    nought (suc count) (suc x) = nought count x

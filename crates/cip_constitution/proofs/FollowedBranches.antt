@@ -29,7 +29,7 @@ use Rattle.cip_arena.specs.Growth.{Growth, Holds, GrownAs}
 use Rattle.cip_arena.specs.declared.arena.Grown.{Grown as Answer}
 use Rattle.cip_arena.specs.declared.arena.Grown.TheVariants.{Grown}
 use Rattle.cip_constitution.specs.Following.{named, Follows, IsFollowed}
-use Rattle.cip_constitution.proofs.CutRanks.{tie_total}
+use Rattle.cip_constitution.proofs.AllTie.{tie_total}
 use Rattle.cip_constitution.proofs.NamedNodes.{few_spheres, longer, long, ascending, far_kids, named_children, named_key}
 
 abbrev pub atoms_of : List Told → List ℤ

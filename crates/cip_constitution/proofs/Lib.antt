@@ -1,9 +1,12 @@
 pub mod AlikeTold
+pub mod AllTie
 pub mod Anew
 pub mod Closed
 pub mod ClosedLigands
+pub mod CutBranches
 pub mod CutEnds
-pub mod CutRanks
+pub mod CutNodes
+pub mod CutRules
 pub mod DecidingSphere
 pub mod DifferTold
 pub mod EndedBranches
@@ -12,8 +15,10 @@ pub mod FirstStanding
 pub mod FollowedBranches
 pub mod NamedNodes
 pub mod NodeKeys
+pub mod NotedPairs
 pub mod Rounds
 pub mod SeenDistances
 pub mod SeenRules
+pub mod TakenBoth
 pub mod Under
 pub mod UnitAtoms

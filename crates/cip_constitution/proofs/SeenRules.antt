@@ -40,7 +40,7 @@ use Rattle.cip_digraph.specs.rules.Orders.{Seen, all_tie, rule_1a, rule_1b, rule
 use Rattle.cip_digraph.specs.digraph.SameBranch.{EndsWithin}
 use Rattle.cip_digraph.specs.digraph.View.{view_children, apart, seen_from}
 use Rattle.cip_digraph.proofs.BranchesEnd.{further_out, children_end}
-use Rattle.cip_constitution.proofs.CutRanks.{tie_total}
+use Rattle.cip_constitution.proofs.AllTie.{tie_total}
 use Rattle.cip_digraph.proofs.Ended.{IsPath, Anywhere, leads_anywhere, paths_pass}
 use Rattle.cip_constitution.proofs.Finished.{stays_finished}
 use Rattle.cip_digraph.proofs.Lists.{all_by}

@@ -1,7 +1,14 @@
 -- Ligands that are alike, by closed branches and rank numbers. Own.
-use Rattle.std.specs.Prelude.{◌&&◌, ℕ, Bool, not, List, [], ◌∷◌}
+use Rattle.std.specs.Prelude.{◌≡◌, ◌&&◌, ℕ, ℤ, pos, Bool, not, List, [], ◌∷◌, map}
 use Rattle.std.specs.List.{list_any}
 use Rattle.cip_rank.specs.declared.rules.Rules.{Rules}
+use Rattle.cip_branches.specs.Deciding.{Branched}
+use Rattle.cip_ligands.specs.Taking.{TakesRule}
+use Rattle.cip_mol.specs.declared.outcome.Rule.{Rule}
+use Rattle.cip_mol.specs.declared.outcome.Rule.TheVariants.{R1b, R2}
+use Rattle.cip_digraph.specs.declared.nodes.Told.{Told}
+use Rattle.cip_digraph.specs.digraph.NodeList.{distance_told}
+use Rattle.cip_digraph.specs.rules.Keys.{lower_precedes}
 use Rattle.cip_mol.specs.declared.site.Ligand.{Ligand}
 use Rattle.cip_mol.specs.declared.site.Unit as units
 use Rattle.cip_digraph.specs.rules.Auxiliary.{ligand_node}
@@ -25,3 +32,14 @@ abbrev pub alike_told : Rules → Graph → List (List ℕ) → List units.Unit 
 alike_told rules graph positions all growth ranks a b =
     is_closed_ligand rules graph positions all growth a
     && (is_closed_ligand rules graph positions all growth b && not (differ_told ranks growth.nodes a b))
+
+-- a rule was taken over branches as far as the last sphere
+pub record TakesWhole (begin : Branched) (keys : List ℤ) (rule : Rule) (now : Branched) : Type 0 where
+  pub takes : TakesRule begin keys rule [] now []
+  pub reached : takes.far ≡ begin.last
+
+-- Rules 1b and 2 were
+pub record TakesBoth (begin : Branched) (rules : Rules) (all : List Told) (now : Branched) : Type 0 where
+  pub mid : Branched
+  pub distances : TakesWhole begin (map (λ told. lower_precedes (distance_told rules told)) all) R1b mid
+  pub masses : TakesWhole mid (map (λ told. pos told.mass) all) R2 now

@@ -7,11 +7,15 @@ use Rattle.cip_digraph.specs.graph.Graph.{Graph}
 use Rattle.cip_digraph.specs.rules.Keys.{atomic_key}
 use Rattle.cip_digraph.specs.rules.Orders.{all_tie}
 use Rattle.cip_digraph.specs.digraph.Telling.{node_at, first_of}
+use Rattle.cip_ligands.specs.declared.asked.Asked.{Asked}
+use Rattle.cip_constitution.specs.declared.pairs.Pair.{Pair}
 
--- what settling keeps
+-- what settling keeps: branches, each two ligands, and what is decided between these
 pub record Trying : Type 0 where
   pub bound : ℕ
   pub branched : Branched
+  pub pairs : List Pair
+  pub noted : List Asked
 
 -- Numbers by node: the root's child of a branch stands behind the root, and so behind those of the branches before.
 abbrev pub numbers_of : Branched → List ℕ

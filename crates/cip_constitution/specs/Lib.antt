@@ -3,6 +3,8 @@ pub mod Closing
 pub mod Ending
 pub mod Following
 pub mod Marking
+pub mod Noting
+pub mod Pairs
 pub mod Settling
 pub mod Standing
 pub mod WorkColumns

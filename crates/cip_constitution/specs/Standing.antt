@@ -1,5 +1,5 @@
 -- Which node of a list stands for a ligand of the root, and how ligands compare by rank numbers. Own.
-use Rattle.std.specs.Prelude.{◌==◌, ℕ, Bool, true, false, cond, not, List, [], ◌∷◌, None, Some, slice_index}
+use Rattle.std.specs.Prelude.{◌==◌, ℕ, Bool, true, false, cond, not, List, [], ◌∷◌, None, Some, slice_index, unwrap_or}
 use Rattle.std.specs.declared.option.Option.{Option}
 use Rattle.cip_rank.specs.Tree.{children_of}
 use Rattle.cip_mol.specs.declared.site.Ligand.{Ligand}
@@ -21,6 +21,10 @@ first_standing all vertex (node ∷ nodes) =
 abbrev pub ligand_number : List Told → Ligand → Option ℕ
 ligand_number all LonePair = None
 ligand_number all (Vertex vertex) = first_standing all vertex (children_of (parents_of all) 0)
+
+-- the child of the root that stands for a vertex, or the root
+abbrev pub number_at : List Told → ℕ → ℕ
+number_at all vertex = unwrap_or (ligand_number all (Vertex vertex)) 0
 
 -- two ligands have different ranks; a lone pair's is its own
 abbrev pub have_other_ranks : List ℕ → Option ℕ → Option ℕ → Bool

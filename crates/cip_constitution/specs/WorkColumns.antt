@@ -1,17 +1,22 @@
 -- The room that the columns of settling keep. Own.
-use Rattle.std.specs.Prelude.{◌≡◌, ◌≤◌, ◌-◌, vec_capacity}
+use Rattle.std.specs.Prelude.{◌≡◌, ◌≤◌, ◌-◌, length, vec_capacity}
 use Rattle.cip_constitution.specs.Following.{Trying}
 use Rattle.cip_constitution.specs.declared.work.Work.TheInside.{Inside}
 
 abbrev pub trying_of : Inside → Trying
-trying_of columns = record { bound = columns.bound; branched = columns.branches }
+trying_of columns = record {
+  bound = columns.bound;
+  branched = columns.branches;
+  pairs = columns.pairs.items;
+  noted = columns.noted.items;
+}
 
--- all nodes but the root may have a place
+-- all nodes but the root may have a place; and there is room for each two of four ligands, in both directions
 pub record HaveRoom (columns : Inside) : Type 0 where
   pub branches : columns.branches.layers.kin.room ≡ columns.bound - 1
   pub tops : columns.tops.room ≡ columns.bound
-  pub level : columns.level.bound ≡ columns.bound
-  pub by_atom : columns.by_atom.bound ≡ columns.bound
-  pub by_distance : columns.by_distance.bound ≡ columns.bound
-  pub by_mass : columns.by_mass.bound ≡ columns.bound
+  pub pairs : 16 ≤ vec_capacity columns.pairs
+  pub few : length columns.pairs.items ≤ 16
+  pub noted : 16 ≤ vec_capacity columns.noted
+  pub saved : columns.saved.room ≡ columns.bound - 1
   pub under : columns.bound ≤ vec_capacity columns.under

@@ -1,36 +1,14 @@
 // Ligands that may be alike within the last sphere, and were not before.
-ghost use Rattle.std.specs.Prelude.{◌≡◌, ◌<◌, ◌≤◌, ℕ, false, length, vec_capacity};
+ghost use Rattle.std.specs.Prelude.{◌≡◌, ◌<◌, ◌≤◌, false, length, vec_capacity};
 ghost use Rattle.std.specs.List.{AllByRecursion};
 ghost use Rattle.cip_arena.specs.Growth.{Holds};
 ghost use Rattle.cip_branches.specs.Passing.{AreKeyed};
-ghost use Rattle.cip_constitution.specs.Alike.{is_closed_ligand};
 ghost use Rattle.cip_constitution.specs.Ending.{NotAnew, EachPair};
 
 use crate::alike::is_closed_at;
 use crate::differing::part;
 use crate::ending::{Trial, one_may_end};
 use cip_mol::Ligand;
-
-// Whether a ligand has no node beyond the last sphere and no atom of a unit.
-fn is_closed(trial: &Trial<'_, '_>, under: &mut Vec<bool>, ligand: &Ligand) -> bool
-    requires holds { Holds trial.now.graph.now trial.now.positions.now trial.now.arena.now }
-    requires some { 0 < trial.now.arena.now.sphere }
-    requires nodes { 0 < length trial.now.arena.now.nodes }
-    requires room { length trial.now.arena.now.nodes ≤ vec_capacity under.old }
-    ensures closed { result ≡ is_closed_ligand trial.now.rules trial.now.graph.now trial.now.positions.now
-        trial.now.units.now trial.now.arena.now ligand.now }
-    ensures room { vec_capacity under.old ≤ vec_capacity under.new }
-{
-    is_closed_at(
-        trial.arena,
-        trial.graph,
-        trial.positions,
-        trial.rules,
-        trial.units,
-        under,
-        ligand,
-    )
-}
 
 // Whether the branches of two have not parted, one of them may end here, and both are closed.
 fn are_candidates(trial: &Trial<'_, '_>, under: &mut Vec<bool>, a: &Ligand, b: &Ligand) -> bool
@@ -49,10 +27,10 @@ fn are_candidates(trial: &Trial<'_, '_>, under: &mut Vec<bool>, a: &Ligand, b: &
     if !one_may_end(trial, a, b) {
         return false;
     }
-    if !is_closed(trial, under, a) {
+    if !is_closed_at(trial, under, a) {
         return false;
     }
-    is_closed(trial, under, b)
+    is_closed_at(trial, under, b)
 }
 
 fn has_candidate_from(

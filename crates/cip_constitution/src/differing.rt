@@ -8,9 +8,7 @@ ghost use Rattle.cip_constitution.specs.Standing.{have_other_ranks, differ_told}
 use crate::standing::number_of;
 use cip_arena::Arena;
 use cip_branches::Branches;
-use cip_digraph::Nodes;
 use cip_mol::Ligand;
-use cip_rank::Ranks;
 
 /// Whether the branches of every two have parted.
 pub fn part_each(arena: &Arena, branches: &Branches, ligands: &[Ligand]) -> bool
@@ -61,18 +59,5 @@ fn number_at(branches: &Branches, node: u32) -> u32
         0
     } else {
         branches.number(node - 1)
-    }
-}
-
-/// Whether two have different rank numbers. A lone pair's is its own.
-pub fn differ<N: Nodes>(nodes: &N, ranks: &Ranks, a: &Ligand, b: &Ligand) -> bool
-    requires some { 0 < length (N.nodes nodes.now) }
-    requires ranks { length ranks.now.numbers ≡ length (N.nodes nodes.now) }
-    ensures { result ≡ differ_told ranks.now.numbers (N.nodes nodes.now) a.now b.now }
-{
-    match (number_of(nodes, a), number_of(nodes, b)) {
-        (None, None) => false,
-        (Some(a), Some(b)) => ranks.of(a) != ranks.of(b),
-        _ => true,
     }
 }

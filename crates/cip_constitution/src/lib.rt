@@ -10,12 +10,17 @@ mod ending;
 mod following;
 mod keys;
 mod marking;
+mod noting;
+mod pairs;
 mod settling;
 mod standing;
+mod taking;
 mod work;
 
 pub use keys::{ByAtom, ByDistance, ByMass};
 pub use marking::MarkedUnits;
+pub use noting::number_at;
+pub use pairs::Pair;
 pub use settling::{Settled, settle};
 pub use standing::number_of;
 pub use work::Work;

@@ -1,6 +1,7 @@
 // A digraph grown until its ligands are settled.
 ghost use Rattle.std.specs.Prelude.{◌≡◌, ◌<◌, ◌≤◌, ◌+◌, ℕ, length};
 ghost use Rattle.cip_arena.specs.Growth.{Holds};
+ghost use Rattle.cip_constitution.specs.Noting.{Notes};
 ghost use Rattle.cip_constitution.specs.Settling.{setting_of, SettledAs, cost_of};
 
 use crate::marking::MarkedUnits;
@@ -52,6 +53,10 @@ pub fn settle<L: Ledger>(
     ensures lazy { steps.new + 1 ≤ steps.old + cost_of (setting_of rules graph.now positions.now units.now
         ligands.now) arena.new.root }
     ensures work { work.new.bound ≡ work.old.bound }
+    // what Rule 1a decides between the ligands that were asked about
+    ensures noted { result ≡ Settled.Ordered → Notes graph.now positions.now arena.new.root arena.new.bound
+        arena.new.sphere work.new.pairs work.new.noted }
+    ensures pairs { work.new.pairs ≡ work.old.pairs }
 {
     let _vertices = graph.vertices();
     let mut grown = arena.grow(graph, positions, steps);

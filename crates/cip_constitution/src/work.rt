@@ -1,16 +1,14 @@
 // Ligands tried by the numbers of their branches.
-ghost use Rattle.std.specs.Prelude.{◌≡◌, ◌<◌, ◌≤◌, ◌+◌, ◌-◌, ◌^◌, ℕ, false, List, pos, map, length};
+ghost use Rattle.std.specs.Prelude.{◌≡◌, ◌<◌, ◌≤◌, ◌+◌, ◌-◌, ◌^◌, ℕ, false, List, [], pos, map, length};
 ghost use Rattle.std.specs.Prelude.{vec_capacity, IfOk};
-ghost use Rattle.cip_rank.specs.Calm.{AreCalm};
-ghost use Rattle.cip_rank.specs.Ranking.{comparison_at, OrdersAs};
 ghost use Rattle.cip_rank.specs.declared.rules.Rules.{Rules as Wording};
 ghost use Rattle.cip_mol.specs.declared.site.Unit.{Unit as AnyUnit};
 ghost use Rattle.cip_branches.specs.Deciding.{no_branches};
 ghost use Rattle.cip_digraph.specs.digraph.Digraph.{sphere as sphere_of};
-ghost use Rattle.cip_digraph.specs.rules.Keys.{lower_precedes};
-ghost use Rattle.cip_digraph.specs.digraph.NodeList.{parents_of, distance_told};
 ghost use Rattle.cip_arena.specs.Growth.{Holds};
 ghost use Rattle.cip_constitution.specs.Following.{Follows, IsFollowed};
+ghost use Rattle.cip_constitution.specs.Noting.{Notes, IsNoted};
+ghost use Rattle.cip_constitution.specs.Pairs.{pairs_of};
 ghost use Rattle.cip_constitution.specs.Settling.{setting_of, differs, has_alike};
 
 use crate::alike::alike_each;
@@ -18,17 +16,23 @@ use crate::candidates::has_candidates;
 use crate::differing::part_each;
 use crate::ending::Trial;
 use crate::following::{begin_branches, follow_branches};
-use crate::keys::{ByAtom, ByDistance, ByMass};
 use crate::marking::MarkedUnits;
+use crate::noting::{begin_noting, note_sphere};
+use crate::pairs::{Pair, pair_up};
+use crate::taking::take_both;
 use cip_arena::Arena;
-use cip_branches::{Branches, Column};
+use cip_branches::{Branches, Column, SavedRanks};
 use cip_digraph::{Graph, Nodes, Positions};
-use cip_mol::Ligand;
-use cip_rank::{Keyed, Ranks, Rules, Table, both, rank_sphere};
+use cip_ligands::Asked;
+use cip_mol::{Ligand, Ligands};
+use cip_rank::{Rules, both};
 use std::alloc::{AllocError, Global};
 use std::marker::Model;
 
-/// The branches and rank numbers of settling, in memory that is taken at once.
+/// There are fewer ordered pairs of four ligands.
+const MOST_PAIRS: usize = 16;
+
+/// The branches of settling, in memory that is taken at once.
 #[derive(Drop)]
 pub struct Work {
     bound: u32,
@@ -36,10 +40,11 @@ pub struct Work {
     branches: Branches,
     // the root's children
     tops: Column<u32>,
-    level: Ranks,
-    by_atom: Ranks,
-    by_distance: Ranks,
-    by_mass: Ranks,
+    // each two ligands of the root, and what is decided between their branches
+    pairs: Vec<Pair>,
+    noted: Vec<Asked>,
+    // how they stood by Rule 1a
+    saved: SavedRanks,
     // of each node, whether it stands below a ligand's
     under: Vec<bool>,
 }
@@ -59,27 +64,54 @@ impl Model for Work {
 impl Work {
     /// Room for digraphs of `bound` nodes.
     pub fn reserve(alloc: Global, bound: u32) -> Result<Work, AllocError>
-        ensures { IfOk result (λ work. work ≡ record { bound = bound; branched = no_branches (bound - 1) }) }
+        ensures { IfOk result (λ work. work ≡ record {
+          bound = bound;
+          branched = no_branches (bound - 1);
+          pairs = [];
+          noted = [];
+        }) }
     {
         let under = Vec::with_capacity(alloc, bound as usize)?;
-        let columns = both(under, reserve_branches(alloc, bound))?;
-        let ((under, (branches, tops)), (level, by_atom, by_distance, by_mass)) = both(
+        let columns = both(under, reserve_pairs(alloc))?;
+        let columns = both(columns, reserve_branches(alloc, bound))?;
+        let (((under, (pairs, noted)), (branches, tops)), saved) = both(
             columns,
-            reserve_ranks(alloc, bound),
+            SavedRanks::reserve(alloc, place_count(bound)),
         )?;
         Ok(Work {
             bound,
             branches,
             tops,
-            level,
-            by_atom,
-            by_distance,
-            by_mass,
+            pairs,
+            noted,
+            saved,
             under,
         })
     }
 
-    /// Follows a digraph that was grown by one sphere.
+    /// Asks about each two of these ligands, in both directions. Nothing is noted of them before a digraph is followed.
+    pub fn ask(&mut self, ligands: &Ligands)
+        ensures pairs { self.new.pairs ≡ pairs_of ligands.now }
+        ensures bound { self.new.bound ≡ self.old.bound }
+    {
+        pair_up(ligands.as_slice(), &mut self.pairs);
+    }
+
+    /// The pairs that were asked about last.
+    pub fn pairs(&self) -> &[Pair]
+        ensures { result.now ≡ self.now.pairs }
+    {
+        self.pairs.as_slice()
+    }
+
+    /// The branches of each pair, and what is decided between them.
+    pub fn noted(&self) -> &[Asked]
+        ensures { result.now ≡ self.now.noted }
+    {
+        self.noted.as_slice()
+    }
+
+    /// Follows a digraph that was grown by one sphere, and notes what its last sphere tells.
     pub fn follow(&mut self, arena: &Arena, graph: &Graph, positions: &Positions)
         requires holds { Holds graph.now positions.now arena.now }
         requires some { 0 < arena.now.sphere }
@@ -87,14 +119,25 @@ impl Work {
         requires room { arena.now.bound ≤ self.old.bound }
         requires followed { IsFollowed graph.now positions.now arena.now.root arena.now.bound (arena.now.sphere - 1)
             self.old.branched }
+        requires noted { IsNoted graph.now positions.now arena.now.root arena.now.bound (arena.now.sphere - 1)
+            self.old.pairs self.old.noted }
         ensures followed { Follows graph.now positions.now arena.now.root arena.now.bound arena.now.sphere
             self.new.branched }
+        ensures noted { Notes graph.now positions.now arena.now.root arena.now.bound arena.now.sphere
+            self.new.pairs self.new.noted }
+        ensures pairs { self.new.pairs ≡ self.old.pairs }
         ensures bound { self.new.bound ≡ self.old.bound }
     {
+        let branches = &mut self.branches;
+        let noted = &mut self.noted;
+        let pairs = self.pairs.as_slice();
         if arena.sphere() == 1 {
-            begin_branches(arena, graph, positions, &mut self.tops, &mut self.branches);
+            begin_branches(arena, graph, positions, &mut self.tops, branches);
+            begin_noting(arena, graph, positions, pairs, noted);
+            note_sphere(arena, graph, positions, branches, pairs, noted);
         } else {
-            follow_branches(arena, graph, positions, &mut self.branches);
+            follow_branches(arena, graph, positions, branches);
+            note_sphere(arena, graph, positions, branches, pairs, noted);
         }
     }
 
@@ -147,34 +190,35 @@ impl Work {
     {
         let _vertices = graph.vertices();
         let _count = arena.len();
-        let branches = &self.branches;
-        let trial = Trial {
-            arena: &*arena,
-            branches,
-            graph: &*graph,
-            positions: &*positions,
-            units: &*units,
-            rules,
-        };
         // Rule 1a, whose numbers stand already, tells most ligands apart
-        if !has_candidates(&trial, &mut self.under, ligands) {
+        let found = {
+            let trial = Trial {
+                arena: &*arena,
+                branches: &self.branches,
+                graph: &*graph,
+                positions: &*positions,
+                units: &*units,
+                rules,
+            };
+            has_candidates(&trial, &mut self.under, ligands)
+        };
+        if !found {
             return false;
         }
-        let depth = arena.sphere() - 1;
-        self.level.level(arena.table());
-        rank_atoms(arena, &self.level, &mut self.by_atom, depth);
-        rank_distances(arena, rules, &self.by_atom, &mut self.by_distance, depth);
-        rank_masses(arena, &self.by_distance, &mut self.by_mass, depth);
-        alike_each(
-            arena,
-            graph,
-            positions,
-            rules,
-            units,
-            &self.by_mass,
-            &mut self.under,
-            ligands,
-        )
+        take_both(&mut self.branches, &mut self.saved, arena, rules);
+        let alike = {
+            let trial = Trial {
+                arena: &*arena,
+                branches: &self.branches,
+                graph: &*graph,
+                positions: &*positions,
+                units: &*units,
+                rules,
+            };
+            alike_each(&trial, &mut self.under, ligands)
+        };
+        self.branches.restore(&self.saved);
+        alike
     }
 }
 
@@ -186,6 +230,15 @@ fn place_count(bound: u32) -> u32
     bound.saturating_sub(1)
 }
 
+// Each two of four ligands, in both directions, and what is decided between them.
+fn reserve_pairs(alloc: Global) -> Result<(Vec<Pair>, Vec<Asked>), AllocError>
+    ensures pairs { IfOk result (λ both. (both.0.items ≡ []) × (16 ≤ vec_capacity both.0)) }
+    ensures noted { IfOk result (λ both. (both.1.items ≡ []) × (16 ≤ vec_capacity both.1)) }
+{
+    let pairs = Vec::with_capacity(alloc, MOST_PAIRS)?;
+    both(pairs, Vec::with_capacity(alloc, MOST_PAIRS))
+}
+
 // The branches of the root's children, and a column of these.
 fn reserve_branches(alloc: Global, bound: u32) -> Result<(Branches, Column<u32>), AllocError>
     ensures branches { IfOk result (λ both. both.0 ≡ no_branches (bound - 1)) }
@@ -193,87 +246,4 @@ fn reserve_branches(alloc: Global, bound: u32) -> Result<(Branches, Column<u32>)
 {
     let branches = Branches::reserve(alloc, place_count(bound))?;
     both(branches, Column::reserve(alloc, bound))
-}
-
-// The rank numbers of each rule, and those that all tie.
-fn reserve_ranks(alloc: Global, bound: u32) -> Result<(Ranks, Ranks, Ranks, Ranks), AllocError>
-    ensures level { IfOk result (λ ranks. ranks.0.bound ≡ bound) }
-    ensures by_atom { IfOk result (λ ranks. ranks.1.bound ≡ bound) }
-    ensures by_distance { IfOk result (λ ranks. ranks.2.bound ≡ bound) }
-    ensures by_mass { IfOk result (λ ranks. ranks.3.bound ≡ bound) }
-{
-    let ranks = both(Ranks::reserve(alloc, bound)?, Ranks::reserve(alloc, bound))?;
-    let ranks = both(ranks, Ranks::reserve(alloc, bound))?;
-    let (((level, by_atom), by_distance), by_mass) = both(ranks, Ranks::reserve(alloc, bound))?;
-    Ok((level, by_atom, by_distance, by_mass))
-}
-
-// Ranks by a key over an earlier order, so many spheres down.
-fn rank_by<K: Keyed>(table: &Table, keys: &K, prior: &Ranks, ranks: &mut Ranks, depth: u32)
-    requires keyed { length table.now.parents ≤ K.nodes keys.now }
-    requires prior { length prior.now.numbers ≡ length table.now.parents }
-    requires prior_calm { AreCalm table.now.parents prior.now.numbers prior.now.stirred }
-    requires room { length table.now.parents ≤ ranks.old.bound }
-    ensures ranked { OrdersAs (length table.now.parents) (comparison_at table.now.parents prior.now.numbers
-        (K.key keys.now) depth) ranks.new.numbers }
-    ensures calm { AreCalm table.now.parents ranks.new.numbers ranks.new.stirred }
-    ensures bound { ranks.new.bound ≡ ranks.old.bound }
-{
-    rank_sphere(table, keys, prior, ranks, 0);
-    for before in 0..depth {
-        rank_sphere(table, keys, prior, ranks, before + 1);
-    }
-}
-
-// Ranks by Rule 1a.
-fn rank_atoms(arena: &Arena, level: &Ranks, ranks: &mut Ranks, depth: u32)
-    requires level { length level.now.numbers ≡ length arena.now.nodes }
-    requires calm { AreCalm (parents_of arena.now.nodes) level.now.numbers level.now.stirred }
-    requires room { length arena.now.nodes ≤ ranks.old.bound }
-    ensures ranked { OrdersAs (length arena.now.nodes) (comparison_at (parents_of arena.now.nodes) level.now.numbers
-        (map (λ told. pos told.atomic) arena.now.nodes) depth) ranks.new.numbers }
-    ensures calm { AreCalm (parents_of arena.now.nodes) ranks.new.numbers ranks.new.stirred }
-    ensures bound { ranks.new.bound ≡ ranks.old.bound }
-{
-    rank_by(arena.table(), &ByAtom { nodes: arena }, level, ranks, depth);
-}
-
-// Ranks by Rule 1b over those by Rule 1a.
-fn rank_distances(arena: &Arena, rules: Rules, by_atom: &Ranks, ranks: &mut Ranks, depth: u32)
-    requires earlier { length by_atom.now.numbers ≡ length arena.now.nodes }
-    requires calm { AreCalm (parents_of arena.now.nodes) by_atom.now.numbers by_atom.now.stirred }
-    requires room { length arena.now.nodes ≤ ranks.old.bound }
-    ensures ranked { OrdersAs (length arena.now.nodes) (comparison_at (parents_of arena.now.nodes) by_atom.now.numbers
-        (map (λ told. lower_precedes (distance_told rules told)) arena.now.nodes) depth) ranks.new.numbers }
-    ensures calm { AreCalm (parents_of arena.now.nodes) ranks.new.numbers ranks.new.stirred }
-    ensures bound { ranks.new.bound ≡ ranks.old.bound }
-{
-    rank_by(
-        arena.table(),
-        &ByDistance {
-            nodes: arena,
-            rules,
-        },
-        by_atom,
-        ranks,
-        depth,
-    );
-}
-
-// Ranks by Rule 2 over those by Rule 1b.
-fn rank_masses(arena: &Arena, by_distance: &Ranks, ranks: &mut Ranks, depth: u32)
-    requires earlier { length by_distance.now.numbers ≡ length arena.now.nodes }
-    requires calm { AreCalm (parents_of arena.now.nodes) by_distance.now.numbers by_distance.now.stirred }
-    requires room { length arena.now.nodes ≤ ranks.old.bound }
-    ensures ranked { OrdersAs (length arena.now.nodes) (comparison_at (parents_of arena.now.nodes)
-        by_distance.now.numbers (map (λ told. pos told.mass) arena.now.nodes) depth) ranks.new.numbers }
-    ensures bound { ranks.new.bound ≡ ranks.old.bound }
-{
-    rank_by(
-        arena.table(),
-        &ByMass { nodes: arena },
-        by_distance,
-        ranks,
-        depth,
-    );
 }

@@ -1,10 +1,9 @@
--- Where all ligands of a root differ by Rule 1a, what it tells of their branches is their order by all rules.
+-- Where all ligands of a root differ by Rule 1a, what was noted of their branches is their order by all rules.
 use Rattle.std.proofs.Common.{
   ◌≡◌,
   ◌<◌,
   ◌≤◌,
   ◌+◌,
-  ◌==◌,
   ℕ,
   zero,
   suc,
@@ -16,8 +15,6 @@ use Rattle.std.proofs.Common.{
   ◌∷◌,
   map,
   length,
-  replicate,
-  cond,
   slice_get,
   None,
   Some,
@@ -31,9 +28,6 @@ use Rattle.std.proofs.Common.{
 use Rattle.std.specs.Prelude.{slice_index_or}
 use Rattle.std.specs.List.{AllByRecursion}
 use Rattle.std.specs.declared.option.Option.{Option}
-use Rattle.std.proofs.lemmas.Bool.{eqb-true}
-use Rattle.std.proofs.lemmas.Simd.{map-map}
-use Rattle.cip_rank.specs.Ranking.{comparison_at}
 use Rattle.cip_rank.specs.declared.rules.Rules.{Rules}
 use Rattle.cip_mol.specs.declared.outcome.Rule.TheVariants.{R1a}
 use Rattle.cip_mol.specs.declared.site.Ligand.{Ligand}
@@ -41,31 +35,29 @@ use Rattle.cip_mol.specs.declared.site.Ligand.TheVariants.{Vertex}
 use Rattle.cip_mol.specs.declared.site.Unit as units
 use Rattle.cip_digraph.specs.declared.decision.Decision.{Decision}
 use Rattle.cip_digraph.specs.rings.Alternating.{is_in}
-use Rattle.cip_digraph.specs.rules.Auxiliary.{ligand_node}
+use Rattle.cip_digraph.specs.rules.Auxiliary.{auxiliary, ligand_node}
 use Rattle.cip_digraph.specs.rules.Decisions.{Difference, first_difference, order}
-use Rattle.cip_digraph.specs.digraph.Digraph.{Node, real_node, digraph}
-use Rattle.cip_digraph.specs.digraph.NodeList.{parents_of}
-use Rattle.cip_digraph.specs.digraph.Telling.{node_at}
+use Rattle.cip_digraph.specs.digraph.Digraph.{Node, real_node}
 use Rattle.cip_digraph.specs.digraph.View.{view_children}
 use Rattle.cip_digraph.specs.rules.EarlyOrder.{order_within, seen_at, differ_within}
 use Rattle.cip_digraph.specs.rules.Orders.{Seen, rule_1a}
 use Rattle.cip_digraph.specs.units.Ends.{end_at}
 use Rattle.cip_digraph.specs.graph.Graph.{Graph, neighbours}
-use Rattle.cip_digraph.specs.outcome.Outcomes.{is_in_unit, end_root}
-use Rattle.cip_digraph.specs.units.Ranked.{ligand_order, place_order}
+use Rattle.cip_digraph.specs.outcome.Outcomes.{is_in_unit}
+use Rattle.cip_digraph.specs.units.Ranked.{ligand_order}
 use Rattle.cip_digraph.specs.graph.SoundGraphs.{IsSound}
-use Rattle.cip_digraph.proofs.EarlyOrders.{itself, places_told}
+use Rattle.cip_digraph.proofs.EarlyOrders.{places_told}
 use Rattle.cip_digraph.proofs.LigandNodes.{one_at_most}
 use Rattle.cip_arena.specs.Growth.{Growth, Holds}
-use Rattle.cip_views.specs.declared.asked.Asked.{Asked}
-use Rattle.cip_views.specs.Asking.{decided, with_found}
-use Rattle.cip_views.specs.Finding.{found_within}
-use Rattle.cip_desk.specs.declared.branches.Pair.{Pair}
-use Rattle.cip_views.specs.RootKeys.{root_keys}
-use Rattle.cip_desk.specs.Ranking.{early}
-use Rattle.cip_desk.specs.Standing.{Standing, pair, pairs_of, found_of, standing_of, asked_in, number_at, asked_by}
-use Rattle.cip_desk.proofs.EarlyBranches.{same_differences, compare_first}
-use Rattle.cip_desk.proofs.FoundPairs.{found_mapped, has_pair}
+use Rattle.cip_constitution.specs.Noting.{asked_by, by_atoms, top_of, Notes}
+use Rattle.cip_constitution.specs.Pairs.{pairs_of}
+use Rattle.cip_constitution.proofs.SeenRules.{IsFurther, seen_1a}
+use Rattle.cip_ligands.specs.declared.asked.Asked.{Asked}
+use Rattle.cip_ligands.specs.Asking.{decided, with_found}
+use Rattle.cip_ligands.specs.Orders.{found_below}
+use Rattle.cip_ligands.proofs.FoundWithin.{same_difference}
+use Rattle.cip_desk.specs.Standing.{Standing, standing_of, asked_in}
+use Rattle.cip_desk.proofs.PairedStanding.{stands_paired}
 use Rattle.cip_label.proofs.LigandNodes.{one_node}
 use Rattle.cip_desk.proofs.RootNodes.{number_is}
 
@@ -89,38 +81,46 @@ module _ (rules : Rules) (g : Graph) (positions : List (List ℕ)) (all : List u
     (beside : (i vertex : ℕ) → slice_get ligands i ≡ Some (Vertex vertex)
     → is_in vertex (neighbours g a.root) ≡ true)
     (low : a.sphere ≤ (seen_at rules g positions all a.root).height + 1)
-    (differ : differ_within rules g positions all (end_at a.root ligands) a.sphere ≡ true) where
+    (differ : differ_within rules g positions all (end_at a.root ligands) a.sphere ≡ true) (noted : List Asked)
+    (notes : Notes g positions a.root a.bound a.sphere (pairs_of ligands) noted) where
   abbrev seen : Seen Node
   seen = seen_at rules g positions all a.root
 
-  abbrev nodes : List Node
-  nodes = digraph g positions a.root a.sphere
+  abbrev top : ℕ → Node
+  top = top_of g positions a.root a.bound
 
   abbrev find : ℕ → ℕ → Option Decision
-  find = found_within (parents_of a.nodes) (replicate (length a.nodes) 0) (root_keys a.nodes) R1a a.sphere
+  find = found_below R1a (by_atoms g positions a.root a.bound) top a.sphere
 
   each_short : (some : List Ligand) → AllByRecursion (λ nodes. length nodes ≤ 1)
       (map (ligand_node (view_children g positions (a.root ∷ []) (real_node a.root []))) some)
   each_short [] = tt
   each_short (ligand ∷ others) = (one_at_most g positions sound a.root ligand, each_short others)
 
-  -- what is found of two numbers is what Rule 1a finds of their vertices
+  further : (v : ℕ) → is_in v (neighbours g a.root) ≡ true → IsFurther g positions a.root (real_node v (a.root ∷ []))
+  further v by_v =
+      let of_v = number_is g positions a h some sound v by_v in
+      subst (IsFurther g positions a.root) of_v.node of_v.first.further
+
+  stands : (v : ℕ) → is_in v (neighbours g a.root) ≡ true → top (notes.branch v) ≡ real_node v (a.root ∷ [])
+  stands v by_v = notes.stands v (real_node v (a.root ∷ [])) (one_node g sound a.root positions v by_v)
+
+  -- what is found of two branches is what Rule 1a finds of their vertices
   found_first : (v w : ℕ) → is_in v (neighbours g a.root) ≡ true → is_in w (neighbours g a.root) ≡ true
-      → find (number_at a.nodes v) (number_at a.nodes w)
+      → find (notes.branch v) (notes.branch w)
       ≡ order_within seen a.sphere (real_node v (a.root ∷ [])) (real_node w (a.root ∷ []))
   found_first v w by_v by_w =
-      let n = number_at a.nodes v in
-      let m = number_at a.nodes w in
-      let of_v = number_is g positions a h some sound v by_v in
-      let of_w = number_is g positions a h some sound w by_w in
-      ap (decided R1a)
-      (same_differences
-      (λ d. comparison_at (parents_of a.nodes) (replicate (length a.nodes) 0) (root_keys a.nodes) d n m)
-      (λ d. rule_1a seen d (node_at nodes n) (node_at nodes m)) a.sphere 0
-      (λ d lt. compare_first g positions a h some sound rules all d n m of_v.first of_w.first (omega (arith, lt))))
-      ∙ decided_first (first_difference (λ d. rule_1a seen d (node_at nodes n) (node_at nodes m)) 0 a.sphere)
-      ∙ ap (λ x. order_within seen a.sphere x (node_at nodes m)) of_v.node
-      ∙ ap (order_within seen a.sphere (real_node v (a.root ∷ []))) of_w.node
+      let x = real_node v (a.root ∷ []) in
+      let y = real_node w (a.root ∷ []) in
+      let between : Node → Node → Option Decision = λ n m.
+      decided R1a (first_difference (λ d. by_atoms g positions a.root a.bound d n m) 0 a.sphere) in
+      ap (λ n. between n (top (notes.branch w))) (stands v by_v)
+      ∙ ap (between x) (stands w by_w)
+      ∙ ap (decided R1a)
+      (same_difference (λ d. by_atoms g positions a.root a.bound d x y) (λ d. rule_1a seen d x y)
+      (λ d. sym (seen_1a g positions a.root rules (auxiliary rules g positions all) d x y (further v by_v)
+      (further w by_w))) 0 a.sphere)
+      ∙ decided_first (first_difference (λ d. rule_1a seen d x y) 0 a.sphere)
 
   -- and it is the order by all rules
   told_first : (r_first : Bool) (i j v w : ℕ) → slice_get ligands i ≡ Some (Vertex v)
@@ -142,36 +142,17 @@ module _ (rules : Rules) (g : Graph) (positions : List (List ℕ)) (all : List u
       ∙ ap (λ x. ligand_order (order seen r_first) x (slice_index_or branches j [])) of_v
       ∙ ap (ligand_order (order seen r_first) (real_node v (a.root ∷ []) ∷ [])) of_w
 
-  abbrev answer : Pair → Asked
-  answer one = with_found find (asked_by (number_at a.nodes) one)
+  asked_is : (standing : Standing) → standing.natural ≡ noted → standing.turned ≡ noted → (r_first : Bool)
+      → asked_in standing r_first ≡ map (with_found find) (map (asked_by notes.branch) (pairs_of ligands))
+  asked_is standing natural turned true = natural ∙ notes.noted
+  asked_is standing natural turned false = turned ∙ notes.noted
 
-  natural_is : (natural : List Asked) → natural ≡ early a.nodes a.sphere (pairs_of ligands)
-      → natural ≡ map answer (pairs_of ligands)
-  natural_is natural is = is ∙ map-map (with_found find) (asked_by (number_at a.nodes)) (pairs_of ligands)
-
-  asked_is : (standing : Standing) → standing.natural ≡ early a.nodes a.sphere (pairs_of ligands)
-      → standing.turned ≡ standing.natural → (r_first : Bool)
-      → asked_in standing r_first ≡ map answer (pairs_of ligands)
-  asked_is standing natural turned true = natural_is standing.natural natural
-  asked_is standing natural turned false = turned ∙ natural_is standing.natural natural
-
-  pub stands_early : (standing : Standing) → standing.pairs ≡ pairs_of ligands
-      → standing.natural ≡ early a.nodes a.sphere (pairs_of ligands) → standing.turned ≡ standing.natural
-      → (r_first : Bool) (i j v w : ℕ) → slice_get ligands i ≡ Some (Vertex v)
+  pub stands_early : (standing : Standing) → standing.pairs ≡ pairs_of ligands → standing.natural ≡ noted
+      → standing.turned ≡ noted → (r_first : Bool) (i j v w : ℕ) → slice_get ligands i ≡ Some (Vertex v)
       → slice_get ligands j ≡ Some (Vertex w)
       → standing_of standing r_first v w
       ≡ order seen r_first (real_node v (a.root ∷ [])) (real_node w (a.root ∷ []))
-  stands_early standing pairs natural turned r_first i j v w at_v at_w = by (v == w) refl
-    where
-      by : (same : Bool) → (v == w) ≡ same
-          → cond same None (found_of v w standing.pairs (asked_in standing r_first))
-          ≡ order seen r_first (real_node v (a.root ∷ [])) (real_node w (a.root ∷ []))
-      by true is =
-          sym (ap (λ x. order seen r_first (real_node v (a.root ∷ [])) (real_node x (a.root ∷ [])))
-          (sym (eqb-true v w is)) ∙ itself seen r_first (real_node v (a.root ∷ [])))
-      by false is =
-          ap (λ pairs. found_of v w pairs (asked_in standing r_first)) pairs
-          ∙ ap (found_of v w (pairs_of ligands)) (asked_is standing natural turned r_first)
-          ∙ found_mapped v w answer (pairs_of ligands) (has_pair v w ligands i j at_v at_w is)
-          ∙ found_first v w (beside i v at_v) (beside j w at_w)
-          ∙ told_first r_first i j v w at_v at_w
+  stands_early standing pairs natural turned =
+      stands_paired seen a.root ligands notes.branch (λ r_first. find)
+      (λ r_first i j v w at_v at_w. found_first v w (beside i v at_v) (beside j w at_w)
+      ∙ told_first r_first i j v w at_v at_w) standing pairs (asked_is standing natural turned)

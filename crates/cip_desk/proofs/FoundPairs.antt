@@ -1,41 +1,15 @@
 -- What is found of two neighbours among all pairs is what stands at their pair.
-use Rattle.std.proofs.Common.{
-  ◌≡◌,
-  ℕ,
-  zero,
-  suc,
-  ◌==◌,
-  ◌&&◌,
-  ◌||◌,
-  Bool,
-  true,
-  false,
-  cond,
-  List,
-  [],
-  ◌∷◌,
-  ◌++◌,
-  map,
-  slice_get,
-  None,
-  Some,
-  refl,
-  sym,
-  ap,
-  ◌∙◌,
-  subst,
-}
+use Rattle.std.proofs.Common.{◌≡◌, ℕ, zero, suc, ◌==◌, ◌&&◌, ◌||◌, Bool, true, false, cond, List, [], ◌∷◌, map, slice_get, None, Some, refl, sym, ap, ◌∙◌, subst}
 use Rattle.std.specs.Prelude.{flat_map}
 use Rattle.std.specs.List.{list_any}
-use Rattle.std.specs.declared.option.Option.{Option}
 use Rattle.std.proofs.lemmas.Bool.{or_left, or_right, and_parts, eqb-true, eq-eqb}
 use Rattle.std.proofs.lemmas.List.Folds.{list_any-append}
 use Rattle.cip_mol.specs.declared.site.Ligand.{Ligand}
-use Rattle.cip_mol.specs.declared.site.Ligand.TheVariants.{Vertex, LonePair}
-use Rattle.cip_digraph.specs.declared.decision.Decision.{Decision}
-use Rattle.cip_views.specs.declared.asked.Asked.{Asked}
-use Rattle.cip_desk.specs.declared.branches.Pair.{Pair}
-use Rattle.cip_desk.specs.Standing.{pair, pair_with, pairs_at, pairs_of, is_between, found_of}
+use Rattle.cip_mol.specs.declared.site.Ligand.TheVariants.{Vertex}
+use Rattle.cip_ligands.specs.declared.asked.Asked.{Asked}
+use Rattle.cip_constitution.specs.declared.pairs.Pair.{Pair}
+use Rattle.cip_constitution.specs.Pairs.{pair, pair_with, pairs_at, pairs_of}
+use Rattle.cip_desk.specs.Standing.{is_between, found_of}
 
 module _ (a b : ℕ) where
   abbrev has : List Pair → Bool

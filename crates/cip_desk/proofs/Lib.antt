@@ -1,9 +1,10 @@
-pub mod EarlyBranches
 pub mod EarlyStanding
 pub mod FoundPairs
 pub mod KnownRoots
+pub mod PairedStanding
 pub mod RootLow
+pub mod RootMarks
 pub mod RootNodes
+pub mod RootTops
 pub mod SettledRoots
 pub mod WholeStanding
-pub mod Within

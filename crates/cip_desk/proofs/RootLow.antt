@@ -1,36 +1,6 @@
 -- A root with fit ligands is a vertex of its graph, has a child, and is settled in the first sphere or further out.
-use Rattle.std.proofs.Common.{
-  ◌≡◌,
-  ◌≢◌,
-  ◌<◌,
-  ◌≤◌,
-  ◌+◌,
-  ◌==◌,
-  ◌||◌,
-  ℕ,
-  zero,
-  suc,
-  Bool,
-  true,
-  false,
-  cond,
-  List,
-  [],
-  ◌∷◌,
-  Some,
-  refl,
-  sym,
-  ap,
-  ◌∙◌,
-  subst,
-  arith,
-  length,
-  map,
-  slice_get,
-  inl,
-  inr,
-}
-use Rattle.std.specs.Prelude.{filter, All}
+use Rattle.std.proofs.Common.{◌≡◌, ◌≢◌, ◌<◌, ◌≤◌, ◌+◌, ◌==◌, ℕ, zero, suc, Bool, true, false, cond, List, [], ◌∷◌, Some, refl, sym, ap, ◌∙◌, subst, arith, length, map, slice_get, inl, inr}
+use Rattle.std.specs.Prelude.{filter}
 use Rattle.std.specs.List.{AllPairs, AllByRecursion}
 use Rattle.std.proofs.lemmas.Bool.{or_cases, eqb-true}
 use Rattle.cip_rank.specs.declared.rules.Rules.{Rules}
@@ -54,10 +24,11 @@ use Rattle.cip_label.specs.Fitting.{IsFit, IsNeighbour}
 use Rattle.cip_label.proofs.LigandNodes.{one_node}
 use Rattle.cip_label.proofs.RootsAlike.{All-at}
 
-record HasVertex (ligands : List Ligand) : Type 0 where
-  vertex : ℕ
-  place : ℕ
-  at : slice_get ligands place ≡ Some (Vertex vertex)
+-- one of the ligands is a vertex
+pub record HasVertex (ligands : List Ligand) : Type 0 where
+  pub vertex : ℕ
+  pub place : ℕ
+  pub at : slice_get ligands place ≡ Some (Vertex vertex)
 
 some_vertex : (ligands : List Ligand) → 2 ≤ length ligands → AllPairs ◌≢◌ ligands → HasVertex ligands
 some_vertex [] two differ = absurd (omega (arith, two))
@@ -115,7 +86,7 @@ module _ (graph : Graph) (root : ℕ) (ligands : List Ligand) (sound : IsSound g
         → is_in vertex (neighbours graph root) ≡ true
     beside i vertex at = All-at (IsNeighbour graph root) ligands i (Vertex vertex) at fit.beside
 
-    found : HasVertex ligands
+    pub found : HasVertex ligands
     found = some_vertex ligands fit.two fit.different
 
     pub root_low : root < length graph.vertices

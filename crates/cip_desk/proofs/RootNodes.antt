@@ -1,30 +1,16 @@
 -- The node that stands for a neighbour of the root, by its number.
-use Rattle.std.proofs.Common.{
-  ◌≡◌,
-  ◌<◌,
-  ℕ,
-  true,
-  List,
-  [],
-  ◌∷◌,
-  None,
-  Some,
-  sym,
-  ◌∙◌,
-  subst,
-}
+use Rattle.std.proofs.Common.{◌≡◌, ◌<◌, ℕ, true, List, [], ◌∷◌, None, Some, sym, subst}
 use Rattle.std.specs.Prelude.{unwrap_or}
 use Rattle.std.specs.declared.option.Option.{Option}
 use Rattle.cip_mol.specs.declared.site.Ligand.TheVariants.{Vertex}
 use Rattle.cip_digraph.specs.rings.Alternating.{is_in}
-use Rattle.cip_digraph.specs.digraph.Digraph.{Node, real_node, digraph}
+use Rattle.cip_digraph.specs.digraph.Digraph.{real_node, digraph}
 use Rattle.cip_digraph.specs.digraph.Telling.{node_at}
 use Rattle.cip_digraph.specs.graph.Graph.{Graph, neighbours}
 use Rattle.cip_digraph.specs.graph.SoundGraphs.{IsSound}
 use Rattle.cip_arena.specs.Growth.{Growth, Holds}
-use Rattle.cip_constitution.specs.Standing.{ligand_number}
+use Rattle.cip_constitution.specs.Standing.{ligand_number, number_at}
 use Rattle.cip_constitution.proofs.DifferTold.{IsFirst, LigandAt, ligand_at}
-use Rattle.cip_desk.specs.Standing.{number_at}
 use Rattle.cip_label.proofs.LigandNodes.{one_node}
 
 module _ (g : Graph) (positions : List (List ℕ)) (a : Growth) (h : Holds g positions a) (some : 0 < a.sphere)

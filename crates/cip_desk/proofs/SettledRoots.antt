@@ -1,28 +1,5 @@
 -- What settling a root says of its cost, the steps taken, and its ligands.
-use Rattle.std.proofs.Common.{
-  ◌≡◌,
-  ◌<◌,
-  ◌≤◌,
-  ◌+◌,
-  ◌-◌,
-  ℕ,
-  zero,
-  suc,
-  true,
-  List,
-  [],
-  ◌∷◌,
-  length,
-  slice_get,
-  min,
-  Some,
-  refl,
-  sym,
-  ap,
-  ◌∙◌,
-  subst,
-  arith,
-}
+use Rattle.std.proofs.Common.{◌≡◌, ◌<◌, ◌≤◌, ◌+◌, ◌-◌, ℕ, true, List, [], ◌∷◌, length, min, sym, ap, ◌∙◌, subst, arith}
 use Rattle.std.proofs.lemmas.Bool.Decides.{nat_tests}
 use Rattle.cip_rank.specs.declared.rules.Rules.{Rules}
 use Rattle.cip_mol.specs.declared.site.Ligand.{Ligand}
@@ -35,8 +12,8 @@ use Rattle.cip_digraph.specs.units.Ranked.{has_tie}
 use Rattle.cip_digraph.proofs.Numbered.{some_nodes}
 use Rattle.cip_digraph.proofs.SettledTies.{settled_tie}
 use Rattle.cip_arena.specs.Growth.{Growth, Holds}
-use Rattle.cip_constitution.specs.Settling.{Setting, setting_of, SettledAs, deciding, cost_of}
-use Rattle.cip_constitution.specs.declared.settling.Settled.TheVariants.{Ordered, Tied, Whole, Over}
+use Rattle.cip_constitution.specs.Settling.{setting_of, SettledAs, deciding, cost_of}
+use Rattle.cip_constitution.specs.declared.settling.Settled.TheVariants.{Tied, Over}
 use Rattle.cip_label.specs.Settings as records
 use Rattle.cip_label.specs.Fitting.{IsFit}
 use Rattle.cip_label.specs.Standing.{Stands, RankedAs}
@@ -47,11 +24,11 @@ use Rattle.cip_desk.specs.Desks.{settled_by}
 use Rattle.cip_desk.proofs.RootLow.{root_low}
 
 pub same_setting : (rules rules2 : Rules) (graph graph2 : Graph) (positions positions2 : List (List ℕ))
-    (all all2 : List units.Unit) (ligands : List Ligand)
-    → rules ≡ rules2 → graph ≡ graph2 → positions ≡ positions2 → all ≡ all2
-    → setting_of rules graph positions all ligands ≡ setting_of rules2 graph2 positions2 all2 ligands
-same_setting rules rules2 graph graph2 positions positions2 all all2 ligands r g p u =
-    λ k. setting_of (r k) (g k) (p k) (u k) ligands
+    (all all2 : List units.Unit) (ligands ligands2 : List Ligand)
+    → rules ≡ rules2 → graph ≡ graph2 → positions ≡ positions2 → all ≡ all2 → ligands ≡ ligands2
+    → setting_of rules graph positions all ligands ≡ setting_of rules2 graph2 positions2 all2 ligands2
+same_setting rules rules2 graph graph2 positions positions2 all all2 ligands ligands2 r g p u l =
+    λ k. setting_of (r k) (g k) (p k) (u k) (l k)
 
 -- by equal bounds and ligands
 pub moved_rises : (setting : records.Setting) (root before after bound bound2 : ℕ) (ligands ligands2 : List Ligand)

@@ -1,160 +1,151 @@
--- What all rules tell of the branches at the root of a whole digraph, seen in a table, is their order.
-use Rattle.std.proofs.Common.{
-  ◌≡◌,
-  ◌<◌,
-  ◌==◌,
-  ℕ,
-  suc,
-  Bool,
-  true,
-  false,
-  cond,
-  List,
-  [],
-  ◌∷◌,
-  length,
-  map,
-  slice_get,
-  slice_index,
-  None,
-  Some,
-  refl,
-  sym,
-  ap,
-  ◌∙◌,
-  arith,
-}
+-- What all rules decide between the branches of a root's ligands in its whole digraph is their order.
+use Rattle.std.proofs.Common.{◌≡◌, ◌<◌, ◌++◌, ◌∷◌, [], ℕ, suc, Bool, true, false, List, length, map, slice_get, slice_index, None, Some, refl, sym, ap, ◌∙◌, subst, arith}
+use Rattle.std.specs.Prelude.{unwrap_or}
+use Rattle.std.specs.List.{AllByRecursion, list_all}
 use Rattle.std.specs.declared.option.Option.{Option}
-use Rattle.std.proofs.lemmas.Bool.{eqb-true}
-use Rattle.std.proofs.lemmas.Simd.{map-map}
 use Rattle.cip_rank.specs.declared.rules.Rules.{Rules}
 use Rattle.cip_mol.specs.declared.descriptor.Descriptor.{Descriptor}
+use Rattle.cip_mol.specs.declared.outcome.Rule.{Rule}
+use Rattle.cip_mol.specs.declared.outcome.Rule.TheVariants.{R1a, R1b, R2, R3, R4a, R4b, R4c, R5}
 use Rattle.cip_mol.specs.declared.site.Ligand.{Ligand}
 use Rattle.cip_mol.specs.declared.site.Ligand.TheVariants.{Vertex}
-use Rattle.cip_digraph.specs.declared.nodes.Told.{Told}
+use Rattle.cip_mol.specs.declared.site.Unit as units
+use Rattle.cip_digraph.specs.declared.decision.Decision.{Decision}
 use Rattle.cip_digraph.specs.rings.Alternating.{is_in}
+use Rattle.cip_digraph.specs.rules.Auxiliary.{auxiliary}
 use Rattle.cip_digraph.specs.rules.Decisions.{order}
+use Rattle.cip_digraph.specs.rules.EarlyOrder as early
 use Rattle.cip_digraph.specs.rules.Orders.{Seen}
-use Rattle.cip_digraph.specs.digraph.Digraph.{Node, is_real, real_node, sphere, digraph}
-use Rattle.cip_digraph.specs.digraph.NodeList.{parents_of}
-use Rattle.cip_digraph.specs.digraph.Telling.{node_at, TellsWhole}
+use Rattle.cip_digraph.specs.digraph.Digraph.{Node, real_node, digraph}
+use Rattle.cip_digraph.specs.digraph.Telling.{node_at}
 use Rattle.cip_digraph.specs.digraph.View.{seen_from}
 use Rattle.cip_digraph.specs.graph.Graph.{Graph, neighbours}
 use Rattle.cip_digraph.specs.graph.SoundGraphs.{IsSound}
-use Rattle.cip_digraph.proofs.EarlyOrders.{itself}
-use Rattle.cip_digraph.proofs.Numbered.{root_first, some_nodes}
+use Rattle.cip_digraph.proofs.Numbered.{root_first}
 use Rattle.cip_arena.specs.Growth.{Growth, Holds}
-use Rattle.cip_reroot.specs.View.{View, IsView}
-use Rattle.cip_views.specs.declared.asked.Asked.{Asked}
-use Rattle.cip_views.specs.Asking.{with_found}
-use Rattle.cip_views.specs.Laws.{placed_marks}
-use Rattle.cip_views.specs.TableView.{seen_in_table}
-use Rattle.cip_views.specs.Whole.{MarksOf}
-use Rattle.cip_views.proofs.Ready as ready
-use Rattle.cip_views.proofs.SeenInTable.{order_in_table}
-use Rattle.cip_views.proofs.WholeTold.{is_told, parents_len}
-use Rattle.cip_desk.specs.declared.branches.Pair.{Pair}
-use Rattle.cip_desk.specs.Ranking.{placed, ranked_in}
-use Rattle.cip_desk.specs.Standing.{
-  Standing,
-  pairs_of,
-  found_of,
-  standing_of,
-  asked_in,
-  number_at,
-  asked_by,
-}
-use Rattle.cip_desk.proofs.FoundPairs.{found_mapped, has_pair}
+use Rattle.cip_constitution.specs.Noting.{asked_by}
+use Rattle.cip_constitution.specs.Pairs.{pairs_of}
+use Rattle.cip_constitution.specs.Standing.{ligand_number, number_at}
+use Rattle.cip_constitution.specs.declared.pairs.Pair.{Pair}
+use Rattle.cip_constitution.proofs.DifferTold.{LigandAt, ligand_at}
+use Rattle.cip_label.proofs.LigandNodes.{one_node}
+use Rattle.cip_ligands.specs.declared.asked.Asked.{Asked}
+use Rattle.cip_ligands.specs.Asking.{AreWithin, is_decided, with_found}
+use Rattle.cip_ligands.specs.Orders.{decided_in_turn}
+use Rattle.cip_ligands.proofs.RulesGoOn.{order_told}
+use Rattle.cip_aux.specs.Sights.{Sight, sight_of}
+use Rattle.cip_inside.specs.Near.{seen_at, top_node, AreConstituted}
+use Rattle.cip_desk.specs.Rooting.{root_tops, branch_in}
+use Rattle.cip_desk.specs.Standing.{Standing, standing_of, asked_in}
+use Rattle.cip_desk.proofs.PairedStanding.{stands_paired}
 use Rattle.cip_desk.proofs.RootNodes.{number_is}
+use Rattle.cip_desk.proofs.RootTops.{top_at, some_top, branch_within}
 
-module _ (rules : Rules) (g : Graph) (positions : List (List ℕ)) (a : Growth) (h : Holds g positions a)
-    (some : 0 < a.sphere) (sound : IsSound g) (low : a.root < length g.vertices)
-    (none : sphere g positions a.root (suc a.sphere) ≡ []) (ligands : List Ligand)
+-- pairs ask about branches that there are
+pub asked_within : (branch : ℕ → ℕ) (count : ℕ) → ((vertex : ℕ) → branch vertex < count) → (pairs : List Pair)
+    → AllByRecursion (AreWithin count) (map (asked_by branch) pairs)
+asked_within branch count low [] = tt
+asked_within branch count low (pair ∷ pairs) = ((low pair.a, low pair.b), asked_within branch count low pairs)
+
+abbrev early_rules : List Rule
+early_rules = R1a ∷ R1b ∷ R2 ∷ []
+
+abbrev late_rules : List Rule
+late_rules = R3 ∷ R4a ∷ R4b ∷ R4c ∷ R5 ∷ []
+
+-- which descriptor is above the other has no part in constitution
+either_way : {N : Type 0} (seen : Seen N) (r_first : Bool) (node : ℕ → N)
+    → decided_in_turn seen r_first early_rules node ≡ decided_in_turn seen true early_rules node
+either_way seen r_first node = refl
+
+module _ (rules : Rules) (g : Graph) (positions : List (List ℕ)) (all : List units.Unit) (a : Growth)
+    (h : Holds g positions a) (some : 0 < a.sphere) (sound : IsSound g) (ligands : List Ligand)
     (beside : (i vertex : ℕ) → slice_get ligands i ≡ Some (Vertex vertex)
-    → is_in vertex (neighbours g a.root) ≡ true) (mark : List ℕ → Option Descriptor)
-    (marks : List (Option Descriptor)) (are : MarksOf (digraph g positions a.root a.sphere) mark marks) (view : View)
-    (is : IsView (parents_of a.nodes) 0 view) where
-  abbrev nodes : List Node
-  nodes = digraph g positions a.root a.sphere
+    → is_in vertex (neighbours g a.root) ≡ true) where
+  abbrev sight : Sight
+  sight = sight_of (record {
+    rules = rules;
+    graph = g;
+    positions = positions;
+    root = a.root;
+    last = a.sphere;
+    told = a.nodes;
+  })
+
+  abbrev mark : List ℕ → Option Descriptor
+  mark = auxiliary rules g positions all
+
+  abbrev tops : List ℕ
+  tops = root_tops a.nodes ligands
+
+  abbrev branch : ℕ → ℕ
+  branch = branch_in a.nodes tops
 
   abbrev seen : Seen Node
-  seen = seen_from rules g positions (a.root ∷ []) mark
+  seen = seen_at sight 0 mark
 
-  abbrev table : Seen ℕ
-  table = seen_in_table rules a.nodes (placed_marks marks view) view
+  abbrev top : ℕ → Node
+  top = top_node sight tops
 
-  whole : TellsWhole g positions a.root a.sphere a.nodes
-  whole = record { tells = h.tells; none = none }
+  abbrev find : Bool → ℕ → ℕ → Option Decision
+  find r_first n m = order seen r_first (top n) (top m)
 
-  -- by the places of two nodes
-  order_is : (r_first : Bool) (n m : ℕ) → n < length a.nodes → m < length a.nodes
-      → order table r_first (slice_index view.places n) (slice_index view.places m)
-      ≡ order seen r_first (node_at nodes n) (node_at nodes m)
-  order_is r_first n m of_n of_m =
-      let told = is_told g positions a.root a.sphere a.nodes whole in
-      let len = h.tells.len in
-      let many = parents_len a.nodes in
-      let place_n = is.places n (omega (arith, of_n, many)) in
-      let place_m = is.places m (omega (arith, of_m, many)) in
-      let first = root_first g positions a.root a.sphere in
-      let placed = ready.placed g positions a.root a.sphere a.nodes mark marks 0 view whole is are in
-      let from : Seen Node = seen_from rules g positions (node_at nodes 0).path mark in
-      sym (order_in_table g positions a.root nodes a.nodes told sound 0
-      (some_nodes g positions a.root a.sphere)
-      (ap (λ (node : Node). is_real node.kind) first) view is low rules mark (placed_marks marks view) placed r_first
-      (slice_index view.places n) (slice_index view.places m) (omega (arith, place_n, many, len))
-      (omega (arith, place_m, many, len)))
-      ∙ ap (λ k. order from r_first (node_at nodes k) (node_at nodes (slice_index view.originals
-      (slice_index view.places m)))) (is.fore n (omega (arith, of_n, many)))
-      ∙ ap (λ k. order from r_first (node_at nodes n) (node_at nodes k)) (is.fore m (omega (arith, of_m, many)))
-      ∙ ap (λ (node : Node). order (seen_from rules g positions node.path mark) r_first (node_at nodes n)
-      (node_at nodes m)) first
+  -- a ligand has a node
+  record HasNode (vertex : ℕ) : Type 0 where
+    number : ℕ
+    found : ligand_number a.nodes (Vertex vertex) ≡ Some number
 
-  of_vertices : (r_first : Bool) (v w : ℕ) → is_in v (neighbours g a.root) ≡ true
-      → is_in w (neighbours g a.root) ≡ true
-      → order table r_first (slice_index view.places (number_at a.nodes v))
-      (slice_index view.places (number_at a.nodes w))
-      ≡ order seen r_first (real_node v (a.root ∷ [])) (real_node w (a.root ∷ []))
-  of_vertices r_first v w by_v by_w =
-      let of_v = number_is g positions a h some sound v by_v in
-      let of_w = number_is g positions a h some sound w by_w in
-      order_is r_first (number_at a.nodes v) (number_at a.nodes w) of_v.first.within of_w.first.within
-      ∙ ap (λ x. order seen r_first x (node_at nodes (number_at a.nodes w))) of_v.node
-      ∙ ap (order seen r_first (real_node v (a.root ∷ []))) of_w.node
+  node_by : (vertex : ℕ) (found : Option ℕ)
+      → LigandAt g positions a h some sound found (real_node vertex (a.root ∷ []) ∷ [])
+      → ligand_number a.nodes (Vertex vertex) ≡ found → HasNode vertex
+  node_by vertex None at is = let bad : real_node vertex (a.root ∷ []) ∷ [] ≡ [] = at in cc
+  node_by vertex (Some number) at is = record { number = number; found = is }
 
-  abbrev answer : Bool → Pair → Asked
-  answer r_first one = with_found (order table r_first) (placed view.places (asked_by (number_at a.nodes) one))
+  node_of : (vertex : ℕ) → is_in vertex (neighbours g a.root) ≡ true → HasNode vertex
+  node_of vertex by_vertex =
+      node_by vertex (ligand_number a.nodes (Vertex vertex))
+      (subst (LigandAt g positions a h some sound (ligand_number a.nodes (Vertex vertex)))
+      (one_node g sound a.root positions vertex by_vertex) (ligand_at g positions a h some sound (Vertex vertex))) refl
 
-  ranked_is : (r_first : Bool) (pairs : List Pair)
-      → ranked_in rules a.nodes (placed_marks marks view) view r_first pairs ≡ map (answer r_first) pairs
-  ranked_is r_first pairs =
-      ap (map (with_found (order table r_first)))
-      (map-map (placed view.places) (asked_by (number_at a.nodes)) pairs)
-      ∙ map-map (with_found (order table r_first)) (λ one. placed view.places (asked_by (number_at a.nodes) one)) pairs
+  top_is : (i vertex : ℕ) → slice_get ligands i ≡ Some (Vertex vertex)
+      → top (branch vertex) ≡ real_node vertex (a.root ∷ [])
+  top_is i vertex at =
+      let of_it = node_of vertex (beside i vertex at) in
+      let is = number_is g positions a h some sound vertex (beside i vertex at) in
+      ap (node_at sight.nodes) (top_at a.nodes ligands i vertex of_it.number at of_it.found
+      ∙ sym (ap (λ found. unwrap_or found 0) of_it.found))
+      ∙ is.node
 
-  asked_is : (standing : Standing)
-      → ((r_first : Bool) → asked_in standing r_first
-      ≡ ranked_in rules a.nodes (placed_marks marks view) view r_first (pairs_of ligands)) → (r_first : Bool)
-      → asked_in standing r_first ≡ map (answer r_first) (pairs_of ligands)
-  asked_is standing asked r_first = asked r_first ∙ ranked_is r_first (pairs_of ligands)
+  pub some_tops : (i vertex : ℕ) → slice_get ligands i ≡ Some (Vertex vertex) → 0 < length tops
+  some_tops i vertex at =
+      let of_it = node_of vertex (beside i vertex at) in
+      some_top a.nodes ligands i vertex of_it.number at of_it.found
 
+  seen_is : seen ≡ early.seen_at rules g positions all a.root
+  seen_is = ap (λ (node : Node). seen_from rules g positions node.path mark) (root_first g positions a.root a.sphere)
+
+  -- what is found by all rules is the order
   pub stands_whole : (standing : Standing) → standing.pairs ≡ pairs_of ligands
-      → ((r_first : Bool) → asked_in standing r_first
-      ≡ ranked_in rules a.nodes (placed_marks marks view) view r_first (pairs_of ligands))
+      → ((r_first : Bool)
+      → asked_in standing r_first ≡ map (with_found (find r_first)) (map (asked_by branch) (pairs_of ligands)))
       → (r_first : Bool) (i j v w : ℕ) → slice_get ligands i ≡ Some (Vertex v)
       → slice_get ligands j ≡ Some (Vertex w)
       → standing_of standing r_first v w
-      ≡ order seen r_first (real_node v (a.root ∷ [])) (real_node w (a.root ∷ []))
-  stands_whole standing pairs asked r_first i j v w at_v at_w = by (v == w) refl
-    where
-      by : (same : Bool) → (v == w) ≡ same
-          → cond same None (found_of v w standing.pairs (asked_in standing r_first))
-          ≡ order seen r_first (real_node v (a.root ∷ [])) (real_node w (a.root ∷ []))
-      by true is =
-          sym (ap (λ x. order seen r_first (real_node v (a.root ∷ [])) (real_node x (a.root ∷ [])))
-          (sym (eqb-true v w is)) ∙ itself seen r_first (real_node v (a.root ∷ [])))
-      by false is =
-          ap (λ pairs. found_of v w pairs (asked_in standing r_first)) pairs
-          ∙ ap (found_of v w (pairs_of ligands)) (asked_is standing asked r_first)
-          ∙ found_mapped v w (answer r_first) (pairs_of ligands) (has_pair v w ligands i j at_v at_w is)
-          ∙ of_vertices r_first v w (beside i v at_v) (beside j w at_w)
+      ≡ order (early.seen_at rules g positions all a.root) r_first (real_node v (a.root ∷ []))
+      (real_node w (a.root ∷ []))
+  stands_whole standing pairs asked r_first i j v w at_v at_w =
+      stands_paired seen a.root ligands branch find
+      (λ r_first i j v w at_v at_w. ap (λ n. order seen r_first n (top (branch w))) (top_is i v at_v)
+      ∙ ap (order seen r_first (real_node v (a.root ∷ []))) (top_is j w at_w)) standing pairs asked r_first i j v w at_v
+      at_w
+      ∙ ap (λ s. order s r_first (real_node v (a.root ∷ [])) (real_node w (a.root ∷ []))) seen_is
+
+  -- where constitution decides all pairs, it is what all rules find
+  pub found_early : 0 < length tops → (pairs : List Pair) (asked : List Asked)
+      → asked ≡ map (with_found (decided_in_turn seen true early_rules top)) (map (asked_by branch) pairs)
+      → list_all is_decided asked ≡ true → (r_first : Bool)
+      → asked ≡ map (with_found (find r_first)) (map (asked_by branch) pairs)
+  found_early low pairs asked noted done r_first =
+      order_told seen r_first top top (length tops) (map (asked_by branch) pairs)
+      (asked_within branch (length tops) (branch_within a.nodes ligands low) pairs) early_rules late_rules refl asked
+      (noted ∙ ap (λ f. map (with_found f) (map (asked_by branch) pairs)) (sym (either_way seen r_first top))) done

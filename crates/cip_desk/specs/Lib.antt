@@ -1,3 +1,3 @@
 pub mod Desks
-pub mod Ranking
+pub mod Rooting
 pub mod Standing

@@ -1,27 +1,32 @@
 // How the branches at the neighbours of a root stand.
-ghost use Rattle.std.specs.Prelude.{◌≡◌, ◌<◌, ◌≤◌, ◌++◌, [], true, false, length, map, flat_map, All, IfOk, OnOk};
-ghost use Rattle.cip_views.specs.Asking.{AreWithin};
-ghost use Rattle.cip_views.specs.RuleKeys.{IsReady};
-ghost use Rattle.cip_desk.specs.Standing.{pair_with, pairs_at, pairs_of, found_of, standing_of, number_at, asked_by};
-ghost use Rattle.cip_desk.specs.Ranking.{placed, early, ranked_in};
+ghost use Rattle.std.specs.Prelude.{◌≡◌, ◌<◌, ◌≤◌, [], ℕ, List, false, length, map, All, IfOk, OnOk};
+ghost use Rattle.std.specs.declared.option.Option.{Option};
+ghost use Rattle.cip_constitution.specs.Noting.{asked_by};
+ghost use Rattle.std.specs.List.{AllByRecursion, list_all};
+ghost use Rattle.cip_aux.specs.Sights.{IsReal, Sight, sight_of};
+ghost use Rattle.cip_branches.specs.Deciding.{AreFollowed};
+ghost use Rattle.cip_branches.specs.Passing.{AreKeyed};
+ghost use Rattle.cip_digraph.specs.digraph.Telling.{node_at};
+ghost use Rattle.cip_ligands.specs.Marked.{AreMarksOf};
+ghost use Rattle.cip_ligands.specs.declared.asked.Asked.{Asked as AnyAsked};
+ghost use Rattle.cip_mol.specs.declared.descriptor.Descriptor.{Descriptor};
+ghost use Rattle.cip_digraph.specs.digraph.NodeList.{parents_of};
+ghost use Rattle.cip_inside.specs.Near.{AreConstituted, AreOrdered, AreTops, marked_by};
+ghost use Rattle.cip_ligands.specs.Asking.{AreWithin, is_decided};
+ghost use Rattle.cip_desk.specs.Rooting.{branch_in};
+ghost use Rattle.cip_desk.specs.Standing.{found_of, standing_of};
 
-use cip_constitution::number_of;
+use crate::whole::Tables;
+use cip_aux::Whole;
+use cip_constitution::{Pair, number_at};
 use cip_digraph::{Decision, Nodes};
-use cip_mol::Ligand;
-use cip_rank::Rules;
-use cip_views::{Asked, Views};
+use cip_inside::Near;
+use cip_ligands::Asked;
 use std::alloc::{AllocError, Global};
 use std::marker::Model;
 
 /// At most four ligands make so many ordered pairs.
 const MOST_PAIRS: usize = 12;
-
-/// Two neighbours of a root whose branches are asked about.
-#[derive(Clone, Copy)]
-pub struct Pair {
-    pub a: u32,
-    pub b: u32,
-}
 
 /// How the branches at each two neighbours of a root stand, with R first and with S first.
 #[derive(Drop)]
@@ -51,51 +56,81 @@ impl Branches {
         })
     }
 
-    /// Ranks the branches at ligands by Rule 1a, at so many depths below the root of a digraph.
-    pub fn rank_early<N: Nodes>(
-        &mut self,
-        nodes: &N,
-        views: &mut Views,
-        ligands: &[Ligand],
-        depths: u32,
-    ) -> Result<(), AllocError>
-        requires some { 0 < length (N.nodes nodes.now) }
-        requires room { length (N.nodes nodes.now) ≤ views.old.bound }
-        ensures pairs { OnOk result (self.new.pairs ≡ pairs_of ligands.now) }
-        ensures natural { OnOk result (self.new.natural ≡ early (N.nodes nodes.now) depths (pairs_of ligands.now)) }
-        ensures turned { OnOk result (self.new.turned ≡ self.new.natural) }
-        ensures bound { views.new.bound ≡ views.old.bound }
+    /// Takes pairs that are asked about.
+    pub fn ask(&mut self, pairs: &[Pair]) -> Result<(), AllocError>
+        ensures { OnOk result (self.new.pairs ≡ pairs.now) }
     {
-        pair_up(ligands, &mut self.pairs)?;
-        ask(nodes, &self.pairs, &mut self.natural)?;
-        views.decide_at_root(nodes, depths, &mut self.natural);
+        copy(pairs, &mut self.pairs)
+    }
+
+    /// Takes pairs, and what was noted of them: it is the same with R first and with S first.
+    pub fn take(&mut self, pairs: &[Pair], noted: &[Asked]) -> Result<(), AllocError>
+        ensures pairs { OnOk result (self.new.pairs ≡ pairs.now) }
+        ensures natural { OnOk result (self.new.natural ≡ noted.now) }
+        ensures turned { OnOk result (self.new.turned ≡ noted.now) }
+    {
+        copy(pairs, &mut self.pairs)?;
+        copy(noted, &mut self.natural)?;
+        copy(noted, &mut self.turned)
+    }
+
+    /// Asks for each pair by the branches of its vertices. Nothing is decided yet.
+    pub fn begin<N: Nodes>(&mut self, nodes: &N, near: &Near) -> Result<(), AllocError>
+        requires { 0 < length (N.nodes nodes.now) }
+        ensures natural { OnOk result (self.new.natural
+            ≡ map (asked_by (branch_in (N.nodes nodes.now) near.now.tops)) self.old.pairs) }
+        ensures pairs { self.new.pairs ≡ self.old.pairs }
+    {
+        ask_branches(nodes, near, &self.pairs, &mut self.natural)
+    }
+
+    /// What constitution decides between the branches of a root that are asked about, and whether all are decided.
+    pub fn constitute<N: Nodes>(&mut self, whole: &Whole<'_, N>, near: &mut Near) -> bool
+        requires room { length whole.now.told ≤ near.old.bound }
+        requires real { IsReal (sight_of whole.now).nodes 0 }
+        requires tops { AreTops (parents_of whole.now.told) 0 near.old.tops }
+        requires within { All (AreWithin (length near.old.tops)) self.old.natural }
+        ensures constituted { AreConstituted (sight_of whole.now) 0 near.new.tops near.new.now self.old.natural
+            self.new.natural }
+        ensures all { result ≡ list_all is_decided self.new.natural }
+        ensures pairs { self.new.pairs ≡ self.old.pairs }
+        ensures tops { near.new.tops ≡ near.old.tops }
+        ensures bound { near.new.bound ≡ near.old.bound }
+    {
+        near.constitution(whole, 0, self.natural.as_mut_slice())
+    }
+
+    /// It is the same with S first.
+    pub fn turn(&mut self) -> Result<(), AllocError>
+        ensures turned { OnOk result (self.new.turned ≡ self.old.natural) }
+        ensures natural { self.new.natural ≡ self.old.natural }
+        ensures pairs { self.new.pairs ≡ self.old.pairs }
+    {
         copy(&self.natural, &mut self.turned)
     }
 
-    /// Ranks the branches at ligands by all rules, in the view of a whole digraph from its root.
-    pub fn rank_whole<N: Nodes>(
-        &mut self,
-        nodes: &N,
-        views: &mut Views,
-        ligands: &[Ligand],
-        rules: Rules,
-    ) -> Result<(), AllocError>
-        requires ready { IsReady rules (N.nodes nodes.now) views.old.marks views.old.view }
-        requires room { length (N.nodes nodes.now) ≤ views.old.bound }
-        ensures pairs { OnOk result (self.new.pairs ≡ pairs_of ligands.now) }
-        ensures natural { OnOk result (self.new.natural
-            ≡ ranked_in rules (N.nodes nodes.now) views.old.marks views.old.view true (pairs_of ligands.now)) }
-        ensures turned { OnOk result (self.new.turned
-            ≡ ranked_in rules (N.nodes nodes.now) views.old.marks views.old.view false (pairs_of ligands.now)) }
-        ensures bound { views.new.bound ≡ views.old.bound }
+    /// What Rules 3 to 5 decide between them, both ways, by the descriptors in branches that are wanted still.
+    pub fn configure(&mut self, tables: &mut Tables)
+        requires followed { AreFollowed tables.old.near.now }
+        requires keyed { AreKeyed (length tables.old.marks.marks) tables.old.near.now.layers.kin }
+        requires room { length tables.old.near.now.layers.kin.ups ≤ tables.old.sights.bound }
+        requires len { length self.old.turned ≡ length self.old.natural }
+        ensures decided { (sight : Sight) (node : ℕ) (begin : List AnyAsked) (mark : List ℕ → Option Descriptor)
+            → AllByRecursion (AreWithin (length tables.old.near.tops)) begin
+            → AreConstituted sight node tables.old.near.tops tables.old.near.now begin self.old.natural
+            → list_all is_decided self.old.natural ≡ false
+            → AreMarksOf (node_at sight.nodes) (marked_by mark) tables.old.marks.marks tables.old.near.now
+            → AreOrdered sight node mark tables.old.near.tops begin self.new.natural self.new.turned }
+        ensures pairs { self.new.pairs ≡ self.old.pairs }
+        ensures near { tables.new.near.bound ≡ tables.old.near.bound }
+        ensures sights { tables.new.sights.bound ≡ tables.old.sights.bound }
+        ensures marks { tables.new.marks.bound ≡ tables.old.marks.bound }
     {
-        pair_up(ligands, &mut self.pairs)?;
-        ask(nodes, &self.pairs, &mut self.natural)?;
         let natural = self.natural.as_mut_slice();
-        place(views, natural);
-        copy(natural, &mut self.turned)?;
-        views.decide_both_ways(nodes, rules, natural, self.turned.as_mut_slice());
-        Ok(())
+        let turned = self.turned.as_mut_slice();
+        tables
+            .sights
+            .configure(&mut tables.near, &tables.marks, natural, turned);
     }
 
     /// How the branches at two neighbours stand.
@@ -128,78 +163,33 @@ fn found_of(pairs: &[Pair], asked: &[Asked], a: u32, b: u32) -> Option<Decision>
     None
 }
 
-// Each two different vertices of ligands, in both directions.
-fn pair_up(ligands: &[Ligand], pairs: &mut Vec<Pair>) -> Result<(), AllocError>
-    ensures { OnOk result (pairs.new.items ≡ pairs_of ligands.now) }
-{
-    pairs.clear();
-    let mut rest = ligands;
-    while let [ligand, others @ ..] = rest {
-        pair_all(ligand, ligands, pairs)?;
-        rest = others;
-    }
-    Ok(())
-}
-
-fn pair_all(one: &Ligand, ligands: &[Ligand], pairs: &mut Vec<Pair>) -> Result<(), AllocError>
-    ensures { OnOk result (pairs.new.items ≡ pairs.old.items ++ pairs_at ligands.now one.now) }
-{
-    match one {
-        Ligand::LonePair => Ok(()),
-        Ligand::Vertex(a) => pair_with_each(*a, ligands, pairs),
-    }
-}
-
-fn pair_with_each(a: u32, ligands: &[Ligand], pairs: &mut Vec<Pair>) -> Result<(), AllocError>
-    ensures { OnOk result (pairs.new.items ≡ pairs.old.items ++ flat_map (pair_with a) ligands.now) }
-{
-    let mut rest = ligands;
-    while let [ligand, others @ ..] = rest {
-        pair_with(a, ligand, pairs)?;
-        rest = others;
-    }
-    Ok(())
-}
-
-fn pair_with(a: u32, ligand: &Ligand, pairs: &mut Vec<Pair>) -> Result<(), AllocError>
-    ensures { OnOk result (pairs.new.items ≡ pairs.old.items ++ pair_with a ligand.now) }
-{
-    match ligand {
-        Ligand::LonePair => Ok(()),
-        Ligand::Vertex(b) => {
-            if a == *b {
-                return Ok(());
-            }
-            pairs.push(Pair { a, b: *b })?;
-            Ok(())
-        }
-    }
-}
-
-// The child of the root that stands for a vertex.
-fn number_at<N: Nodes>(nodes: &N, vertex: u32) -> u32
+// The branch of a vertex, the first one where it has none.
+fn branch_at<N: Nodes>(nodes: &N, near: &Near, vertex: u32) -> u32
     requires { 0 < length (N.nodes nodes.now) }
-    ensures number { result ≡ number_at (N.nodes nodes.now) vertex }
-    ensures within { result < length (N.nodes nodes.now) }
+    ensures { result ≡ branch_in (N.nodes nodes.now) near.now.tops vertex }
 {
-    match number_of(nodes, &Ligand::Vertex(vertex)) {
-        Some(number) => number,
+    match near.branch(number_at(nodes, vertex)) {
+        Some(branch) => branch,
         None => 0,
     }
 }
 
-// Asks for pairs by the numbers of their nodes.
-fn ask<N: Nodes>(nodes: &N, pairs: &[Pair], asked: &mut Vec<Asked>) -> Result<(), AllocError>
+// Asks for pairs by the branches of their vertices.
+fn ask_branches<N: Nodes>(
+    nodes: &N,
+    near: &Near,
+    pairs: &[Pair],
+    asked: &mut Vec<Asked>,
+) -> Result<(), AllocError>
     requires { 0 < length (N.nodes nodes.now) }
-    ensures asked { OnOk result (asked.new.items ≡ map (asked_by (number_at (N.nodes nodes.now))) pairs.now) }
-    ensures within { OnOk result (All (AreWithin (length (N.nodes nodes.now))) asked.new.items) }
+    ensures { OnOk result (asked.new.items ≡ map (asked_by (branch_in (N.nodes nodes.now) near.now.tops)) pairs.now) }
 {
     asked.clear();
     let mut rest = pairs;
     while let [pair, others @ ..] = rest {
         asked.push(Asked {
-            first: number_at(nodes, pair.a),
-            second: number_at(nodes, pair.b),
+            first: branch_at(nodes, near, pair.a),
+            second: branch_at(nodes, near, pair.b),
             decision: None,
         })?;
         rest = others;
@@ -207,31 +197,10 @@ fn ask<N: Nodes>(nodes: &N, pairs: &[Pair], asked: &mut Vec<Asked>) -> Result<()
     Ok(())
 }
 
-// Puts places of a view in place of numbers of nodes.
-fn place(views: &Views, asked: &mut [Asked])
-    requires { All (AreWithin (length views.now.view.places)) asked.old }
-    ensures { asked.new ≡ map (placed views.now.view.places) asked.old }
-{
-    for one in asked.iter_mut() {
-        *one = placed(views, *one);
-    }
-}
-
-fn placed(views: &Views, asked: Asked) -> Asked
-    requires { AreWithin (length views.now.view.places) asked }
-    ensures { result ≡ placed views.now.view.places asked }
-{
-    Asked {
-        first: views.place(asked.first),
-        second: views.place(asked.second),
-        ..asked
-    }
-}
-
-fn copy(asked: &[Asked], other: &mut Vec<Asked>) -> Result<(), AllocError>
-    ensures { OnOk result (other.new.items ≡ asked.now) }
+fn copy<T: Copy>(items: &[T], other: &mut Vec<T>) -> Result<(), AllocError>
+    ensures { OnOk result (other.new.items ≡ items.now) }
 {
     other.clear();
-    other.extend_from_slice(asked)?;
+    other.extend_from_slice(items)?;
     Ok(())
 }

@@ -3,5 +3,7 @@
 
 mod branches;
 mod desk;
+mod rooted;
+mod whole;
 
 pub use desk::Desk;

@@ -1,7 +1,10 @@
 -- The neighbours of a node that are asked about, one after the other.
-use Rattle.std.proofs.Common.{◌≡◌, ◌<◌, ◌≤◌, ◌++◌, ◌∷◌, ℕ, Bool, true, false, cond, List, [], filter, length, slice_index, sym, ap, ◌∙◌, arith, ne_eqb}
+use Rattle.std.proofs.Common.{◌≡◌, ◌<◌, ◌≤◌, ◌++◌, ◌∷◌, ℕ, Bool, true, false, cond, List, [], filter, length, slice_index, refl, sym, ap, ◌∙◌, arith, ne_eqb}
 use Rattle.std.proofs.lemmas.List.Elements.{filter-append}
+use Rattle.std.specs.List.{list_any}
+use Rattle.std.specs.declared.option.Option.{Option}
 use Rattle.cip_reroot.specs.View.{parent_list}
+use Rattle.cip_inside.specs.Near.{AreTops, asked_tops, is_ligand}
 
 pub some_few : (test : ℕ → Bool) (ns : List ℕ) → length (filter test ns) ≤ length ns
 some_few test [] = omega arith
@@ -22,3 +25,8 @@ with_parent test parents kids node parent some is =
     ∙ ap (λ n. n ∷ []) (sym is) in
     ap (λ (ns : List ℕ). filter test kids ++ filter test ns) (sym one)
     ∙ sym (filter-append test kids (parent_list parents node))
+
+-- those that are asked about are some of the neighbours
+pub asked_tops_are : (parents : List ℕ) (ligands : List (Option ℕ)) (node : ℕ)
+    → AreTops parents node (asked_tops parents ligands node)
+asked_tops_are parents ligands node = record { test = λ top. list_any (is_ligand top) ligands; are = refl }

@@ -1,9 +1,12 @@
 -- The branches of a node's ligands seen from it: begun, and followed by a sphere.
-use Rattle.std.proofs.Common.{◌≡◌, ◌<◌, ◌≤◌, ◌+◌, ◌-◌, ◌*◌, ◌++◌, ◌∷◌, ℕ, ℤ, suc, pos, Bool, true, List, [], map, replicate, length, slice_index, refl, sym, ap, ◌∙◌, subst, arith, None, Some, length-append}
-use Rattle.std.specs.List.{AllByRecursion}
+use Rattle.std.proofs.Common.{◌≡◌, ◌<◌, ◌≤◌, ◌+◌, ◌-◌, ◌*◌, ◌++◌, ◌∷◌, ℕ, ℤ, zero, suc, pos, Bool, true, false, List, [], map, replicate, length, slice_index, refl, sym, ap, ◌∙◌, subst, arith, None, length-append}
+use Rattle.std.specs.List.{AllByRecursion, list_any}
+use Rattle.std.specs.declared.option.Option.{Option}
+use Rattle.std.proofs.lemmas.Cmp.{on_total, nat_cmp_total}
 use Rattle.std.proofs.lemmas.List.{get_or_append_left, get_or-append_right, length-replicate}
 use Rattle.std.proofs.lemmas.List.Elements.{All-from_recursion}
-use Rattle.cip_rank.specs.Ranking.{key_at}
+use Rattle.cip_rank.specs.Comparison.{comparison}
+use Rattle.cip_rank.specs.Ranking.{by_number, key_at}
 use Rattle.cip_rank.specs.Tree.{IsTree, children_of}
 use Rattle.cip_reroot.specs.View.{on_way, parent_list, children_seen}
 use Rattle.cip_reroot.proofs.SeenRoot.{seen_root}
@@ -18,6 +21,8 @@ use Rattle.cip_branches.specs.Layers.{Layers}
 use Rattle.cip_branches.specs.Parting.{has_flag}
 use Rattle.cip_branches.specs.Passing.{AreKeyed}
 use Rattle.cip_branches.specs.Ruled.{Names}
+use Rattle.cip_branches.specs.Standing.{node_in, WantedIn}
+use Rattle.cip_branches.specs.Views.{IsEnded}
 use Rattle.cip_branches.specs.Walking.{MayWalk, kids_left, wanted_kids}
 use Rattle.cip_branches.proofs.DecidedBranches.{decided_first, decided_after}
 use Rattle.cip_branches.proofs.SeenNodes.{AreSeen, times_filter, around_is, seen_first, few_seen, seen_next}
@@ -28,15 +33,26 @@ use Rattle.cip_digraph.specs.digraph.NodeList.{parents_of}
 use Rattle.cip_digraph.specs.digraph.Telling.{node_at}
 use Rattle.cip_digraph.specs.digraph.View.{real_at, view_children, height_below, seen_from}
 use Rattle.cip_digraph.specs.rules.Keys.{atomic_key}
-use Rattle.cip_digraph.specs.rules.Orders.{Seen, all_tie, rule_1a}
+use Rattle.cip_digraph.specs.declared.decision.Decision.{Decision}
+use Rattle.cip_digraph.specs.rules.Decisions.{first_difference}
+use Rattle.cip_digraph.specs.rules.Orders.{all_tie, rule_1a}
+use Rattle.cip_mol.specs.declared.descriptor.Descriptor.{Descriptor}
+use Rattle.cip_mol.specs.declared.outcome.Rule.TheVariants.{R1a}
 use Rattle.cip_digraph.proofs.ExchangedOrders.{all_tie_total}
 use Rattle.cip_views.specs.RootKeys.{root_keys}
 use Rattle.cip_views.proofs.KeyOrders.{root_key_is}
 use Rattle.cip_views.proofs.SeenChildren.{seen_are}
-use Rattle.cip_aux.specs.Sights.{Sight, Shows, IsReal, path_at, seen_sides}
-use Rattle.cip_inside.specs.Near.{AreTold, AreTops}
+use Rattle.cip_aux.specs.Sights.{Sight, Shows, IsReal, path_at}
+use Rattle.cip_inside.specs.Near.{AreTops, AreFollowedFrom, seen_at, top_node}
 use Rattle.cip_inside.proofs.AwayNodes.{IsAway, away_below, height_away}
-use Rattle.cip_inside.proofs.FirstSides.{rule_side}
+use Rattle.cip_inside.proofs.Constituted.{place_low}
+use Rattle.cip_inside.proofs.HangingPlaces.{hanging}
+use Rattle.cip_ligands.specs.declared.asked.Asked.{Asked}
+use Rattle.cip_ligands.specs.Asking.{AreWithin, decided, found_between, with_found}
+use Rattle.cip_ligands.specs.Orders.{found_below}
+use Rattle.cip_ligands.proofs.FoundRules.{noted_next}
+use Rattle.cip_ligands.proofs.FoundWithin.{same_found}
+use Rattle.cip_ligands.proofs.RulesGoOn.{first_decides}
 
 -- Branches are ranked as Rule 1a does so far out. Each node has one place at most, and those of the last sphere are so
 -- far away.
@@ -44,6 +60,8 @@ pub record AreAround (sight : Sight) (way : List Bool) (from : ℕ) (tops : List
   pub followed : AreFollowed now
   pub decided : AreDecided (view_children sight.graph sight.positions (path_at sight.nodes from)) all_tie
       (λ node. pos (atomic_key sight.graph sight.positions node)) (node_at sight.nodes) now
+  pub numbered : AreDecided (kids_around (parents_of sight.told) way) all_tie (key_at (root_keys sight.told)) (λ n. n)
+      now
   pub seen : AreSeen (parents_of sight.told) way from now.first now.layers.kin.nodes
   pub away : (p : ℕ) → now.first ≤ p → p < length now.layers.kin.nodes
       → IsAway (children_seen (parents_of sight.told) from) from (suc now.last) (slice_index now.layers.kin.nodes p)
@@ -53,6 +71,27 @@ pub record AreAround (sight : Sight) (way : List Bool) (from : ℕ) (tops : List
   pub count : length now.wanted ≡ length tops
   pub begun : length tops ≤ length now.layers.kin.nodes
   pub top : (k : ℕ) → k < length tops → slice_index now.layers.kin.nodes k ≡ slice_index tops k
+
+-- so many depths of Rule 1a are noted between branches
+abbrev pub IsNoted : Sight → ℕ → List ℕ → ℕ → List Asked → List Asked → Type 0
+IsNoted sight from tops depths begin asked =
+    asked ≡ map (with_found (found_below R1a (comparison (view_children sight.graph sight.positions (path_at sight.nodes
+    from)) all_tie (λ node. pos (atomic_key sight.graph sight.positions node))) (top_node sight tops) depths)) begin
+
+map_same : (ns : List ℕ) → map (λ n. n) ns ≡ ns
+map_same [] = refl
+map_same (n ∷ ns) = ap (λ ms. n ∷ ms) (map_same ns)
+
+flag_low : (flags : List Bool) (k : ℕ) → has_flag flags k ≡ true → k < length flags
+flag_low [] k e = let bad : false ≡ true = e in cc
+flag_low (flag ∷ flags) zero e = omega arith
+flag_low (flag ∷ flags) (suc k) e = let lt = flag_low flags k e in omega (arith, lt)
+
+any_flag : (flags : List Bool) (k : ℕ) → has_flag flags k ≡ true → list_any (λ flag. flag) flags ≡ true
+any_flag [] k e = let bad : false ≡ true = e in cc
+any_flag (true ∷ flags) k e = refl
+any_flag (false ∷ flags) zero e = let bad : false ≡ true = e in cc
+any_flag (false ∷ flags) (suc k) e = any_flag flags k e
 
 all_among : (P : ℕ → Type 0) (ns : List ℕ) → ((n : ℕ) → IsAmong ns n → P n) → AllByRecursion P ns
 all_among P [] each = tt
@@ -165,6 +204,8 @@ module _ (sight : Sight) (shows : Shows sight) (from : ℕ) (real : IsReal sight
         decided = decided_first next all_tie (all_tie_total (seen_from sight.rules sight.graph sight.positions path
             (λ p. None))) (λ a b. refl) key named new tops keys begins followed first last chosen
             (λ k lt. named_key (slice_index tops k) (top_low k lt));
+        numbered = decided_first around all_tie (on_total (λ (n : ℕ). 0) nat_cmp_total) (λ a b. refl) (key_at keys)
+            (λ n. n) new tops keys begins followed first last chosen (λ k lt. refl);
         seen = subst (λ (ns : List ℕ). AreSeen parents way from new.first ns) (sym begins.nodes)
             (subst (λ n. AreSeen parents way from n tops) (sym first) seen_tops);
         away = λ p low lt.
@@ -236,6 +277,13 @@ module _ (sight : Sight) (shows : Shows sight) (from : ℕ) (real : IsReal sight
       same_key = named_key;
     }
 
+    -- and numbers name themselves
+    numbers : Names around all_tie (key_at keys) (λ n. n) old.layers old.wanted old.last (length parents) around keys
+    numbers = record {
+      told = λ place p. map_same (around (slice_index kin.nodes place));
+      same_key = λ n lt. refl;
+    }
+
     -- a child of a node so far away is a step further away
     all_away : (s n : ℕ) → IsAway (children_seen parents from) from s n
         → AllByRecursion (IsAway (children_seen parents from) from (suc s)) (around n)
@@ -279,6 +327,9 @@ module _ (sight : Sight) (shows : Shows sight) (from : ℕ) (real : IsReal sight
         decided = decided_after next all_tie (all_tie_total (seen_from sight.rules sight.graph sight.positions path
             (λ p. None))) (λ a b. refl) key named old was.decided (length parents) around keys (may some wide) names
             around_keyed new last chosen walks;
+        numbered = decided_after around all_tie (on_total (λ (n : ℕ). 0) nat_cmp_total) (λ a b. refl) (key_at keys)
+            (λ n. n) old was.numbered (length parents) around keys (may some wide) numbers around_keyed new last chosen
+            walks;
         seen = subst (λ n. AreSeen parents way from n new.layers.kin.nodes) (nodes_len ∙ sym first)
             (seen_next parents tree from inside way on old.first kin.nodes within was.seen old.wanted kin refl
             new.layers.kin.nodes listed);
@@ -299,18 +350,64 @@ module _ (sight : Sight) (shows : Shows sight) (from : ℕ) (real : IsReal sight
         top = λ k lt. old_node k (let before = was.begun in omega (arith, lt, before)) ∙ was.top k lt;
       }
 
-    -- what numbers tell, all rules tell
-    pub around_told : AreTold sight from tops old.layers.ranked.numbers
-    unfolding rule_1a
-    around_told = record {
-      each = λ p q lp lq differ mark r_first.
-          let seen : Seen Node = seen_from sight.rules sight.graph sight.positions path mark in
-          let count = was.count in
-          let told = was.decided.told p q (omega (arith, lp, count)) (omega (arith, lq, count)) in
-          let one = slice_index kin.nodes p in
-          let other = slice_index kin.nodes q in
-          ap (λ o. Some o) told
-          ∙ rule_side seen r_first (named one) (named other) old.last was.high (λ tied. differ (told ∙ tied))
-          ∙ ap (λ n. seen_sides sight from mark r_first n other) (was.top p lp)
-          ∙ ap (λ n. seen_sides sight from mark r_first (slice_index tops p) n) (was.top q lq);
-    }
+    -- the numbers of two branches compare as Rule 1a does so far out
+    around_tells : (a b : ℕ) → a < length tops → b < length tops
+        → by_number old.layers.ranked.numbers a b
+        ≡ comparison next all_tie key old.last (top_node sight tops a) (top_node sight tops b)
+    around_tells a b la lb =
+        let count = was.count in
+        was.decided.told a b (omega (arith, la, count)) (omega (arith, lb, count))
+        ∙ ap (λ n. comparison next all_tie key old.last (named n) (named (slice_index kin.nodes b))) (was.top a la)
+        ∙ ap (λ n. comparison next all_tie key old.last (top_node sight tops a) (named n)) (was.top b lb)
+
+    module _ (begin asked : List Asked) (within_all : AllByRecursion (AreWithin (length tops)) begin) where
+      -- what they tell is noted
+      pub more_noted : (new : List Asked) → IsNoted sight from tops old.last begin asked
+          → new ≡ map (with_found (found_between old.layers.ranked.numbers R1a old.last)) asked
+          → IsNoted sight from tops (old.last + 1) begin new
+      more_noted new before noted = noted_next R1a (comparison next all_tie key) (top_node sight tops)
+          old.layers.ranked.numbers (length tops) old.last around_tells begin asked new within_all before noted
+
+      ends : (list_any (λ flag. flag) old.wanted ≡ true → known ≤ old.first)
+          → IsEnded next (node_in named old) (WantedIn old) old.last
+      ends over = record {
+        none = λ place p.
+            let places = was.followed.places old.wanted in
+            let low = places.low place p.at in
+            let high = places.high place p.at in
+            let most = over (any_flag old.wanted (slice_index kin.branches place) p.chosen) in
+            absurd (omega (arith, low, high, most));
+      }
+
+      node_noted : (mark : List ℕ → Option Descriptor) → IsNoted sight from tops (old.last + 1) begin asked
+          → asked ≡ map (with_found (found_below R1a (rule_1a (seen_at sight from mark)) (node_in named old)
+          (old.last + 1))) begin
+      unfolding rule_1a
+      node_noted mark noted =
+          let found : ℕ → ℕ → ℕ → ℕ → Option Decision = λ m n a b. decided R1a (first_difference (λ depth.
+          comparison next all_tie key depth (named m) (named n)) 0 (old.last + 1)) in
+          noted ∙ same_found (found_below R1a (comparison next all_tie key) (top_node sight tops) (old.last + 1))
+          (found_below R1a (comparison next all_tie key) (node_in named old) (old.last + 1)) (AreWithin (length tops))
+          (λ one w. ap (λ n. found n (slice_index tops one.second) one.first one.second) (sym (was.top one.first w.0))
+          ∙ ap (λ n. found (slice_index kin.nodes one.first) n one.first one.second) (sym (was.top one.second w.1))) begin
+          within_all
+
+      -- where none of them goes on, pairs are decided by Rule 1a
+      pub around_followed : (list_any (λ flag. flag) old.wanted ≡ true → known ≤ old.first)
+          → IsNoted sight from tops (old.last + 1) begin asked → AreFollowedFrom sight from tops old begin asked
+      around_followed over noted = record {
+        placed = record {
+          followed = was.followed;
+          keyed = subst (λ n. AreKeyed n kin) (sym told_len) around_keyed;
+          few = let room = around_room in omega (arith, room, told_len);
+          top = was.top;
+          low = λ t place p.
+              let few = flag_low old.wanted (slice_index kin.branches place) p.chosen in
+              let count = was.count in
+              omega (arith, few, count);
+          hang = hanging parents tree from inside way on tops (key_at keys) old was.numbered was.count was.top
+              (λ t place p. node_low place (place_low old was.followed t place p.at));
+        };
+        decided = λ mark. first_decides (seen_at sight from mark) true named (node_in named old) (length tops) begin
+            within_all old was.decided (ends over) was.high (λ a. refl) was.count asked (node_noted mark noted);
+      }

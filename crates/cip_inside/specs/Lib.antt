@@ -1,8 +1,6 @@
 pub mod Asking
-pub mod Below
-pub mod Growing
-pub mod Laws
+pub mod Keys
+pub mod Marks
 pub mod Near
 pub mod NearColumns
-pub mod PrunerColumns
-pub mod Pruning
+pub mod Room

@@ -1,30 +1,33 @@
--- The ligands of a node seen from it, followed by Rule 1a, and what the numbers of their branches tell. Own.
-use Rattle.std.specs.Prelude.{◌≡◌, ◌<◌, ◌==◌, ◌++◌, ◌∷◌, ℕ, Bool, false, List, [], filter, length, map, None, Some, slice_index}
+-- The ligands of a node seen from it as branches, followed by Rule 1a, and what the rules of constitution decide between
+-- pairs of them. Own.
+use Rattle.std.specs.Prelude.{◌≡◌, ◌<◌, ◌≤◌, ◌==◌, ◌++◌, ◌∷◌, ℕ, Bool, true, false, cond, List, [], filter, length, map, None, Some, slice_index}
 use Rattle.std.specs.List.{list_any, range_with_len}
 use Rattle.std.specs.declared.option.Option.{Option}
-use Rattle.std.specs.declared.cmp.Ordering.{Ordering}
-use Rattle.std.specs.declared.cmp.Ordering.TheVariants.{Less, Equal, Greater}
 use Rattle.cip_aux.specs.Neighbours.{first_where}
-use Rattle.cip_aux.specs.Sights.{Sight, seen_sides}
-use Rattle.cip_digraph.specs.declared.decision.Decision.{Decision}
+use Rattle.cip_aux.specs.Sights.{Sight, path_at}
+use Rattle.cip_branches.specs.Deciding.{Branched, AreFollowed}
+use Rattle.cip_branches.specs.Passing.{AreKeyed}
+use Rattle.cip_branches.specs.Standing.{node_in, WantedIn}
+use Rattle.cip_digraph.specs.digraph.Digraph.{Node, is_real}
+use Rattle.cip_digraph.specs.digraph.NodeList.{parents_of}
+use Rattle.cip_digraph.specs.digraph.Telling.{node_at}
+use Rattle.cip_digraph.specs.digraph.View.{seen_from}
+use Rattle.cip_digraph.specs.rules.Decisions.{order}
+use Rattle.cip_digraph.specs.rules.Orders.{Seen, rule_1a}
 use Rattle.cip_mol.specs.declared.descriptor.Descriptor.{Descriptor}
-use Rattle.cip_rank.specs.Ranking.{by_number}
+use Rattle.cip_mol.specs.declared.outcome.Rule.TheVariants.{R1a, R1b, R2}
 use Rattle.cip_rank.specs.Tree.{children_of}
-use Rattle.cip_reroot.specs.View.{parent_list}
-use Rattle.cip_inside.specs.Asking.{asked_between, known}
-use Rattle.cip_views.specs.declared.asked.Asked.{Asked}
+use Rattle.cip_reroot.specs.View.{on_way, parent_list}
+use Rattle.cip_ligands.specs.declared.asked.Asked.{Asked}
+use Rattle.cip_ligands.specs.Asking.{with_found}
+use Rattle.cip_ligands.specs.Deciding.{AreDecidedBy, AreOfConstitution}
+use Rattle.cip_ligands.specs.Orders.{decided_in_turn}
 
--- the nodes at the tops of the branches that were followed, and their numbers
+-- the nodes at the tops of branches, and the branches as they stand
 pub record Nearing : Type 0 where
   pub bound : ℕ
   pub tops : List ℕ
-  pub numbers : List ℕ
-
--- tops whose numbers differ are told apart by all rules, whichever descriptors there are
-pub record AreTold (sight : Sight) (node : ℕ) (tops numbers : List ℕ) : Type 0 where
-  pub each : (p q : ℕ) → p < length tops → q < length tops → (by_number numbers p q ≡ Equal → ⊥)
-      → (mark : List ℕ → Option Descriptor) (r_first : Bool)
-      → Some (by_number numbers p q) ≡ seen_sides sight node mark r_first (slice_index tops p) (slice_index tops q)
+  pub now : Branched
 
 abbrev pub is_ligand : ℕ → Option ℕ → Bool
 is_ligand node None = false
@@ -44,35 +47,56 @@ pub record AreTops (parents : List ℕ) (node : ℕ) (tops : List ℕ) : Type 0 
 abbrev pub branch_of : List ℕ → ℕ → Option ℕ
 branch_of tops ligand = first_where (λ branch. slice_index tops branch == ligand) (range_with_len 0 (length tops))
 
--- what numbers decide, by Rule 1a; the sphere isn't told
-abbrev pub decided_by : Ordering → Option Decision
-decided_by Less = known Less
-decided_by Equal = None
-decided_by Greater = known Greater
+-- the digraph seen from a node, with descriptors of real nodes by their paths
+abbrev pub seen_at : Sight → ℕ → (List ℕ → Option Descriptor) → Seen Node
+seen_at sight node mark = seen_from sight.rules sight.graph sight.positions (path_at sight.nodes node) mark
 
-abbrev pub found_between : List ℕ → Option ℕ → Option ℕ → Option Decision
-found_between numbers None other = None
-found_between numbers (Some one) None = None
-found_between numbers (Some one) (Some other) = decided_by (by_number numbers one other)
+abbrev pub marked_by : (List ℕ → Option Descriptor) → Node → Option Descriptor
+marked_by mark node = cond (is_real node.kind) (mark node.path) None
 
--- of two ligands by number
-abbrev pub found_near : Nearing → ℕ → ℕ → Option Decision
-found_near near one other = found_between near.numbers (branch_of near.tops one) (branch_of near.tops other)
+-- the node at the top of a branch
+abbrev pub top_node : Sight → List ℕ → ℕ → Node
+top_node sight tops branch = node_at sight.nodes (slice_index tops branch)
 
--- two ligands by number, and what is found of them: a lone pair is below every node
-abbrev pub near_asked : (ℕ → ℕ → Option Decision) → Option ℕ → Option ℕ → Asked
-near_asked find None None = asked_between 0 0 None
-near_asked find None (Some b) = asked_between 0 0 (known Less)
-near_asked find (Some a) None = asked_between 0 0 (known Greater)
-near_asked find (Some a) (Some b) = asked_between a b (find a b)
+-- below a child of the node a wanted branch has nodes that hang below that child
+pub record HangBelow (parents : List ℕ) (node : ℕ) (tops : List ℕ) (now : Branched) : Type 0 where
+  pub each : (t place : ℕ) → WantedIn now t place → 0 < slice_index tops (slice_index now.layers.kin.branches place)
+      → slice_index parents (slice_index tops (slice_index now.layers.kin.branches place)) ≡ node
+      → on_way parents (slice_index now.layers.kin.nodes place)
+      (slice_index tops (slice_index now.layers.kin.branches place)) ≡ true
 
-abbrev pub near_pairs : (ℕ → ℕ → Option Decision) → List (Option ℕ) → List Asked
-near_pairs find [] = []
-near_pairs find (ligand ∷ ligands) = map (near_asked find ligand) ligands ++ near_pairs find ligands
+-- Each place has a node of the digraph, the first ones those at the tops.
+pub record ArePlaced (sight : Sight) (node : ℕ) (tops : List ℕ) (now : Branched) : Type 0 where
+  pub followed : AreFollowed now
+  pub keyed : AreKeyed (length sight.told) now.layers.kin
+  pub few : length now.layers.kin.ups ≤ length sight.told
+  pub top : (k : ℕ) → k < length tops → slice_index now.layers.kin.nodes k ≡ slice_index tops k
+  pub low : (t place : ℕ) → WantedIn now t place → slice_index now.layers.kin.branches place < length tops
+  pub hang : HangBelow (parents_of sight.told) node tops now
 
--- each two ligands by number, and what is found of them where it is what all rules find
-pub record AreNear (sight : Sight) (node : ℕ) (ligands : List (Option ℕ)) (pairs : List Asked) : Type 0 where
-  pub find : ℕ → ℕ → Option Decision
-  pub right : (a b : ℕ) (decision : Decision) → find a b ≡ Some decision → (mark : List ℕ → Option Descriptor)
-      (r_first : Bool) → Some decision.side ≡ seen_sides sight node mark r_first a b
-  pub found : pairs ≡ near_pairs find ligands
+-- branches of a node's neighbours that were followed by Rule 1a, and pairs of them, which are decided by it, whichever
+-- descriptors there are
+pub record AreFollowedFrom (sight : Sight) (node : ℕ) (tops : List ℕ) (now : Branched) (begin asked : List Asked) : Type
+    0 where
+  pub placed : ArePlaced sight node tops now
+  pub decided : (mark : List ℕ → Option Descriptor) → AreDecidedBy (seen_at sight node mark) true (node_at sight.nodes)
+      (node_in (node_at sight.nodes) now) (length tops) begin (R1a ∷ [])
+      (rule_1a (seen_at sight node mark) (seen_at sight node mark).height) now asked
+
+-- Rules 1b and 2 were taken too, as far as a pair was undecided: pairs are decided by constitution
+pub record AreConstituted (sight : Sight) (node : ℕ) (tops : List ℕ) (now : Branched) (begin asked : List Asked) : Type
+    0 where
+  pub placed : ArePlaced sight node tops now
+  pub decided : (mark : List ℕ → Option Descriptor) → AreOfConstitution (seen_at sight node mark)
+      (node_at sight.nodes) (node_in (node_at sight.nodes) now) (length tops) begin now asked
+  pub noted : (mark : List ℕ → Option Descriptor) → asked
+      ≡ map (with_found (decided_in_turn (seen_at sight node mark) true (R1a ∷ R1b ∷ R2 ∷ []) (top_node sight tops)))
+      begin
+
+-- each pair has the order of the nodes at the tops of its branches, with R and with S first in the last rule
+pub record AreOrdered (sight : Sight) (node : ℕ) (mark : List ℕ → Option Descriptor) (tops : List ℕ)
+    (begin asked turned : List Asked) : Type 0 where
+  pub natural : asked ≡ map (with_found (λ a b. order (seen_at sight node mark) true (top_node sight tops a)
+      (top_node sight tops b))) begin
+  pub other : turned ≡ map (with_found (λ a b. order (seen_at sight node mark) false (top_node sight tops a)
+      (top_node sight tops b))) begin

@@ -4,11 +4,11 @@ use Rattle.cip_inside.specs.Near.{Nearing}
 use Rattle.cip_inside.specs.declared.near.Near.TheInside.{Inside}
 
 abbrev pub nearing_of : Inside → Nearing
-nearing_of a = record { bound = a.bound; tops = a.tops.items; numbers = a.branches.layers.ranked.numbers }
+nearing_of a = record { bound = a.bound; tops = a.tops.items; now = a.branches }
 
 -- there is room for all nodes, and no flag is set
 pub record HaveRoom (a : Inside) : Type 0 where
-  pub few : a.bound + 1 < 2 ^ 32
+  pub few : a.bound < 2 ^ 31
   pub branches : a.branches.layers.kin.room ≡ a.bound
   pub tops : a.tops.room ≡ a.bound + 1
   pub way : a.bound ≤ vec_capacity a.way

@@ -1,14 +1,17 @@
-// Pairs of ligands that are asked about in a view.
-ghost use Rattle.std.specs.Prelude.{◌≡◌, ◌<◌, ◌++◌, All, IfOk, IfSome, OnOk, Some, length, map};
-ghost use Rattle.cip_inside.specs.Asking.{asked_between, known, asked_of, asked_pairs, side_at};
+// Pairs of ligands that are asked about, by their branches.
+ghost use Rattle.std.specs.Prelude.{◌≡◌, ◌++◌, IfOk, OnOk, Some, None, map};
+ghost use Rattle.cip_inside.specs.Asking.{asked_between, known, asked_of, asked_pairs, branch_at, side_at};
 
+use crate::near::Near;
+use cip_aux::{BothSides, MOST_PAIRS};
 use cip_digraph::Decision;
+use cip_ligands::Asked;
 use cip_mol::Rule;
-use cip_views::{Asked, Views};
+use smallvec::SmallVec;
 use std::alloc::{AllocError, Global};
 use std::cmp::Ordering;
 
-/// Two places, of which nothing is known.
+/// Two of so many, of which nothing is known.
 pub fn open_pair(first: u32, second: u32) -> Asked
     ensures { result ≡ asked_between first second None }
 {
@@ -19,8 +22,8 @@ pub fn open_pair(first: u32, second: u32) -> Asked
     }
 }
 
-/// By Rule 1a, in a sphere that isn't told.
-pub fn known_side(side: Ordering) -> Decision
+// By Rule 1a, in a sphere that isn't told.
+fn known_side(side: Ordering) -> Decision
     ensures { Some result ≡ known side }
 {
     Decision {
@@ -41,13 +44,20 @@ pub fn known_pair(side: Ordering) -> Asked
     }
 }
 
-fn ask(views: &Views, one: Option<u32>, other: Option<u32>) -> Asked
-    requires one { IfSome one (λ n. n < length views.now.view.places) }
-    requires other { IfSome other (λ n. n < length views.now.view.places) }
-    ensures { result ≡ asked_of views.now.view.places one other }
+fn branch_at(near: &Near, ligand: u32) -> u32
+    ensures { result ≡ branch_at near.now.tops ligand }
+{
+    match near.branch(ligand) {
+        Some(branch) => branch,
+        None => 0,
+    }
+}
+
+fn ask(near: &Near, one: Option<u32>, other: Option<u32>) -> Asked
+    ensures { result ≡ asked_of near.now.tops one other }
 {
     match (one, other) {
-        (Some(one), Some(other)) => open_pair(views.place(one), views.place(other)),
+        (Some(one), Some(other)) => open_pair(branch_at(near, one), branch_at(near, other)),
         (Some(_), None) => known_pair(Ordering::Greater),
         (None, Some(_)) => known_pair(Ordering::Less),
         (None, None) => open_pair(0, 0),
@@ -55,17 +65,15 @@ fn ask(views: &Views, one: Option<u32>, other: Option<u32>) -> Asked
 }
 
 fn ask_row(
-    views: &Views,
+    near: &Near,
     one: Option<u32>,
     others: &[Option<u32>],
-    pairs: &mut Vec<Asked>,
+    pairs: &mut SmallVec<Asked, MOST_PAIRS>,
 ) -> Result<(), AllocError>
-    requires one { IfSome one (λ n. n < length views.now.view.places) }
-    requires others { All (λ other. IfSome other (λ n. n < length views.now.view.places)) others.now }
-    ensures { OnOk result (pairs.new.items ≡ pairs.old.items ++ map (asked_of views.now.view.places one) others.now) }
+    ensures { OnOk result (pairs.new.items ≡ pairs.old.items ++ map (asked_of near.now.tops one) others.now) }
 {
     for other in others {
-        pairs.push(ask(views, one, *other))?;
+        pairs.push(ask(near, one, *other))?;
     }
     Ok(())
 }
@@ -73,16 +81,15 @@ fn ask_row(
 /// Each two ligands, to be asked about.
 pub fn ask_all(
     alloc: Global,
-    views: &Views,
+    near: &Near,
     ligands: &[Option<u32>],
-) -> Result<Vec<Asked>, AllocError>
-    requires { All (λ other. IfSome other (λ n. n < length views.now.view.places)) ligands.now }
-    ensures { IfOk result (λ pairs. pairs.items ≡ asked_pairs views.now.view.places ligands.now) }
+) -> Result<SmallVec<Asked, MOST_PAIRS>, AllocError>
+    ensures { IfOk result (λ pairs. pairs.items ≡ asked_pairs near.now.tops ligands.now) }
 {
-    let mut pairs = Vec::new(alloc);
+    let mut pairs = SmallVec::new(alloc);
     let mut rest = ligands;
     while let [one, others @ ..] = rest {
-        ask_row(views, *one, others, &mut pairs)?;
+        ask_row(near, *one, others, &mut pairs)?;
         rest = others;
     }
     Ok(pairs)
@@ -94,13 +101,27 @@ fn side(asked: Asked) -> Option<Ordering>
     Some(asked.decision?.side)
 }
 
-/// What is decided between pairs.
-pub fn sides(alloc: Global, pairs: &[Asked]) -> Result<Vec<Option<Ordering>>, AllocError>
+// What is decided between pairs.
+fn sides(
+    alloc: Global,
+    pairs: &[Asked],
+) -> Result<SmallVec<Option<Ordering>, MOST_PAIRS>, AllocError>
     ensures { IfOk result (λ found. found.items ≡ map side_at pairs.now) }
 {
-    let mut found = Vec::new(alloc);
+    let mut found = SmallVec::new(alloc);
     for pair in pairs {
         found.push(side(*pair))?;
     }
     Ok(found)
+}
+
+/// What is decided between pairs, with R and with S first in the last rule.
+pub fn both_sides(alloc: Global, pairs: &[Asked], turned: &[Asked]) -> Result<BothSides, AllocError>
+    ensures natural { IfOk result (λ found. found.natural.items ≡ map side_at pairs.now) }
+    ensures turned { IfOk result (λ found. found.turned.items ≡ map side_at turned.now) }
+{
+    Ok(BothSides {
+        natural: sides(alloc, pairs)?,
+        turned: sides(alloc, turned)?,
+    })
 }

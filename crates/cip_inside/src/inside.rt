@@ -8,7 +8,7 @@ ghost use Rattle.cip_aux.specs.Sights.{sight_of};
 use crate::sights::Sights;
 use cip_aux::{UnitsAt, Whole, auxiliaries};
 use cip_digraph::Nodes;
-use cip_pairs::Descriptors;
+use cip_ligands::Descriptors;
 use std::alloc::{AllocError, Global};
 
 /// Puts the descriptors of those nodes of a whole digraph that are wanted into memory that was reserved, and none for
@@ -23,9 +23,9 @@ pub fn descriptors_where<N: Nodes>(
 ) -> Result<(), AllocError>
     requires sites { map (λ unit. unit.site) units.now ≡ sites_of whole.now.graph whole.now.positions }
     requires wanted { AreWanted (parents_of whole.now.told) wanted.now }
-    requires room { length whole.now.told ≤ sights.old.views.bound }
+    requires room { length whole.now.told ≤ sights.old.bound }
     requires bound { length whole.now.told ≤ marks.old.bound }
-    ensures room { sights.new.views.bound ≡ sights.old.views.bound }
+    ensures room { sights.new.bound ≡ sights.old.bound }
     ensures bound { marks.new.bound ≡ marks.old.bound }
     ensures marks { OnOk result (AreMarked (sight_of whole.now) units.now wanted.now 0 marks.new.marks) }
 {
@@ -47,9 +47,9 @@ pub fn descriptors_inside<N: Nodes>(
     marks: &mut Descriptors,
 ) -> Result<(), AllocError>
     requires sites { map (λ unit. unit.site) units.now ≡ sites_of whole.now.graph whole.now.positions }
-    requires room { length whole.now.told ≤ sights.old.views.bound }
+    requires room { length whole.now.told ≤ sights.old.bound }
     requires bound { length whole.now.told ≤ marks.old.bound }
-    ensures room { sights.new.views.bound ≡ sights.old.views.bound }
+    ensures room { sights.new.bound ≡ sights.old.bound }
     ensures bound { marks.new.bound ≡ marks.old.bound }
     ensures marks { OnOk result (marks.new.marks
         ≡ map (node_mark (sight_of whole.now) units.now) (sight_of whole.now).nodes) }

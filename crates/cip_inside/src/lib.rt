@@ -1,21 +1,21 @@
-//! Descriptors inside a whole digraph, by its views in tables: from nearby, pruned to what is below a node and the way
-//! to the root, and whole.
+//! Descriptors inside a whole digraph, by the branches of nodes' ligands.
 #![tactic(auto)]
 
 mod asking;
-mod below;
-mod growing;
+mod constituting;
+mod distances;
+mod flagging;
+mod following;
 mod inside;
-mod laws;
+mod marks_inside;
+mod masses;
 mod near;
-mod pruned;
-mod pruner;
 mod sights;
-mod way;
+mod tops;
 
+pub use distances::Distances;
 pub use inside::{descriptors_inside, descriptors_where};
-pub use laws::{pruned_digraphs_are_ready, pruned_digraphs_are_seen, whole_digraphs_ascend};
+pub use marks_inside::MarksInside;
+pub use masses::Masses;
 pub use near::Near;
-pub use pruned::Pruned;
-pub use pruner::Pruner;
 pub use sights::Sights;

@@ -1,23 +1,32 @@
-// The ligands of a node seen from it, followed by Rule 1a as long as two of them tie.
-ghost use Rattle.std.specs.Prelude.{◌≡◌, ◌<◌, ◌≤◌, ◌+◌, ◌^◌, ◌∷◌, ◌++◌, [], ℕ, true, filter, length, map};
-ghost use Rattle.std.specs.Prelude.{IfOk, OnOk};
-ghost use Rattle.std.specs.List.{list_any};
+// The ligands of a node seen from it, as branches.
+ghost use Rattle.std.specs.Prelude.{◌≡◌, ◌<◌, ◌≤◌, ◌^◌, [], ℕ, List, true, false, All, IfOk, length, slice_index};
+ghost use Rattle.std.specs.List.{AllByRecursion, list_all};
+ghost use Rattle.std.specs.declared.option.Option.{Option};
+ghost use Rattle.cip_mol.specs.declared.descriptor.Descriptor.{Descriptor as AnyDescriptor};
+ghost use Rattle.cip_branches.specs.Deciding.{AreFollowed};
+ghost use Rattle.cip_branches.specs.Passing.{AreKeyed};
+ghost use Rattle.cip_digraph.specs.digraph.Telling.{node_at};
+ghost use Rattle.cip_ligands.specs.Marked.{AreMarksOf};
+ghost use Rattle.cip_aux.specs.Sights.{Sight};
 ghost use Rattle.cip_aux.specs.Sights.{IsReal, sight_of};
-ghost use Rattle.cip_branches.specs.Parting.{has_flag};
 ghost use Rattle.cip_digraph.specs.digraph.NodeList.{parents_of};
-ghost use Rattle.cip_reroot.specs.View.{on_way};
-ghost use Rattle.cip_inside.specs.Near.{AreTold, AreTops, is_ligand, asked_tops, branch_of, decided_by, found_near};
-ghost use Rattle.cip_inside.specs.Near.{near_asked, near_pairs};
+ghost use Rattle.cip_aux.specs.Marking.{AreWanted, flag_at};
+ghost use Rattle.cip_branches.specs.Parting.{has_flag};
+ghost use Rattle.cip_branches.specs.Standing.{WantedIn};
+ghost use Rattle.cip_ligands.specs.declared.asked.Asked.{Asked as AnyAsked};
+ghost use Rattle.cip_ligands.specs.Asking.{AreWithin, is_decided};
+ghost use Rattle.cip_inside.specs.Near.{AreConstituted, AreOrdered, AreTops, asked_tops, branch_of, marked_by};
 
-use crate::asking::{known_pair, known_side, open_pair};
+use crate::constituting::constitute;
+use crate::flagging::{are_behind, flag_below, flag_tops};
+use crate::tops::{branch_of, fill_tops};
 use cip_aux::Whole;
-use cip_branches::{Around, Branches, Column};
-use cip_digraph::{Decision, Nodes};
-use cip_rank::{Table, both};
-use cip_reroot::marks::{cover, mark_way, parent_of, take_off};
-use cip_views::{Asked, RootKeys};
+use cip_branches::{Branches, Column};
+use cip_digraph::Nodes;
+use cip_ligands::{Asked, Marked, Readings, decide_configuration};
+use cip_rank::both;
+use cip_reroot::marks::{cover, mark_way, take_off};
 use std::alloc::{AllocError, Global};
-use std::cmp::Ordering;
 use std::marker::Model;
 
 /// The branches of a node's ligands, in memory that is taken at once.
@@ -43,101 +52,10 @@ impl Model for Near {
     ghost invariant = { HaveRoom };
 }
 
-fn is_asked(ligands: &[Option<u32>], node: u32) -> bool
-    ensures { result ≡ list_any (is_ligand node) ligands.now }
-{
-    ligands.iter().any(|ligand| *ligand == Some(node))
-}
-
-fn push_if_asked(tops: &mut Column<u32>, ligands: &[Option<u32>], node: u32)
-    requires { length tops.old.items < tops.old.room }
-    ensures { tops.new ≡ record tops.old {
-      items = tops.old.items ++ filter (λ top. list_any (is_ligand top) ligands.now) (node ∷ []);
-    } }
-{
-    if is_asked(ligands, node) {
-        tops.push(node);
-    }
-}
-
-// The neighbours of a node that are asked about.
-fn fill_tops(tops: &mut Column<u32>, table: &Table, node: u32, ligands: &[Option<u32>])
-    requires node { node < length table.now.parents }
-    requires room { length table.now.parents < tops.old.room }
-    ensures { tops.new ≡ record tops.old { items = asked_tops table.now.parents ligands.now node } }
-{
-    tops.clear();
-    let (first, past) = table.children(node);
-    for child in first..past {
-        push_if_asked(tops, ligands, child);
-    }
-    if node > 0 {
-        push_if_asked(tops, ligands, parent_of(table, node));
-    }
-}
-
-// Whether some branches tie and go on.
-fn goes_on(branches: &Branches) -> bool
-    ensures { result ≡ true → branches.now.first < length branches.now.layers.kin.ups }
-{
-    branches.any_wanted() && branches.first() < branches.len()
-}
-
-// Follows the branches below some neighbours of a node, as it is seen by these flags of the way there.
-fn follow_all<N: Nodes>(
-    branches: &mut Branches,
-    whole: &Whole<'_, N>,
-    way: &[bool],
-    node: u32,
-    tops: &[u32],
-)
-    requires room { length whole.now.told ≤ branches.old.layers.kin.room }
-    requires few { branches.old.layers.kin.room + 1 < 2 ^ 32 }
-    requires real { IsReal (sight_of whole.now).nodes node }
-    requires way { (x : ℕ) → x < length (parents_of whole.now.told)
-        → has_flag way.now x ≡ on_way (parents_of whole.now.told) node x }
-    requires tops { AreTops (parents_of whole.now.told) node tops.now }
-    ensures told { AreTold (sight_of whole.now) node tops.now branches.new.layers.ranked.numbers }
-    ensures room { branches.new.layers.kin.room ≡ branches.old.layers.kin.room }
-{
-    let nodes = whole.nodes();
-    let table = nodes.table();
-    let keys = RootKeys { nodes };
-    let around = Around { table, way };
-    let _count = table.len();
-    branches.begin(tops, &keys);
-    while goes_on(branches) {
-        branches.follow(&around, &keys);
-    }
-}
-
-// The branch of a ligand.
-fn branch_of(tops: &[u32], ligand: u32) -> Option<u32>
-    requires { length tops.now < 2 ^ 32 }
-    ensures { result ≡ branch_of tops.now ligand }
-{
-    for branch in 0..tops.len() as u32 {
-        if tops[branch as usize] == ligand {
-            return Some(branch);
-        }
-    }
-    None
-}
-
-// What numbers decide. The sphere isn't told.
-fn decided(side: Ordering) -> Option<Decision>
-    ensures { result ≡ decided_by side }
-{
-    match side {
-        Ordering::Less | Ordering::Greater => Some(known_side(side)),
-        Ordering::Equal => None,
-    }
-}
-
 impl Near {
     /// No branches, and room for digraphs of `bound` nodes.
     pub fn reserve(alloc: Global, bound: u32) -> Result<Near, AllocError>
-        requires { bound + 1 < 2 ^ 32 }
+        requires { bound < 2 ^ 31 }
         ensures { IfOk result (λ near. near.bound ≡ bound) }
     {
         let way = Vec::with_capacity(alloc, bound as usize)?;
@@ -158,80 +76,114 @@ impl Near {
         self.bound
     }
 
-    /// Follows those ligands of a real node that are next to it, seen from it, as long as two of them tie by Rule 1a.
+    /// Takes those ligands of a node that are next to it as branches.
+    pub fn begin<N: Nodes>(&mut self, whole: &Whole<'_, N>, node: u32, ligands: &[Option<u32>])
+        requires room { length whole.now.told ≤ self.old.bound }
+        requires node { node < length whole.now.told }
+        ensures { self.new ≡ record self.old { tops = asked_tops (parents_of whole.now.told) ligands.now node } }
+    {
+        fill_tops(&mut self.tops, whole.nodes().table(), node, ligands);
+    }
+
+    /// The branch of a ligand that is next to the node.
+    pub fn branch(&self, ligand: u32) -> Option<u32>
+        ensures { result ≡ branch_of self.now.tops ligand }
+    {
+        let _count = self.tops.len();
+        branch_of(self.tops.as_slice(), ligand)
+    }
+
+    /// Whether there are no branches.
+    pub fn is_empty(&self) -> bool
+        ensures some { result ≡ false → 0 < length self.now.tops }
+        ensures none { result ≡ true → self.now.tops ≡ [] }
+    {
+        self.tops.len() == 0
+    }
+
+    /// Follows the branches of a real node by Rule 1a, and takes Rules 1b and 2 as long as a pair of them is undecided:
+    /// what constitution decides, seen from the node. Says whether all pairs are decided. What was decided before stays.
     /// No memory is taken.
-    pub fn follow<N: Nodes>(&mut self, whole: &Whole<'_, N>, node: u32, ligands: &[Option<u32>])
+    pub fn constitution<N: Nodes>(
+        &mut self,
+        whole: &Whole<'_, N>,
+        node: u32,
+        asked: &mut [Asked],
+    ) -> bool
         requires room { length whole.now.told ≤ self.old.bound }
         requires real { IsReal (sight_of whole.now).nodes node }
-        ensures told { AreTold (sight_of whole.now) node self.new.tops self.new.numbers }
+        requires tops { AreTops (parents_of whole.now.told) node self.old.tops }
+        requires within { All (AreWithin (length self.old.tops)) asked.old }
+        ensures constituted { AreConstituted (sight_of whole.now) node self.new.tops self.new.now asked.old asked.new }
+        ensures all { result ≡ list_all is_decided asked.new }
+        ensures tops { self.new.tops ≡ self.old.tops }
         ensures bound { self.new.bound ≡ self.old.bound }
     {
         let table = whole.nodes().table();
         cover(&mut self.way, table.len());
         mark_way(table, node, &mut self.way);
-        fill_tops(&mut self.tops, table, node, ligands);
-        follow_all(
+        let done = constitute(
             &mut self.branches,
             whole,
             &self.way,
             node,
             self.tops.as_slice(),
+            asked,
         );
         take_off(table, node, &mut self.way);
+        done
     }
 
-    // What the numbers of two ligands' branches decide.
-    fn found(&self, one: u32, other: u32) -> Option<Decision>
-        ensures { result ≡ found_near self.now one other }
+    /// Flags the nodes of those branches of a root that are wanted still, since another one ties with them.
+    pub fn flag_wanted<N: Nodes>(&self, whole: &Whole<'_, N>, flags: &mut [bool])
+        requires len { length flags.old ≡ length whole.now.told }
+        requires tops { AreTops (parents_of whole.now.told) 0 self.now.tops }
+        ensures wanted { AreWanted (parents_of whole.now.told) flags.new }
+        ensures flagged { (begin asked : List AnyAsked)
+            → AreConstituted (sight_of whole.now) 0 self.now.tops self.now.now begin asked
+            → (t place : ℕ) → WantedIn self.now.now t place
+            → flag_at flags.new (slice_index self.now.now.layers.kin.nodes place) ≡ true }
+        ensures len { length flags.new ≡ length flags.old }
+    {
+        let table = whole.nodes().table();
+        let _count = self.tops.len();
+        flags.fill(false);
+        flag_tops(&self.branches, self.tops.as_slice(), flags);
+        flag_below(table, flags);
+    }
+
+    /// Whether all branches that are wanted still lead to children of the node that they were followed from.
+    pub fn leads_down(&self, node: u32) -> bool
+        ensures { result ≡ true → (branch : ℕ) → branch < length self.now.tops
+            → has_flag self.now.now.wanted branch ≡ true → node < slice_index self.now.tops branch }
     {
         let _count = self.tops.len();
-        let tops = self.tops.as_slice();
-        match (branch_of(tops, one), branch_of(tops, other)) {
-            (Some(one), Some(other)) => decided(self.branches.order(one, other)),
-            (Some(_), None) | (None, _) => None,
-        }
+        are_behind(&self.branches, self.tops.as_slice(), node)
     }
 
-    fn ask(&self, one: Option<u32>, other: Option<u32>) -> Asked
-        ensures { result ≡ near_asked (found_near self.now) one other }
+    /// Takes Rules 3 to 5 where constitution leaves a pair undecided, the last one both ways, by the descriptors of the
+    /// nodes in the branches that are wanted still. What was decided before stays. No memory is taken.
+    pub fn configuration<M: Marked>(
+        &mut self,
+        readings: &mut Readings,
+        marks: &M,
+        asked: &mut [Asked],
+        turned: &mut [Asked],
+    )
+        requires followed { AreFollowed self.old.now }
+        requires keyed { AreKeyed (length (M.marks marks.now)) self.old.now.layers.kin }
+        requires room { length self.old.now.layers.kin.ups ≤ readings.old.bound }
+        requires len { length turned.old ≡ length asked.old }
+        ensures decided { (sight : Sight) (node : ℕ) (begin : List AnyAsked) (mark : List ℕ → Option AnyDescriptor)
+            → AllByRecursion (AreWithin (length self.old.tops)) begin
+            → AreConstituted sight node self.old.tops self.old.now begin asked.old
+            → list_all is_decided asked.old ≡ false
+            → AreMarksOf (node_at sight.nodes) (marked_by mark) (M.marks marks.now) self.old.now
+            → AreOrdered sight node mark self.old.tops begin asked.new turned.new }
+        ensures tops { self.new.tops ≡ self.old.tops }
+        ensures bound { self.new.bound ≡ self.old.bound }
+        ensures readings { readings.new.bound ≡ readings.old.bound }
     {
-        match (one, other) {
-            (Some(one), Some(other)) => Asked {
-                first: one,
-                second: other,
-                decision: self.found(one, other),
-            },
-            (Some(_), None) => known_pair(Ordering::Greater),
-            (None, Some(_)) => known_pair(Ordering::Less),
-            (None, None) => open_pair(0, 0),
-        }
-    }
-
-    fn ask_row(
-        &self,
-        one: Option<u32>,
-        others: &[Option<u32>],
-        pairs: &mut Vec<Asked>,
-    ) -> Result<(), AllocError>
-        ensures { OnOk result (pairs.new.items
-            ≡ pairs.old.items ++ map (near_asked (found_near self.now) one) others.now) }
-    {
-        for other in others {
-            pairs.push(self.ask(one, *other))?;
-        }
-        Ok(())
-    }
-
-    /// Each two ligands by number, and what was found of them.
-    pub fn ask_all(&self, alloc: Global, ligands: &[Option<u32>]) -> Result<Vec<Asked>, AllocError>
-        ensures { IfOk result (λ pairs. pairs.items ≡ near_pairs (found_near self.now) ligands.now) }
-    {
-        let mut pairs = Vec::new(alloc);
-        let mut rest = ligands;
-        while let [one, others @ ..] = rest {
-            self.ask_row(*one, others, &mut pairs)?;
-            rest = others;
-        }
-        Ok(pairs)
+        decide_configuration(&mut self.branches, readings, marks, asked, turned);
     }
 }

@@ -1,139 +1,200 @@
-// Whole digraphs looked at by views in tables.
-ghost use Rattle.std.specs.Prelude.{◌≡◌, ◌≤◌, ℕ, List, true, false, length, map, IfOk, IfSome};
-ghost use Rattle.std.specs.List.{list_all};
+// Whole digraphs looked at by the branches of nodes' ligands.
+ghost use Rattle.std.specs.Prelude.{◌≡◌, ◌<◌, ◌≤◌, ◌^◌, ℕ, List, true, false, All, Contains, IfOk, IfSome, length, map, slice_index};
+ghost use Rattle.std.specs.List.{AllByRecursion, list_all};
 ghost use Rattle.std.specs.declared.option.Option.{Option};
+ghost use Rattle.cip_branches.specs.Deciding.{AreFollowed};
+ghost use Rattle.cip_branches.specs.Parting.{has_flag};
+ghost use Rattle.cip_branches.specs.Passing.{AreKeyed};
+ghost use Rattle.cip_mol.specs.declared.descriptor.Descriptor.{Descriptor as AnyDescriptor};
 ghost use Rattle.cip_digraph.specs.digraph.NodeList.{parents_of};
+ghost use Rattle.cip_digraph.specs.digraph.Telling.{node_at};
+ghost use Rattle.cip_ligands.specs.declared.asked.Asked.{Asked as AnyAsked};
+ghost use Rattle.cip_ligands.specs.Asking.{AreWithin, is_decided};
+ghost use Rattle.cip_ligands.specs.Marked.{AreMarksOf};
 ghost use Rattle.cip_aux.specs.Early.{AreEarly};
-ghost use Rattle.cip_aux.specs.Inner.{Ready};
-ghost use Rattle.cip_aux.specs.Sights.{IsReal, sight_of};
-ghost use Rattle.cip_inside.specs.Asking.{table_sides, side_at};
-ghost use Rattle.cip_inside.specs.Near.{AreNear};
-ghost use Rattle.cip_inside.specs.Below.{IsSeenBelow, below_side, is_told_below};
-ghost use Rattle.cip_views.specs.RuleKeys.{IsReady};
+ghost use Rattle.cip_aux.specs.Inner.{AgreesInside, Ready};
+ghost use Rattle.cip_aux.specs.Neighbours.{neighbours_of};
+ghost use Rattle.cip_aux.specs.Sights.{Sight};
+ghost use Rattle.cip_inside.specs.Asking.{asked_pairs, side_at};
+ghost use Rattle.cip_inside.specs.Near.{AreConstituted, AreOrdered, ArePlaced, AreTops};
+ghost use Rattle.cip_inside.specs.Near.{asked_tops, marked_by};
 
-use crate::asking::{ask_all, sides};
-use crate::below::{are_decided, are_told_below, place_all};
+use crate::asking::{ask_all, both_sides};
+use crate::marks_inside::MarksInside;
 use crate::near::Near;
-use crate::pruned::Pruned;
-use crate::pruner::Pruner;
-use cip_aux::{BothSides, Inner, Viewer, Whole};
+use cip_aux::{BothSides, Inner, MOST_PAIRS, Viewer};
 use cip_digraph::Nodes;
-use cip_views::{Asked, Views};
+use cip_ligands::{Asked, Marked, Readings};
+use cip_rank::both;
+use smallvec::SmallVec;
 use std::alloc::{AllocError, Global};
+use std::marker::Model;
 
-/// What looks at digraphs by views, in their memory.
+/// What looks at digraphs, in memory that is taken at once.
 #[derive(Drop)]
 pub struct Sights {
-    pub near: Near,
-    pub views: Views,
-    pub pruner: Pruner,
+    near: Near,
+    readings: Readings,
 }
 
-fn both(alloc: Global, asked: &[Asked], turned: &[Asked]) -> Result<BothSides, AllocError>
-    ensures natural { IfOk result (λ found. found.natural.items ≡ map side_at asked.now) }
-    ensures turned { IfOk result (λ found. found.turned.items ≡ map side_at turned.now) }
+impl Model for Sights {
+    ghost use Rattle.std.specs.Prelude.{◌≡◌};
+    ghost use Rattle.cip_inside.specs.Room.{Room};
+
+    ghost Value = { Room };
+
+    ghost view = { λ sights. record { bound = sights.near.bound } };
+
+    ghost invariant = { λ sights. sights.readings.bound ≡ sights.near.bound };
+}
+
+// Whether all branches that are wanted lead down from the node whose descriptors count.
+fn all_inside<N: Nodes>(near: &Near, inner: &Inner<'_, N>, node: u32) -> bool
+    ensures from { result ≡ true → inner.now.from ≡ node }
+    ensures behind { result ≡ true → (branch : ℕ) → branch < length near.now.tops
+        → has_flag near.now.now.wanted branch ≡ true → node < slice_index near.now.tops branch }
 {
-    Ok(BothSides {
-        natural: sides(alloc, asked)?,
-        turned: sides(alloc, turned)?,
-    })
+    inner.from() == node && near.leads_down(node)
+}
+
+// Decides pairs of branches that constitution leaves open, with the descriptors that count.
+fn configure<N: Nodes>(
+    near: &mut Near,
+    readings: &mut Readings,
+    inner: &Inner<'_, N>,
+    node: u32,
+    pairs: &mut [Asked],
+    turned: &mut [Asked],
+)
+    requires room { length inner.now.sight.told ≤ readings.old.bound }
+    requires ready { Ready inner.now node }
+    requires tops { AreTops (parents_of inner.now.sight.told) node near.old.tops }
+    requires placed { ArePlaced inner.now.sight node near.old.tops near.old.now }
+    requires len { length turned.old ≡ length pairs.old }
+    ensures ordered { (begin : List AnyAsked) (mark : List ℕ → Option AnyDescriptor)
+        → AllByRecursion (AreWithin (length near.old.tops)) begin
+        → AreConstituted inner.now.sight node near.old.tops near.old.now begin pairs.old
+        → list_all is_decided pairs.old ≡ false → AgreesInside inner.now mark
+        → AreOrdered inner.now.sight node mark near.old.tops begin pairs.new turned.new }
+    ensures bound { near.new.bound ≡ near.old.bound }
+    ensures readings { readings.new.bound ≡ readings.old.bound }
+{
+    if all_inside(near, inner, node) {
+        near.configuration(readings, inner.marks(), pairs, turned);
+        return;
+    }
+    let table = inner.whole().nodes().table();
+    let marks = MarksInside {
+        table,
+        from: inner.from(),
+        marks: inner.marks(),
+    };
+    near.configuration(readings, &marks, pairs, turned);
+}
+
+// Decides pairs of branches of a node's ligands by all rules, with the descriptors that count, the last rule both ways.
+fn decide_branches<N: Nodes>(
+    near: &mut Near,
+    readings: &mut Readings,
+    inner: &Inner<'_, N>,
+    node: u32,
+    pairs: &mut [Asked],
+    turned: &mut [Asked],
+)
+    requires room { length inner.now.sight.told ≤ near.old.bound }
+    requires readings { near.old.bound ≤ readings.old.bound }
+    requires ready { Ready inner.now node }
+    requires tops { AreTops (parents_of inner.now.sight.told) node near.old.tops }
+    requires some { 0 < length near.old.tops }
+    requires within { All (AreWithin (length near.old.tops)) pairs.old }
+    requires len { length turned.old ≡ length pairs.old }
+    ensures early { (ligands : List (Option ℕ))
+        → All (λ ligand. IfSome ligand (Contains (neighbours_of (parents_of inner.now.sight.told) node))) ligands
+        → near.old.tops ≡ asked_tops (parents_of inner.now.sight.told) ligands node
+        → pairs.old ≡ asked_pairs near.old.tops ligands
+        → AreEarly inner.now node ligands (map side_at pairs.new) (map side_at turned.new) }
+    ensures bound { near.new.bound ≡ near.old.bound }
+    ensures readings { readings.new.bound ≡ readings.old.bound }
+{
+    let whole = inner.whole();
+    if near.constitution(whole, node, pairs) {
+        turned.copy_from_slice(pairs);
+        return;
+    }
+    configure(near, readings, inner, node, pairs, turned);
+}
+
+// Decides pairs of a node's ligands, which may be lone pairs alone.
+fn decide_pairs<N: Nodes>(
+    near: &mut Near,
+    readings: &mut Readings,
+    inner: &Inner<'_, N>,
+    node: u32,
+    pairs: &mut [Asked],
+    turned: &mut [Asked],
+)
+    requires room { length inner.now.sight.told ≤ near.old.bound }
+    requires readings { near.old.bound ≤ readings.old.bound }
+    requires ready { Ready inner.now node }
+    requires tops { AreTops (parents_of inner.now.sight.told) node near.old.tops }
+    requires within { 0 < length near.old.tops → All (AreWithin (length near.old.tops)) pairs.old }
+    requires len { length turned.old ≡ length pairs.old }
+    ensures early { (ligands : List (Option ℕ))
+        → All (λ ligand. IfSome ligand (Contains (neighbours_of (parents_of inner.now.sight.told) node))) ligands
+        → near.old.tops ≡ asked_tops (parents_of inner.now.sight.told) ligands node
+        → pairs.old ≡ asked_pairs near.old.tops ligands
+        → AreEarly inner.now node ligands (map side_at pairs.new) (map side_at turned.new) }
+    ensures bound { near.new.bound ≡ near.old.bound }
+    ensures readings { readings.new.bound ≡ readings.old.bound }
+{
+    if near.is_empty() {
+        turned.copy_from_slice(pairs);
+        return;
+    }
+    decide_branches(near, readings, inner, node, pairs, turned);
 }
 
 impl Sights {
-    // How ligands stand by Rule 1a, seen from a node.
-    fn look_near<N: Nodes>(
-        &mut self,
-        alloc: Global,
-        whole: &Whole<'_, N>,
-        node: u32,
-        ligands: &[Option<u32>],
-    ) -> Result<Vec<Asked>, AllocError>
-        requires room { length whole.now.told ≤ self.old.near.bound }
-        requires real { IsReal (sight_of whole.now).nodes node }
-        ensures views { self.new.views ≡ self.old.views }
-        ensures pruner { self.new.pruner ≡ self.old.pruner }
-        ensures near { IfOk result (λ found. AreNear (sight_of whole.now) node ligands.now found.items) }
+    /// Room for digraphs of `bound` nodes. All memory is taken here.
+    pub fn reserve(alloc: Global, bound: u32) -> Result<Sights, AllocError>
+        requires { bound < 2 ^ 31 }
+        ensures { IfOk result (λ sights. sights.bound ≡ bound) }
     {
-        self.near.follow(whole, node, ligands);
-        self.near.ask_all(alloc, ligands)
+        let (near, readings) = both(
+            Near::reserve(alloc, bound)?,
+            Readings::reserve(alloc, bound),
+        )?;
+        Ok(Sights { near, readings })
     }
 
-    // Sees what is below a node from it.
-    fn see_below<N: Nodes>(&mut self, inner: &Inner<'_, N>, node: u32)
-        requires room { length inner.now.sight.told ≤ self.old.views.bound }
-        requires pruner_room { length inner.now.sight.told ≤ self.old.pruner.bound }
-        requires ready { Ready inner.now node }
-        ensures bound { self.new.views.bound ≡ self.old.views.bound }
-        ensures seen { IsSeenBelow inner.now node self.new.pruner self.new.views.view self.new.views.marks }
-    {
-        let nodes = inner.whole().nodes();
-        self.pruner.prune(nodes, node, inner.marks());
-        let pruned = Pruned::new(nodes, &self.pruner);
-        self.views
-            .see(&pruned, self.pruner.at(), self.pruner.marks());
-    }
-
-    // Decides pairs of a node's children in the view of what is below it.
-    fn decide_below<N: Nodes>(
+    /// Takes Rules 3 to 5 over the branches of others, in this memory.
+    pub fn configure<M: Marked>(
         &mut self,
-        inner: &Inner<'_, N>,
-        node: u32,
-        pairs: &mut [Asked],
+        near: &mut Near,
+        marks: &M,
+        asked: &mut [Asked],
         turned: &mut [Asked],
     )
-        requires room { length inner.now.sight.told ≤ self.old.views.bound }
-        requires ready { Ready inner.now node }
-        requires seen { IsSeenBelow inner.now node self.old.pruner self.old.views.view self.old.views.marks }
-        requires len { length turned.old ≡ length pairs.old }
-        ensures bound { self.new.views.bound ≡ self.old.views.bound }
-        ensures natural { map side_at pairs.new
-            ≡ map (below_side inner.now.sight self.old.pruner self.old.views.marks self.old.views.view true) pairs.old }
-        ensures turned { map side_at turned.new
-            ≡ map (below_side inner.now.sight self.old.pruner self.old.views.marks self.old.views.view false) pairs.old }
+        requires followed { AreFollowed near.old.now }
+        requires keyed { AreKeyed (length (M.marks marks.now)) near.old.now.layers.kin }
+        requires room { length near.old.now.layers.kin.ups ≤ self.old.bound }
+        requires len { length turned.old ≡ length asked.old }
+        ensures decided { (sight : Sight) (node : ℕ) (begin : List AnyAsked) (mark : List ℕ → Option AnyDescriptor)
+            → AllByRecursion (AreWithin (length near.old.tops)) begin
+            → AreConstituted sight node near.old.tops near.old.now begin asked.old
+            → list_all is_decided asked.old ≡ false
+            → AreMarksOf (node_at sight.nodes) (marked_by mark) (M.marks marks.now) near.old.now
+            → AreOrdered sight node mark near.old.tops begin asked.new turned.new }
+        ensures tops { near.new.tops ≡ near.old.tops }
+        ensures near { near.new.bound ≡ near.old.bound }
+        ensures bound { self.new.bound ≡ self.old.bound }
     {
-        let whole = inner.whole();
-        let pruned = Pruned::new(whole.nodes(), &self.pruner);
-        place_all(&self.views, &self.pruner, pairs);
-        self.views
-            .decide_both_ways(&pruned, whole.rules(), pairs, turned);
-    }
-
-    // How ligands stand of which only the node's children aren't parted near it: by what is below the node, where the
-    // descriptors that count are those of all that is.
-    fn look_below<N: Nodes>(
-        &mut self,
-        alloc: Global,
-        inner: &Inner<'_, N>,
-        node: u32,
-        pairs: &mut [Asked],
-    ) -> Result<Option<BothSides>, AllocError>
-        requires room { length inner.now.sight.told ≤ self.old.views.bound }
-        requires pruner_room { length inner.now.sight.told ≤ self.old.pruner.bound }
-        requires ready { Ready inner.now node }
-        requires told { list_all (is_told_below (parents_of inner.now.sight.told) node) pairs.old ≡ true }
-        ensures bound { self.new.views.bound ≡ self.old.views.bound }
-        ensures early { (ligands : List (Option ℕ)) → AreNear inner.now.sight node ligands pairs.old
-            → IfOk result (λ found. IfSome found (λ sides.
-            AreEarly inner.now node ligands sides.natural.items sides.turned.items)) }
-    {
-        self.see_below(inner, node);
-        if !self.pruner.is_above(inner.from()) {
-            return Ok(None);
-        }
-        let mut others = Vec::new(alloc);
-        others.extend_from_slice(pairs)?;
-        let turned = others.as_mut_slice();
-        self.decide_below(inner, node, pairs, turned);
-        Ok(Some(both(alloc, pairs, turned)?))
+        near.configuration(&mut self.readings, marks, asked, turned);
     }
 }
 
 impl Viewer for Sights {
-    ghost room = { λ s. s.views.bound };
-
-    ghost has_looked = { λ s sight. IsReady sight.rules sight.told s.views.marks s.views.view };
-
-    ghost sides = { λ s sight. table_sides sight.rules sight.told s.views.marks s.views.view };
+    ghost room = { λ sights. sights.bound };
 
     fn look<N: Nodes>(
         &mut self,
@@ -141,42 +202,20 @@ impl Viewer for Sights {
         inner: &Inner<'_, N>,
         node: u32,
         ligands: &[Option<u32>],
-    ) -> Result<Option<BothSides>, AllocError> {
-        let whole = inner.whole();
-        let tree = whole.nodes().table();
-        if self.near.bound() < tree.len() {
-            return Ok(None);
-        }
-        let mut near = self.look_near(alloc, whole, node, ligands)?;
-        let pairs = near.as_mut_slice();
-        if are_decided(pairs) {
-            return Ok(Some(both(alloc, pairs, pairs)?));
-        }
-        if self.pruner.bound() < tree.len() || !are_told_below(tree, node, pairs) {
-            return Ok(None);
-        }
-        self.look_below(alloc, inner, node, pairs)
-    }
-
-    fn see<N: Nodes>(&mut self, inner: &Inner<'_, N>, node: u32) {
-        let nodes = inner.whole().nodes();
-        self.views
-            .see_inside(nodes, inner.from(), node, inner.marks());
-    }
-
-    fn decide<N: Nodes>(
-        &mut self,
-        alloc: Global,
-        whole: &Whole<'_, N>,
-        ligands: &[Option<u32>],
     ) -> Result<BothSides, AllocError> {
-        let nodes = whole.nodes();
-        let mut pairs = ask_all(alloc, &self.views, ligands)?;
-        let mut others = ask_all(alloc, &self.views, ligands)?;
+        self.near.begin(inner.whole(), node, ligands);
+        let mut pairs = ask_all(alloc, &self.near, ligands)?;
+        let mut others = SmallVec::<Asked, MOST_PAIRS>::from_slice(alloc, pairs.as_slice())?;
         let asked = pairs.as_mut_slice();
         let turned = others.as_mut_slice();
-        self.views
-            .decide_both_ways(nodes, whole.rules(), asked, turned);
-        both(alloc, asked, turned)
+        decide_pairs(
+            &mut self.near,
+            &mut self.readings,
+            inner,
+            node,
+            asked,
+            turned,
+        );
+        both_sides(alloc, asked, turned)
     }
 }

@@ -25,8 +25,8 @@ use Rattle.cip_digraph.specs.units.Descriptors.{letter}
 use Rattle.cip_digraph.specs.units.Ends.{End, end_at, ends_of, between_of}
 use Rattle.cip_digraph.specs.units.Ranked.{Root, has_tie}
 use Rattle.cip_digraph.proofs.Lists.{all_filtered}
-use Rattle.cip_views.specs.Moving.{Moves}
-use Rattle.cip_views.proofs.MovedOrders.{moved_order}
+use Rattle.cip_ligands.specs.Moving.{Moves}
+use Rattle.cip_ligands.proofs.MovedOrders.{moved_order}
 use Rattle.cip_mark.specs.UnitsBeside.{IsCentreAt, IsSameBeside, AreSameBeside}
 use Rattle.cip_mark.proofs.RootPaths.{EndsAt, IsBelow, longer_by, view_below}
 use Rattle.cip_mark.proofs.RootsAlike.{AreAlike, roots_alike, ties_alike, letters_alike}

@@ -1,28 +1,21 @@
 -- The nodes strictly below one of them are those inside its subtree.
-use Rattle.std.proofs.Common.{◌≡◌, ℕ, suc, ◌<◌, ◌≤◌, ◌==◌, ◌&&◌, ◌||◌, not, Bool, true, false, cond, List, [], ◌∷◌, map, length, slice_index, refl, sym, ap, ◌∙◌, arith, inl, inr, eq-eqb}
-use Rattle.std.specs.Prelude.{None, nat_lt, slice_index_or}
-use Rattle.std.specs.declared.option.Option.{Option}
+use Rattle.std.proofs.Common.{◌≡◌, ℕ, suc, ◌<◌, ◌≤◌, ◌==◌, ◌&&◌, ◌||◌, not, Bool, true, false, cond, List, [], ◌∷◌, length, slice_index, refl, sym, ap, ◌∙◌, arith, inl, inr, eq-eqb}
+use Rattle.std.specs.Prelude.{nat_lt}
 use Rattle.std.proofs.Math.Bool.{or-false}
 use Rattle.std.proofs.lemmas.Bool.{cases_order, ne_eqb, lt-ltb, le-ltb, and_right}
-use Rattle.std.proofs.lemmas.List.{get_or-map}
 use Rattle.cip_rank.specs.Tree.{IsTree}
-use Rattle.cip_mol.specs.declared.descriptor.Descriptor.{Descriptor}
-use Rattle.cip_digraph.specs.rules.Auxiliary.{inside}
-use Rattle.cip_digraph.specs.declared.nodes.Told.{Told}
-use Rattle.cip_digraph.specs.digraph.Digraph.{Node, is_real, digraph}
+use Rattle.cip_digraph.specs.digraph.Digraph.{Node, is_real}
 use Rattle.cip_digraph.specs.graph.Graph.{Graph}
-use Rattle.cip_digraph.specs.digraph.NodeList.{parents_of}
 use Rattle.cip_digraph.specs.graph.SoundGraphs.{IsSound}
-use Rattle.cip_digraph.specs.digraph.Telling.{node_at, TellsWhole}
+use Rattle.cip_digraph.specs.digraph.Telling.{node_at}
 use Rattle.cip_digraph.specs.digraph.View.{is_end_of}
-use Rattle.cip_reroot.specs.View.{View, IsView, is_above, on_way}
+use Rattle.cip_reroot.specs.View.{is_above, on_way}
 use Rattle.cip_reroot.proofs.Way.{to_above, above_le, fuel_free}
-use Rattle.cip_views.specs.Below.{is_below, mark_below, placed_below, MarksBehind}
-use Rattle.cip_views.specs.Whole.{IsWhole, AreMarks}
+use Rattle.cip_views.specs.Below.{is_below}
+use Rattle.cip_views.specs.Whole.{IsWhole}
 use Rattle.cip_views.proofs.PathEnds.{end_long, end_more}
 use Rattle.cip_views.proofs.SeenChildren.{way_is}
 use Rattle.cip_views.proofs.Standing.{hangs, real_is, path_below}
-use Rattle.cip_views.proofs.WholeTold.{is_told, parents_len}
 
 -- a node on the way up, or one below it
 pub step_below : (parents : List ℕ) → IsTree parents → (from p : ℕ) → p < length parents
@@ -67,9 +60,6 @@ below_behind parents tree from n h e = elim (cases_order 0 n) [
       omega arith
   | inr (inr less) ↦ absurd (omega arith)
 ]
-
-abbrev when : Bool → Option Descriptor → Option Descriptor
-when b found = elim b as (λ _. Option Descriptor) [ true ↦ found | false ↦ None ]
 
 module _ (graph : Graph) (positions : List (List ℕ)) (root : ℕ) (nodes : List Node) (parents : List ℕ)
     (whole : IsWhole graph positions root nodes parents) (sound : IsSound graph)
@@ -129,44 +119,6 @@ module _ (graph : Graph) (positions : List (List ℕ)) (root : ℕ) (nodes : Lis
     | inr (inr less) ↦ absurd (omega arith)
   ]
 
-  marks_by : (mark : List ℕ → Option Descriptor) (marks : List (Option Descriptor)) → MarksBehind nodes from mark marks
-      → length nodes ≡ length parents → (n : ℕ) → n < length parents
-      → (b : Bool) → is_real (node_at nodes n).kind ≡ b → (d : Bool) → is_below parents from n ≡ d
-      → cond d (slice_index_or marks n None) None
-      ≡ cond b (inside mark (node_at nodes from).path (node_at nodes n).path) None
-  marks_by mark marks behind len n h true r true e =
-      behind.each n (below_behind parents whole.tree from n h e) (omega (arith, h, len))
-      ∙ ap (λ t. cond t (mark (node_at nodes n).path) None) r
-      ∙ sym (ap (λ t. when t (mark (node_at nodes n).path)) (inside_is n h r ∙ e))
-  marks_by mark marks behind len n h true r false e =
-      sym (ap (λ t. when t (mark (node_at nodes n).path)) (inside_is n h r ∙ e))
-  marks_by mark marks behind len n h false r true e =
-      behind.each n (below_behind parents whole.tree from n h e) (omega (arith, h, len))
-      ∙ ap (λ t. cond t (mark (node_at nodes n).path) None) r
-  marks_by mark marks behind len n h false r false e = refl
-
--- descriptors strictly inside the subtree of the viewed node, in the order of the view's places
-pub placed_inside : (graph : Graph) (positions : List (List ℕ)) (root last : ℕ) (all : List Told)
-    (mark : List ℕ → Option Descriptor) (marks : List (Option Descriptor)) (from : ℕ) (view : View)
-    → IsSound graph → TellsWhole graph positions root last all → from < length all
-    → is_real (node_at (digraph graph positions root last) from).kind ≡ true
-    → IsView (parents_of all) from view → MarksBehind (digraph graph positions root last) from mark marks
-    → AreMarks (digraph graph positions root last) view.originals
-    (inside mark (node_at (digraph graph positions root last) from).path)
-    (placed_below (parents_of all) from marks view)
-placed_inside graph positions root last all mark marks from view sound whole here real is behind = record {
-  each = λ place h.
-      let told = is_told graph positions root last all whole in
-      let len = parents_len all in
-      let low = is.originals place (omega (arith, h, len, whole.tells.len)) in
-      let n = slice_index view.originals place in
-      get_or-map (mark_below (parents_of all) from marks) view.originals place 0 None
-      (omega (arith, h, len, whole.tells.len, is.originals_len))
-      ∙ marks_by graph positions root (digraph graph positions root last) (parents_of all) told.whole sound from
-      (omega (arith, here, len)) real mark marks behind told.len n low
-      (is_real (node_at (digraph graph positions root last) n).kind) refl (is_below (parents_of all) from n) refl;
-}
-
 -- a node whose parent is another one, or below it
 pub next_below : (parents : List ℕ) → IsTree parents → (from node p : ℕ) → p ≡ slice_index parents node → 0 < node
     → node < length parents
@@ -178,11 +130,3 @@ next_below parents tree from node p e some h =
     ∙ sym
     (ap (λ b. cond b false (on_way parents (slice_index parents node) from))
     (ne_eqb node 0 (λ z. absurd (omega (arith, z, some)))))
-
--- functions that agree at each entry of a list
-pub map_alike : {X : Type 0} (f g : ℕ → X) (xs : List ℕ)
-    → ((i : ℕ) → i < length xs → f (slice_index xs i) ≡ g (slice_index xs i)) → map f xs ≡ map g xs
-map_alike f g [] same = refl
-map_alike f g (x ∷ xs) same =
-    ap (λ y. y ∷ map f xs) (same 0 (omega arith))
-    ∙ ap (λ ys. g x ∷ ys) (map_alike f g xs (λ i h. same (suc i) (omega arith)))

@@ -7,6 +7,7 @@ use Rattle.cip_rank.specs.Tree.{children_of}
 use Rattle.cip_digraph.specs.declared.nodes.NodeKind.{NodeKind}
 use Rattle.cip_digraph.specs.declared.nodes.NodeKind.TheVariants.{Real, Closure, Multiple, Delocalised}
 use Rattle.cip_digraph.specs.digraph.Digraph.{Node, real_node, duplicate, is_real, real_children, children}
+use Rattle.cip_digraph.specs.digraph.View.{real_at}
 use Rattle.cip_digraph.specs.graph.Graph.{Graph}
 use Rattle.cip_digraph.specs.Laws.{real_paths}
 use Rattle.cip_digraph.specs.graph.SoundGraphs.{IsSound}
@@ -229,3 +230,12 @@ module _ (graph : Graph) (positions : List (List ℕ)) (root : ℕ) (nodes : Lis
       → is_real (node_at nodes i).kind ≡ true → is_real (node_at nodes j).kind ≡ true
       → (node_at nodes i).path ≡ (node_at nodes j).path → i ≡ j
   same_path sound i j hi hj ri rj e = same_path_by sound (i + 1) i j (omega arith) hi hj ri rj e
+
+-- the real node of a path has it
+pub real_path : (path : List ℕ) → (real_at path).path ≡ path
+real_path [] = refl
+real_path (vertex ∷ up) = refl
+
+pub real_kind : (path : List ℕ) → is_real (real_at path).kind ≡ true
+real_kind [] = refl
+real_kind (vertex ∷ up) = refl

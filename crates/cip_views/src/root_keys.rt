@@ -1,8 +1,8 @@
 // The keys of Rule 1a in the whole digraph.
-ghost use Rattle.std.specs.Prelude.{◌≡◌, ◌<◌, length};
+ghost use Rattle.std.specs.Prelude.{◌≡◌, ◌<◌, pos, length};
+ghost use Rattle.std.specs.Ordering.{int_cmp};
 ghost use Rattle.cip_views.specs.RootKeys.{root_keys};
 
-use crate::rule_keys::compare_up;
 use cip_digraph::Nodes;
 use cip_rank::Keyed;
 use std::cmp::Ordering;
@@ -11,6 +11,13 @@ use std::cmp::Ordering;
 #[derive(Drop)]
 pub struct RootKeys<'a, N: Nodes> {
     pub nodes: &'a N,
+}
+
+// Higher keys precede.
+fn compare_up(a: u32, b: u32) -> Ordering
+    ensures { result ≡ int_cmp (pos a) (pos b) }
+{
+    a.cmp(&b)
 }
 
 impl<N: Nodes> Keyed for RootKeys<'_, N> {

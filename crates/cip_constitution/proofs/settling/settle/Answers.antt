@@ -3,6 +3,8 @@ use Rattle.cip_arena.specs.declared.arena.Grown.TheVariants.{Grown, Whole, Over}
 use Rattle.cip_constitution.specs.declared.settling.Settled.TheVariants as settled
 use Rattle.cip_constitution.specs.Settling.{setting_of, Kept, one_if_grown}
 use Rattle.cip_constitution.specs.Following.{Trying, Follows}
+use Rattle.cip_constitution.specs.Noting.{Notes}
+use Rattle.cip_constitution.proofs.NotedPairs.{noted_first, noted_grown}
 use Rattle.cip_constitution.proofs.FollowedBranches.{grown_first, grown_next}
 use Rattle.cip_constitution.proofs.Rounds.{
   none_before,
@@ -78,6 +80,10 @@ loop-grown-init g c =
           c.args.steps.now next.new.steps next.result next.ensures.answer is c.args.work.now.branched
           c.requires.started;
       work = refl;
+      noted = λ is. noted_first c.args.graph.now c.args.positions.now c.args.arena.now next.new.self c.args.steps.now
+          next.new.steps next.result next.ensures.answer is c.args.work.now.pairs c.args.work.now.noted
+          c.requires.started;
+      pairs = refl;
     }
 
 pub loop-grown-preserved : goal.loop-grown-preserved
@@ -100,6 +106,14 @@ loop-grown-preserved g c =
           c.follow.ensures.followed);
       work = ap (λ (w : Trying). w.bound) c.some_alike.ensures.kept ∙ c.follow.ensures.bound
           ∙ c.loop-grown.invariant.work;
+      noted = λ grown. noted_grown c.args.graph.now c.args.positions.now c.loop-grown.arena next.new.self
+          c.loop-grown.steps next.new.steps next.result next.ensures.answer grown c.some_alike.new.self.pairs
+          c.some_alike.new.self.noted
+          (subst (λ (w : Trying). Notes c.args.graph.now c.args.positions.now c.loop-grown.arena.root
+          c.loop-grown.arena.bound c.loop-grown.arena.sphere w.pairs w.noted) (sym c.some_alike.ensures.kept)
+          c.follow.ensures.noted);
+      pairs = ap (λ (w : Trying). w.pairs) c.some_alike.ensures.kept ∙ c.follow.ensures.pairs
+          ∙ c.loop-grown.invariant.pairs;
     }
 
 pub some_alike-requires-clause-before : goal.some_alike-requires-clause-before

@@ -1,4 +1,4 @@
-use Rattle.std.proofs.Common.{rules, ◌≡◌, ◌<◌, ◌≤◌, ◌+◌, ◌∙◌, ℕ, sym, subst, length, arith}
+use Rattle.std.proofs.Common.{rules, ◌<◌, ◌≤◌, ◌+◌, ◌∙◌, ℕ, sym, subst, length, arith}
 use Rattle.cip_arena.specs.Growth.{Holds}
 use Rattle.cip_constitution.specs.Settling.{Setting, SettledAs, cost_of}
 use Rattle.cip_digraph.specs.graph.Graph.{Graph}
@@ -27,8 +27,8 @@ returns-clause-settled g c =
     let setting = c.args.setting.now in
     subst (λ (t : Setting). SettledAs t c.settle.new.arena c.settle.result)
     (same_setting c.rules.result setting.rules c.graph-graph.result.now setting.graph c.positions.result.now
-    setting.positions c.units.result.now setting.units c.args.ligands.now c.rules.ensures c.graph-graph.ensures.value
-    c.positions.ensures c.units.ensures.value)
+    setting.positions c.units.result.now setting.units c.as_slice.result.now c.args.ligands.now c.rules.ensures c.graph-graph.ensures.value
+    c.positions.ensures c.units.ensures.value c.as_slice.ensures.value)
     c.settle.ensures.settled
 
 pub returns-clause-cost : goal.returns-clause-cost
@@ -42,5 +42,5 @@ returns-clause-cost g c =
     (c.settle.ensures.bound ∙ c.start.ensures.bound) c.settle.ensures.fits one c.settle.ensures.cost
     (subst (λ (t : Setting). c.settle.new.steps + 1 ≤ c.args.steps.now + cost_of t c.settle.new.arena.root)
     (same_setting c.rules.result setting.rules c.graph-graph.result.now setting.graph c.positions.result.now
-    setting.positions c.units.result.now setting.units c.args.ligands.now c.rules.ensures c.graph-graph.ensures.value
-    c.positions.ensures c.units.ensures.value) c.settle.ensures.lazy)
+    setting.positions c.units.result.now setting.units c.as_slice.result.now c.args.ligands.now c.rules.ensures c.graph-graph.ensures.value
+    c.positions.ensures c.units.ensures.value c.as_slice.ensures.value) c.settle.ensures.lazy)

@@ -4,4 +4,4 @@ use Rattle.cip_inside.proofs.asking.ask_row.Given as goal
 
 abbrev pub invariant-loop-other : goal.invariant-loop-other
 invariant-loop-other l =
-    l.pairs.items ≡ l.initial.pairs.items ++ map (asked_of l.views.view.places l.one) (take l.other-index l.others)
+    l.pairs.items ≡ l.initial.pairs.items ++ map (asked_of l.near.tops l.one) (take l.other-index l.others)

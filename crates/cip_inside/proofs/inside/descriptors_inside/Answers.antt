@@ -4,7 +4,7 @@ use Rattle.cip_aux.specs.Marking.{node_mark, flag_at, AreMarked, AreWanted}
 use Rattle.cip_aux.specs.Sights.{sight_of}
 use Rattle.cip_aux.proofs.NodeMarks.{all_marked}
 use Rattle.cip_aux.proofs.Told.{whole_shows}
-use Rattle.cip_inside.proofs.MarksBelow.{all_wanted, on_by, wanted_at}
+use Rattle.cip_inside.proofs.WantedNodes.{all_wanted, on_by, wanted_at}
 use Rattle.cip_inside.proofs.inside.descriptors_inside.Goals as goal
 
 pub descriptors_where-requires-clause-wanted : goal.descriptors_where-requires-clause-wanted

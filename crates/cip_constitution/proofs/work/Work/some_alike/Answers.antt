@@ -1,68 +1,102 @@
-use Rattle.std.proofs.Common.{◌≡◌, ◌-◌, replicate, length, sym, ap, ◌∙◌, subst, arith, pos, map}
-use Rattle.cip_rank.specs.Ranking.{Standing, OrdersAs, comparison_at, by_number}
-use Rattle.cip_branches.specs.Passing.{AreKeyed}
-use Rattle.cip_digraph.specs.declared.nodes.Told.{Told}
-use Rattle.cip_digraph.specs.digraph.Digraph.{digraph}
-use Rattle.cip_digraph.specs.rules.Keys.{lower_precedes}
-use Rattle.cip_digraph.specs.digraph.NodeList.{parents_of, distance_told}
-use Rattle.cip_digraph.proofs.Numbered.{some_nodes}
+use Rattle.std.proofs.Common.{◌≡◌, ◌-◌, length, sym, ap, ◌∙◌, subst, arith}
+use Rattle.cip_branches.specs.Deciding.{Branched, AreFollowed}
+use Rattle.cip_branches.specs.Kin.{Kin}
+use Rattle.cip_branches.specs.Saving.{Saved, restored}
+use Rattle.cip_digraph.specs.rules.EarlyOrder.{seen_at}
+use Rattle.cip_ligands.proofs.TakenSteps.{stands_back}
+use Rattle.cip_constitution.specs.Alike.{TakesBoth}
+use Rattle.cip_constitution.specs.Ending.{NotAnew, EachPair}
+use Rattle.cip_constitution.specs.Following.{Trying, numbers_of}
 use Rattle.cip_constitution.proofs.AlikeTold.{alike_is}
 use Rattle.cip_constitution.proofs.Anew.{none_anew}
-use Rattle.cip_constitution.proofs.DifferTold.{all_level}
-use Rattle.cip_constitution.specs.Ending.{NotAnew, EachPair}
-use Rattle.cip_constitution.specs.Following.{Trying}
+use Rattle.cip_constitution.proofs.CutRules.{over_within}
+use Rattle.cip_constitution.proofs.TakenBoth.{same_both}
 use Rattle.cip_constitution.proofs.work.Work.some_alike.Goals as goal
 
-pub has_candidates-requires-clause-nodes : goal.has_candidates-requires-clause-nodes
-has_candidates-requires-clause-nodes c =
-    let some = some_nodes c.args.graph.now c.args.positions.now c.args.arena.now.root c.args.arena.now.sphere in
-    let len = c.requires.holds.tells.len in
-    omega (arith, some, len)
-
-pub has_candidates-requires-clause-keyed : goal.has_candidates-requires-clause-keyed
-has_candidates-requires-clause-keyed c =
-    let a = c.args.arena.now in
-    let count = length (digraph c.args.graph.now c.args.positions.now a.root a.sphere) in
-    subst (λ n. AreKeyed n c.self.inside.branches.layers.kin) (sym c.requires.holds.tells.len)
-    (subst (λ (w : Trying). AreKeyed count w.branched.layers.kin) (sym c.self.view_is) c.requires.followed.keyed)
-
-pub alike_each-requires-clause-nodes : goal.alike_each-requires-clause-nodes
-alike_each-requires-clause-nodes c =
-    let some = some_nodes c.args.graph.now c.args.positions.now c.args.arena.now.root c.args.arena.now.sphere in
-    let len = c.requires.holds.tells.len in
-    omega (arith, some, len)
-
-pub returns-then-not-has_candidates-clause-result : goal.returns-then-not-has_candidates-clause-result
-returns-then-not-has_candidates-clause-result c =
+pub returns-then-not-found-clause-result : goal.returns-then-not-found-clause-result
+returns-then-not-found-clause-result c =
     let a = c.args.arena.now in
     let branched = c.args.self.now.branched in
     let fits = c.len-count.ensures in
     let anew = subst (λ (w : Trying). EachPair (NotAnew c.args.rules c.args.graph.now c.args.positions.now
     c.args.units.now a w.branched) c.args.ligands.now) c.self.view_is
-    (c.has_candidates.ensures.anew c.if-not-has_candidates.true) in
+    (c.has_candidates-found.ensures.anew c.if-not-found.true) in
     sym (none_anew c.args.graph.now c.args.positions.now a c.requires.holds c.requires.some
     c.vertices-vertices.ensures.sound (omega (arith, fits.len, fits.fits)) c.requires.last branched
     c.requires.followed c.args.rules c.args.units.now c.requires.root c.args.ligands.now anew c.requires.before)
 
+pub restore-requires-clause-rows : goal.restore-requires-clause-rows
+restore-requires-clause-rows c =
+    let same = same_both c.self.inside.branches c.args.rules c.args.arena.now.nodes c.take_both.new.branches
+    c.take_both.ensures.taken in
+    ap (λ (s : Saved). length s.rows) c.take_both.ensures.saved ∙ sym same.kept.places.len
+
+pub restore-requires-clause-numbers : goal.restore-requires-clause-numbers
+restore-requires-clause-numbers c =
+    let same = same_both c.self.inside.branches c.args.rules c.args.arena.now.nodes c.take_both.new.branches
+    c.take_both.ensures.taken in
+    ap (λ (s : Saved). length s.numbers) c.take_both.ensures.saved ∙ c.take_both.ensures.count
+    ∙ sym (ap (λ (k : Kin). length k.ups) same.kept.kin)
+
+pub restore-requires-clause-wanted : goal.restore-requires-clause-wanted
+restore-requires-clause-wanted c =
+    let same = same_both c.self.inside.branches c.args.rules c.args.arena.now.nodes c.take_both.new.branches
+    c.take_both.ensures.taken in
+    ap (λ (s : Saved). length s.wanted) c.take_both.ensures.saved ∙ sym same.count
+
+pub invariant_of-self-2 : goal.invariant_of-self-2
+invariant_of-self-2 c =
+    let begin = c.self.inside.branches in
+    let same = same_both begin c.args.rules c.args.arena.now.nodes c.take_both.new.branches c.take_both.ensures.taken in
+    let followed = subst AreFollowed (sym (ap (λ (w : Trying). w.branched) c.self.view_is))
+    c.requires.followed.followed in
+    let back : c.restore.new.self ≡ begin = c.restore.ensures
+    ∙ ap (λ (s : Saved). restored s c.take_both.new.branches) c.take_both.ensures.saved
+    ∙ stands_back begin c.take_both.new.branches c.self.inside.saved.room followed same in
+    let held = c.self.invariant.under in
+    let one = c.has_candidates-found.ensures.room in
+    let two = c.alike_each-alike.ensures.room in
+    record {
+      branches = ap (λ (b : Branched). b.layers.kin.room) back ∙ c.self.invariant.branches;
+      tops = c.self.invariant.tops;
+      pairs = c.self.invariant.pairs;
+      few = c.self.invariant.few;
+      noted = c.self.invariant.noted;
+      saved = ap (λ (s : Saved). s.room) c.take_both.ensures.saved ∙ c.self.invariant.saved;
+      under = omega (arith, held, one, two);
+    }
+
 pub returns-clause-result : goal.returns-clause-result
 returns-clause-result c =
     let a = c.args.arena.now in
-    let level = c.level.new.self.numbers in
-    let zeros : level ≡ replicate (length c.table.result.now.parents) 0 = ap (λ (s : Standing). s.numbers)
-    c.level.ensures in
-    let depth : c.sphere-depth.result - 1 ≡ a.sphere - 1 = ap (λ n. n - 1) c.sphere-depth.ensures in
-    c.alike_each.ensures.alike
-    ∙ alike_is c.args.rules c.args.graph.now c.args.positions.now c.args.units.now a c.requires.holds c.requires.some
-    c.vertices-vertices.ensures.sound c.requires.root
-    level c.rank_atoms.new.ranks.numbers c.rank_distances.new.ranks.numbers c.rank_masses.new.ranks.numbers
-    (λ x y. subst (λ ns. by_number ns x y ≡ _) (sym zeros) (all_level (length c.table.result.now.parents) x y))
-    (subst (λ d. OrdersAs (length a.nodes) (comparison_at (parents_of a.nodes) level
-    (map (λ (told : Told). pos told.atomic) a.nodes) d) c.rank_atoms.new.ranks.numbers) depth
-    c.rank_atoms.ensures.ranked)
-    (subst (λ d. OrdersAs (length a.nodes) (comparison_at (parents_of a.nodes) c.rank_atoms.new.ranks.numbers
-    (map (λ (told : Told). lower_precedes (distance_told c.args.rules told)) a.nodes) d)
-    c.rank_distances.new.ranks.numbers) depth c.rank_distances.ensures.ranked)
-    (subst (λ d. OrdersAs (length a.nodes) (comparison_at (parents_of a.nodes) c.rank_distances.new.ranks.numbers
-    (map (λ (told : Told). pos told.mass) a.nodes) d) c.rank_masses.new.ranks.numbers) depth
-    c.rank_masses.ensures.ranked)
-    c.args.ligands.now
+    let g = c.args.graph.now in
+    let positions = c.args.positions.now in
+    let branched = c.args.self.now.branched in
+    let third = c.take_both.new.branches in
+    let fits = c.len-count.ensures in
+    let far = c.requires.followed.last in
+    let takes = subst (λ (b : Branched). TakesBoth b c.args.rules a.nodes third)
+    (ap (λ (w : Trying). w.branched) c.self.view_is) c.take_both.ensures.taken in
+    c.alike_each-alike.ensures.alike
+    ∙ alike_is c.args.rules g positions c.args.units.now a c.requires.holds c.requires.some
+    c.vertices-vertices.ensures.sound c.requires.root (numbers_of third)
+    (over_within g positions a c.requires.holds c.requires.some (omega (arith, fits.len, fits.fits)) c.requires.last
+    branched c.requires.followed c.args.rules takes.mid third takes.distances takes.masses
+    c.vertices-vertices.ensures.sound (seen_at c.args.rules g positions c.args.units.now a.root).height (a.sphere - 1)
+    (omega (arith, far))) c.args.ligands.now
+
+pub returns-clause-kept : goal.returns-clause-kept
+returns-clause-kept c =
+    let begin = c.self.inside.branches in
+    let same = same_both begin c.args.rules c.args.arena.now.nodes c.take_both.new.branches c.take_both.ensures.taken in
+    let followed = subst AreFollowed (sym (ap (λ (w : Trying). w.branched) c.self.view_is))
+    c.requires.followed.followed in
+    let back : c.restore.new.self ≡ begin = c.restore.ensures
+    ∙ ap (λ (s : Saved). restored s c.take_both.new.branches) c.take_both.ensures.saved
+    ∙ stands_back begin c.take_both.new.branches c.self.inside.saved.room followed same in
+    ap {A = Branched} {B = Trying} (λ b. record {
+      bound = c.self.inside.bound;
+      branched = b;
+      pairs = c.self.inside.pairs.items;
+      noted = c.self.inside.noted.items;
+    }) back ∙ c.self.view_is

@@ -1,0 +1,21 @@
+-- Each two ligands of a root, by their vertices. Own.
+use Rattle.std.specs.Prelude.{ℕ, ◌==◌, cond, List, [], ◌∷◌, flat_map}
+use Rattle.cip_mol.specs.declared.site.Ligand.{Ligand}
+use Rattle.cip_mol.specs.declared.site.Ligand.TheVariants.{Vertex, LonePair}
+use Rattle.cip_constitution.specs.declared.pairs.Pair.{Pair}
+
+abbrev pub pair : ℕ → ℕ → Pair
+pair a b = record { a = a; b = b }
+
+-- a vertex with each other vertex of ligands
+abbrev pub pair_with : ℕ → Ligand → List Pair
+pair_with a LonePair = []
+pair_with a (Vertex b) = cond (a == b) [] (pair a b ∷ [])
+
+abbrev pub pairs_at : List Ligand → Ligand → List Pair
+pairs_at ligands LonePair = []
+pairs_at ligands (Vertex a) = flat_map (pair_with a) ligands
+
+-- each two different vertices of ligands, in both directions
+abbrev pub pairs_of : List Ligand → List Pair
+pairs_of ligands = flat_map (pairs_at ligands) ligands

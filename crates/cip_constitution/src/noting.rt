@@ -1,0 +1,99 @@
+// What Rule 1a decides between the branches of a root's ligands, noted at each sphere.
+ghost use Rattle.std.specs.Prelude.{◌≡◌, ◌<◌, ◌≤◌, ◌-◌, length, map, vec_capacity};
+ghost use Rattle.cip_arena.specs.Growth.{Holds};
+ghost use Rattle.cip_digraph.specs.digraph.Digraph.{sphere as sphere_of};
+ghost use Rattle.cip_constitution.specs.Following.{Follows};
+ghost use Rattle.cip_constitution.specs.Noting.{branch_at, asked_by, Notes};
+ghost use Rattle.cip_constitution.specs.Standing.{number_at};
+
+use crate::columns::push_reserved;
+use crate::pairs::Pair;
+use crate::standing::number_of;
+use cip_arena::Arena;
+use cip_branches::Branches;
+use cip_digraph::{Graph, Nodes, Positions};
+use cip_ligands::{Asked, note};
+use cip_mol::{Ligand, Rule};
+
+/// The child of the root that stands for a vertex; the root where there is none.
+pub fn number_at<N: Nodes>(nodes: &N, vertex: u32) -> u32
+    requires { 0 < length (N.nodes nodes.now) }
+    ensures number { result ≡ number_at (N.nodes nodes.now) vertex }
+    ensures within { result < length (N.nodes nodes.now) }
+{
+    match number_of(nodes, &Ligand::Vertex(vertex)) {
+        Some(number) => number,
+        None => 0,
+    }
+}
+
+fn branch_at(arena: &Arena, vertex: u32) -> u32
+    requires { 0 < length arena.now.nodes }
+    ensures { result ≡ branch_at arena.now.nodes vertex }
+{
+    number_at(arena, vertex).saturating_sub(1)
+}
+
+// Asks for each pair by the branches of its vertices.
+fn ask(arena: &Arena, pairs: &[Pair], noted: &mut Vec<Asked>)
+    requires some { 0 < length arena.now.nodes }
+    requires room { length pairs.now ≤ vec_capacity noted.old }
+    ensures asked { noted.new.items ≡ map (asked_by (branch_at arena.now.nodes)) pairs.now }
+    ensures room { vec_capacity noted.old ≤ vec_capacity noted.new }
+{
+    noted.clear();
+    let mut rest = pairs;
+    while let [pair, others @ ..] = rest {
+        push_reserved(
+            noted,
+            Asked {
+                first: branch_at(arena, pair.a),
+                second: branch_at(arena, pair.b),
+                decision: None,
+            },
+        );
+        rest = others;
+    }
+}
+
+/// Asks for each pair of vertices by their branches, in the first sphere. Nothing is decided yet.
+pub fn begin_noting(
+    arena: &Arena,
+    graph: &Graph,
+    positions: &Positions,
+    pairs: &[Pair],
+    noted: &mut Vec<Asked>,
+)
+    requires holds { Holds graph.now positions.now arena.now }
+    requires first { arena.now.sphere ≡ 1 }
+    requires last { 0 < length (sphere_of graph.now positions.now arena.now.root arena.now.sphere) }
+    requires room { length pairs.now ≤ vec_capacity noted.old }
+    ensures noted { Notes graph.now positions.now arena.now.root arena.now.bound 0 pairs.now noted.new.items }
+    ensures room { vec_capacity noted.old ≤ vec_capacity noted.new }
+{
+    let _vertices = graph.vertices();
+    let _positions = positions;
+    let _count = arena.len();
+    ask(arena, pairs, noted);
+}
+
+/// Notes what the branches' numbers tell in the last sphere.
+pub fn note_sphere(
+    arena: &Arena,
+    graph: &Graph,
+    positions: &Positions,
+    branches: &Branches,
+    pairs: &[Pair],
+    noted: &mut [Asked],
+)
+    requires some { 0 < arena.now.sphere }
+    requires followed { Follows graph.now positions.now arena.now.root arena.now.bound arena.now.sphere branches.now }
+    requires noted { Notes graph.now positions.now arena.now.root arena.now.bound (arena.now.sphere - 1) pairs.now
+        noted.old }
+    ensures noted { Notes graph.now positions.now arena.now.root arena.now.bound arena.now.sphere pairs.now noted.new }
+{
+    let _graph = graph;
+    let _positions = positions;
+    let _pairs = pairs;
+    note(branches, Rule::R1a, arena.sphere() - 1, noted);
+}

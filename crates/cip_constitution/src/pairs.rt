@@ -1,0 +1,65 @@
+// Each two ligands of a root, by their vertices.
+ghost use Rattle.std.specs.Prelude.{◌≡◌, ◌≤◌, ◌+◌, ◌++◌, length, flat_map, vec_capacity};
+ghost use Rattle.cip_constitution.specs.Pairs.{pair_with, pairs_at, pairs_of};
+
+use crate::columns::push_reserved;
+use cip_mol::Ligand;
+
+/// Two neighbours of a root whose branches are asked about.
+#[derive(Clone, Copy)]
+pub struct Pair {
+    pub a: u32,
+    pub b: u32,
+}
+
+/// Each two different vertices of ligands, in both directions.
+pub fn pair_up(ligands: &[Ligand], pairs: &mut Vec<Pair>)
+    requires room { length (pairs_of ligands.now) ≤ vec_capacity pairs.old }
+    ensures pairs { pairs.new.items ≡ pairs_of ligands.now }
+    ensures room { vec_capacity pairs.old ≤ vec_capacity pairs.new }
+{
+    pairs.clear();
+    let mut rest = ligands;
+    while let [ligand, others @ ..] = rest {
+        pair_all(ligand, ligands, pairs);
+        rest = others;
+    }
+}
+
+fn pair_all(one: &Ligand, ligands: &[Ligand], pairs: &mut Vec<Pair>)
+    requires room { length pairs.old.items + length (pairs_at ligands.now one.now) ≤ vec_capacity pairs.old }
+    ensures pairs { pairs.new.items ≡ pairs.old.items ++ pairs_at ligands.now one.now }
+    ensures room { vec_capacity pairs.old ≤ vec_capacity pairs.new }
+{
+    match one {
+        Ligand::LonePair => {}
+        Ligand::Vertex(a) => pair_with_each(*a, ligands, pairs),
+    }
+}
+
+fn pair_with_each(a: u32, ligands: &[Ligand], pairs: &mut Vec<Pair>)
+    requires room { length pairs.old.items + length (flat_map (pair_with a) ligands.now) ≤ vec_capacity pairs.old }
+    ensures pairs { pairs.new.items ≡ pairs.old.items ++ flat_map (pair_with a) ligands.now }
+    ensures room { vec_capacity pairs.old ≤ vec_capacity pairs.new }
+{
+    let mut rest = ligands;
+    while let [ligand, others @ ..] = rest {
+        pair_with(a, ligand, pairs);
+        rest = others;
+    }
+}
+
+fn pair_with(a: u32, ligand: &Ligand, pairs: &mut Vec<Pair>)
+    requires room { length pairs.old.items + length (pair_with a ligand.now) ≤ vec_capacity pairs.old }
+    ensures pairs { pairs.new.items ≡ pairs.old.items ++ pair_with a ligand.now }
+    ensures room { vec_capacity pairs.old ≤ vec_capacity pairs.new }
+{
+    match ligand {
+        Ligand::LonePair => {}
+        Ligand::Vertex(b) => {
+            if a != *b {
+                push_reserved(pairs, Pair { a, b: *b });
+            }
+        }
+    }
+}

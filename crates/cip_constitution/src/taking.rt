@@ -1,0 +1,47 @@
+// Rules 1b and 2 over the branches that stand, as far as the last sphere.
+ghost use Rattle.std.specs.Prelude.{◌≡◌, ◌≤◌, ◌<◌, length, map, pos};
+ghost use Rattle.cip_branches.specs.Deciding.{AreFollowed};
+ghost use Rattle.cip_branches.specs.Passing.{AreKeyed};
+ghost use Rattle.cip_branches.specs.Saving.{saved_of};
+ghost use Rattle.cip_constitution.specs.Alike.{TakesWhole, TakesBoth};
+ghost use Rattle.cip_mol.specs.declared.outcome.Rule.{Rule as AnyRule};
+
+use crate::keys::{ByDistance, ByMass};
+use cip_arena::Arena;
+use cip_branches::{Branches, SavedRanks};
+use cip_rank::{Keyed, Rules};
+
+// Takes a rule over branches by keys. No memory is taken.
+fn take_whole<K: Keyed>(branches: &mut Branches, keys: &K)
+    requires followed { AreFollowed branches.old }
+    requires keyed { AreKeyed (K.nodes keys.now) branches.old.layers.kin }
+    ensures whole { (rule : AnyRule) → TakesWhole branches.old (K.key keys.now) rule branches.new }
+    ensures followed { AreFollowed branches.new }
+    ensures kin { branches.new.layers.kin ≡ branches.old.layers.kin }
+{
+    branches.next_rule(keys);
+    let last = branches.last();
+    for far in 0..last {
+        branches.deepen(keys, far);
+    }
+}
+
+/// Takes Rules 1b and 2, and sets aside how the branches stood.
+pub fn take_both(branches: &mut Branches, saved: &mut SavedRanks, arena: &Arena, rules: Rules)
+    requires followed { AreFollowed branches.old }
+    requires keyed { AreKeyed (length arena.now.nodes) branches.old.layers.kin }
+    requires room { length branches.old.layers.kin.ups ≤ saved.old.room }
+    ensures taken { TakesBoth branches.old rules arena.now.nodes branches.new }
+    ensures saved { saved.new ≡ saved_of saved.old.room branches.old }
+    ensures count { length branches.old.layers.ranked.numbers ≡ length branches.old.layers.kin.ups }
+{
+    branches.save(saved);
+    take_whole(
+        branches,
+        &ByDistance {
+            nodes: arena,
+            rules,
+        },
+    );
+    take_whole(branches, &ByMass { nodes: arena });
+}

@@ -1,0 +1,59 @@
+// A root whose digraph was grown.
+ghost use Rattle.std.specs.Prelude.{◌≡◌, ◌<◌, length, map, IfOk};
+ghost use Rattle.cip_constitution.specs.Settling.{SettledAs};
+ghost use Rattle.cip_constitution.specs.Standing.{ligand_number};
+ghost use Rattle.cip_desk.specs.Desks.{settled_by};
+ghost use Rattle.cip_desk.specs.Rooting.{IsRooted, whole_at};
+
+use cip_arena::Arena;
+use cip_aux::Whole;
+use cip_constitution::{Settled, number_of};
+use cip_label::Setting;
+use cip_mol::{Ligand, Ligands};
+use std::alloc::{AllocError, Global};
+
+/// A root with its ligands, and its digraph as far as it was grown.
+#[derive(Drop)]
+pub struct Rooted<'a, 's> {
+    pub arena: &'a Arena,
+    pub setting: &'a Setting<'s>,
+    pub root: u32,
+    pub ligands: &'a Ligands,
+}
+
+/// Its digraph, which is whole.
+pub fn whole_of<'a>(rooted: &Rooted<'a, '_>) -> Whole<'a, Arena>
+    requires rooted { IsRooted rooted.now.setting.now rooted.now.root rooted.now.ligands.now rooted.now.arena.now }
+    requires settled { SettledAs (settled_by rooted.now.setting.now rooted.now.ligands.now) rooted.now.arena.now
+        Settled.Whole }
+    ensures { result ≡ whole_at rooted.now.setting.now rooted.now.arena.now }
+{
+    let setting = rooted.setting;
+    let _ligands = rooted.ligands;
+    Whole::new(
+        rooted.arena,
+        setting.graph(),
+        setting.positions(),
+        setting.rules(),
+        rooted.root,
+        rooted.arena.sphere(),
+    )
+}
+
+/// The nodes of ligands by number, none of a lone pair.
+pub fn numbers_of(
+    alloc: Global,
+    arena: &Arena,
+    ligands: &[Ligand],
+) -> Result<Vec<Option<u32>>, AllocError>
+    requires { 0 < length arena.now.nodes }
+    ensures { IfOk result (λ numbers. numbers.items ≡ map (ligand_number arena.now.nodes) ligands.now) }
+{
+    let mut numbers = Vec::with_capacity(alloc, ligands.len())?;
+    let mut rest = ligands;
+    while let [ligand, others @ ..] = rest {
+        numbers.push(number_of(arena, ligand))?;
+        rest = others;
+    }
+    Ok(numbers)
+}

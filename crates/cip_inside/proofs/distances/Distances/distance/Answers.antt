@@ -1,0 +1,36 @@
+use Rattle.std.proofs.Common.{◌≡◌, ◌∙◌, sym, ap, subst, arith}
+use Rattle.cip_digraph.specs.digraph.View.{apart}
+use Rattle.cip_views.specs.Sources.{distance_node}
+use Rattle.cip_views.proofs.WholeTold.{parents_len}
+use Rattle.cip_aux.specs.Sights.{IsReal, path_at, sight_of}
+use Rattle.cip_aux.proofs.Told.{whole_shows}
+use Rattle.cip_inside.proofs.Sources.{source_is}
+use Rattle.cip_inside.proofs.distances.Distances.distance.Goals as goal
+
+pub steps-requires : goal.steps-requires
+steps-requires g c =
+    let self = c.args.self.now in
+    let whole = self.whole.now in
+    let sight = sight_of whole in
+    let shows = whole_shows whole c.nodes-nodes.ensures.whole in
+    let len = shows.told.len in
+    let low = c.requires in
+    let same : c.source.result ≡ distance_node whole.rules whole.told c.args.node =
+    c.source.ensures ∙ (λ i. distance_node (c.rules.ensures i) (c.nodes-nodes.ensures.told i) c.args.node) in
+    record {
+      real = subst (IsReal sight.nodes) (sym same)
+          (source_is sight shows self.from c.args.node (omega (arith, len, low, parents_len whole.told))).real;
+    }
+
+pub returns : goal.returns
+returns g c =
+    let self = c.args.self.now in
+    let whole = self.whole.now in
+    let sight = sight_of whole in
+    let shows = whole_shows whole c.nodes-nodes.ensures.whole in
+    let len = shows.told.len in
+    let low = c.requires in
+    let same : c.source.result ≡ distance_node whole.rules whole.told c.args.node =
+    c.source.ensures ∙ (λ i. distance_node (c.rules.ensures i) (c.nodes-nodes.ensures.told i) c.args.node) in
+    c.steps.ensures ∙ ap (λ n. apart (path_at sight.nodes self.from) (path_at sight.nodes n)) same
+    ∙ (source_is sight shows self.from c.args.node (omega (arith, len, low, parents_len whole.told))).far

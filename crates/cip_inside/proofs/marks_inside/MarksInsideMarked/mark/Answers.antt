@@ -1,0 +1,16 @@
+use Rattle.std.proofs.Common.{arith}
+use Rattle.cip_inside.proofs.CountedMarks.{marks_len}
+use Rattle.cip_inside.proofs.marks_inside.MarksInsideMarked.mark.Goals as goal
+
+pub is_below-requires : goal.is_below-requires
+is_below-requires c =
+    let self = c.args.self.now in
+    let low = c.requires in
+    omega (arith, low, marks_len self.table.now.parents self.from self.marks.now.marks)
+
+pub get-requires : goal.get-requires
+get-requires c =
+    let self = c.args.self.now in
+    let low = c.requires in
+    let len = self.len in
+    omega (arith, low, len, marks_len self.table.now.parents self.from self.marks.now.marks)

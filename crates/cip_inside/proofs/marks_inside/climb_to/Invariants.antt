@@ -1,0 +1,13 @@
+use Rattle.std.proofs.Common.{◌≡◌, ◌<◌, ◌≤◌, length}
+use Rattle.cip_reroot.specs.View.{on_way}
+use Rattle.cip_inside.proofs.marks_inside.climb_to.Given as goal
+
+abbrev pub invariant-loop-at : goal.invariant-loop-at
+invariant-loop-at l = record {
+  within : l.at < length l.table.parents;
+  low : l.at ≤ l.node;
+  same : on_way l.table.parents l.at l.from ≡ on_way l.table.parents l.node l.from;
+}
+
+abbrev pub decreases-loop-at : goal.decreases-loop-at
+decreases-loop-at l = l.at

@@ -1,0 +1,25 @@
+use Rattle.std.proofs.Common.{◌≡◌, ◌∷◌, [], true, length, sym, ap, subst}
+use Rattle.cip_branches.specs.Deciding.{Branched}
+use Rattle.cip_branches.specs.Standing.{node_in}
+use Rattle.cip_digraph.specs.digraph.Telling.{node_at}
+use Rattle.cip_digraph.specs.rules.Orders.{rule_2}
+use Rattle.cip_mol.specs.declared.outcome.Rule.TheVariants.{R1a, R1b, R2}
+use Rattle.cip_ligands.specs.Deciding.{AreDecidedBy}
+use Rattle.cip_ligands.specs.Marked.{AreMarksOf}
+use Rattle.cip_inside.specs.Near.{Nearing, marked_by, seen_at}
+use Rattle.cip_inside.proofs.Configured.{ordered_by}
+use Rattle.cip_inside.proofs.near.Near.configuration.Goals as goal
+
+pub returns-clause-decided : goal.returns-clause-decided
+returns-clause-decided g c = λ sight node begin mark within is undone marks.
+    let now_is : c.self.inside.branches ≡ c.args.self.now.now = ap (λ (near : Nearing). near.now) c.self.view_is in
+    let old = c.args.self.now.now in
+    let count = length c.args.self.now.tops in
+    let seen = seen_at sight node mark in
+    let named = node_at sight.nodes in
+    ordered_by sight node c.args.self.now.tops begin within old is.placed mark c.decide_configuration.new.asked
+    c.decide_configuration.new.turned
+    (c.decide_configuration.ensures.decided seen named (node_in named old) count begin within
+    (subst (λ (b : Branched). AreDecidedBy seen true named (node_in named old) count begin (R1a ∷ R1b ∷ R2 ∷ [])
+    (rule_2 seen seen.height) b c.args.asked.now) (sym now_is) ((is.decided mark).stands undone))
+    (subst (AreMarksOf named (marked_by mark) (g.M.Marked.marks c.args.marks.now)) (sym now_is) marks))

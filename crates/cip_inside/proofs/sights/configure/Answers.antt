@@ -1,0 +1,43 @@
+use Rattle.std.proofs.Common.{◌∙◌, List, length, sym, ap, subst}
+use Rattle.std.specs.declared.option.Option.{Option}
+use Rattle.cip_branches.specs.Passing.{AreKeyed}
+use Rattle.cip_mol.specs.declared.descriptor.Descriptor.{Descriptor}
+use Rattle.cip_digraph.specs.digraph.NodeList.{parents_of}
+use Rattle.cip_digraph.specs.digraph.Telling.{node_at}
+use Rattle.cip_ligands.specs.Marked.{AreMarksOf}
+use Rattle.cip_aux.specs.Sights.{Sight}
+use Rattle.cip_inside.specs.Marks.{marks_below}
+use Rattle.cip_inside.specs.Near.{marked_by}
+use Rattle.cip_inside.proofs.Configured.{counted_are, counted_keyed, marks_are}
+use Rattle.cip_inside.proofs.sights.configure.Goals as goal
+
+pub returns-then-all_inside-clause-ordered : goal.returns-then-all_inside-clause-ordered
+returns-then-all_inside-clause-ordered g c = λ begin mark within is undone agrees.
+    let inner = c.args.inner.now in
+    let near = c.args.near.now in
+    c.configuration.ensures.decided inner.sight c.args.node begin mark within is undone
+    (subst (λ (marks : List (Option Descriptor)). AreMarksOf (node_at inner.sight.nodes) (marked_by mark) marks near.now)
+    (sym c.marks.ensures)
+    (marks_are inner c.args.node c.requires.ready near.tops c.requires.tops near.now c.requires.placed
+    (c.all_inside.ensures.from c.if-all_inside.true) (c.all_inside.ensures.behind c.if-all_inside.true) mark agrees))
+
+pub configuration-requires-2-clause-keyed : goal.configuration-requires-2-clause-keyed
+configuration-requires-2-clause-keyed g c =
+    let inner = c.args.inner.now in
+    let near = c.args.near.now in
+    let parents = c.table-table.ensures
+    ∙ ap parents_of (c.nodes.ensures.told ∙ ap (λ (s : Sight). s.told) c.whole.ensures) in
+    subst (λ (marks : List (Option Descriptor)). AreKeyed (length marks) near.now.layers.kin)
+    (sym (λ i. marks_below (parents i) (c.from.ensures i) (c.marks-2.ensures i)))
+    (counted_keyed inner c.args.node c.requires.ready near.tops near.now c.requires.placed)
+
+pub returns-clause-ordered : goal.returns-clause-ordered
+returns-clause-ordered g c = λ begin mark within is undone agrees.
+    let inner = c.args.inner.now in
+    let near = c.args.near.now in
+    let parents = c.table-table.ensures
+    ∙ ap parents_of (c.nodes.ensures.told ∙ ap (λ (s : Sight). s.told) c.whole.ensures) in
+    c.configuration-2.ensures.decided inner.sight c.args.node begin mark within is undone
+    (subst (λ (marks : List (Option Descriptor)). AreMarksOf (node_at inner.sight.nodes) (marked_by mark) marks near.now)
+    (sym (λ i. marks_below (parents i) (c.from.ensures i) (c.marks-2.ensures i)))
+    (counted_are inner c.args.node c.requires.ready near.tops near.now c.requires.placed mark agrees))

@@ -1,0 +1,37 @@
+-- The keys of Rules 1b and 2 by the numbers of nodes, seen from one of them. Own.
+use Rattle.std.specs.Prelude.{◌≡◌, ◌<◌, ◌≤◌, ◌+◌, ℕ, ℤ, pos, Bool, List, length, map, slice_index}
+use Rattle.std.specs.List.{range_with_len}
+use Rattle.cip_aux.specs.Sights.{Sight, path_at}
+use Rattle.cip_branches.specs.Parting.{has_flag}
+use Rattle.cip_digraph.specs.declared.nodes.Told.{Told}
+use Rattle.cip_digraph.specs.digraph.Telling.{node_at}
+use Rattle.cip_digraph.specs.digraph.NodeList.{parents_of}
+use Rattle.cip_digraph.specs.digraph.View.{apart, common}
+use Rattle.cip_digraph.specs.rules.Keys.{distance_key, lower_precedes}
+use Rattle.cip_rank.specs.Tree.{spheres_of}
+use Rattle.cip_reroot.specs.View.{on_way}
+
+-- flags of the nodes on the way from the root to one
+pub record IsFlagged (parents : List ℕ) (node : ℕ) (way : List Bool) : Type 0 where
+  pub each : (x : ℕ) → x < length parents → has_flag way x ≡ on_way parents node x
+
+abbrev pub distance_at : Sight → ℕ → ℕ → ℕ
+distance_at sight from node = distance_key sight.rules (apart (path_at sight.nodes from)) (node_at sight.nodes node)
+
+abbrev pub distance_keys : Sight → ℕ → List ℤ
+distance_keys sight from =
+    map (λ node. lower_precedes (distance_at sight from node)) (range_with_len 0 (length sight.told))
+
+abbrev pub mass_keys : List Told → List ℤ
+mass_keys all = map (λ told. pos told.mass) all
+
+-- A node on the way from the root to one, so far from the root as the paths of this one and another go together. So many
+-- steps lead from the root to each of them.
+pub record IsMeet (sight : Sight) (from node meet : ℕ) : Type 0 where
+  pub within : meet < length sight.nodes
+  pub both : common (path_at sight.nodes from) (path_at sight.nodes node)
+      ≡ slice_index (spheres_of (parents_of sight.told)) meet + 1
+  pub low : slice_index (spheres_of (parents_of sight.told)) meet
+      ≤ slice_index (spheres_of (parents_of sight.told)) node
+  pub near : slice_index (spheres_of (parents_of sight.told)) meet
+      ≤ slice_index (spheres_of (parents_of sight.told)) from

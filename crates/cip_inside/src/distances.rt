@@ -1,0 +1,145 @@
+// The keys of Rule 1b, seen from a node.
+ghost use Rattle.std.specs.Prelude.{◌≡◌, ◌<◌, true, false, length, None, unwrap_or};
+ghost use Rattle.std.specs.Ordering.{int_cmp};
+ghost use Rattle.cip_aux.specs.Sights.{IsReal, path_at, sight_of};
+ghost use Rattle.cip_branches.specs.Parting.{has_flag};
+ghost use Rattle.cip_digraph.specs.digraph.NodeList.{parents_of, told_at};
+ghost use Rattle.cip_digraph.specs.digraph.View.{apart};
+ghost use Rattle.cip_digraph.specs.rules.Keys.{lower_precedes};
+ghost use Rattle.cip_views.specs.Sources.{carrier_of, distance_node};
+ghost use Rattle.cip_inside.specs.Keys.{IsFlagged, IsMeet, distance_at, distance_keys};
+
+use cip_aux::Whole;
+use cip_digraph::{NodeKind, Nodes};
+use cip_rank::{Keyed, Rules};
+use cip_reroot::marks::parent_of;
+use std::cmp::Ordering;
+
+/// The distances of a digraph's nodes from one of them, by flags of the nodes on the way to it from the root: how many
+/// steps the real node is away that tells them.
+#[derive(Drop)]
+pub struct Distances<'a, N: Nodes> {
+    pub whole: &'a Whole<'a, N>,
+    pub way: &'a [bool],
+    pub from: u32,
+    ghost real: { IsReal (sight_of whole.now).nodes from },
+    ghost flagged: { IsFlagged (parents_of whole.now.told) from way.now },
+}
+
+// Whether a node isn't on the way, whose flags these are, and not the root.
+fn is_off(way: &[bool], node: u32) -> bool
+    ensures some { result ≡ true → 0 < node }
+    ensures off { result ≡ true → has_flag way.now node ≡ false }
+    ensures on { result ≡ false → 0 < node → has_flag way.now node ≡ true }
+{
+    match way.get(node as usize) {
+        Some(flag) => node > 0 && !*flag,
+        None => node > 0,
+    }
+}
+
+// Lower keys precede.
+#[tactic(auto, using(crate::proofs::NodeKeys::lower_compare))]
+fn compare_down(a: u64, b: u64) -> Ordering
+    ensures { result ≡ int_cmp (lower_precedes a) (lower_precedes b) }
+{
+    b.cmp(&a)
+}
+
+fn carrier<N: Nodes>(nodes: &N, node: u32) -> u32
+    requires { node < length (N.nodes nodes.now) }
+    ensures { result ≡ carrier_of (N.nodes nodes.now) node }
+{
+    match nodes.table().parent(node) {
+        None => 0,
+        Some(parent) => parent,
+    }
+}
+
+fn counterpart<N: Nodes>(nodes: &N, node: u32) -> u32
+    requires { node < length (N.nodes nodes.now) }
+    ensures { result ≡ unwrap_or (told_at (N.nodes nodes.now) node).counterpart 0 }
+{
+    match nodes.counterpart(node) {
+        None => 0,
+        Some(counterpart) => counterpart,
+    }
+}
+
+// The real node whose distance is the key of a node.
+fn source<N: Nodes>(nodes: &N, rules: Rules, node: u32) -> u32
+    requires { node < length (N.nodes nodes.now) }
+    ensures { result ≡ distance_node rules (N.nodes nodes.now) node }
+{
+    match nodes.kind(node) {
+        NodeKind::Real => node,
+        NodeKind::Closure => counterpart(nodes, node),
+        NodeKind::Multiple => match rules {
+            Rules::Wording2013 => counterpart(nodes, node),
+            Rules::Wording2018 => carrier(nodes, node),
+        },
+        NodeKind::Delocalised => carrier(nodes, node),
+    }
+}
+
+impl<N: Nodes> Distances<'_, N> {
+    // Where the way from the root to a real node leaves the one to the node that is looked from.
+    fn climb(&self, node: u32) -> u32
+        requires real { IsReal (sight_of self.now.whole.now).nodes node }
+        ensures { IsMeet (sight_of self.now.whole.now) self.now.from node result }
+    {
+        let nodes = self.whole.nodes();
+        let table = nodes.table();
+        let _count = table.len();
+        let mut at = node;
+        while is_off(self.way, at) {
+            at = parent_of(table, at);
+        }
+        at
+    }
+
+    // The same; seen from the root, it is the root.
+    fn meet(&self, node: u32) -> u32
+        requires real { IsReal (sight_of self.now.whole.now).nodes node }
+        ensures { IsMeet (sight_of self.now.whole.now) self.now.from node result }
+    {
+        let _nodes = self.whole.nodes();
+        if self.from == 0 {
+            return 0;
+        }
+        self.climb(node)
+    }
+
+    // How many steps a real node is away.
+    fn steps(&self, node: u32) -> u64
+        requires real { IsReal (sight_of self.now.whole.now).nodes node }
+        ensures { result ≡ apart (path_at (sight_of self.now.whole.now).nodes self.now.from)
+            (path_at (sight_of self.now.whole.now).nodes node) }
+    {
+        let nodes = self.whole.nodes();
+        let table = nodes.table();
+        let meet = u64::from(table.sphere(self.meet(node)));
+        let here = u64::from(table.sphere(self.from));
+        let there = u64::from(table.sphere(node));
+        (here - meet) + (there - meet)
+    }
+
+    fn distance(&self, node: u32) -> u64
+        requires { node < length self.now.whole.now.told }
+        ensures { result ≡ distance_at (sight_of self.now.whole.now) self.now.from node }
+    {
+        let nodes = self.whole.nodes();
+        self.steps(source(nodes, self.whole.rules(), node))
+    }
+}
+
+impl<N: Nodes> Keyed for Distances<'_, N> {
+    ghost nodes = { λ keys. length keys.whole.now.told };
+
+    ghost key = { λ keys. distance_keys (sight_of keys.whole.now) keys.from };
+
+    #[tactic(auto, using(crate::proofs::NodeKeys::distance_key_is))]
+    fn compare(&self, a: u32, b: u32) -> Ordering {
+        compare_down(self.distance(a), self.distance(b))
+    }
+}

@@ -1,0 +1,74 @@
+// Flags of the nodes of branches that are wanted.
+ghost use Rattle.std.specs.Prelude.{◌≡◌, ◌<◌, ◌≤◌, ◌^◌, ℕ, All, true, if◌then◌else◌, length, slice_index, slice_set};
+ghost use Rattle.cip_branches.specs.Parting.{has_flag};
+ghost use Rattle.cip_aux.specs.Marking.{AreWanted, flag_at};
+
+use cip_branches::Branches;
+use cip_rank::Table;
+use cip_reroot::marks::parent_of;
+
+// Sets a flag, where it is wanted.
+fn set_if(is_wanted: bool, flags: &mut [bool], node: u32)
+    requires { node < length flags.old }
+    ensures { flags.new ≡ (if is_wanted then slice_set flags.old node true else flags.old) }
+{
+    if is_wanted {
+        flags[node as usize] = true;
+    }
+}
+
+/// Flags the tops of branches that are wanted.
+pub fn flag_tops(branches: &Branches, tops: &[u32], flags: &mut [bool])
+    requires few { length tops.now < 2 ^ 32 }
+    requires within { All (λ top. top < length flags.old) tops.now }
+    ensures flagged { (branch : ℕ) → branch < length tops.now → has_flag branches.now.wanted branch ≡ true
+        → flag_at flags.new (slice_index tops.now branch) ≡ true }
+    ensures len { length flags.new ≡ length flags.old }
+{
+    for branch in 0..tops.len() as u32 {
+        set_if(branches.is_wanted(branch), flags, tops[branch as usize]);
+    }
+}
+
+// Whether the parent of a node has a flag.
+fn is_below_flagged(table: &Table, flags: &[bool], node: u32) -> bool
+    requires node { node < length table.now.parents }
+    requires len { length flags.now ≡ length table.now.parents }
+    ensures { 0 < node → result ≡ flag_at flags.now (slice_index table.now.parents node) }
+{
+    let _count = table.len();
+    node > 0 && flags[parent_of(table, node) as usize]
+}
+
+/// Flags all nodes below those that have a flag.
+pub fn flag_below(table: &Table, flags: &mut [bool])
+    requires len { length flags.old ≡ length table.now.parents }
+    ensures below { AreWanted table.now.parents flags.new }
+    ensures kept { (node : ℕ) → flag_at flags.old node ≡ true → flag_at flags.new node ≡ true }
+    ensures len { length flags.new ≡ length flags.old }
+{
+    for node in 0..table.len() {
+        set_if(is_below_flagged(table, flags, node), flags, node);
+    }
+}
+
+// Whether a branch isn't wanted, or its top is behind a node.
+fn is_behind(branches: &Branches, branch: u32, top: u32, node: u32) -> bool
+    ensures { result ≡ true → has_flag branches.now.wanted branch ≡ true → node < top }
+{
+    !branches.is_wanted(branch) || node < top
+}
+
+/// Whether the tops of all branches that are wanted are behind a node.
+pub fn are_behind(branches: &Branches, tops: &[u32], node: u32) -> bool
+    requires few { length tops.now < 2 ^ 32 }
+    ensures { result ≡ true → (branch : ℕ) → branch < length tops.now → has_flag branches.now.wanted branch ≡ true
+        → node < slice_index tops.now branch }
+{
+    for branch in 0..tops.len() as u32 {
+        if !is_behind(branches, branch, tops[branch as usize], node) {
+            return false;
+        }
+    }
+    true
+}

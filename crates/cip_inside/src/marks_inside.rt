@@ -1,0 +1,59 @@
+// The descriptors that count at a node: those of the nodes strictly below it.
+ghost use Rattle.std.specs.Prelude.{◌≡◌, ◌<◌, ◌≤◌, length};
+ghost use Rattle.cip_reroot.specs.View.{on_way};
+ghost use Rattle.cip_views.specs.Below.{is_below};
+ghost use Rattle.cip_inside.specs.Marks.{marks_below};
+
+use cip_ligands::{Descriptors, Marked};
+use cip_mol::Descriptor;
+use cip_rank::Table;
+use cip_reroot::marks::parent_of;
+
+/// Descriptors of a digraph's nodes, of which those strictly below one node count.
+#[derive(Drop)]
+pub struct MarksInside<'a> {
+    pub table: &'a Table,
+    pub from: u32,
+    pub marks: &'a Descriptors,
+    ghost len: { length marks.now.marks ≡ length table.now.parents },
+}
+
+// The first number that is at most another one on the way from a node to the root, where numbers fall.
+fn climb_to(table: &Table, from: u32, node: u32) -> u32
+    requires { node < length table.now.parents }
+    ensures within { result < length table.now.parents }
+    ensures low { result ≤ from }
+    ensures same { on_way table.now.parents result from ≡ on_way table.now.parents node from }
+{
+    let _count = table.len();
+    let mut at = node;
+    while at > from {
+        at = parent_of(table, at);
+    }
+    at
+}
+
+// Whether a node is strictly below another one.
+fn is_below(table: &Table, from: u32, node: u32) -> bool
+    requires { node < length table.now.parents }
+    ensures { result ≡ is_below table.now.parents from node }
+{
+    let _count = table.len();
+    if node <= from {
+        return false;
+    }
+    climb_to(table, from, node) == from
+}
+
+impl Marked for MarksInside<'_> {
+    ghost marks = { λ below. marks_below below.table.now.parents below.from below.marks.now.marks };
+
+    #[tactic(auto, using(crate::proofs::CountedMarks::mark_is))]
+    fn mark(&self, node: u32) -> Option<Descriptor> {
+        if is_below(self.table, self.from, node) {
+            self.marks.get(node)
+        } else {
+            None
+        }
+    }
+}

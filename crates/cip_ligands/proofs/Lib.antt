@@ -1,0 +1,17 @@
+pub mod ConfigurationDecided
+pub mod FirstNone
+pub mod FoundAmong
+pub mod FoundRules
+pub mod FoundWithin
+pub mod MappedKeys
+pub mod MarkedPlaces
+pub mod MovedOrders
+pub mod Noted
+pub mod ReadingKeys
+pub mod ReadingsFound
+pub mod RulesFound
+pub mod RulesGoOn
+pub mod RulesInTurn
+pub mod RulesReady
+pub mod TakenSteps
+pub mod UnmarkedBranches

@@ -1,0 +1,35 @@
+-- Descriptors that are known at places of wanted branches: the keys that they make, and that they stay known.
+use Rattle.std.proofs.Common.{◌≡◌, ◌<◌, ℕ, Bool, List, length, map, slice_index, sym, ap, ◌∙◌, subst}
+use Rattle.std.specs.Prelude.{None}
+use Rattle.std.specs.declared.option.Option.{Option}
+use Rattle.std.specs.List.{slice_index_or}
+use Rattle.cip_mol.specs.declared.descriptor.Descriptor.{Descriptor}
+use Rattle.cip_mol.specs.declared.outcome.Rule.{Rule}
+use Rattle.cip_digraph.specs.rules.Orders.{Seen}
+use Rattle.cip_branches.specs.Deciding.{Branched}
+use Rattle.cip_branches.specs.Kin.{Kin}
+use Rattle.cip_branches.specs.Standing.{node_in, AreKeysOf}
+use Rattle.cip_ligands.specs.Marked.{AreMarksOf}
+use Rattle.cip_ligands.specs.Orders.{key_by, mark_key}
+use Rattle.cip_ligands.specs.Taking.{WantsNoMore}
+use Rattle.cip_ligands.proofs.MappedKeys.{mapped_keys}
+
+module _ {N : Type 0} (named : ℕ → N) (marks : List (Option Descriptor)) where
+  -- by a rule that looks at descriptors
+  pub keys_by_marks : (seen : Seen N) (r_first : Bool) (rule : Rule)
+      → ((node : N) → mark_key r_first rule (seen.mark node) ≡ key_by seen r_first rule node) → (now : Branched)
+      → AreMarksOf named seen.mark marks now
+      → AreKeysOf named (key_by seen r_first rule) (map (mark_key r_first rule) marks) now
+  keys_by_marks seen r_first rule is now known =
+      mapped_keys named (mark_key r_first rule) (key_by seen r_first rule) marks None now known.within
+      (λ t place p. ap (mark_key r_first rule) (known.each t place p) ∙ is (node_in named now place))
+
+  -- over the same places, where no more branches are wanted
+  pub marks_stay : (mark : N → Option Descriptor) (old now : Branched) → now.layers.kin ≡ old.layers.kin
+      → WantsNoMore old now → AreMarksOf named mark marks old → AreMarksOf named mark marks now
+  marks_stay mark old now kin fewer known = record {
+    within = λ t place p. subst (λ (k : Kin). slice_index k.nodes place < length marks) (sym kin)
+        (known.within t place (fewer.each t place p));
+    each = λ t place p. subst (λ (k : Kin). slice_index_or marks (slice_index k.nodes place) None
+        ≡ mark (named (slice_index k.nodes place))) (sym kin) (known.each t place (fewer.each t place p));
+  }

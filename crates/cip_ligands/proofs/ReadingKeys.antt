@@ -1,0 +1,23 @@
+-- Keys of readings, and what is asked of branches, by number.
+use Rattle.std.proofs.Common.{◌≡◌, ◌<◌, ◌+◌, ◌++◌, ◌∷◌, [], ℕ, pos, List, length, map, ap, ◌∙◌, arith}
+use Rattle.std.specs.declared.option.Option.{Option}
+use Rattle.std.specs.List.{range_with_len}
+use Rattle.std.proofs.lemmas.List.{map-append}
+use Rattle.std.proofs.lemmas.List.FromFn.{get_or-map-range_with_len}
+use Rattle.cip_rank.specs.Ranking.{key_at}
+use Rattle.cip_mol.specs.declared.descriptor.Descriptor.{Descriptor}
+use Rattle.cip_branches.specs.Deciding.{Branched}
+use Rattle.cip_branches.proofs.TwinLists.{places_more}
+use Rattle.cip_ligands.specs.Readings.{reading_key, reading_keys}
+
+pub key_here : (marks : List (Option Descriptor)) (from : Branched) (place : ℕ)
+    → place < length from.layers.kin.ups + length from.layers.kin.ups
+    → key_at (reading_keys marks from) place
+    ≡ reading_key marks from.layers.kin.nodes (length from.layers.kin.ups) place
+key_here marks from place lt =
+    get_or-map-range_with_len (reading_key marks from.layers.kin.nodes (length from.layers.kin.ups)) 0
+    (length from.layers.kin.ups + length from.layers.kin.ups) place place (pos 0) lt (omega arith)
+
+pub mapped_place : {X : Type 0} (f : ℕ → X) (count : ℕ)
+    → map f (range_with_len 0 (count + 1)) ≡ map f (range_with_len 0 count) ++ f count ∷ []
+mapped_place f count = ap (map f) (places_more count) ∙ map-append f (range_with_len 0 count) (count ∷ [])

@@ -1,0 +1,25 @@
+use Rattle.std.proofs.Common.{[], ◌∷◌, refl, sym, ◌∙◌}
+use Rattle.cip_mol.specs.declared.outcome.Rule.TheVariants.{R3, R4b, R4c, R5}
+use Rattle.cip_ligands.proofs.ConfigurationDecided.{decides_more, decides_early}
+use Rattle.cip_ligands.proofs.TakenSteps.{fewer_still}
+use Rattle.cip_ligands.proofs.configuration.decide_before_last.Goals as goal
+
+pub returns-then-decide_before_readings-clause-decided : goal.returns-then-decide_before_readings-clause-decided
+returns-then-decide_before_readings-clause-decided g c =
+    decides_early (g.M.Marked.marks c.args.marks.now) R3 R4b R5 (R4b ∷ R4c ∷ []) refl c.args.branches.now
+    c.decide_before_readings.new.branches c.args.asked.now c.decide_before_readings.new.asked
+    c.decide_before_readings.ensures.decided
+    (sym c.decide_before_readings.ensures.all ∙ c.if-decide_before_readings.true)
+
+pub returns-clause-decided : goal.returns-clause-decided
+returns-clause-decided g c =
+    decides_more (g.M.Marked.marks c.args.marks.now) R3 R4b R5 c.args.branches.now c.decide_before_readings.new.branches
+    c.decide_from_readings.new.branches c.args.asked.now c.decide_before_readings.new.asked
+    c.decide_from_readings.new.asked c.decide_before_readings.ensures.decided
+    (sym c.decide_before_readings.ensures.all ∙ c.if-decide_before_readings.false)
+    c.decide_before_readings.ensures.kin c.decide_before_readings.ensures.wanted c.decide_from_readings.ensures.decided
+
+pub returns-clause-wanted : goal.returns-clause-wanted
+returns-clause-wanted g c =
+    fewer_still c.args.branches.now c.decide_before_readings.new.branches c.decide_from_readings.new.branches
+    c.decide_before_readings.ensures.wanted c.decide_from_readings.ensures.wanted

@@ -1,0 +1,36 @@
+use Rattle.std.proofs.Common.{[], ◌∷◌, refl, sym, ◌∙◌}
+use Rattle.cip_mol.specs.declared.outcome.Rule.TheVariants.{R3, R4a, R4b}
+use Rattle.cip_ligands.proofs.ConfigurationDecided.{decides_one, decides_more, decides_early}
+use Rattle.cip_ligands.proofs.TakenSteps.{fewer_still}
+use Rattle.cip_ligands.proofs.configuration.decide_before_readings.Goals as goal
+
+pub returns-then-take_marked-clause-decided : goal.returns-then-take_marked-clause-decided
+returns-then-take_marked-clause-decided g c =
+    let marks = g.M.Marked.marks c.args.marks.now in
+    let old = c.args.branches.now in
+    let now = c.take_marked.new.branches in
+    let asked = c.args.asked.now in
+    let new = c.take_marked.new.asked in
+    decides_early marks R3 R4a R4b (R4a ∷ []) refl old now asked new
+    (decides_one marks R3 R4a refl refl (λ seen. refl) (λ seen node. refl) old now asked new c.take_marked.ensures.taken)
+    (sym c.take_marked.ensures.all ∙ c.if-take_marked.true)
+
+pub returns-clause-decided : goal.returns-clause-decided
+returns-clause-decided g c =
+    let marks = g.M.Marked.marks c.args.marks.now in
+    let old = c.args.branches.now in
+    let mid = c.take_marked.new.branches in
+    let now = c.take_marked-2.new.branches in
+    let asked = c.args.asked.now in
+    let half = c.take_marked.new.asked in
+    let new = c.take_marked-2.new.asked in
+    decides_more marks R3 R4a R4b old mid now asked half new
+    (decides_one marks R3 R4a refl refl (λ seen. refl) (λ seen node. refl) old mid asked half
+    c.take_marked.ensures.taken)
+    (sym c.take_marked.ensures.all ∙ c.if-take_marked.false) c.take_marked.ensures.kin c.take_marked.ensures.wanted
+    (decides_one marks R4a R4b refl refl (λ seen. refl) (λ seen node. refl) mid now half new
+    c.take_marked-2.ensures.taken)
+
+pub returns-clause-wanted : goal.returns-clause-wanted
+returns-clause-wanted g c = fewer_still c.args.branches.now c.take_marked.new.branches c.take_marked-2.new.branches
+    c.take_marked.ensures.wanted c.take_marked-2.ensures.wanted

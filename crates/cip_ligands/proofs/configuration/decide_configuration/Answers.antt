@@ -1,0 +1,18 @@
+use Rattle.std.proofs.Common.{true, false, ◌∙◌}
+use Rattle.cip_ligands.proofs.UnmarkedBranches.{unmarked_order}
+use Rattle.cip_ligands.proofs.configuration.decide_configuration.Goals as goal
+
+pub returns-then-are_unmarked-clause-decided : goal.returns-then-are_unmarked-clause-decided
+returns-then-are_unmarked-clause-decided g c seen named node count begin within before known =
+    let marks = g.M.Marked.marks c.args.marks.now in
+    let now = c.args.branches.now in
+    let asked = c.args.asked.now in
+    let bare = c.are_unmarked.ensures c.if-are_unmarked.true in (
+      unmarked_order seen named node count begin within now asked before marks known bare true,
+      c.copy_from_slice.ensures.after ∙ unmarked_order seen named node count begin within now asked before marks known
+          bare false,
+    )
+
+pub returns-clause-decided : goal.returns-clause-decided
+returns-clause-decided g c seen named node count begin within before known =
+    c.decide_marked.ensures.decided.each seen named node count begin within before known

@@ -1,0 +1,23 @@
+use Rattle.std.proofs.Common.{[], ◌∷◌, refl, sym, ◌∙◌}
+use Rattle.cip_mol.specs.declared.outcome.Rule.TheVariants.{R4b, R4c, R5}
+use Rattle.cip_ligands.proofs.ConfigurationDecided.{decides_one, decides_more, decides_early}
+use Rattle.cip_ligands.proofs.configuration.decide_from_readings.Goals as goal
+
+pub returns-then-decide_by_readings-clause-decided : goal.returns-then-decide_by_readings-clause-decided
+returns-then-decide_by_readings-clause-decided g c =
+    let old = c.args.branches.now in
+    decides_early (g.M.Marked.marks c.args.marks.now) R4b R4c R5 (R4c ∷ []) refl old old c.args.asked.now
+    c.decide_by_readings.new.asked c.decide_by_readings.ensures.decided
+    (sym c.decide_by_readings.ensures.all ∙ c.if-decide_by_readings.true)
+
+pub returns-clause-decided : goal.returns-clause-decided
+returns-clause-decided g c =
+    let marks = g.M.Marked.marks c.args.marks.now in
+    let old = c.args.branches.now in
+    let now = c.take_marked.new.branches in
+    let half = c.decide_by_readings.new.asked in
+    let new = c.take_marked.new.asked in
+    decides_more marks R4b R4c R5 old old now c.args.asked.now half new c.decide_by_readings.ensures.decided
+    (sym c.decide_by_readings.ensures.all ∙ c.if-decide_by_readings.false) refl
+    (record { each = λ t place p. p })
+    (decides_one marks R4c R5 refl refl (λ seen. refl) (λ seen node. refl) old now half new c.take_marked.ensures.taken)

@@ -1,0 +1,36 @@
+use Rattle.std.proofs.Common.{true, false, sym, ◌∙◌}
+use Rattle.cip_ligands.proofs.ConfigurationDecided.{last_decides, decided_before}
+use Rattle.cip_ligands.proofs.MarkedPlaces.{marks_stay}
+use Rattle.cip_ligands.proofs.configuration.decide_marked.Goals as goal
+
+pub returns-then-decide_before_last-clause-decided : goal.returns-then-decide_before_last-clause-decided
+returns-then-decide_before_last-clause-decided g c = record {
+  each = λ seen named node count begin within before known.
+      let marks = g.M.Marked.marks c.args.marks.now in
+      let ready = c.decide_before_last.ensures.decided.each seen named node count begin within before known in
+      let done = sym c.decide_before_last.ensures.all ∙ c.if-decide_before_last.true in
+      let now = c.decide_before_last.new.branches in
+      let new = c.decide_before_last.new.asked in (
+        decided_before marks seen named node count begin within true now new ready done,
+        c.copy_from_slice.ensures.after ∙ decided_before marks seen named node count begin within false now new ready done,
+      );
+}
+
+pub returns-clause-decided : goal.returns-clause-decided
+returns-clause-decided g c = record {
+  each = λ seen named node count begin within before known.
+      let marks = g.M.Marked.marks c.args.marks.now in
+      let mid = c.decide_before_last.new.branches in
+      let half = c.decide_before_last.new.asked in
+      let ready = c.decide_before_last.ensures.decided.each seen named node count begin within before known in
+      let stands = ready.stands (sym c.decide_before_last.ensures.all ∙ c.if-decide_before_last.false) in
+      let still = marks_stay named marks seen.mark c.args.branches.now mid c.decide_before_last.ensures.kin
+      c.decide_before_last.ensures.wanted known in
+      let first = c.decide_last.ensures.decided in
+      let turned = c.decide_last.ensures.turned in (
+        last_decides marks seen named node count begin within true mid first.now half c.decide_last.new.asked stands still
+            first.takes,
+        last_decides marks seen named node count begin within false mid turned.now half c.decide_last.new.turned stands
+            still turned.takes,
+      );
+}

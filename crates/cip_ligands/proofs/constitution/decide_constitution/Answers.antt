@@ -1,0 +1,35 @@
+use Rattle.std.proofs.Common.{true, [], ◌∷◌, refl, sym, ◌∙◌}
+use Rattle.cip_mol.specs.declared.outcome.Rule.TheVariants.{R1a, R1b, R2, R3}
+use Rattle.cip_ligands.proofs.RulesGoOn.{keys_stay}
+use Rattle.cip_ligands.proofs.RulesReady.{ready_next, ready_early}
+use Rattle.cip_ligands.proofs.TakenSteps.{fewer_still}
+use Rattle.cip_ligands.proofs.constitution.decide_constitution.Goals as goal
+
+pub returns-then-take_rule-clause-decided : goal.returns-then-take_rule-clause-decided
+returns-then-take_rule-clause-decided g c seen named node count begin within before apart heavy =
+    let now = c.take_rule.new.branches in
+    let new = c.take_rule.new.asked in
+    ready_early seen true named node count begin within R2 R3 (R2 ∷ []) refl now new
+    (ready_next seen true named node count begin within R1b R2 refl refl refl c.args.branches.now now c.args.asked.now
+    new before (g.D.Keyed.key c.args.distances.now) apart c.take_rule.ensures.taken) (sym c.take_rule.ensures.all
+    ∙ c.if-take_rule.true)
+
+pub returns-clause-decided : goal.returns-clause-decided
+returns-clause-decided g c seen named node count begin within before apart heavy =
+    let old = c.args.branches.now in
+    let asked = c.args.asked.now in
+    let distances = g.D.Keyed.key c.args.distances.now in
+    let masses = g.M.Keyed.key c.args.masses.now in
+    let mid = c.take_rule.new.branches in
+    let half = c.take_rule.new.asked in
+    let ready = ready_next seen true named node count begin within R1b R2 refl refl refl old mid asked half before
+    distances apart c.take_rule.ensures.taken in
+    let known = keys_stay seen true named node count begin within (R1a ∷ []) R1b refl old mid asked half before distances
+    apart c.take_rule.ensures.taken seen.mass masses heavy in
+    ready_next seen true named node count begin within R2 R3 refl refl refl mid c.take_rule-2.new.branches half
+    c.take_rule-2.new.asked (ready.stands (sym c.take_rule.ensures.all ∙ c.if-take_rule.false)) masses known
+    c.take_rule-2.ensures.taken
+
+pub returns-clause-wanted : goal.returns-clause-wanted
+returns-clause-wanted g c = fewer_still c.args.branches.now c.take_rule.new.branches c.take_rule-2.new.branches
+    c.take_rule.ensures.wanted c.take_rule-2.ensures.wanted

@@ -1,0 +1,11 @@
+pub mod Asking
+pub mod Configuring
+pub mod Deciding
+pub mod Laws
+pub mod MarkColumns
+pub mod Marked
+pub mod Marks
+pub mod Moving
+pub mod Orders
+pub mod Readings
+pub mod Taking

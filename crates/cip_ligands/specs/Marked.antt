@@ -1,0 +1,19 @@
+-- Descriptors by the numbers of nodes, as branches show them. Own.
+use Rattle.std.specs.Prelude.{◌≡◌, ◌<◌, ℕ, List, None, length, slice_index}
+use Rattle.std.specs.List.{slice_index_or}
+use Rattle.std.specs.declared.option.Option.{Option}
+use Rattle.cip_mol.specs.declared.descriptor.Descriptor.{Descriptor}
+use Rattle.cip_branches.specs.Deciding.{Branched}
+use Rattle.cip_branches.specs.Standing.{node_in, WantedIn}
+
+-- so many descriptors, by number, are those of the nodes at places of wanted branches
+pub record AreMarksOf {N : Type 0} (named : ℕ → N) (mark : N → Option Descriptor) (marks : List (Option Descriptor))
+    (now : Branched) : Type 0 where
+  pub within : (t place : ℕ) → WantedIn now t place → slice_index now.layers.kin.nodes place < length marks
+  pub each : (t place : ℕ) → WantedIn now t place
+      → slice_index_or marks (slice_index now.layers.kin.nodes place) None ≡ mark (node_in named now place)
+
+-- none of them stands at a place of a wanted branch
+pub record AreUnmarked (marks : List (Option Descriptor)) (now : Branched) : Type 0 where
+  pub each : (t place : ℕ) → WantedIn now t place
+      → slice_index_or marks (slice_index now.layers.kin.nodes place) None ≡ None

@@ -1,0 +1,98 @@
+-- Rule 4b over branches and their twins: the twin of a branch is read with S as the reference, it itself with R. Own.
+use Rattle.std.specs.Prelude.{◌≡◌, ◌<◌, ◌^◌, ◌+◌, ◌-◌, ℕ, ℤ, Bool, true, false, cond, if◌then◌else◌, List, None, Some, length, map, nat_le, nat_lt, slice_index}
+use Rattle.std.specs.declared.option.Option.{Option}
+use Rattle.std.specs.List.{range_with_len, slice_index_or}
+use Rattle.std.specs.Ordering.{is_lt}
+use Rattle.cip_mol.specs.declared.descriptor.Descriptor.{Descriptor}
+use Rattle.cip_mol.specs.declared.outcome.Rule.TheVariants.{R4b}
+use Rattle.cip_digraph.specs.declared.decision.Decision.{Decision}
+use Rattle.cip_digraph.specs.rules.Kinds.{KindR, KindS, marked, like_key}
+use Rattle.cip_branches.specs.Deciding.{Branched, AreFollowed}
+use Rattle.cip_branches.specs.Parting.{has_flag}
+use Rattle.cip_branches.specs.Reserved.{Reserved}
+use Rattle.cip_branches.specs.Saving.{Saved, saved_of}
+use Rattle.cip_branches.specs.Taking.{KeepsPlaces}
+use Rattle.cip_branches.specs.Twins.{twins_of}
+use Rattle.cip_ligands.specs.declared.asked.Asked.{Asked}
+use Rattle.cip_ligands.specs.Taking.{TakesRule}
+
+-- memory for both readings of branches of so many places
+pub record Readied : Type 0 where
+  pub bound : ℕ
+
+pub record KeepReadings (bound : ℕ) (twins : Branched) (saved : Saved) (sides : Reserved Asked) : Type 0 where
+  pub few : bound + bound < 2 ^ 32
+  pub twins_room : twins.layers.kin.room ≡ bound + bound
+  pub saved_room : saved.room ≡ bound + bound
+  pub sides_room : sides.room ≡ bound
+
+-- the other reading of a branch that is wanted; of one that was let go there is none
+abbrev pub twin_of : Branched → ℕ → ℕ
+twin_of from branch = if has_flag from.wanted branch then length from.layers.kin.ups + branch else branch
+
+-- which of the readings of a branch is the higher one is asked
+abbrev pub side_of : Branched → ℕ → Asked
+side_of from branch = record { first = branch; second = twin_of from branch; decision = None }
+
+-- the second one is
+abbrev pub is_second : Option Decision → Bool
+is_second None = false
+is_second (Some found) = is_lt found.side
+
+abbrev pub s_higher : List Asked → List Bool
+s_higher sides = map (λ one. is_second one.decision) sides
+
+-- the branch of a reading, and so the place of a twin
+abbrev pub base_of : ℕ → ℕ → ℕ
+base_of count reading = if nat_lt reading count then reading else reading - count
+
+-- the lower or the higher reading of a branch
+abbrev pub reading_of : Branched → List Bool → Bool → ℕ → ℕ
+reading_of from higher lower branch =
+    if lower then (if has_flag higher branch then branch else twin_of from branch)
+    else (if has_flag higher branch then twin_of from branch else branch)
+
+abbrev pub read_as : Branched → List Bool → Bool → ℕ → ℕ
+read_as from higher lower reading = reading_of from higher lower (base_of (length from.layers.kin.ups) reading)
+
+abbrev pub between : (ℕ → ℕ) → Asked → Asked
+between place asked = record asked { first = place asked.first; second = place asked.second }
+
+-- at the twin of a place, what is like S
+abbrev pub reading_key : List (Option Descriptor) → List ℕ → ℕ → ℕ → ℤ
+reading_key marks nodes count place =
+    marked (like_key (cond (nat_le count place) KindS KindR))
+    (slice_index_or marks (slice_index nodes (base_of count place)) None)
+
+abbrev pub reading_keys : List (Option Descriptor) → Branched → List ℤ
+reading_keys marks from =
+    map (reading_key marks from.layers.kin.nodes (length from.layers.kin.ups))
+    (range_with_len 0 (length from.layers.kin.ups + length from.layers.kin.ups))
+
+-- ranks that were set aside are those of before, over whose places a rule was taken
+pub record IsAside (begin : Branched) (saved : Saved) (now : Branched) : Type 0 where
+  pub followed : AreFollowed begin
+  pub numbers_len : length begin.layers.ranked.numbers ≡ length begin.layers.kin.ups
+  pub saved_are : saved ≡ saved_of saved.room begin
+  pub kept : KeepsPlaces begin.layers now.layers
+  pub front : now.first ≡ begin.first
+  pub end : now.last ≡ begin.last
+  pub count : length now.wanted ≡ length begin.wanted
+
+-- First it is asked which reading of each branch is the higher one; then the higher ones are compared, and where they
+-- tie the lower ones.
+pub record TakesReadings (from : Branched) (marks : List (Option Descriptor)) (asked new : List Asked) : Type 0 where
+  pub room : ℕ
+  pub sides : List Asked
+  pub sides_now : Branched
+  pub sides_taken : TakesRule (twins_of room from) (reading_keys marks from) R4b (map (side_of from)
+      (range_with_len 0 (length from.wanted))) sides_now sides
+  pub higher : List Asked
+  pub higher_now : Branched
+  pub higher_taken : TakesRule (twins_of room from) (reading_keys marks from) R4b (map (between (read_as from
+      (s_higher sides) false)) asked) higher_now higher
+  pub lower : List Asked
+  pub lower_now : Branched
+  pub lower_taken : TakesRule (twins_of room from) (reading_keys marks from) R4b (map (between (read_as from
+      (s_higher sides) true)) higher) lower_now lower
+  pub named : new ≡ map (between (base_of (length from.layers.kin.ups))) lower

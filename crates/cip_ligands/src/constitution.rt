@@ -1,0 +1,47 @@
+// Rules 1b and 2 in turn, behind Rule 1a.
+ghost use Rattle.std.specs.Prelude.{◌≡◌, ◌∷◌, [], ℕ, true, List};
+ghost use Rattle.std.specs.List.{list_all, AllByRecursion};
+ghost use Rattle.cip_mol.specs.declared.outcome.Rule.TheVariants.{R1a};
+ghost use Rattle.cip_digraph.specs.digraph.Digraph.{Node};
+ghost use Rattle.cip_digraph.specs.rules.Orders.{Seen, rule_1a};
+ghost use Rattle.cip_branches.specs.Deciding.{AreFollowed};
+ghost use Rattle.cip_branches.specs.Passing.{AreKeyed};
+ghost use Rattle.cip_branches.specs.Standing.{AreKeysOf};
+ghost use Rattle.cip_ligands.specs.declared.asked.Asked.{Asked as AnyAsked};
+ghost use Rattle.cip_ligands.specs.Asking.{AreWithin, is_decided};
+ghost use Rattle.cip_ligands.specs.Deciding.{AreDecidedBy, AreOfConstitution};
+ghost use Rattle.cip_ligands.specs.Taking.{WantsNoMore};
+
+use crate::asked::Asked;
+use crate::taking::take_rule;
+use cip_branches::Branches;
+use cip_mol::Rule;
+use cip_rank::Keyed;
+
+/// Takes Rules 1b and 2 in turn over branches that stand by Rule 1a, by these keys, each only as far as a pair is
+/// undecided; and says whether all pairs are decided. What is decided stays. No memory is taken.
+pub fn decide_constitution<D: Keyed, M: Keyed>(
+    branches: &mut Branches,
+    distances: &D,
+    masses: &M,
+    asked: &mut [Asked],
+) -> bool
+    requires followed { AreFollowed branches.old }
+    requires distances_keyed { AreKeyed (D.nodes distances.now) branches.old.layers.kin }
+    requires masses_keyed { AreKeyed (M.nodes masses.now) branches.old.layers.kin }
+    ensures decided { (seen : Seen Node) (named node : ℕ → Node) (count : ℕ) (begin : List AnyAsked)
+        → AllByRecursion (AreWithin count) begin
+        → AreDecidedBy seen true named node count begin (R1a ∷ []) (rule_1a seen seen.height) branches.old asked.old
+        → AreKeysOf named seen.distance (D.key distances.now) branches.old
+        → AreKeysOf named seen.mass (M.key masses.now) branches.old
+        → AreOfConstitution seen named node count begin branches.new asked.new }
+    ensures followed { AreFollowed branches.new }
+    ensures all { result ≡ list_all is_decided asked.new }
+    ensures kin { branches.new.layers.kin ≡ branches.old.layers.kin }
+    ensures wanted { WantsNoMore branches.old branches.new }
+{
+    if take_rule(branches, distances, Rule::R1b, asked) {
+        return true;
+    }
+    take_rule(branches, masses, Rule::R2, asked)
+}

@@ -1,0 +1,32 @@
+//! What the rules decide between branches, rule after rule.
+#![tactic(auto)]
+
+mod asked;
+mod both_ways;
+mod configuration;
+mod constitution;
+mod descriptors;
+mod laws;
+mod mark_keys;
+mod marked;
+mod noting;
+mod readings;
+mod taking;
+mod unmarked;
+mod values;
+
+pub use asked::{Asked, are_decided};
+pub use both_ways::take_both_ways;
+pub use configuration::decide_configuration;
+pub use constitution::decide_constitution;
+pub use descriptors::Descriptors;
+pub use laws::{decided_pairs_are_ordered, rule_1a_decides, rules_go_on};
+pub use mark_keys::{MarkKeys, mark_value};
+pub use marked::Marked;
+pub use noting::note;
+pub use readings::{Readings, take_readings};
+pub use taking::take_rule;
+pub use unmarked::are_unmarked;
+pub use values::{
+    capital_value, chirality_value, compare_values, geometric_value, like_value, small_value,
+};

@@ -1,0 +1,53 @@
+// Rules 3, 4a, 4c and 5 as keys of nodes.
+ghost use Rattle.std.specs.Prelude.{◌≡◌, ◌<◌, length, pos, true, None};
+ghost use Rattle.std.specs.List.{slice_index_or};
+ghost use Rattle.cip_ligands.specs.Orders.{mark_key};
+
+use crate::marked::Marked;
+use crate::values::{capital_value, chirality_value, compare_values, geometric_value, small_value};
+use cip_mol::{Descriptor, Rule};
+use cip_rank::Keyed;
+use std::cmp::Ordering;
+
+/// What a descriptor counts for in a rule; in Rule 5 with kind R first or kind S.
+pub fn mark_value(rule: Rule, r_first: bool, mark: Option<Descriptor>) -> u8
+    ensures { pos result ≡ mark_key r_first rule mark }
+{
+    match rule {
+        Rule::R3 => geometric_value(mark),
+        Rule::R4a => chirality_value(mark),
+        Rule::R4c => small_value(mark),
+        Rule::R5 => capital_value(mark, r_first),
+        Rule::R1a | Rule::R1b | Rule::R2 | Rule::R4b => 0,
+    }
+}
+
+/// The keys of nodes by their descriptors, by one of these rules.
+#[derive(Drop)]
+pub struct MarkKeys<'a, M: Marked> {
+    pub rule: Rule,
+    pub r_first: bool,
+    pub marks: &'a M,
+}
+
+impl<M: Marked> MarkKeys<'_, M> {
+    fn value(&self, node: u32) -> u8
+        requires { node < length (M.marks self.now.marks.now) }
+        ensures { pos result ≡ mark_key self.now.r_first self.now.rule
+            (slice_index_or (M.marks self.now.marks.now) node None) }
+    {
+        mark_value(self.rule, self.r_first, self.marks.mark(node))
+    }
+}
+
+impl<M: Marked> Keyed for MarkKeys<'_, M> {
+    ghost use Rattle.std.specs.Prelude.{map};
+
+    ghost nodes = { λ keys. length (M.marks keys.marks.now) };
+
+    ghost key = { λ keys. map (mark_key keys.r_first keys.rule) (M.marks keys.marks.now) };
+
+    fn compare(&self, a: u32, b: u32) -> Ordering {
+        compare_values(self.value(a), self.value(b))
+    }
+}

@@ -1,0 +1,318 @@
+// Rule 4b, taken over both readings of branches.
+ghost use Rattle.std.specs.Prelude.{◌≡◌, ◌<◌, ◌≤◌, ◌+◌, ◌^◌, [], ℕ, Bool, false, IfOk, List, length, map, pos, true};
+ghost use Rattle.std.specs.List.{AllByRecursion, range_with_len};
+ghost use Rattle.cip_mol.specs.declared.outcome.Rule.{Rule as AnyRule};
+ghost use Rattle.cip_mol.specs.declared.outcome.Rule.TheVariants.{R4b};
+ghost use Rattle.cip_digraph.specs.digraph.Digraph.{Node};
+ghost use Rattle.cip_digraph.specs.rules.Orders.{Seen, rule_4a};
+ghost use Rattle.cip_branches.specs.Deciding.{AreFollowed};
+ghost use Rattle.cip_branches.specs.Parting.{has_flag};
+ghost use Rattle.cip_branches.specs.Passing.{AreKeyed};
+ghost use Rattle.cip_branches.specs.Twins.{twins_of, MayDouble};
+ghost use Rattle.cip_ligands.specs.declared.asked.Asked.{Asked as AnyAsked};
+ghost use Rattle.cip_ligands.specs.Asking.{AreWithin, with_found};
+ghost use Rattle.cip_ligands.specs.Deciding.{AreDecidedBy};
+ghost use Rattle.cip_ligands.specs.Marked.{AreMarksOf};
+ghost use Rattle.cip_ligands.specs.Orders.{decided_by};
+ghost use Rattle.cip_ligands.specs.Readings.{twin_of, side_of, s_higher, base_of, reading_of, read_as, between};
+ghost use Rattle.cip_ligands.specs.Readings.{reading_key, reading_keys, IsAside, TakesReadings};
+ghost use Rattle.cip_ligands.specs.Taking.{TakesRule};
+
+use crate::asked::{Asked, are_decided};
+use crate::marked::Marked;
+use crate::taking::take_rule;
+use crate::values::{compare_values, like_value};
+use cip_branches::{Branches, Column, SavedRanks};
+use cip_mol::Rule;
+use cip_rank::{Keyed, both};
+use std::alloc::{AllocError, Global};
+use std::cmp::Ordering;
+use std::marker::Model;
+
+/// Memory for both readings of branches.
+#[derive(Drop)]
+pub struct Readings {
+    bound: u32,
+    // each branch, and behind all of them its twin
+    twins: Branches,
+    // their ranks before the rule; room for those of the branches too
+    pub(crate) saved: SavedRanks,
+    // of each branch, which of its readings is the higher one
+    sides: Column<Asked>,
+}
+
+impl Model for Readings {
+    ghost use Rattle.cip_ligands.specs.Readings.{Readied, KeepReadings};
+
+    ghost Value = { Readied };
+
+    ghost view = { λ readings. record { bound = readings.bound } };
+
+    ghost invariant = { λ readings. KeepReadings readings.bound readings.twins readings.saved readings.sides };
+}
+
+impl Readings {
+    /// Memory for both readings of branches of so many places.
+    pub fn reserve(alloc: Global, bound: u32) -> Result<Readings, AllocError>
+        requires { bound < 2 ^ 31 }
+        ensures { IfOk result (λ readings. readings.bound ≡ bound) }
+    {
+        let ranks = both(
+            Branches::reserve(alloc, bound + bound)?,
+            SavedRanks::reserve(alloc, bound + bound),
+        )?;
+        let ((twins, saved), sides) = both(ranks, Column::reserve(alloc, bound))?;
+        Ok(Readings {
+            bound,
+            twins,
+            saved,
+            sides,
+        })
+    }
+}
+
+fn base_of(count: u32, reading: u32) -> u32
+    ensures { result ≡ base_of count reading }
+{
+    if reading < count {
+        reading
+    } else {
+        reading - count
+    }
+}
+
+/// What is like the reference, of the nodes at places and at their twins.
+#[derive(Drop)]
+struct ReadingKeys<'a, M: Marked> {
+    branches: &'a Branches,
+    marks: &'a M,
+    ghost keyed: { AreKeyed (length (M.marks marks.now)) branches.now.layers.kin },
+}
+
+impl<M: Marked> ReadingKeys<'_, M> {
+    fn value(&self, place: u32) -> u8
+        requires { place < length self.now.branches.now.layers.kin.ups + length self.now.branches.now.layers.kin.ups }
+        ensures { pos result ≡ reading_key (M.marks self.now.marks.now) self.now.branches.now.layers.kin.nodes
+            (length self.now.branches.now.layers.kin.ups) place }
+    {
+        let count = self.branches.len();
+        let node = self.branches.node(base_of(count, place));
+        like_value(self.marks.mark(node), count <= place)
+    }
+}
+
+impl<M: Marked> Keyed for ReadingKeys<'_, M> {
+    ghost nodes = { λ keys. length keys.branches.now.layers.kin.ups + length keys.branches.now.layers.kin.ups };
+
+    ghost key = { λ keys. reading_keys (M.marks keys.marks.now) keys.branches.now };
+
+    fn compare(&self, a: u32, b: u32) -> Ordering {
+        compare_values(self.value(a), self.value(b))
+    }
+}
+
+// The other reading of a branch, if it is wanted.
+fn twin_of(branches: &Branches, branch: u32) -> u32
+    requires { length branches.now.layers.kin.ups + length branches.now.layers.kin.ups < 2 ^ 32 }
+    ensures { result ≡ twin_of branches.now branch }
+{
+    let count = branches.branch_count();
+    if branches.is_wanted(branch) {
+        branches.len() + branch
+    } else {
+        branch
+    }
+}
+
+// Asks which reading of each branch is the higher one.
+fn ask_sides(branches: &Branches, sides: &mut Column<Asked>)
+    requires few { length branches.now.layers.kin.ups + length branches.now.layers.kin.ups < 2 ^ 32 }
+    requires room { length branches.now.wanted ≤ sides.old.room }
+    ensures { sides.new ≡ record sides.old {
+      items = map (side_of branches.now)
+          (range_with_len 0 (length branches.now.wanted));
+    } }
+{
+    sides.clear();
+    for branch in 0..branches.branch_count() {
+        sides.push(Asked {
+            first: branch,
+            second: twin_of(branches, branch),
+            decision: None,
+        });
+    }
+}
+
+// Whether the reading with S is the higher one of a branch.
+fn is_s_higher(sides: &[Asked], branch: u32) -> bool
+    ensures { result ≡ has_flag (s_higher sides.now) branch }
+{
+    match sides.get(branch as usize) {
+        Some(one) => match one.decision {
+            Some(found) => found.side == Ordering::Less,
+            None => false,
+        },
+        None => false,
+    }
+}
+
+// The lower or the higher reading of a branch.
+fn reading_of(branches: &Branches, sides: &[Asked], lower: bool, branch: u32) -> u32
+    requires { length branches.now.layers.kin.ups + length branches.now.layers.kin.ups < 2 ^ 32 }
+    ensures { result ≡ reading_of branches.now (s_higher sides.now) lower branch }
+{
+    if is_s_higher(sides, branch) == lower {
+        branch
+    } else {
+        twin_of(branches, branch)
+    }
+}
+
+// The same pair, asked about between the lower or the higher readings.
+fn read_one(branches: &Branches, sides: &[Asked], lower: bool, one: Asked) -> Asked
+    requires { length branches.now.layers.kin.ups + length branches.now.layers.kin.ups < 2 ^ 32 }
+    ensures { result ≡ between (read_as branches.now (s_higher sides.now) lower) one }
+{
+    let count = branches.len();
+    Asked {
+        first: reading_of(branches, sides, lower, base_of(count, one.first)),
+        second: reading_of(branches, sides, lower, base_of(count, one.second)),
+        decision: one.decision,
+    }
+}
+
+// Asks about the lower or the higher readings.
+fn read_all(branches: &Branches, sides: &[Asked], lower: bool, asked: &mut [Asked])
+    requires { length branches.now.layers.kin.ups + length branches.now.layers.kin.ups < 2 ^ 32 }
+    ensures { asked.new ≡ map (between (read_as branches.now (s_higher sides.now) lower)) asked.old }
+{
+    for one in asked.iter_mut() {
+        *one = read_one(branches, sides, lower, *one);
+    }
+}
+
+fn name_one(count: u32, one: Asked) -> Asked
+    ensures { result ≡ between (base_of count) one }
+{
+    Asked {
+        first: base_of(count, one.first),
+        second: base_of(count, one.second),
+        decision: one.decision,
+    }
+}
+
+// Names the branches of readings.
+fn name_all(count: u32, asked: &mut [Asked])
+    ensures { asked.new ≡ map (between (base_of count)) asked.old }
+{
+    for one in asked.iter_mut() {
+        *one = name_one(count, *one);
+    }
+}
+
+// Takes the rule over twins whose ranks were set aside.
+fn take_again<K: Keyed>(
+    branches: &Branches,
+    twins: &mut Branches,
+    saved: &SavedRanks,
+    keys: &K,
+    asked: &mut [Asked],
+)
+    requires aside { IsAside (twins_of twins.old.layers.kin.room branches.now) saved.now twins.old }
+    requires keyed { AreKeyed (K.nodes keys.now) twins.old.layers.kin }
+    ensures taken { TakesRule (twins_of twins.old.layers.kin.room branches.now) (K.key keys.now) R4b asked.old twins.new
+        asked.new }
+    ensures aside { IsAside (twins_of twins.old.layers.kin.room branches.now) saved.now twins.new }
+    ensures kin { twins.new.layers.kin ≡ twins.old.layers.kin }
+{
+    let _places = branches.len();
+    twins.restore(saved);
+    take_rule(twins, keys, Rule::R4b, asked);
+}
+
+// The same, for the pairs in a column.
+fn take_sides<K: Keyed>(
+    branches: &Branches,
+    twins: &mut Branches,
+    saved: &SavedRanks,
+    keys: &K,
+    sides: &mut Column<Asked>,
+)
+    requires aside { IsAside (twins_of twins.old.layers.kin.room branches.now) saved.now twins.old }
+    requires keyed { AreKeyed (K.nodes keys.now) twins.old.layers.kin }
+    ensures taken { TakesRule (twins_of twins.old.layers.kin.room branches.now) (K.key keys.now) R4b sides.old.items
+        twins.new sides.new.items }
+    ensures aside { IsAside (twins_of twins.old.layers.kin.room branches.now) saved.now twins.new }
+    ensures kin { twins.new.layers.kin ≡ twins.old.layers.kin }
+    ensures room { sides.new.room ≡ sides.old.room }
+{
+    let sides = &mut sides.items;
+    take_again(branches, twins, saved, keys, sides);
+}
+
+// Takes the rule over both readings of branches.
+fn take_with<M: Marked>(
+    branches: &Branches,
+    twins: &mut Branches,
+    saved: &mut SavedRanks,
+    sides: &mut Column<Asked>,
+    marks: &M,
+    asked: &mut [Asked],
+)
+    requires followed { AreFollowed branches.now }
+    requires keyed { AreKeyed (length (M.marks marks.now)) branches.now.layers.kin }
+    requires some { 0 < length branches.now.layers.kin.ups }
+    requires few { length branches.now.layers.kin.ups + length branches.now.layers.kin.ups < 2 ^ 32 }
+    requires room { length branches.now.layers.kin.ups + length branches.now.layers.kin.ups
+        ≤ twins.old.layers.kin.room }
+    requires saved_room { length branches.now.layers.kin.ups + length branches.now.layers.kin.ups ≤ saved.old.room }
+    requires sides_room { length branches.now.wanted ≤ sides.old.room }
+    ensures taken { TakesReadings branches.now (M.marks marks.now) asked.old asked.new }
+    ensures room { twins.new.layers.kin.room ≡ twins.old.layers.kin.room }
+    ensures saved_room { saved.new.room ≡ saved.old.room }
+    ensures sides_room { sides.new.room ≡ sides.old.room }
+    ensures may { MayDouble branches.now }
+{
+    twins.fill_twins(branches);
+    twins.save(saved);
+    ask_sides(branches, sides);
+    let keys = ReadingKeys { branches, marks };
+    take_sides(branches, twins, saved, &keys, sides);
+    read_all(branches, sides.as_slice(), false, asked);
+    take_again(branches, twins, saved, &keys, asked);
+    read_all(branches, sides.as_slice(), true, asked);
+    take_again(branches, twins, saved, &keys, asked);
+    name_all(branches.len(), asked);
+}
+
+/// What Rule 4b decides between branches that stand by Rule 4a: the higher readings of two decide, and where they tie
+/// the lower ones. The branches' own numbers stay. No memory is taken.
+pub fn take_readings<M: Marked>(
+    branches: &Branches,
+    readings: &mut Readings,
+    marks: &M,
+    asked: &mut [Asked],
+)
+    requires followed { AreFollowed branches.now }
+    requires keyed { AreKeyed (length (M.marks marks.now)) branches.now.layers.kin }
+    requires room { length branches.now.layers.kin.ups ≤ readings.old.bound }
+    ensures found { (seen : Seen Node) (named node : ℕ → Node) (count : ℕ) (begin : List AnyAsked)
+        (rules : List AnyRule) → AllByRecursion (AreWithin count) begin
+        → AreDecidedBy seen true named node count begin rules (rule_4a seen seen.height) branches.now asked.old
+        → AreMarksOf named seen.mark (M.marks marks.now) branches.now
+        → asked.new ≡ map (with_found (decided_by seen true R4b node)) asked.old }
+    ensures bound { readings.new.bound ≡ readings.old.bound }
+{
+    if branches.len() == 0 {
+        return;
+    }
+    let _branches = branches.branch_count();
+    take_with(
+        branches,
+        &mut readings.twins,
+        &mut readings.saved,
+        &mut readings.sides,
+        marks,
+        asked,
+    );
+}
