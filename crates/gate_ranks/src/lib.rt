@@ -1,8 +1,6 @@
-//! Trees that are ranked, seen from other roots, and ordered by like pairs, worked by hand. Tests alone.
+//! Trees that are ranked, and seen from other roots, worked by hand. Tests alone.
 #![tactic(auto)]
 
-#[cfg(test)]
-mod like_pairs;
 #[cfg(test)]
 mod ranking;
 #[cfg(test)]

@@ -9,16 +9,15 @@ use cip_arena::{Arena, Grown};
 use cip_aux::{UnitsAt, Whole};
 use cip_digraph::{Graph, Nodes, Positions};
 use cip_hydro::graph_of;
-use cip_inside::{Near, Pruner, Sights, descriptors_inside};
+use cip_inside::{Sights, descriptors_inside};
+use cip_ligands::Descriptors;
 use cip_mancude::positions;
 use cip_mol::{Molecule, Unit};
-use cip_pairs::Descriptors;
-use cip_rank::{Rules, both};
+use cip_rank::Rules;
 use cip_steps::Steps;
 use cip_text::RecordLines;
 use cip_unit::units;
 use cip_v2000::{is_v3000, read_lines};
-use cip_views::Views;
 use std::alloc::{AllocError, Global};
 use std::marker::Brand;
 use std::sync::ledger::{Blank, Ledger};
@@ -49,20 +48,6 @@ fn grow_whole<L: Ledger>(
     false
 }
 
-// What looks at digraphs of so many nodes.
-fn reserve_sights(alloc: Global, count: u32) -> Result<Sights, AllocError>
-    requires { count < 2 ^ 31 }
-    ensures { IfOk result (λ sights. sights.views.bound ≡ count) }
-{
-    let tables = both(Near::reserve(alloc, count)?, Views::reserve(alloc, count))?;
-    let ((near, views), pruner) = both(tables, Pruner::reserve(alloc, count))?;
-    Ok(Sights {
-        near,
-        views,
-        pruner,
-    })
-}
-
 // The descriptor of each node of a whole digraph, as it is looked at.
 fn mark(
     alloc: Global,
@@ -76,7 +61,7 @@ fn mark(
     requires whole { TellsWhole graph.now positions.now root arena.now.sphere arena.now.nodes }
     requires root { root < length graph.now.vertices }
     requires sites { map (λ unit. unit.site) units.now ≡ sites_of graph.now positions.now }
-    requires room { length arena.now.nodes ≤ sights.old.views.bound }
+    requires room { length arena.now.nodes ≤ sights.old.bound }
     ensures { IfOk result (λ marks. length marks.marks ≡ length arena.now.nodes) }
 {
     let units = UnitsAt::new(alloc, units)?;
@@ -108,7 +93,7 @@ fn marks_inside(
     requires few { length arena.now.nodes < 2 ^ 31 }
     ensures { IfOk result (λ marks. length marks.marks ≡ length arena.now.nodes) }
 {
-    let mut sights = reserve_sights(alloc, arena.len())?;
+    let mut sights = Sights::reserve(alloc, arena.len())?;
     let marks = mark(alloc, arena, graph, positions, units, root, &mut sights);
     // given back by a call of its own: written out at the end of this function it takes minutes to prove
     drop(sights);

@@ -1,60 +1,53 @@
 // What is decided between two branches at the root, in either way.
-ghost use Rattle.std.specs.Prelude.{◌≡◌, ◌<◌, ◌≤◌, ◌^◌, length};
-ghost use Rattle.cip_arena.specs.Growth.{Holds, next_size};
+ghost use Rattle.std.specs.Prelude.{◌≡◌, ◌<◌, ◌≤◌, ◌^◌, IfSome, length};
+ghost use Rattle.cip_ligands.specs.Asking.{AreWithin};
 ghost use Rattle.cip_tree.specs.Branches.{node_count};
 
 use cip_arena::Arena;
-use cip_digraph::{Decision, Graph, Positions};
+use cip_aux::Whole;
+use cip_digraph::{Decision, Nodes};
+use cip_inside::Near;
+use cip_ligands::Asked;
 use cip_mol::Rule;
 use cip_rank::Rules;
 use cip_tree::{PlainTree, plain_order};
-use cip_views::{Asked, Views};
 use std::alloc::{AllocError, Global};
 
-/// What the first spheres of a digraph decide by Rule 1a between two nodes.
-pub fn decide_early(arena: &Arena, views: &mut Views, first: u32, second: u32) -> Option<Decision>
-    requires first { first < length arena.now.nodes }
-    requires second { second < length arena.now.nodes }
-    requires room { arena.now.bound ≤ views.old.bound }
-    ensures bound { views.new.bound ≡ views.old.bound }
+// Two neighbours of the node that is looked from, by their branches.
+#[tactic(auto, using(crate::proofs::Within::branch_within))]
+fn asked_between(near: &Near, one: u32, other: u32) -> Option<Asked>
+    ensures { IfSome result (AreWithin (length near.now.tops)) }
 {
-    let _count = arena.len();
-    let mut asked = [Asked {
+    let first = near.branch(one)?;
+    let second = near.branch(other)?;
+    Some(Asked {
         first,
         second,
         decision: None,
-    }];
-    views.decide_at_root(arena, arena.sphere(), &mut asked);
-    asked[0].decision
+    })
 }
 
-/// What a whole digraph decides by Rules 1a, 1b and 2 between two nodes.
+/// What a whole digraph decides by Rules 1a, 1b and 2 between two children of its root, by their places among all.
+#[tactic(auto, using(cip_inside::proofs::AskedTops::asked_tops_are, crate::proofs::Within::one_within))]
 pub fn decide_whole(
-    graph: &Graph,
-    positions: &Positions,
-    arena: &Arena,
-    views: &mut Views,
-    rules: Rules,
+    whole: &Whole<'_, Arena>,
+    near: &mut Near,
     first: u32,
     second: u32,
 ) -> Option<Decision>
-    requires holds { Holds graph.now positions.now arena.now }
-    requires whole { next_size graph.now positions.now arena.now ≡ 0 }
-    requires first { first < length arena.now.nodes }
-    requires second { second < length arena.now.nodes }
-    requires room { arena.now.bound ≤ views.old.bound }
-    ensures bound { views.new.bound ≡ views.old.bound }
+    requires some { 0 < length whole.now.told }
+    requires room { length whole.now.told ≤ near.old.bound }
+    ensures bound { near.new.bound ≡ near.old.bound }
 {
-    let _vertices = graph.vertices();
-    let _positions = positions;
-    let _count = arena.len();
-    views.see_bare(arena, 0);
-    let mut asked = [Asked {
-        first: views.place(first),
-        second: views.place(second),
-        decision: None,
-    }];
-    views.decide_constitution(arena, rules, &mut asked);
+    let (start, _) = whole.nodes().table().children(0);
+    let one = start.saturating_add(first);
+    let other = start.saturating_add(second);
+    near.begin(whole, 0, &[Some(one), Some(other)]);
+    let Some(pair) = asked_between(near, one, other) else {
+        return None;
+    };
+    let mut asked = [pair];
+    near.constitution(whole, 0, &mut asked);
     asked[0].decision
 }
 

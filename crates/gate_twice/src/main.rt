@@ -8,6 +8,8 @@ mod molecules;
 mod nodes;
 mod records;
 mod roots;
+mod settled;
+mod tables;
 mod twice;
 
 use crate::records::compare_records;

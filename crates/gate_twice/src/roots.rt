@@ -1,19 +1,21 @@
 // The digraphs of all vertices of a molecule.
-ghost use Rattle.std.specs.Prelude.{◌≡◌, ◌<◌, ◌≤◌, ◌^◌};
+ghost use Rattle.std.specs.Prelude.{◌≡◌, ◌<◌, ◌≤◌, ◌^◌, length};
+ghost use Rattle.gate_twice.specs.Tables.{HaveRoom};
 
 use crate::counts::Counts;
 use crate::molecules::Drawn;
-use crate::twice::{Difference, compare_sphere};
-use cip_arena::{Arena, Grown};
+use crate::settled::compare_settled;
+use crate::tables::Tables;
+use crate::twice::{Difference, Extent, compare_sphere};
+use cip_arena::Grown;
 use cip_steps::Steps;
-use cip_views::Views;
 use std::alloc::{AllocError, Global};
 use std::fmt;
 use std::sync::ledger::Ledger;
 
 // The last sphere that is made.
 const SPHERES: u32 = 6;
-// The last sphere from which branches are compared: boxes that tie take long.
+// The last sphere up to which branches are compared: boxes that tie take long.
 const COMPARED: u32 = 3;
 
 /// The first difference between the digraphs of a molecule: of which root, and up to which sphere.
@@ -34,7 +36,7 @@ impl fmt::Display for Found {
             Difference::Branches(first, second) => {
                 write!(
                     f,
-                    "root {root}, sphere {sphere}: nodes {first} and {second} stand otherwise"
+                    "root {root}, sphere {sphere}: branches {first} and {second} stand otherwise"
                 )
             }
         }
@@ -52,10 +54,9 @@ pub fn compare_roots<L: Ledger>(
     requires some { 0 < nodes }
     requires few { nodes < 2 ^ 31 }
 {
-    let mut arena = Arena::reserve(alloc, nodes)?;
-    let mut views = Views::reserve(alloc, nodes)?;
+    let mut tables = Tables::reserve(alloc, nodes)?;
     for root in 0..drawn.graph.vertices().len() as u32 {
-        let found = compare_root(alloc, drawn, &mut arena, &mut views, root, steps, counts)?;
+        let found = compare_root(alloc, drawn, &mut tables, root, steps, counts)?;
         if found.is_some() {
             return Ok(found);
         }
@@ -64,52 +65,60 @@ pub fn compare_roots<L: Ledger>(
     Ok(None)
 }
 
-// Compares the digraphs of a root, as far as there is room.
+// Compares the digraphs of a root, node by node and where it is whole, and what settling notes of it.
 fn compare_root<L: Ledger>(
     alloc: Global,
     drawn: &Drawn,
-    arena: &mut Arena,
-    views: &mut Views,
+    tables: &mut Tables,
     root: u32,
     steps: &mut Steps<L>,
     counts: &mut Counts,
 ) -> Result<Option<Found>, AllocError>
-    requires some { 0 < arena.old.bound }
-    requires room { arena.old.bound ≤ views.old.bound }
-    ensures arena_bound { arena.new.bound ≡ arena.old.bound }
-    ensures bound { views.new.bound ≡ views.old.bound }
+    requires room { HaveRoom tables.old }
+    requires root { root < length drawn.now.graph.vertices }
+    ensures room { HaveRoom tables.new }
 {
-    arena.start(&drawn.graph, root);
+    let grown = compare_grown(alloc, drawn, tables, root, steps, counts)?;
+    if grown.is_some() {
+        return Ok(grown);
+    }
+    let settled = compare_settled(alloc, drawn, tables, root, COMPARED, steps, counts)?;
+    Ok(settled.map(|difference| Found {
+        root,
+        sphere: tables.arena.sphere(),
+        difference,
+    }))
+}
+
+// Compares the digraphs of a root, as far as there is room.
+fn compare_grown<L: Ledger>(
+    alloc: Global,
+    drawn: &Drawn,
+    tables: &mut Tables,
+    root: u32,
+    steps: &mut Steps<L>,
+    counts: &mut Counts,
+) -> Result<Option<Found>, AllocError>
+    requires room { HaveRoom tables.old }
+    requires root { root < length drawn.now.graph.vertices }
+    ensures room { HaveRoom tables.new }
+{
+    tables.arena.start(&drawn.graph, root);
     for sphere in 1..SPHERES + 1 {
-        let grown = arena.grow(&drawn.graph, &drawn.positions, steps);
-        let branches = takes_branches(grown, sphere);
-        if branches || is_last(grown, sphere) {
-            let whole = grown == Grown::Whole;
-            let found = compare_sphere(alloc, drawn, arena, views, root, whole, branches, counts)?;
-            if let Some(difference) = found {
-                return Ok(Some(Found {
-                    root,
-                    sphere,
-                    difference,
-                }));
-            }
-        }
-        if grown != Grown::Grown {
-            return Ok(None);
+        let grown = tables.arena.grow(&drawn.graph, &drawn.positions, steps);
+        if grown != Grown::Grown || sphere == SPHERES {
+            let extent = Extent {
+                root,
+                is_whole: grown == Grown::Whole,
+                branches: sphere <= COMPARED + 1,
+            };
+            let found = compare_sphere(alloc, drawn, tables, extent, counts)?;
+            return Ok(found.map(|difference| Found {
+                root,
+                sphere,
+                difference,
+            }));
         }
     }
     Ok(None)
-}
-
-fn is_last(grown: Grown, sphere: u32) -> bool {
-    grown != Grown::Grown || sphere == SPHERES
-}
-
-// Whether branches are compared where this sphere was to be added.
-fn takes_branches(grown: Grown, sphere: u32) -> bool {
-    match grown {
-        Grown::Grown => sphere == COMPARED,
-        Grown::Whole => sphere <= COMPARED + 1,
-        Grown::Over => false,
-    }
 }

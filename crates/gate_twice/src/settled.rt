@@ -1,0 +1,90 @@
+// What settling notes of a root's ligands, against boxes.
+ghost use Rattle.std.specs.Prelude.{◌≡◌, ◌<◌, ◌≤◌, ◌^◌, length};
+ghost use Rattle.cip_tree.specs.Branches.{node_count};
+ghost use Rattle.gate_twice.specs.Tables.{HaveRoom};
+
+use crate::counts::Counts;
+use crate::deciding::{by_rule_1a, decide_plain, is_same};
+use crate::molecules::Drawn;
+use crate::tables::Tables;
+use crate::twice::Difference;
+use cip_constitution::{MarkedUnits, Settled, settle};
+use cip_digraph::Graph;
+use cip_ligands::Asked;
+use cip_mol::{Ligand, Ligands};
+use cip_rank::Rules;
+use cip_steps::Steps;
+use cip_tree::{PlainTree, plain_tree};
+use std::alloc::{AllocError, Global};
+use std::sync::ledger::Ledger;
+
+// The first four neighbours of a vertex.
+fn ligands_of(alloc: Global, graph: &Graph, vertex: u32) -> Ligands
+    requires { vertex < length graph.now.vertices }
+{
+    let mut ligands = Ligands::new(alloc);
+    for edge in graph.edges_at(vertex) {
+        if ligands.len() < 4 {
+            ligands.push(Ligand::Vertex(edge.other_end(vertex)));
+        }
+    }
+    ligands
+}
+
+/// Settles a root by its first four neighbours. Where all of these differ by Rule 1a up to a sphere, not behind the last
+/// one that is compared, compares what was noted of each two.
+pub fn compare_settled<L: Ledger>(
+    alloc: Global,
+    drawn: &Drawn,
+    tables: &mut Tables,
+    root: u32,
+    last: u32,
+    steps: &mut Steps<L>,
+    counts: &mut Counts,
+) -> Result<Option<Difference>, AllocError>
+    requires room { HaveRoom tables.old }
+    requires root { root < length drawn.now.graph.vertices }
+    ensures room { HaveRoom tables.new }
+{
+    let graph = &drawn.graph;
+    let units = MarkedUnits::of(alloc, &[], 0)?;
+    let ligands = ligands_of(alloc, graph, root);
+    tables.arena.start(graph, root);
+    tables.work.ask(&ligands);
+    let settled = settle(
+        &mut tables.arena,
+        &mut tables.work,
+        graph,
+        &drawn.positions,
+        &units,
+        ligands.as_slice(),
+        Rules::Wording2018,
+        steps,
+    );
+    let sphere = tables.arena.sphere();
+    if settled != Settled::Ordered || sphere > last {
+        return Ok(None);
+    }
+    let tree = plain_tree(alloc, graph, &drawn.positions, root, sphere)?;
+    compare_noted(alloc, &tree, tables.work.noted(), counts)
+}
+
+// Compares what was noted of each two branches.
+fn compare_noted(
+    alloc: Global,
+    tree: &PlainTree,
+    noted: &[Asked],
+    counts: &mut Counts,
+) -> Result<Option<Difference>, AllocError> {
+    if tree.node_count().is_none() {
+        return Ok(None);
+    }
+    for one in noted {
+        let plain = decide_plain(alloc, tree, Rules::Wording2018, one.first, one.second)?;
+        if !is_same(one.decision, by_rule_1a(plain)) {
+            return Ok(Some(Difference::Branches(one.first, one.second)));
+        }
+        counts.pairs = counts.pairs.saturating_add(1);
+    }
+    Ok(None)
+}

@@ -1,0 +1,30 @@
+// The tables by which digraphs are made and ranked.
+ghost use Rattle.std.specs.Prelude.{◌<◌, ◌^◌, IfOk};
+ghost use Rattle.gate_twice.specs.Tables.{HaveRoom};
+
+use cip_arena::Arena;
+use cip_constitution::Work;
+use cip_inside::Near;
+use cip_rank::both;
+use std::alloc::{AllocError, Global};
+
+/// One arena, what settles its roots, and what looks at them where they are whole.
+#[derive(Drop)]
+pub struct Tables {
+    pub arena: Arena,
+    pub work: Work,
+    pub near: Near,
+}
+
+impl Tables {
+    /// Room for digraphs of so many nodes.
+    pub fn reserve(alloc: Global, nodes: u32) -> Result<Tables, AllocError>
+        requires some { 0 < nodes }
+        requires few { nodes < 2 ^ 31 }
+        ensures { IfOk result HaveRoom }
+    {
+        let growing = both(Arena::reserve(alloc, nodes)?, Work::reserve(alloc, nodes))?;
+        let ((arena, work), near) = both(growing, Near::reserve(alloc, nodes))?;
+        Ok(Tables { arena, work, near })
+    }
+}
