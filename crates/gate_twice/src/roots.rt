@@ -55,8 +55,24 @@ pub fn compare_roots<L: Ledger>(
     requires few { nodes < 2 ^ 31 }
 {
     let mut tables = Tables::reserve(alloc, nodes)?;
+    let found = compare_each(alloc, drawn, &mut tables, steps, counts);
+    // given back by a call of its own: written out at the ends of a loop it takes minutes to prove
+    drop(tables);
+    found
+}
+
+// The same, over tables that are lent.
+fn compare_each<L: Ledger>(
+    alloc: Global,
+    drawn: &Drawn,
+    tables: &mut Tables,
+    steps: &mut Steps<L>,
+    counts: &mut Counts,
+) -> Result<Option<Found>, AllocError>
+    requires room { HaveRoom tables.old }
+{
     for root in 0..drawn.graph.vertices().len() as u32 {
-        let found = compare_root(alloc, drawn, &mut tables, root, steps, counts)?;
+        let found = compare_root(alloc, drawn, tables, root, steps, counts)?;
         if found.is_some() {
             return Ok(found);
         }

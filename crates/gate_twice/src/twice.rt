@@ -159,7 +159,8 @@ fn compare_pairs(
     requires room { length whole.now.told ≤ near.old.bound }
     ensures bound { near.new.bound ≡ near.old.bound }
 {
-    for second in 0..tree.children().len() as u32 {
+    let (start, past) = whole.nodes().table().children(0);
+    for second in 0..past.saturating_sub(start) {
         let found = compare_with_earlier(alloc, whole, near, tree, second, counts)?;
         if found.is_some() {
             return Ok(found);
