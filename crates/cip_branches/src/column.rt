@@ -55,7 +55,7 @@ impl<T: Copy + Drop> Column<T> {
         requires { length self.old.items < self.old.room }
         ensures { self.new ≡ record self.old { items = self.old.items ++ item ∷ [] } }
     {
-        let _ = self.items.push(item);
+        self.items.push_reserved(item);
     }
 
     /// Adds items at the end.
