@@ -4,6 +4,7 @@ pub mod Cases
 pub mod ClassInSphere
 pub mod DecidedBranches
 pub mod Ending
+pub mod FamilyColumn
 pub mod FewKids
 pub mod Filled
 pub mod Followed
@@ -14,6 +15,7 @@ pub mod KidSets
 pub mod OpenBranches
 pub mod Opening
 pub mod PartedClass
+pub mod PartedPair
 pub mod PartedSphere
 pub mod Passed
 pub mod PushedNodes

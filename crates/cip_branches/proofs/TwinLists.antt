@@ -4,7 +4,8 @@ use Rattle.std.proofs.lemmas.Bool.{cases_lt}
 use Rattle.std.proofs.lemmas.Bool.Decides.{nat_tests}
 use Rattle.std.proofs.lemmas.List.{length-append, length-map, get_or-map, get_or_append_left, get_or-append-add}
 use Rattle.std.specs.List.{range_with_len}
-use Rattle.cip_branches.specs.Twins.{moved_on, halves, twice, pairs}
+use Rattle.cip_branches.specs.Twins.{moved_on, twin_place, twins_from, halves, twice, pairs}
+use Rattle.cip_branches.specs.declared.place.Place.{Place}
 
 pub pairs_more : (count : ℕ) (places : List ℕ) (i d : ℕ) → i < length places
     → pairs count (take (i + 1) places)
@@ -19,21 +20,6 @@ pairs_more count (p ∷ places) (suc i) d h =
 pub pairs_length : (count : ℕ) (places : List ℕ) → length (pairs count places) ≡ length places + length places
 pairs_length count [] = refl
 pairs_length count (p ∷ places) = let rest = pairs_length count places in omega (arith, rest)
-
--- a range one longer
-range_more : (first count : ℕ) → range_with_len first (count + 1) ≡ range_with_len first count ++ (first + count) ∷ []
-range_more first zero = let none : first + 0 ≡ first = omega arith in ap (λ k. k ∷ []) (sym none)
-range_more first (suc count) =
-    let next : suc count + 1 ≡ suc (count + 1) = omega arith in
-    let shift : first + 1 + count ≡ first + suc count = omega arith in
-    ap (range_with_len first) next
-    ∙ ap (λ ks. first ∷ ks) (range_more (first + 1) count)
-    ∙ ap (λ k. first ∷ (range_with_len (first + 1) count ++ k ∷ [])) shift
-
-pub places_more : (count : ℕ) → range_with_len 0 (count + 1) ≡ range_with_len 0 count ++ count ∷ []
-places_more count =
-    let none : 0 + count ≡ count = omega arith in
-    range_more 0 count ∙ ap (λ k. range_with_len 0 count ++ k ∷ []) none
 
 pub moved_low : (by count n : ℕ) → n < count → moved_on by count n ≡ by + n
 moved_low by count n lt = grind (arith, nat_tests)
@@ -122,3 +108,60 @@ is_twin count x lt = elim (cases_lt x count) [
   | inl low ↦ record { place = x; low = low; which = inl refl }
   | inr high ↦ record { place = x - count; low = omega (arith, lt, high); which = inr (omega (arith, high)) }
 ]
+
+pub twins_length : (node by count : ℕ) (ps : List Place) → length (twins_from node by count ps) ≡ length ps
+twins_length node by count [] = refl
+twins_length node by count (p ∷ ps) = ap suc (twins_length (node + 1) by count ps)
+
+pub twins_more : (node by count : ℕ) (ps : List Place) (i : ℕ) (d : Place) → i < length ps
+    → twins_from node by count (take (i + 1) ps)
+    ≡ twins_from node by count (take i ps) ++ twin_place (node + i) by count (get_or ps i d) ∷ []
+twins_more node by count [] i d h = absurd (omega arith)
+twins_more node by count (p ∷ ps) zero d h =
+    let none : node ≡ node + 0 = omega arith in ap (λ n. twin_place n by count p ∷ []) none
+twins_more node by count (p ∷ ps) (suc i) d h =
+    let next : suc i + 1 ≡ suc (i + 1) = omega arith in
+    let shift : node + 1 + i ≡ node + suc i = omega arith in
+    ap (λ k. twins_from node by count (take k (p ∷ ps))) next
+    ∙ ap (λ ts. twin_place node by count p ∷ ts) (twins_more (node + 1) by count ps i d (omega arith))
+    ∙ ap (λ n. twin_place node by count p ∷ (twins_from (node + 1) by count (take i ps)
+    ++ twin_place n by count (get_or ps i d) ∷ [])) shift
+
+-- what is known of places moved on
+pub moved_nodes : (node by count : ℕ) (ps : List Place) → map (λ (p : Place). p.node) (twins_from node by count ps)
+    ≡ range_with_len node (length ps)
+moved_nodes node by count [] = refl
+moved_nodes node by count (p ∷ ps) = ap (λ ns. node ∷ ns) (moved_nodes (node + 1) by count ps)
+
+pub moved_counts : (node by count : ℕ) (ps : List Place) → map (λ (p : Place). p.count) (twins_from node by count ps)
+    ≡ map (λ (p : Place). p.count) ps
+moved_counts node by count [] = refl
+moved_counts node by count (p ∷ ps) = ap (λ ns. p.count ∷ ns) (moved_counts (node + 1) by count ps)
+
+pub moved_numbers : (f : Place → ℕ) (by count : ℕ)
+    → ((node : ℕ) (p : Place) → f (twin_place node by count p) ≡ moved_on by count (f p)) → (node : ℕ) (ps : List Place)
+    → map f (twins_from node by count ps) ≡ map (moved_on by count) (map f ps)
+moved_numbers f by count each node [] = refl
+moved_numbers f by count each node (p ∷ ps) =
+    ap (λ n. n ∷ map f (twins_from (node + 1) by count ps)) (each node p)
+    ∙ ap (λ ns. moved_on by count (f p) ∷ ns) (moved_numbers f by count each (node + 1) ps)
+
+range_both : (first n m : ℕ) → range_with_len first n ++ range_with_len (first + n) m ≡ range_with_len first (n + m)
+range_both first zero m =
+    let here : first + 0 ≡ first = omega arith in
+    let all : m ≡ 0 + m = omega arith in
+    ap (λ k. range_with_len k m) here ∙ ap (range_with_len first) all
+range_both first (suc n) m =
+    let shift : first + suc n ≡ first + 1 + n = omega arith in
+    let all : suc (n + m) ≡ suc n + m = omega arith in
+    ap (λ k. first ∷ (range_with_len (first + 1) n ++ range_with_len k m)) shift
+    ∙ ap (λ ks. first ∷ ks) (range_both (first + 1) n m) ∙ ap (range_with_len first) all
+
+pub range_twice : (n : ℕ) → range_with_len 0 n ++ range_with_len n n ≡ range_with_len 0 (n + n)
+range_twice n =
+    let here : n ≡ 0 + n = omega arith in ap (λ k. range_with_len 0 n ++ range_with_len k n) here ∙ range_both 0 n n
+
+pub places_more : (count : ℕ) → range_with_len 0 (count + 1) ≡ range_with_len 0 count ++ count ∷ []
+places_more count =
+    let here : 0 + count ≡ count = omega arith in
+    sym (range_both 0 count 1) ∙ ap (λ k. range_with_len 0 count ++ k ∷ []) here

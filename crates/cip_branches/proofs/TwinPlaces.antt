@@ -1,8 +1,8 @@
 -- Places and their twins in the columns of branches that are doubled.
-use Rattle.std.proofs.Common.{◌≡◌, ◌<◌, ◌≤◌, ◌+◌, ◌^◌, ◌++◌, ℕ, zero, suc, Bool, false, List, length, map, replicate, slice_index, refl, sym, ap, ◌∙◌, subst, arith, inl, inr}
+use Rattle.std.proofs.Common.{◌≡◌, ◌<◌, ◌≤◌, ◌+◌, ◌^◌, ◌++◌, [], ℕ, zero, suc, Bool, false, List, length, map, replicate, slice_index, refl, sym, ap, ◌∙◌, subst, arith, inl, inr}
 use Rattle.std.specs.List.{range_with_len}
 use Rattle.std.proofs.lemmas.Bool.{cases_lt}
-use Rattle.std.proofs.lemmas.List.{length-append, length-map, length-replicate}
+use Rattle.std.proofs.lemmas.List.{length-append, length-map, length-replicate, map-append}
 use Rattle.std.proofs.lemmas.List.FromFn.{length-range_with_len, get_or-range_with_len}
 use Rattle.cip_branches.specs.Kin.{Kin, IsFamily, KeepKin, kin_of}
 use Rattle.cip_branches.specs.Layers.{KeepLayers}
@@ -10,8 +10,10 @@ use Rattle.cip_branches.specs.Parting.{has_flag}
 use Rattle.cip_branches.specs.Passing.{AreKeyed}
 use Rattle.cip_branches.specs.Ranked.{Ranked, KeepOrder}
 use Rattle.cip_branches.specs.Reserved.{Reserved}
-use Rattle.cip_branches.specs.Twins.{moved_on, halves, twice, pairs, twin_kin, twin_ranked}
+use Rattle.cip_branches.specs.Twins.{moved_on, halves, twice, pairs, twin_kin, twin_place, twin_ranked, twins_from}
+use Rattle.cip_branches.specs.declared.place.Place.{Place}
 use Rattle.cip_branches.proofs.TwinLists.{halves_length, in_first, in_second, in_front, in_back, moved_low, moved_high, is_twin, of_pair, pairs_length, pair_first, pair_second}
+use Rattle.cip_branches.proofs.TwinLists.{moved_nodes, moved_counts, moved_numbers, range_twice, twins_length}
 
 module _ (kin : Kin) (family : IsFamily kin) where
   abbrev count : ℕ
@@ -90,40 +92,81 @@ twin_below count rows below k lt =
           omega (arith, here, low)
     ]
 
--- columns that were written so keep their invariants
-module _ (nodes branches ups firsts counts : Reserved ℕ) (kin : Kin) (family : IsFamily kin)
-    (count : ℕ) (count_is : count ≡ length kin.ups) (few : ups.room < 2 ^ 32) (fits : length kin.ups + length kin.ups
-    ≤ ups.room)
-    (nodes_room : nodes.room ≡ ups.room) (branches_room : branches.room ≡ ups.room)
-    (firsts_room : firsts.room ≡ ups.room) (counts_room : counts.room ≡ ups.room)
-    (nodes_are : nodes.items ≡ range_with_len 0 (count + count))
-    (branches_are : branches.items ≡ halves count kin.branches)
-    (ups_are : ups.items ≡ halves count kin.ups)
-    (firsts_are : firsts.items ≡ halves count kin.firsts)
-    (counts_are : counts.items ≡ kin.counts ++ kin.counts) where
-  are_twins : kin_of nodes branches ups firsts counts ≡ twin_kin ups.room kin
-  are_twins =
-      let all : nodes.items ≡ range_with_len 0 (length kin.ups + length kin.ups) =
-      nodes_are ∙ ap (λ n. range_with_len 0 (n + n)) count_is in
-      let bs : branches.items ≡ halves (length kin.ups) kin.branches =
-      branches_are ∙ ap (λ n. halves n kin.branches) count_is in
-      let us : ups.items ≡ halves (length kin.ups) kin.ups = ups_are ∙ ap (λ n. halves n kin.ups) count_is in
-      let fs : firsts.items ≡ halves (length kin.ups) kin.firsts =
-      firsts_are ∙ ap (λ n. halves n kin.firsts) count_is in
-      cc
+-- the places and their twins, in one column
+abbrev pub both_places : List Place → List Place
+both_places ps = twins_from 0 0 (length ps) ps ++ twins_from (length ps) (length ps) (length ps) ps
 
-  pub keep_twins : KeepKin nodes branches ups firsts counts
-  keep_twins =
-      let ups_len = ap (λ (ns : List ℕ). length ns) ups_are ∙ halves_length count kin.ups in
-      record {
-        few = few;
-        fits = omega (arith, ups_len, fits);
-        nodes_room = nodes_room;
-        branches_room = branches_room;
-        firsts_room = firsts_room;
-        counts_room = counts_room;
-        family = subst IsFamily (sym are_twins) (twin_family kin family ups.room);
-      }
+both_halves : (f : Place → ℕ)
+    → ((node by count : ℕ) (p : Place) → f (twin_place node by count p) ≡ moved_on by count (f p)) → (ps : List Place)
+    → map f (both_places ps) ≡ halves (length ps) (map f ps)
+both_halves f each ps =
+    let n = length ps in
+    map-append f (twins_from 0 0 n ps) (twins_from n n n ps)
+    ∙ ap (λ ns. ns ++ map f (twins_from n n n ps)) (moved_numbers f 0 n (λ node. each node 0 n) 0 ps)
+    ∙ ap (λ ns. map (moved_on 0 n) (map f ps) ++ ns) (moved_numbers f n n (λ node. each node n n) n ps)
+
+pub both_are_twins : (room old : ℕ) (ps : List Place)
+    → kin_of (record { room = room; items = both_places ps }) ≡ twin_kin room (kin_of (record { room = old; items = ps }))
+both_are_twins room old ps =
+    let n = length ps in
+    let node = λ (p : Place). p.node in
+    let count = λ (p : Place). p.count in
+    let up_len : length (map (λ (p : Place). p.up) ps) ≡ n = simp length-map in
+    let nodes : map node (both_places ps) ≡ range_with_len 0 (n + n) =
+    map-append node (twins_from 0 0 n ps) (twins_from n n n ps)
+    ∙ ap (λ ns. ns ++ map node (twins_from n n n ps)) (moved_nodes 0 0 n ps)
+    ∙ ap (λ ns. range_with_len 0 n ++ ns) (moved_nodes n n n ps) ∙ range_twice n in
+    let counts : map count (both_places ps) ≡ map count ps ++ map count ps =
+    map-append count (twins_from 0 0 n ps) (twins_from n n n ps)
+    ∙ ap (λ ns. ns ++ map count (twins_from n n n ps)) (moved_counts 0 0 n ps)
+    ∙ ap (λ ns. map count ps ++ ns) (moved_counts n n n ps) in
+    let branches = both_halves (λ (p : Place). p.branch) (λ node by count p. refl) ps in
+    let ups = both_halves (λ (p : Place). p.up) (λ node by count p. refl) ps in
+    let firsts = both_halves (λ (p : Place). p.first) (λ node by count p. refl) ps in
+    cc
+
+-- the places of another column, added to one without places, and then moved on by their count
+module _ (room count : ℕ) (start one : Reserved Place) (ps lent : List Place) (count_is : count ≡ length ps)
+    (lent_is : lent ≡ ps) (cleared : start ≡ record { room = room; items = [] })
+    (first : one ≡ record start { items = start.items ++ twins_from (length start.items) 0 count lent }) where
+  abbrev once : List Place
+  once = twins_from 0 0 (length ps) ps
+
+  pub first_pushed : one ≡ record { room = room; items = once }
+  first_pushed =
+      first
+      ∙ ap (λ (r : Reserved Place). record r { items = r.items ++ twins_from (length r.items) 0 count lent }) cleared
+      ∙ ap (λ k. record { room = room; items = twins_from 0 0 k lent }) count_is
+      ∙ ap (λ (xs : List Place). record { room = room; items = twins_from 0 0 (length ps) xs }) lent_is
+
+  pub both_pushed : (two : Reserved Place)
+      → two ≡ record one { items = one.items ++ twins_from (length one.items) count count lent }
+      → two ≡ record { room = room; items = both_places ps }
+  both_pushed two second =
+      second
+      ∙ ap (λ (r : Reserved Place). record r { items = r.items ++ twins_from (length r.items) count count lent })
+      first_pushed
+      ∙ ap (λ k. record { room = room; items = once ++ twins_from (length once) k k lent }) count_is
+      ∙ ap (λ (xs : List Place). record { room = room; items = once ++ twins_from (length once) (length ps) (length ps)
+      xs }) lent_is
+      ∙ ap (λ k. record { room = room; items = once ++ twins_from k (length ps) (length ps) ps }) (twins_length 0 0
+      (length ps) ps)
+
+pub keep_twins : (places : Reserved Place) (room : ℕ) (from : Reserved Place)
+    → places ≡ record { room = room; items = both_places from.items } → room < 2 ^ 32
+    → length from.items + length from.items ≤ room → IsFamily (kin_of from) → KeepKin places
+keep_twins places room from are few fits family =
+    let ps = from.items in
+    let n = length ps in
+    let len = length-append (twins_from 0 0 n ps) (twins_from n n n ps) in
+    let one = twins_length 0 0 n ps in
+    let two = twins_length n n n ps in
+    let all : length (both_places ps) ≡ n + n = omega (arith, len, one, two) in
+    subst KeepKin (sym are) (record {
+      few = few;
+      fits = omega (arith, all, fits);
+      family = subst IsFamily (sym (both_are_twins room from.room ps)) (twin_family (kin_of from) family room);
+    })
 
 module _ (rows numbers offsets : Reserved ℕ) (count : ℕ) (from : Ranked) (few : rows.room < 2 ^ 32)
     (numbers_room : numbers.room ≡ rows.room) (offsets_room : offsets.room ≡ rows.room)

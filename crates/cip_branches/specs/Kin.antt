@@ -1,7 +1,8 @@
 -- Of each place its node, the branch that it stands in, its parent, and the range of places in which its children
 -- stand. Own.
-use Rattle.std.specs.Prelude.{◌≡◌, ◌<◌, ◌≤◌, ◌+◌, ◌^◌, ◌++◌, ◌∷◌, ℕ, List, [], length, slice_index, slice_set}
+use Rattle.std.specs.Prelude.{◌≡◌, ◌<◌, ◌≤◌, ◌+◌, ◌^◌, ◌++◌, ◌∷◌, ℕ, List, [], length, map, slice_index, slice_set}
 use Rattle.cip_branches.specs.Reserved.{Reserved}
+use Rattle.cip_branches.specs.declared.place.Place.{Place}
 
 pub record Kin : Type 0 where
   pub room : ℕ
@@ -20,25 +21,21 @@ pub record IsFamily (kin : Kin) : Type 0 where
   pub within : (place : ℕ) → place < length kin.ups → slice_index kin.firsts place + slice_index kin.counts place
       ≤ length kin.ups
 
-abbrev pub kin_of : Reserved ℕ → Reserved ℕ → Reserved ℕ → Reserved ℕ → Reserved ℕ → Kin
-kin_of nodes branches ups firsts counts = record {
-  room = ups.room;
-  nodes = nodes.items;
-  branches = branches.items;
-  ups = ups.items;
-  firsts = firsts.items;
-  counts = counts.items;
+abbrev pub kin_of : Reserved Place → Kin
+kin_of places = record {
+  room = places.room;
+  nodes = map (λ (p : Place). p.node) places.items;
+  branches = map (λ (p : Place). p.branch) places.items;
+  ups = map (λ (p : Place). p.up) places.items;
+  firsts = map (λ (p : Place). p.first) places.items;
+  counts = map (λ (p : Place). p.count) places.items;
 }
 
--- the columns have the same room
-pub record KeepKin (nodes branches ups firsts counts : Reserved ℕ) : Type 0 where
-  pub few : ups.room < 2 ^ 32
-  pub fits : length ups.items ≤ ups.room
-  pub nodes_room : nodes.room ≡ ups.room
-  pub branches_room : branches.room ≡ ups.room
-  pub firsts_room : firsts.room ≡ ups.room
-  pub counts_room : counts.room ≡ ups.room
-  pub family : IsFamily (kin_of nodes branches ups firsts counts)
+-- there is room for the places, and they are a family
+pub record KeepKin (places : Reserved Place) : Type 0 where
+  pub few : places.room < 2 ^ 32
+  pub fits : length places.items ≤ places.room
+  pub family : IsFamily (kin_of places)
 
 -- a place behind all others, which has no children yet
 abbrev pub with_place : ℕ → ℕ → ℕ → Kin → Kin

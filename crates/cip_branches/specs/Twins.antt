@@ -6,10 +6,26 @@ use Rattle.cip_branches.specs.Deciding.{Branched}
 use Rattle.cip_branches.specs.Kin.{Kin, IsFamily}
 use Rattle.cip_branches.specs.Layers.{Layers}
 use Rattle.cip_branches.specs.Ranked.{Ranked}
+use Rattle.cip_branches.specs.declared.place.Place.{Place}
 
 -- a number below a count, moved on; any other one behind all
 abbrev pub moved_on : ℕ → ℕ → ℕ → ℕ
 moved_on by count number = if nat_lt number count then by + number else count + count
+
+-- A place moved on, which stands itself for its node.
+abbrev pub twin_place : ℕ → ℕ → ℕ → Place → Place
+twin_place node by count place = record {
+  node = node;
+  branch = moved_on by count place.branch;
+  up = moved_on by count place.up;
+  first = moved_on by count place.first;
+  count = place.count;
+}
+
+-- places moved on, of which the first one stands for a node, and each other one for the next
+abbrev pub twins_from : ℕ → ℕ → ℕ → List Place → List Place
+twins_from node by count [] = []
+twins_from node by count (place ∷ places) = twin_place node by count place ∷ twins_from (node + 1) by count places
 
 -- numbers as they are, and moved on by the count
 abbrev pub halves : ℕ → List ℕ → List ℕ

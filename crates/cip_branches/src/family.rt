@@ -3,6 +3,7 @@ ghost use Rattle.std.specs.Prelude.{◌≡◌, ◌<◌, ◌≤◌, ◌+◌, [], 
 ghost use Rattle.cip_branches.specs.Kin.{IsFamily, with_place, with_children};
 
 use crate::column::Column;
+use crate::place::Place;
 use std::alloc::{AllocError, Global};
 use std::marker::Model;
 
@@ -10,11 +11,7 @@ use std::marker::Model;
 /// stand.
 #[derive(Drop)]
 pub struct Family {
-    pub(crate) nodes: Column<u32>,
-    pub(crate) branches: Column<u32>,
-    pub(crate) ups: Column<u32>,
-    pub(crate) firsts: Column<u32>,
-    pub(crate) counts: Column<u32>,
+    pub(crate) places: Column<Place>,
 }
 
 impl Model for Family {
@@ -22,9 +19,9 @@ impl Model for Family {
 
     ghost Value = { Kin };
 
-    ghost view = { λ family. kin_of family.nodes family.branches family.ups family.firsts family.counts };
+    ghost view = { λ family. kin_of family.places };
 
-    ghost invariant = { λ family. KeepKin family.nodes family.branches family.ups family.firsts family.counts };
+    ghost invariant = { λ family. KeepKin family.places };
 }
 
 impl Family {
@@ -40,11 +37,7 @@ impl Family {
         }) }
     {
         Ok(Family {
-            nodes: Column::reserve(alloc, room)?,
-            branches: Column::reserve(alloc, room)?,
-            ups: Column::reserve(alloc, room)?,
-            firsts: Column::reserve(alloc, room)?,
-            counts: Column::reserve(alloc, room)?,
+            places: Column::reserve(alloc, room)?,
         })
     }
 
@@ -59,11 +52,7 @@ impl Family {
           counts = [];
         } }
     {
-        self.nodes.clear();
-        self.branches.clear();
-        self.ups.clear();
-        self.firsts.clear();
-        self.counts.clear();
+        self.places.clear();
     }
 
     /// How many places there are.
@@ -72,7 +61,7 @@ impl Family {
         ensures fits { length self.now.ups ≤ self.now.room }
         ensures family { IsFamily self.now }
     {
-        self.ups.len()
+        self.places.len()
     }
 
     /// The node at a place.
@@ -80,7 +69,7 @@ impl Family {
         requires { place < length self.now.ups }
         ensures { result ≡ slice_index self.now.nodes place }
     {
-        self.nodes.as_slice()[place as usize]
+        self.places.as_slice()[place as usize].node
     }
 
     /// The branch that a place stands in.
@@ -88,7 +77,7 @@ impl Family {
         requires { place < length self.now.ups }
         ensures { result ≡ slice_index self.now.branches place }
     {
-        self.branches.as_slice()[place as usize]
+        self.places.as_slice()[place as usize].branch
     }
 
     /// The parent of a place.
@@ -96,7 +85,7 @@ impl Family {
         requires { place < length self.now.ups }
         ensures { result ≡ slice_index self.now.ups place }
     {
-        self.ups.as_slice()[place as usize]
+        self.places.as_slice()[place as usize].up
     }
 
     /// The children of a place, as the first one and the place behind the last one.
@@ -106,9 +95,8 @@ impl Family {
         ensures past { result.1 ≡ slice_index self.now.firsts place + slice_index self.now.counts place }
         ensures within { result.1 ≤ length self.now.ups }
     {
-        let first = self.firsts.as_slice()[place as usize];
-        let count = self.counts.as_slice()[place as usize];
-        (first, first + count)
+        let here = self.places.as_slice()[place as usize];
+        (here.first, here.first + here.count)
     }
 
     /// Adds a place at the end, which has no children yet.
@@ -116,11 +104,13 @@ impl Family {
         requires { length self.old.ups < self.old.room }
         ensures { self.new ≡ with_place node branch up self.old }
     {
-        self.nodes.push(node);
-        self.branches.push(branch);
-        self.ups.push(up);
-        self.firsts.push(0);
-        self.counts.push(0);
+        self.places.push(Place {
+            node,
+            branch,
+            up,
+            first: 0,
+            count: 0,
+        });
     }
 
     /// Says in which range the children of a place stand.
@@ -129,7 +119,14 @@ impl Family {
         requires within { first + count ≤ length self.old.ups }
         ensures { self.new ≡ with_children place first count self.old }
     {
-        self.firsts.set(place, first);
-        self.counts.set(place, count);
+        let here = self.places.as_slice()[place as usize];
+        self.places.set(
+            place,
+            Place {
+                first,
+                count,
+                ..here
+            },
+        );
     }
 }

@@ -14,6 +14,7 @@ mod kids;
 mod order;
 mod parting;
 mod passing;
+mod place;
 mod refining;
 mod ruling;
 mod saving;

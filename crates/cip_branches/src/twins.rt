@@ -1,16 +1,16 @@
 // Branches doubled, for a rule that reads each of them twice.
 ghost use Rattle.std.specs.Prelude.{◌≡◌, ◌<◌, ◌≤◌, ◌+◌, ◌++◌, ◌^◌, ◌∷◌, [], ℕ, length, map};
 ghost use Rattle.std.specs.Prelude.{Bool, false, replicate, slice_index, take};
-ghost use Rattle.std.specs.List.{range_with_len};
 ghost use Rattle.cip_branches.specs.Deciding.{AreFollowed};
 ghost use Rattle.cip_branches.specs.Kin.{IsFamily};
-ghost use Rattle.cip_branches.specs.Twins.{moved_on, halves, twice, pairs, twin_kin, twin_ranked, twin_starts};
-ghost use Rattle.cip_branches.specs.Twins.{twin_wanted, twins_of, MayDouble};
+ghost use Rattle.cip_branches.specs.Twins.{moved_on, twice, twin_place, twins_from, pairs, twin_kin};
+ghost use Rattle.cip_branches.specs.Twins.{twin_ranked, twin_starts, twin_wanted, twins_of, MayDouble};
 
 use crate::column::Column;
 use crate::deciding::Branches;
 use crate::family::Family;
 use crate::order::Order;
+use crate::place::Place;
 use crate::spheres::Spheres;
 
 fn moved_on(by: u32, count: u32, number: u32) -> u32
@@ -36,30 +36,37 @@ fn twice(count: u32, number: u32) -> u32
     }
 }
 
-impl Column<u32> {
-    // Adds numbers moved on.
-    fn push_moved(&mut self, by: u32, count: u32, numbers: &[u32])
-        requires room { length self.old.items + length numbers.now ≤ self.old.room }
+fn twin_place(node: u32, by: u32, count: u32, place: Place) -> Place
+    requires few { by + count < 2 ^ 32 }
+    requires twice { count + count < 2 ^ 32 }
+    ensures { result ≡ twin_place node by count place }
+{
+    Place {
+        node,
+        branch: moved_on(by, count, place.branch),
+        up: moved_on(by, count, place.up),
+        first: moved_on(by, count, place.first),
+        count: place.count,
+    }
+}
+
+impl Column<Place> {
+    // Adds places moved on, each of which stands itself for its node.
+    fn push_moved(&mut self, by: u32, count: u32, places: &[Place])
+        requires room { length self.old.items + length places.now ≤ self.old.room }
         requires few { by + count < 2 ^ 32 }
         requires twice { count + count < 2 ^ 32 }
-        ensures { self.new ≡ record self.old { items = self.old.items ++ map (moved_on by count) numbers.now } }
+        ensures { self.new ≡ record self.old { items = self.old.items ++ twins_from (length self.old.items) by count
+            places.now } }
     {
-        for number in numbers {
-            self.push(moved_on(by, count, *number));
+        for place in places {
+            let node = self.len();
+            self.push(twin_place(node, by, count, *place));
         }
     }
+}
 
-    // Writes numbers as they are, and moved on.
-    fn write_halves(&mut self, count: u32, numbers: &[u32])
-        requires room { length numbers.now + length numbers.now ≤ self.old.room }
-        requires twice { count + count < 2 ^ 32 }
-        ensures { self.new ≡ record self.old { items = halves count numbers.now } }
-    {
-        self.clear();
-        self.push_moved(0, count, numbers);
-        self.push_moved(count, count, numbers);
-    }
-
+impl Column<u32> {
     // Adds the double of each number.
     fn push_twice(&mut self, count: u32, numbers: &[u32])
         requires room { length self.old.items + length numbers.now ≤ self.old.room }
@@ -68,17 +75,6 @@ impl Column<u32> {
     {
         for number in numbers {
             self.push(twice(count, *number));
-        }
-    }
-
-    // Writes so many places.
-    fn write_places(&mut self, count: u32)
-        requires { count ≤ self.old.room }
-        ensures { self.new ≡ record self.old { items = range_with_len 0 count } }
-    {
-        self.clear();
-        for place in 0..count {
-            self.push(place);
         }
     }
 
@@ -106,12 +102,10 @@ impl Family {
     {
         let count = from.len();
         let _room = self.len();
-        self.nodes.write_places(count + count);
-        self.branches.write_halves(count, from.branches.as_slice());
-        self.ups.write_halves(count, from.ups.as_slice());
-        self.firsts.write_halves(count, from.firsts.as_slice());
-        self.counts.copy(from.counts.as_slice());
-        self.counts.push_all(from.counts.as_slice());
+        let places = from.places.as_slice();
+        self.places.clear();
+        self.places.push_moved(0, count, places);
+        self.places.push_moved(count, count, places);
     }
 }
 

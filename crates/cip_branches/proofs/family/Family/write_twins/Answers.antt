@@ -1,31 +1,46 @@
-use Rattle.std.proofs.Common.{ℕ, List, ◌++◌, ◌∙◌, sym, ap, arith}
-use Rattle.cip_branches.specs.Kin.{Kin}
+use Rattle.std.proofs.Common.{◌≡◌, ℕ, List, length, ◌∙◌, sym, ap, arith}
+use Rattle.cip_branches.specs.Kin.{Kin, kin_of}
 use Rattle.cip_branches.specs.Reserved.{Reserved}
-use Rattle.cip_branches.specs.Twins.{halves}
-use Rattle.cip_branches.proofs.TwinPlaces.{keep_twins}
+use Rattle.cip_branches.specs.Twins.{twin_kin}
+use Rattle.cip_branches.specs.declared.place.Place.{Place}
+use Rattle.cip_branches.proofs.FamilyColumn.{place_count}
+use Rattle.cip_branches.proofs.TwinLists.{twins_length}
+use Rattle.cip_branches.proofs.TwinPlaces.{first_pushed, both_pushed, both_are_twins, keep_twins}
 use Rattle.cip_branches.proofs.family.Family.write_twins.Goals as goal
+
+pub push_moved-requires-2-clause-room : goal.push_moved-requires-2-clause-room
+push_moved-requires-2-clause-room c =
+    let ps = c.from.inside.places.items in
+    let count = c.len-count.ensures.count ∙ place_count c.from.inside.places c.args.from.now c.from.view_is in
+    let first = first_pushed _ c.len-count.result c.clear.new.self c.push_moved.new.self ps c.as_slice-places.result.now
+    count c.as_slice-places.ensures c.clear.ensures c.push_moved.ensures in
+    let len = ap (λ (r : Reserved Place). length r.items) first ∙ twins_length 0 0 (length ps) ps in
+    let room = ap (λ (r : Reserved Place). r.room) first in
+    let places = ap (λ (xs : List Place). length xs) c.as_slice-places.ensures in
+    let same = ap (λ (k : Kin). k.room) c.self.view_is in
+    let is = c.len-count.ensures.count in
+    let fits = c.requires in
+    omega (arith, len, room, places, count, same, is, fits)
 
 pub invariant_of-self : goal.invariant_of-self
 invariant_of-self c =
-    let items = λ (r : Reserved ℕ). r.items in
-    let room = λ (r : Reserved ℕ). r.room in
+    let from = c.from.inside.places in
+    let count = c.len-count.ensures.count ∙ place_count from c.args.from.now c.from.view_is in
     let same = ap (λ (k : Kin). k.room) c.self.view_is in
-    let ups = ap room c.write_halves-2.ensures in
-    let few = c.self.invariant.few in
+    let is = c.len-count.ensures.count in
     let fits = c.requires in
-    let count = c.len-count.result in
-    let last = c.as_slice-5.ensures ∙ ap (λ (k : Kin). k.counts) c.from.view_is in
-    keep_twins _ _ _ _ _ c.args.from.now c.len-count.ensures.family count c.len-count.ensures.count
-    (omega (arith, ups, few)) (omega (arith, ups, same, fits))
-    (ap room c.write_places.ensures ∙ c.self.invariant.nodes_room ∙ sym ups)
-    (ap room c.write_halves.ensures ∙ c.self.invariant.branches_room ∙ sym ups)
-    (ap room c.write_halves-3.ensures ∙ c.self.invariant.firsts_room ∙ sym ups)
-    (ap room c.push_all.ensures ∙ ap room c.copy.ensures ∙ c.self.invariant.counts_room ∙ sym ups)
-    (ap items c.write_places.ensures)
-    (ap items c.write_halves.ensures ∙ ap (halves count) (c.as_slice.ensures ∙ ap (λ (k : Kin). k.branches) c.from.view_is))
-    (ap items c.write_halves-2.ensures ∙ ap (halves count) (c.as_slice-2.ensures ∙ ap (λ (k : Kin). k.ups) c.from.view_is))
-    (ap items c.write_halves-3.ensures
-    ∙ ap (halves count) (c.as_slice-3.ensures ∙ ap (λ (k : Kin). k.firsts) c.from.view_is))
-    (ap items c.push_all.ensures ∙ ap (λ (r : Reserved ℕ). r.items ++ c.as_slice-5.result.now) c.copy.ensures
-    ∙ ap (λ (ns : List ℕ). ns ++ c.as_slice-5.result.now) (c.as_slice-4.ensures ∙ ap (λ (k : Kin). k.counts) c.from.view_is)
-    ∙ ap (λ (ns : List ℕ). c.args.from.now.counts ++ ns) last)
+    keep_twins c.push_moved-2.new.self c.self.inside.places.room from
+    (both_pushed _ c.len-count.result c.clear.new.self c.push_moved.new.self from.items c.as_slice-places.result.now
+    count c.as_slice-places.ensures c.clear.ensures c.push_moved.ensures c.push_moved-2.new.self c.push_moved-2.ensures)
+    c.self.invariant.few (omega (arith, count, same, is, fits)) c.from.invariant.family
+
+pub returns-clause-twins : goal.returns-clause-twins
+returns-clause-twins c =
+    let from = c.from.inside.places in
+    let room = c.self.inside.places.room in
+    let count = c.len-count.ensures.count ∙ place_count from c.args.from.now c.from.view_is in
+    ap kin_of (both_pushed _ c.len-count.result c.clear.new.self c.push_moved.new.self from.items
+    c.as_slice-places.result.now count c.as_slice-places.ensures c.clear.ensures c.push_moved.ensures
+    c.push_moved-2.new.self c.push_moved-2.ensures)
+    ∙ both_are_twins room from.room from.items ∙ ap (twin_kin room) c.from.view_is
+    ∙ ap (λ r. twin_kin r c.args.from.now) (ap (λ (k : Kin). k.room) c.self.view_is)
