@@ -2,8 +2,6 @@
 ghost use Rattle.std.specs.Prelude.{◌≡◌, ◌≤◌, true, slice_index_or, vec_capacity};
 ghost use Rattle.cip_arena.specs.Walk.{with_mark};
 
-use cip_rank::columns::unset_flags;
-
 /// Whether a vertex may have a node: its flag is set, or stands beyond the column.
 pub fn may_stand(flags: &[bool], vertex: u32) -> bool
     ensures { result ≡ slice_index_or flags.now vertex true }
@@ -29,5 +27,13 @@ pub fn clear_flags(flags: &mut Vec<bool>, vertices: usize, room: u32)
     requires { room ≤ vec_capacity flags.old }
     ensures { vec_capacity flags.old ≤ vec_capacity flags.new }
 {
-    unset_flags(flags, vertices.min(room as usize) as u32);
+    let count = vertices.min(room as usize);
+    if flags.len() == count {
+        for flag in flags.iter_mut() {
+            *flag = false;
+        }
+    } else {
+        flags.clear();
+        let _ = flags.resize(count, false);
+    }
 }

@@ -5,7 +5,8 @@ use Rattle.std.specs.Ordering.{nat_cmp}
 use Rattle.std.specs.Cmp.Lexicographic.{slice_cmp}
 use Rattle.std.proofs.lemmas.Cmp.{tied_itself, nat_cmp_total}
 use Rattle.cip_rank.specs.Ranking.{by_number}
-use Rattle.cip_rank.proofs.CalmRanks.{both_tie, tied_lists}
+use Rattle.cip_rank.proofs.RestOnTies.{both_tie}
+use Rattle.cip_rank.proofs.SortedDown.{numbers_equal}
 use Rattle.cip_branches.specs.Following.{AreRanked}
 use Rattle.cip_branches.specs.Kids.{kid_set, kids_of}
 use Rattle.cip_branches.specs.Layers.{Layers}
@@ -54,7 +55,7 @@ module _ (mid : Layers) (ranked : Ranked) (before : List ℕ)
         ∙ tied_itself nat_cmp_total (slice_index ranked.numbers b) in
         let order = (passed.refines.ordered t (omega arith) (omega (arith, lt))).each a b (places.there t a p)
         (places.there t b q) in
-        tied_lists (kid_set kids ranked.numbers a) (kid_set kids ranked.numbers b)
+        numbers_equal (kid_set kids ranked.numbers a) (kid_set kids ranked.numbers b)
         (both_tie (by_number passed.start a b) (slice_cmp nat_cmp (kid_set kids ranked.numbers a)
         (kid_set kids ranked.numbers b)) (sym order ∙ equal)).1;
   }

@@ -8,7 +8,8 @@ use Rattle.std.proofs.lemmas.Bool.{cases_lt}
 use Rattle.std.proofs.lemmas.Cmp.{tied_itself, nat_cmp_total}
 use Rattle.cip_rank.specs.Comparison.{sorted_down}
 use Rattle.cip_rank.specs.Ranking.{by_number}
-use Rattle.cip_rank.proofs.CalmRanks.{both_tie, tied_lists}
+use Rattle.cip_rank.proofs.RestOnTies.{both_tie}
+use Rattle.cip_rank.proofs.SortedDown.{numbers_equal}
 use Rattle.cip_rank.proofs.Descending.{all_by}
 use Rattle.cip_rank.proofs.Parts.{map_alike}
 use Rattle.cip_branches.specs.Kids.{kid_set}
@@ -33,7 +34,7 @@ steady_after kids At last far before start now within next steady refines others
     | inr inside ↦
         let equal : by_number now a b ≡ Equal = ap (λ n. nat_cmp n (slice_index now b)) tie
         ∙ tied_itself nat_cmp_total (slice_index now b) in
-        tied_lists (kid_set kids now a) (kid_set kids now b)
+        numbers_equal (kid_set kids now a) (kid_set kids now b)
         (both_tie (by_number start a b) (slice_cmp nat_cmp (kid_set kids now a) (kid_set kids now b))
         (sym ((pass.ordered t (omega arith) inside).each a b p q) ∙ equal)).1
   ];

@@ -5,7 +5,7 @@ use Rattle.std.specs.Ordering.{nat_cmp, int_cmp, then_cmp, on}
 use Rattle.std.proofs.lemmas.Cmp.{tied_itself, nat_cmp_total}
 use Rattle.cip_rank.specs.Comparison.{sorted_down}
 use Rattle.cip_rank.specs.Ranking.{by_number}
-use Rattle.cip_rank.proofs.CalmRanks.{both_tie}
+use Rattle.cip_rank.proofs.RestOnTies.{both_tie}
 use Rattle.cip_rank.proofs.Descending.{all_by}
 use Rattle.cip_rank.proofs.NumberedNodes.{equal_is}
 use Rattle.cip_rank.proofs.Parts.{map_alike}

@@ -31,9 +31,5 @@ impl<K: Keyed> NodeOrder for ByKeys<'_, K> {
         self.keys.compare(self.family.node(a), self.family.node(b))
     }
 
-    fn may_part(&self, _place: u32) -> bool {
-        true
-    }
-
     ghost total = { λ by. on_total (key_of (K.key by.keys.now) by.family.now) int_cmp_total };
 }

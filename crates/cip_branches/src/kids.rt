@@ -48,10 +48,6 @@ impl NodeOrder for ByKids<'_> {
         compare_sets(self.set(a), self.set(b))
     }
 
-    fn may_part(&self, _place: u32) -> bool {
-        true
-    }
-
     ghost total = { λ by. on_total (λ place. map (slice_index by.sets.now) (kids_of by.family.now place))
         (lists_total nat_cmp_total) };
 }

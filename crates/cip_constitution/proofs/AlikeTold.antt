@@ -10,7 +10,7 @@ use Rattle.std.proofs.lemmas.Bool.{and_parts, both_ways}
 use Rattle.cip_rank.specs.Comparison.{sets, comparison}
 use Rattle.cip_rank.specs.Ranking.{by_number}
 use Rattle.cip_rank.specs.declared.rules.Rules.{Rules}
-use Rattle.cip_rank.proofs.CalmRanks.{both_tie}
+use Rattle.cip_rank.proofs.RestOnTies.{both_tie}
 use Rattle.cip_mol.specs.declared.site.Ligand.{Ligand}
 use Rattle.cip_mol.specs.declared.site.Ligand.TheVariants.{Vertex, LonePair}
 use Rattle.cip_mol.specs.declared.site.Unit as units

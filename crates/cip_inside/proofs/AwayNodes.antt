@@ -10,7 +10,7 @@ use Rattle.cip_digraph.specs.graph.Graph.{Graph}
 use Rattle.cip_digraph.specs.graph.SoundGraphs.{IsSound}
 use Rattle.cip_digraph.specs.outcome.Deciding.{nodes_below}
 use Rattle.cip_reroot.specs.View.{children_seen}
-use Rattle.cip_reroot.proofs.Steps.{view_below}
+use Rattle.cip_reroot.proofs.ChildrenSeen.{view_below}
 use Rattle.cip_views.specs.Whole.{IsWhole}
 use Rattle.cip_views.proofs.Members.{all_images}
 use Rattle.cip_views.proofs.PathEnds.{apart_itself}

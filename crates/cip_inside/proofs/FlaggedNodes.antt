@@ -9,7 +9,7 @@ use Rattle.cip_reroot.proofs.Way.{Above, to_above}
 use Rattle.cip_rank.specs.Tree.{children_of}
 use Rattle.cip_rank.proofs.Children.{IsChild, children_are}
 use Rattle.cip_reroot.specs.View.{parent_list}
-use Rattle.cip_reroot.proofs.Steps.{all_append, all_at, all_kept}
+use Rattle.cip_reroot.proofs.ChildrenSeen.{all_append, all_at, all_kept}
 use Rattle.cip_branches.specs.Deciding.{Branched}
 use Rattle.cip_branches.specs.Parting.{has_flag}
 use Rattle.cip_branches.specs.Standing.{WantedIn}

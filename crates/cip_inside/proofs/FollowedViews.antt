@@ -10,7 +10,7 @@ use Rattle.cip_rank.specs.Ranking.{by_number, key_at}
 use Rattle.cip_rank.specs.Tree.{IsTree, children_of}
 use Rattle.cip_reroot.specs.View.{on_way, parent_list, children_seen}
 use Rattle.cip_reroot.proofs.SeenRoot.{seen_root}
-use Rattle.cip_reroot.proofs.Steps.{all_at, all_kept, off_below}
+use Rattle.cip_reroot.proofs.ChildrenSeen.{all_at, all_kept, off_below}
 use Rattle.cip_reroot.proofs.Times.{times}
 use Rattle.cip_branches.specs.Around.{kids_around}
 use Rattle.cip_branches.specs.Deciding.{Branched, AreFollowed, FlagsOpen, AreDecided}

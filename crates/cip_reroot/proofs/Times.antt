@@ -1,7 +1,7 @@
 -- How often numbers stand in lists.
 use Rattle.std.proofs.Common.{◌≡◌, ℕ, zero, suc, ◌+◌, ◌<◌, ◌≤◌, ◌==◌, Bool, true, false, not, cond, List, [], ◌∷◌, ◌++◌, filter, length, slice_index, refl, sym, ap, ◌∙◌, arith, inl, inr, eq-eqb}
 use Rattle.std.specs.List.{flat_map, AllByRecursion}
-use Rattle.std.proofs.lemmas.Bool.{ne_eqb, both_ways, cases_order, cases_eq}
+use Rattle.std.proofs.lemmas.Bool.{ne_eqb, both_ways, cases_order}
 use Rattle.cip_rank.specs.Tree.{children_from, children_of}
 use Rattle.cip_rank.proofs.Children.{children_are}
 use Rattle.cip_rank.proofs.Descending.{all_by}
@@ -135,35 +135,6 @@ unfolding total
 total_le zero xs h = omega arith
 total_le (suc k) xs h = let here : times k xs ≤ 1 = h k (omega arith) in let rest : total k xs ≤ k = total_le k xs (λ x lt. h x (omega arith)) in omega arith
 
-total_is : (k : ℕ) (xs : List ℕ) → ((x : ℕ) → x < k → times x xs ≡ 1) → total k xs ≡ k
-unfolding total
-total_is zero xs h = refl
-total_is (suc k) xs h = let here : times k xs ≡ 1 = h k (omega arith) in let rest : total k xs ≡ k = total_is k xs (λ x lt. h x (omega arith)) in omega arith
-
 -- a list of numbers below k, none of them twice, has at most k
 pub at_most : (k : ℕ) (xs : List ℕ) → AllByRecursion (λ x. x < k) xs → ((x : ℕ) → x < k → times x xs ≤ 1) → length xs ≤ k
 at_most k xs below few = omega (arith, total_len k xs below, total_le k xs few)
-
--- and where each of them is there, as many
-pub as_many : (k : ℕ) (xs : List ℕ) → AllByRecursion (λ x. x < k) xs → ((x : ℕ) → x < k → times x xs ≡ 1) → length xs ≡ k
-as_many k xs below one = sym (total_len k xs below) ∙ total_is k xs one
-
-pub occurs : (xs : List ℕ) (i : ℕ) → i < length xs → 1 ≤ times (slice_index xs i) xs
-occurs [] i h = absurd (omega arith)
-occurs (x ∷ xs) zero h = omega (arith, on x x refl)
-occurs (x ∷ xs) (suc i) h = omega (arith, occurs xs i (omega arith))
-
--- what stands once stands at one place
-pub one_place : (xs : List ℕ) (i j : ℕ) → i < length xs → j < length xs → slice_index xs i ≡ slice_index xs j → times (slice_index xs i) xs ≤ 1 → i ≡ j
-one_place [] i j hi hj e few = absurd (omega arith)
-one_place (x ∷ xs) zero zero hi hj e few = refl
-one_place (x ∷ xs) zero (suc j) hi hj e few = absurd (omega (arith, on x x refl, ap (λ k. times k xs) e, occurs xs j (omega arith)))
-one_place (x ∷ xs) (suc i) zero hi hj e few = absurd (omega (arith, on (slice_index xs i) x e, occurs xs i (omega arith)))
-one_place (x ∷ xs) (suc i) (suc j) hi hj e few = ap (λ k. suc k) (one_place xs i j (omega arith) (omega arith) e (omega arith))
-
-pub place_of : (x : ℕ) (xs : List ℕ) → 1 ≤ times x xs → (i : ℕ) × (i < length xs) × (slice_index xs i ≡ x)
-place_of x [] h = absurd (omega arith)
-place_of x (y ∷ ys) h = elim (cases_eq x y) [
-  | inl e ↦ (0, omega arith, sym e)
-  | inr ne ↦ let rest = place_of x ys (omega (arith, off x y ne)) in (suc rest.0, omega (arith, rest.1), rest.2)
-]

@@ -1,9 +1,4 @@
-//! The nodes of a tree in order of spheres from another root, in memory that was reserved.
+//! A tree seen from another of its nodes: the way from there to its root, by marks.
 #![tactic(auto)]
 
 pub mod marks;
-mod places;
-mod reroot;
-mod walk;
-
-pub use reroot::Reroot;

@@ -14,7 +14,7 @@ pub fn cover(marks: &mut Vec<bool>, count: u32)
     ensures room { vec_capacity marks.old ≤ vec_capacity marks.new }
 {
     while marks.len() < count as usize {
-        let _ = marks.push(false);
+        marks.push_reserved(false);
     }
 }
 

@@ -1,7 +1,5 @@
-//! Trees that are ranked, and seen from other roots, worked by hand. Tests alone.
+//! Branches of small trees, ranked as by hand and by a second body. Tests alone.
 #![tactic(auto)]
 
 #[cfg(test)]
 mod ranking;
-#[cfg(test)]
-mod rerooted;

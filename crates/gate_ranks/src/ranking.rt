@@ -1,8 +1,10 @@
-ghost use Rattle.std.specs.Prelude.{◌≡◌, ◌≤◌, pos, length, map};
-ghost use Rattle.cip_rank.specs.Calm.{AreCalm};
-ghost use Rattle.cip_rank.specs.Tree.{last_parent};
+ghost use Rattle.std.specs.Prelude.{◌≡◌, ◌<◌, ◌≤◌, pos, length, map, IfOk};
+ghost use Rattle.cip_branches.specs.Deciding.{AreFollowed};
+ghost use Rattle.cip_branches.specs.Passing.{AreKeyed};
+ghost use Rattle.cip_rank.specs.Tree.{children_of, last_parent};
 
-use cip_rank::{Keyed, Ranks, Table, rank_sphere, rank_whole};
+use cip_branches::{Around, Branches};
+use cip_rank::{Keyed, Table};
 use rand_pcg::Pcg32;
 use rand_pcg::rand_core::utils::NextWord;
 use std::alloc::{AllocError, Global};
@@ -11,6 +13,9 @@ use std::process::Abort;
 use std::test::Fail;
 
 const ROOM: u32 = 20;
+
+// No tree here has more spheres behind the root's children.
+const DEEPEST: u32 = 6;
 
 // A key of each node, by number.
 #[derive(Drop)]
@@ -28,13 +33,12 @@ impl Keyed for Keys<'_> {
     }
 }
 
-// The parents of the nodes, of which the root's own entry is 0, the keys that the earlier order compares the nodes
-// alone by, and the keys.
+// The parents of the nodes, of which the root's own entry is 0, the keys of a rule, and those of the next one.
 #[derive(Drop)]
 struct Case {
     parents: Vec<u32>,
-    earlier: Vec<u32>,
     keys: Vec<u32>,
+    later: Vec<u32>,
 }
 
 fn table_of(rt: &impl Abort, alloc: Global, parents: &[u32]) -> Result<Table, AllocError> {
@@ -65,7 +69,60 @@ fn push(rt: &impl Abort, table: &mut Table, last: u32, parent: u32)
     }
 }
 
-// Ranks so many spheres down, or at the height where no depth is given.
+fn children_of_root(alloc: Global, table: &Table) -> Result<Vec<u32>, AllocError>
+    requires { 0 < length table.now.parents }
+    ensures { IfOk result (λ tops. tops.items ≡ children_of table.now.parents 0) }
+{
+    let (first, past) = table.children(0);
+    let mut tops = Vec::new(alloc);
+    for child in first..past {
+        tops.push(child)?;
+    }
+    Ok(tops)
+}
+
+// Begins with a branch below each child of the root, and follows them so many spheres down.
+fn follow(
+    rt: &impl Abort,
+    table: &Table,
+    keys: &Keys<'_>,
+    tops: &[u32],
+    depth: u32,
+    branches: &mut Branches,
+)
+    requires some { 0 < length table.now.parents }
+    requires fits { length table.now.parents ≤ ROOM }
+    requires tops { tops.now ≡ children_of table.now.parents 0 }
+    requires keyed { length table.now.parents ≤ length keys.now.list.now }
+    requires room { branches.old.layers.kin.room ≡ ROOM }
+    ensures followed { AreFollowed branches.new }
+    ensures nodes { AreKeyed (length table.now.parents) branches.new.layers.kin }
+{
+    let _count = table.len();
+    let around = Around {
+        table,
+        way: &[true],
+    };
+    branches.begin(tops, keys);
+    for _ in 0..depth {
+        assert!(rt; branches.last() + 2 <= ROOM);
+        branches.follow(&around, keys);
+    }
+}
+
+// Takes the next rule over all spheres.
+fn go_on(branches: &mut Branches, keys: &Keys<'_>)
+    requires followed { AreFollowed branches.old }
+    requires keyed { AreKeyed (length keys.now.list.now) branches.old.layers.kin }
+{
+    branches.next_rule(keys);
+    let last = branches.last();
+    for far in 0..last {
+        branches.deepen(keys, far);
+    }
+}
+
+// The numbers of the root's children so many spheres down by the first rule, or over all spheres by both rules.
 fn ranked(
     rt: &impl Abort,
     alloc: Global,
@@ -74,48 +131,29 @@ fn ranked(
 ) -> Result<Vec<u32>, AllocError> {
     let table = table_of(rt, alloc, &case.parents)?;
     let count = table.len();
-    assert!(rt; count <= ROOM);
-    assert!(rt; case.earlier.len() == count as usize && case.keys.len() == count as usize);
-    let mut level = Ranks::reserve(alloc, ROOM)?;
-    level.level(&table);
-    let mut prior = Ranks::reserve(alloc, ROOM)?;
-    rank_sphere(
-        &table,
-        &Keys {
-            list: &case.earlier,
-        },
-        &level,
-        &mut prior,
-        0,
-    );
-    let mut ranks = Ranks::reserve(alloc, ROOM)?;
+    assert!(rt; 0 < count && count <= ROOM);
+    assert!(rt; case.keys.len() == count as usize && case.later.len() == count as usize);
     let keys = Keys { list: &case.keys };
-    match depth {
-        Some(depth) => rank_to(&table, &keys, &prior, &mut ranks, depth),
-        None => rank_whole(&table, &keys, &prior, &mut ranks),
+    let tops = children_of_root(alloc, &table)?;
+    let mut branches = Branches::reserve(alloc, ROOM)?;
+    follow(
+        rt,
+        &table,
+        &keys,
+        &tops,
+        depth.unwrap_or(DEEPEST),
+        &mut branches,
+    );
+    if depth.is_none() {
+        go_on(&mut branches, &Keys { list: &case.later });
     }
-    numbers_of(alloc, &ranks, count)
+    numbers_of(alloc, &branches)
 }
 
-fn rank_to<K: Keyed>(table: &Table, keys: &K, prior: &Ranks, ranks: &mut Ranks, depth: u32)
-    requires keyed { length table.now.parents ≤ K.nodes keys.now }
-    requires prior { length prior.now.numbers ≡ length table.now.parents }
-    requires calm { AreCalm table.now.parents prior.now.numbers prior.now.stirred }
-    requires room { length table.now.parents ≤ ranks.old.bound }
-    ensures { length ranks.new.numbers ≡ length table.now.parents }
-{
-    rank_sphere(table, keys, prior, ranks, 0);
-    for before in 0..depth {
-        rank_sphere(table, keys, prior, ranks, before + 1);
-    }
-}
-
-fn numbers_of(alloc: Global, ranks: &Ranks, count: u32) -> Result<Vec<u32>, AllocError>
-    requires { length ranks.now.numbers ≡ count }
-{
+fn numbers_of(alloc: Global, branches: &Branches) -> Result<Vec<u32>, AllocError> {
     let mut numbers = Vec::new(alloc);
-    for node in 0..count {
-        numbers.push(ranks.of(node))?;
+    for branch in 0..branches.branch_count() {
+        numbers.push(branches.number(branch))?;
     }
     Ok(numbers)
 }
@@ -141,52 +179,58 @@ fn digits_of(alloc: Global, text: &[u8]) -> Result<Vec<u32>, AllocError> {
     Ok(digits)
 }
 
-fn stand_as_worked(rt: &impl Abort, alloc: Global, worked: &[u8]) -> Result<(), Fail> {
+fn case_of(alloc: Global, worked: &[u8]) -> Result<Case, AllocError> {
     let mut parts = worked.split(|byte| *byte == b' ');
-    let case = Case {
+    Ok(Case {
         parents: digits_of(alloc, parts.next().unwrap_or(b""))?,
-        earlier: digits_of(alloc, parts.next().unwrap_or(b""))?,
         keys: digits_of(alloc, parts.next().unwrap_or(b""))?,
-    };
-    stand_at_each_depth(rt, alloc, &case, parts.next().unwrap_or(b""))
+        later: digits_of(alloc, parts.next().unwrap_or(b""))?,
+    })
 }
 
-fn stand_at_each_depth(
-    rt: &impl Abort,
-    alloc: Global,
-    case: &Case,
-    orders: &[u8],
-) -> Result<(), Fail> {
-    let mut last: &[u8] = b"";
-    for (depth, order) in orders.split(|byte| *byte == b'/').enumerate() {
-        let depth = Some(u32::try_from(depth)?);
-        assert!(rt; order_as(&ranked(rt, alloc, case, depth)?, order));
-        last = order;
+#[test]
+fn branches_rank_as_worked_by_hand(rt: HostRuntime) -> Result<(), Fail> {
+    // the parents, the keys, and how the root's children stand at each depth
+    let cases: [(&[u8], &[u8]); 6] = [
+        // none, and one
+        (b"0 5 0", b""),
+        (b"001 123 000", b"0/0/0"),
+        // glyceraldehyde: 1 is CHO, 2 is CH2OH
+        (
+            b"00000111222358 66681881811161 00000000000000",
+            b"1120/4260/4260/4260",
+        ),
+        // a sphere as a whole goes before the next: 1 is above 2, though 3 is below 5
+        (b"000112234569 66686861h119 000000000000", b"11/44/54/54"),
+        // sets of unlike length: {8}, {8, 1}, {9} and none
+        (b"000001223 666668819 000000000", b"1111/3451/3451"),
+        // told apart in the outermost sphere alone
+        (b"0001234 6666618 0000000", b"00/00/01"),
+    ];
+    for (worked, orders) in cases {
+        let case = case_of(rt.alloc(), worked)?;
+        for (depth, order) in orders.split(|byte| *byte == b'/').enumerate() {
+            let depth = Some(u32::try_from(depth)?);
+            assert!(rt; order_as(&ranked(&rt, rt.alloc(), &case, depth)?, order));
+        }
     }
-    assert!(rt; order_as(&ranked(rt, alloc, case, None)?, last));
     Ok(())
 }
 
 #[test]
-fn trees_rank_as_worked_by_hand(rt: HostRuntime) -> Result<(), Fail> {
-    // the parents, the keys of the earlier order, the keys, and how the nodes stand at each depth
-    let cases: [&[u8]; 7] = [
-        // no nodes, and one
-        b"   ",
-        b"0 0 5 0",
-        // a chain, told apart at its height alone
-        b"001 000 111 000/110/210",
-        // glyceraldehyde: 1 is CHO, 2 is CH2OH
-        b"00000111222358 00000000000000 66681881811161 11120220200010/34260750600010/34260750600010/34260750600010",
-        // a sphere as a whole goes before the next: 1 is above 2, though 3 is below 5
-        b"000112234569 000000000000 66686861h119 111212104003/344656208107/35476820a109/35476820a109/35476820a109",
-        // sets of unlike length: {8}, {8, 1}, {9} and none
-        b"000001223 000000000 666668819 111112203/234516607/234516607",
+fn a_later_rule_parts_what_ties(rt: HostRuntime) -> Result<(), Fail> {
+    // the parents, the keys of both rules, and how the root's children stand
+    let cases: [(&[u8], &[u8]); 4] = [
+        (b"000 011 021", b"10"),
+        (b"000 012 021", b"01"),
         // the earlier order goes before keys, that of children too
-        b"000122 000121 111934 000231/012453/012453",
+        (b"0001122 0002121 0003981", b"01"),
+        // a node's own key goes before those of its children
+        (b"000012 000000 012981", b"120"),
     ];
-    for worked in cases {
-        stand_as_worked(&rt, rt.alloc(), worked)?;
+    for (worked, order) in cases {
+        let case = case_of(rt.alloc(), worked)?;
+        assert!(rt; order_as(&ranked(&rt, rt.alloc(), &case, None)?, order));
     }
     Ok(())
 }
@@ -280,12 +324,36 @@ fn number_at(numbers: &[usize], place: usize) -> usize {
     }
 }
 
-fn numbers_alone(alloc: Global, case: &Case) -> Result<Vec<usize>, AllocError> {
+fn numbers_alone(alloc: Global, keys: &[u32]) -> Result<Vec<usize>, AllocError> {
     let mut alone = Vec::new(alloc);
-    for (earlier, key) in case.earlier.iter().zip(&case.keys) {
-        alone.push(10 * (*earlier as usize) + *key as usize)?;
+    for key in keys {
+        alone.push(*key as usize)?;
     }
     Ok(alone)
+}
+
+// Keys, all of which are below 10, over numbers.
+fn numbers_over(alloc: Global, numbers: &[usize], keys: &[u32]) -> Result<Vec<usize>, AllocError> {
+    let mut over = Vec::new(alloc);
+    for (number, key) in numbers.iter().zip(keys) {
+        over.push(number.saturating_mul(10).saturating_add(*key as usize))?;
+    }
+    Ok(over)
+}
+
+fn ranked_plainly(
+    alloc: Global,
+    case: &Case,
+    depth: Option<u32>,
+) -> Result<Vec<usize>, AllocError> {
+    let enough = depth.unwrap_or(DEEPEST) as usize;
+    let alone = numbers_alone(alloc, &case.keys)?;
+    let numbers = rank_plainly(alloc, &case.parents, &alone, enough)?;
+    if depth.is_some() {
+        return Ok(numbers);
+    }
+    let over = numbers_over(alloc, &numbers, &case.later)?;
+    rank_plainly(alloc, &case.parents, &over, enough)
 }
 
 // At most 19 nodes, and keys with many ties.
@@ -296,12 +364,12 @@ fn random_case(alloc: Global, random: &mut Pcg32) -> Result<Case, AllocError> {
             push_children(random, &mut parents, node)?;
         }
     }
-    let earlier = random_keys(alloc, random, parents.len())?;
     let keys = random_keys(alloc, random, parents.len())?;
+    let later = random_keys(alloc, random, parents.len())?;
     Ok(Case {
         parents,
-        earlier,
         keys,
+        later,
     })
 }
 
@@ -325,23 +393,23 @@ fn agrees(
     alloc: Global,
     case: &Case,
     depth: Option<u32>,
-    enough: usize,
 ) -> Result<bool, AllocError> {
     let numbers = ranked(rt, alloc, case, depth)?;
-    let alone = numbers_alone(alloc, case)?;
-    let plain = rank_plainly(alloc, &case.parents, &alone, enough)?;
-    Ok(order_as(&numbers, &plain))
+    let plain = ranked_plainly(alloc, case, depth)?;
+    assert!(rt; numbers.len() < plain.len());
+    Ok(order_as(&numbers, &plain[1..numbers.len() + 1]))
 }
 
 #[test]
-fn a_plain_ranking_agrees_on_random_tables(rt: HostRuntime) -> Result<(), Fail> {
+fn a_plain_ranking_agrees_on_random_trees(rt: HostRuntime) -> Result<(), Fail> {
     let alloc = rt.alloc();
     let mut random = Pcg32::new(2018, 92);
     for _ in 0..300 {
         let case = random_case(alloc, &mut random)?;
-        assert!(rt; agrees(&rt, alloc, &case, Some(0), 0)?);
-        assert!(rt; agrees(&rt, alloc, &case, Some(2), 2)?);
-        assert!(rt; agrees(&rt, alloc, &case, None, 6)?);
+        assert!(rt; agrees(&rt, alloc, &case, Some(0))?);
+        assert!(rt; agrees(&rt, alloc, &case, Some(2))?);
+        assert!(rt; agrees(&rt, alloc, &case, Some(DEEPEST))?);
+        assert!(rt; agrees(&rt, alloc, &case, None)?);
     }
     Ok(())
 }
