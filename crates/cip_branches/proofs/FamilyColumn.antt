@@ -72,8 +72,10 @@ module _ (places now : Reserved Place) (lent : List Place) (lent_is : lent ≡ p
       let items = places.items in
       let here = rewritten items at first count in
       let set : kin_of now ≡ kin_of (record places { items = slice_set items at here }) =
-      ap kin_of is ∙ ap (λ (xs : List Place). kin_of (record places { items = slice_set items at (rewritten xs at first
-      count) })) lent_is in
+      ap kin_of is ∙ ap (λ (xs : List Place). kin_of (record places {
+        items = slice_set items at (rewritten xs at first
+            count);
+      })) lent_is in
       let nodes = map-set_same (λ (p : Place). p.node) items at here none refl in
       let branches = map-set_same (λ (p : Place). p.branch) items at here none refl in
       let ups = map-set_same (λ (p : Place). p.up) items at here none refl in
@@ -83,8 +85,8 @@ module _ (places now : Reserved Place) (lent : List Place) (lent_is : lent ≡ p
       (kin_of places) = cc in
       set ∙ all
 
-  pub keep_set : KeepKin places → (kin : Kin) → kin_of places ≡ kin → at < length kin.ups → first + count ≤ length kin.ups
-      → KeepKin now
+  pub keep_set : KeepKin places → (kin : Kin) → kin_of places ≡ kin → at < length kin.ups
+      → first + count ≤ length kin.ups → KeepKin now
   keep_set keep kin kin_is lt fits =
       let room = ap (λ (r : Reserved Place). r.room) is in
       let len = ap (λ (r : Reserved Place). length r.items) is

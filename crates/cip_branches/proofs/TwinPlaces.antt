@@ -106,7 +106,8 @@ both_halves f each ps =
     ∙ ap (λ ns. map (moved_on 0 n) (map f ps) ++ ns) (moved_numbers f n n (λ node. each node n n) n ps)
 
 pub both_are_twins : (room old : ℕ) (ps : List Place)
-    → kin_of (record { room = room; items = both_places ps }) ≡ twin_kin room (kin_of (record { room = old; items = ps }))
+    → kin_of (record { room = room; items = both_places ps })
+    ≡ twin_kin room (kin_of (record { room = old; items = ps }))
 both_are_twins room old ps =
     let n = length ps in
     let node = λ (p : Place). p.node in
@@ -147,8 +148,11 @@ module _ (room count : ℕ) (start one : Reserved Place) (ps lent : List Place) 
       ∙ ap (λ (r : Reserved Place). record r { items = r.items ++ twins_from (length r.items) count count lent })
       first_pushed
       ∙ ap (λ k. record { room = room; items = once ++ twins_from (length once) k k lent }) count_is
-      ∙ ap (λ (xs : List Place). record { room = room; items = once ++ twins_from (length once) (length ps) (length ps)
-      xs }) lent_is
+      ∙ ap (λ (xs : List Place). record {
+        room = room;
+        items = once ++ twins_from (length once) (length ps) (length ps)
+            xs;
+      }) lent_is
       ∙ ap (λ k. record { room = room; items = once ++ twins_from k (length ps) (length ps) ps }) (twins_length 0 0
       (length ps) ps)
 

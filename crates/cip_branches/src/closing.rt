@@ -16,7 +16,7 @@ impl Spheres {
         ensures none { result ≡ false → TiesWith self.now.ranked.numbers wanted.now branch other → ⊥ }
     {
         let _places = self.family.len();
-        is_set(wanted, other)
+        wanted[other as usize]
             && other != branch
             && self.order.number(other) == self.order.number(branch)
     }

@@ -1,11 +1,9 @@
 // The order of places by the sets of their children.
-ghost use Rattle.std.specs.Prelude.{◌≡◌, ◌<◌, ◌≤◌, ◌-◌, ℕ, true, length, map, slice_index};
-ghost use Rattle.std.specs.List.{range_with_len};
+ghost use Rattle.std.specs.Prelude.{◌≡◌, ◌<◌, ◌≤◌, ◌+◌, ℕ, true, length, map, slice_index};
 ghost use Rattle.std.specs.Ordering.{nat_cmp, on};
 ghost use Rattle.std.specs.Cmp.Lexicographic.{slice_cmp};
-ghost use Rattle.cip_rank.specs.Comparison.{sorted_down};
 ghost use Rattle.cip_rank.specs.Ranged.{KeepsOthers};
-ghost use Rattle.cip_branches.specs.Kids.{kids_of, HoldKidSets, KnowTheirKids};
+ghost use Rattle.cip_branches.specs.Kids.{kids_of, kid_set, HoldKidSets, KnowTheirKids};
 ghost use Rattle.cip_branches.specs.Rows.{number_in};
 
 use crate::family::Family;
@@ -52,16 +50,32 @@ impl NodeOrder for ByKids<'_> {
         (lists_total nat_cmp_total) };
 }
 
-fn write_part_if(is_wanted: bool, numbers: &[u32], sets: &mut [u32], first: u32, past: u32)
-    requires ordered { first ≤ past }
-    requires within { past ≤ length numbers.now }
-    requires room { past ≤ length sets.old }
-    ensures part { is_wanted ≡ true → map (slice_index sets.new) (range_with_len first (past - first))
-        ≡ sorted_down nat_cmp (map (slice_index numbers.now) (range_with_len first (past - first))) }
-    ensures others { KeepsOthers first past sets.old sets.new }
+// Writes the set of a place.
+fn write_set(family: &Family, numbers: &[u32], place: u32, sets: &mut [u32])
+    requires place { place < length family.now.ups }
+    requires numbers { length family.now.ups ≤ length numbers.now }
+    requires room { length family.now.ups ≤ length sets.old }
+    ensures set { map (slice_index sets.new) (kids_of family.now place)
+        ≡ kid_set (kids_of family.now) numbers.now place }
+    ensures others { KeepsOthers (slice_index family.now.firsts place)
+        (slice_index family.now.firsts place + slice_index family.now.counts place) sets.old sets.new }
+{
+    let (first, past) = family.children(place);
+    write_part(numbers, sets, first as usize, past as usize);
+}
+
+// The same, where it is wanted.
+fn write_set_if(is_wanted: bool, family: &Family, numbers: &[u32], place: u32, sets: &mut [u32])
+    requires place { place < length family.now.ups }
+    requires numbers { length family.now.ups ≤ length numbers.now }
+    requires room { length family.now.ups ≤ length sets.old }
+    ensures set { is_wanted ≡ true → map (slice_index sets.new) (kids_of family.now place)
+        ≡ kid_set (kids_of family.now) numbers.now place }
+    ensures others { KeepsOthers (slice_index family.now.firsts place)
+        (slice_index family.now.firsts place + slice_index family.now.counts place) sets.old sets.new }
 {
     if is_wanted {
-        write_part(numbers, sets, first as usize, past as usize);
+        write_set(family, numbers, place, sets);
     }
 }
 
@@ -83,8 +97,7 @@ pub fn write_kid_sets(
 {
     for row in from..to {
         let place = order.place(row);
-        let (first, past) = family.children(place);
         let is_wanted = flags[order.number(place) as usize];
-        write_part_if(is_wanted, order.numbers(), sets, first, past);
+        write_set_if(is_wanted, family, order.numbers(), place, sets);
     }
 }

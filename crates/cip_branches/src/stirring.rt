@@ -17,16 +17,36 @@ pub fn set_flag_if(is_wanted: bool, flags: &mut [bool], number: u32)
     }
 }
 
-// Whether a place has another number than before, and the class above it has two places and more.
-fn is_stirred(order: &Order, before: &[u32], place: u32, above: u32, from: u32) -> bool
+// Sets the flag of the class above a place, if the place has another number than before and that class has two places
+// and more. Says whether it did.
+fn stir_place(
+    family: &Family,
+    order: &Order,
+    before: &[u32],
+    place: u32,
+    from: u32,
+    flags: &mut [bool],
+) -> bool
     requires place { place < length order.now.numbers }
+    requires family { length family.now.ups ≡ length order.now.numbers }
     requires before { length before.now ≡ length order.now.numbers }
-    requires above { above < from }
+    requires parent { slice_index family.now.ups place < length order.now.numbers }
+    requires above { slice_index order.now.numbers (slice_index family.now.ups place) < from }
     requires within { from ≤ length order.now.rows }
-    ensures { result ≡ false → is_shared order.now.rows order.now.numbers above from ≡ true
+    requires flags { from ≤ length flags.old }
+    ensures none { result ≡ false → is_shared order.now.rows order.now.numbers
+        (slice_index order.now.numbers (slice_index family.now.ups place)) from ≡ true
         → slice_index order.now.numbers place ≡ slice_index before.now place }
+    ensures set { flags.new ≡ (if result then slice_set flags.old (slice_index order.now.numbers
+        (slice_index family.now.ups place)) true else flags.old) }
 {
-    order.number(place) != before[place as usize] && order.is_shared(above, from)
+    if order.number(place) == before[place as usize] {
+        return false;
+    }
+    let above = order.number(family.parent(place));
+    let is_shared = order.is_shared(above, from);
+    set_flag_if(is_shared, flags, above);
+    is_shared
 }
 
 /// Sets the flag of each class of two places and more of which a member's child stands in these rows and has another
@@ -54,11 +74,8 @@ pub fn stir_above(
     let rows = order.rows();
     let mut any = false;
     for row in from..to {
-        let place = rows[row as usize];
-        let above = order.number(family.parent(place));
-        let is_wanted = is_stirred(order, before, place, above, from);
-        set_flag_if(is_wanted, flags, above);
-        any |= is_wanted;
+        let is_stirred = stir_place(family, order, before, rows[row as usize], from, flags);
+        any |= is_stirred;
     }
     any
 }

@@ -56,8 +56,10 @@ impl Column<Place> {
         requires room { length self.old.items + length places.now ≤ self.old.room }
         requires few { by + count < 2 ^ 32 }
         requires twice { count + count < 2 ^ 32 }
-        ensures { self.new ≡ record self.old { items = self.old.items ++ twins_from (length self.old.items) by count
-            places.now } }
+        ensures { self.new ≡ record self.old {
+          items = self.old.items ++ twins_from (length self.old.items) by count
+              places.now;
+        } }
     {
         for place in places {
             let node = self.len();

@@ -6,9 +6,9 @@ pub loop-row-preserved : goal.loop-row-preserved
 loop-row-preserved c = record {
   hold = sets_written c.args.family.now.firsts c.args.family.now.counts c.args.family.now.ups c.args.order.now.rows
       c.args.order.now.numbers c.numbers.result.now c.args.from c.args.to c.loop-row.row c.place-place.result c.number.result
-      c.children-first.result.0 c.children-first.result.1 _ c.args.flags.now c.loop-row.sets c.write_part_if.new.sets
+      _ c.args.flags.now c.loop-row.sets c.write_set_if.new.sets
       c.requires.known (search rules) (search rules) c.place-place.ensures.place c.number.ensures
-      c.children-first.ensures.first (search rules) (search rules) c.numbers.ensures
-      c.write_part_if.ensures.part
-      c.write_part_if.ensures.others c.loop-row.invariant.hold;
+      (search rules) c.numbers.ensures
+      c.write_set_if.ensures.set
+      c.write_set_if.ensures.others c.loop-row.invariant.hold;
 }

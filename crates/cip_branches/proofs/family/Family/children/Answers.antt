@@ -1,7 +1,4 @@
-use Rattle.std.proofs.Common.{◌+◌, ◌≤◌, length, map, ap, arith}
-use Rattle.std.proofs.lemmas.List.{length-map}
-use Rattle.cip_branches.specs.Kin.{Kin}
-use Rattle.cip_branches.specs.declared.place.Place.{Place}
+use Rattle.std.proofs.Common.{arith}
 use Rattle.cip_branches.proofs.FamilyColumn.{kids_within, place_count}
 use Rattle.cip_branches.proofs.family.Family.children.Goals as goal
 

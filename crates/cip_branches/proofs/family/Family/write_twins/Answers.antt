@@ -1,4 +1,4 @@
-use Rattle.std.proofs.Common.{◌≡◌, ℕ, List, length, ◌∙◌, sym, ap, arith}
+use Rattle.std.proofs.Common.{List, length, ◌∙◌, ap, arith}
 use Rattle.cip_branches.specs.Kin.{Kin, kin_of}
 use Rattle.cip_branches.specs.Reserved.{Reserved}
 use Rattle.cip_branches.specs.Twins.{twin_kin}
