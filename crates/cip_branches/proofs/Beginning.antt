@@ -4,7 +4,7 @@ use Rattle.std.specs.declared.cmp.Ordering.{Ordering}
 use Rattle.std.specs.Ordering.{int_cmp, then_cmp, on, ordering_then}
 use Rattle.cip_rank.specs.Comparison.{comparison}
 use Rattle.cip_rank.specs.Ranking.{by_number}
-use Rattle.cip_branches.specs.Rows.{OrdersPlaces}
+use Rattle.cip_rows.specs.Rows.{OrdersPlaces}
 use Rattle.cip_branches.specs.Views.{AreAhead, Begins}
 use Rattle.cip_branches.proofs.KidSets.{moved}
 

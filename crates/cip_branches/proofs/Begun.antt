@@ -3,12 +3,12 @@ use Rattle.std.proofs.Common.{◌≡◌, ◌<◌, ◌≤◌, ◌+◌, ◌-◌, �
 use Rattle.std.specs.Ordering.{nat_cmp, int_cmp, then_cmp, on, ordering_then}
 use Rattle.cip_rank.specs.Ranking.{by_number}
 use Rattle.cip_branches.specs.Following.{AreRanked, Begins}
-use Rattle.cip_branches.specs.Kids.{kids_of}
+use Rattle.cip_rows.specs.Kids.{kids_of}
 use Rattle.cip_branches.specs.Layers.{Layers, cleared, with_new_place, with_sphere, with_tops, begun_with}
-use Rattle.cip_branches.specs.Parting.{KeepsSphere}
-use Rattle.cip_branches.specs.Passing.{AreKeyed, key_of}
-use Rattle.cip_branches.specs.Ranked.{Ranked}
-use Rattle.cip_branches.specs.Rows.{IsRow, number_in, AreClassed, OrdersPlaces}
+use Rattle.cip_rows.specs.Parting.{KeepsSphere}
+use Rattle.cip_rows.specs.Keys.{AreKeyed, key_of}
+use Rattle.cip_rows.specs.Ranked.{Ranked}
+use Rattle.cip_rows.specs.Rows.{IsRow, number_in, AreClassed, OrdersPlaces}
 use Rattle.cip_branches.specs.Turning.{in_sphere, AreSpheres, SamePlaces}
 use Rattle.cip_branches.specs.Walking.{Grows, LastPlaces}
 use Rattle.cip_branches.proofs.Followed.{last_after}

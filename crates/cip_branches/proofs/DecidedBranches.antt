@@ -14,15 +14,16 @@ use Rattle.cip_rank.proofs.Refining.{depths_refine}
 use Rattle.cip_rank.proofs.TotalOrder.{comparison_total}
 use Rattle.cip_branches.specs.Deciding.{Branched, AreFollowed, FlagsOpen, AreDecided}
 use Rattle.cip_branches.specs.Following.{AreRanked, Begins, Follows}
-use Rattle.cip_branches.specs.Kids.{kids_of, kid_set}
-use Rattle.cip_branches.specs.Kin.{Kin}
+use Rattle.cip_rows.specs.Kids.{kids_of, kid_set}
+use Rattle.cip_rows.specs.Kin.{Kin}
 use Rattle.cip_branches.specs.Layers.{Layers, with_sphere}
-use Rattle.cip_branches.specs.Parting.{has_flag}
-use Rattle.cip_branches.specs.Passing.{AreKeyed, Passes, key_of}
+use Rattle.cip_rows.specs.Parting.{has_flag}
+use Rattle.cip_branches.specs.Passing.{Passes}
+use Rattle.cip_rows.specs.Keys.{AreKeyed, key_of}
 use Rattle.cip_branches.specs.Ruled.{IsWanted, IsRuled, Names}
 use Rattle.cip_branches.specs.Turning.{in_sphere, SamePlaces}
 use Rattle.cip_branches.specs.Walking.{LastPlaces, Walks, MayWalk}
-use Rattle.cip_branches.proofs.Cases.{cases_same}
+use Rattle.cip_rows.proofs.Cases.{cases_same}
 use Rattle.cip_branches.proofs.Filled.{all_set}
 use Rattle.cip_branches.proofs.RuledSpheres.{ruled_first, ruled_next, ruled_fewer, tops_told}
 use Rattle.cip_branches.proofs.WalkedSpheres.{old_at, at_old, is_known}

@@ -31,7 +31,7 @@ use Rattle.cip_rank.specs.Comparison.{sorted_down, sets, comparison}
 use Rattle.cip_rank.specs.Ranking.{by_number}
 use Rattle.cip_rank.proofs.Carried.{sets_carried}
 use Rattle.cip_rank.proofs.TotalOrder.{comparison_total}
-use Rattle.cip_branches.specs.Rows.{OrdersPlaces}
+use Rattle.cip_rows.specs.Rows.{OrdersPlaces}
 use Rattle.cip_branches.specs.Views.{IsView, IsEnded, OrdersSphere, Reaches, AreAhead}
 use Rattle.cip_branches.proofs.KidSets.{moved, sets_of_kids}
 

@@ -1,7 +1,7 @@
 -- Columns of one item, and flags that are all set.
 use Rattle.std.proofs.Common.{◌≡◌, ◌<◌, ◌+◌, ◌++◌, ◌∷◌, [], ℕ, zero, suc, true, replicate, refl, arith}
 use Rattle.std.proofs.lemmas.List.{replicate-append-replicate}
-use Rattle.cip_branches.specs.Parting.{has_flag}
+use Rattle.cip_rows.specs.Parting.{has_flag}
 
 pub filled_more : {T : Type 0} (n : ℕ) (item : T) → replicate n item ++ item ∷ [] ≡ replicate (n + 1) item
 filled_more n item = replicate-append-replicate n 1 item

@@ -8,10 +8,10 @@ use Rattle.cip_rank.specs.Ranking.{by_number}
 use Rattle.cip_rank.proofs.RestOnTies.{both_tie}
 use Rattle.cip_rank.proofs.SortedDown.{numbers_equal}
 use Rattle.cip_branches.specs.Following.{AreRanked}
-use Rattle.cip_branches.specs.Kids.{kid_set, kids_of}
+use Rattle.cip_rows.specs.Kids.{kid_set, kids_of}
 use Rattle.cip_branches.specs.Layers.{Layers}
 use Rattle.cip_branches.specs.Passing.{Passes}
-use Rattle.cip_branches.specs.Ranked.{Ranked}
+use Rattle.cip_rows.specs.Ranked.{Ranked}
 use Rattle.cip_branches.specs.Turning.{in_sphere, AreSpheres, SamePlaces}
 use Rattle.cip_branches.specs.Walking.{IsWalked, LastPlaces, MayWalk}
 use Rattle.cip_branches.proofs.GrownPlaces.{one_more, is_last}

@@ -10,9 +10,9 @@ use Rattle.cip_rank.specs.Ranking.{by_number}
 use Rattle.cip_rank.proofs.Descending.{all_by}
 use Rattle.cip_rank.proofs.Parts.{map_alike}
 use Rattle.cip_rank.proofs.TotalOrder.{comparison_total}
-use Rattle.cip_branches.specs.Kids.{kid_set, by_kids}
+use Rattle.cip_rows.specs.Kids.{kid_set, by_kids}
 use Rattle.cip_branches.specs.Refining.{AreNext, Refines}
-use Rattle.cip_branches.specs.Rows.{OrdersPlaces}
+use Rattle.cip_rows.specs.Rows.{OrdersPlaces}
 use Rattle.cip_branches.specs.Views.{IsView, OrdersSphere, Reaches, Begins}
 use Rattle.cip_branches.proofs.KidSets.{moved, sets_are}
 

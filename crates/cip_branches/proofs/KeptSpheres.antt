@@ -2,10 +2,10 @@
 use Rattle.std.proofs.Common.{◌≡◌, ◌≢◌, ◌<◌, ◌≤◌, ◌+◌, ◌-◌, ◌⊎◌, ℕ, zero, suc, List, slice_index, refl, sym, ap, ◌∙◌, subst, arith, inl, inr}
 use Rattle.std.proofs.lemmas.Bool.{cases_order}
 use Rattle.cip_rank.proofs.Descending.{all_by}
-use Rattle.cip_branches.specs.Parting.{KeepsSphere}
-use Rattle.cip_branches.specs.Rows.{number_in, AreClassed}
+use Rattle.cip_rows.specs.Parting.{KeepsSphere}
+use Rattle.cip_rows.specs.Rows.{number_in, AreClassed}
 use Rattle.cip_branches.specs.Turning.{in_sphere, AreSpheres, SamePlaces}
-use Rattle.cip_branches.proofs.Cases.{cases_same}
+use Rattle.cip_rows.proofs.Cases.{cases_same}
 
 -- rows whose numbers are those of before are classed as before
 pub classed_moves : (rows new_rows numbers new : List ℕ) (first past : ℕ)

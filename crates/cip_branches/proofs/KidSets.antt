@@ -11,8 +11,8 @@ use Rattle.cip_rank.specs.Ranking.{by_number}
 use Rattle.cip_rank.proofs.Carried.{sets_carried}
 use Rattle.cip_rank.proofs.NumberedNodes.{equal_is}
 use Rattle.cip_rank.proofs.Permuted.{permuted_tie}
-use Rattle.cip_branches.specs.Kids.{kid_set, by_kids, AreCalm}
-use Rattle.cip_branches.specs.Rows.{OrdersPlaces}
+use Rattle.cip_rows.specs.Kids.{kid_set, by_kids, AreCalm}
+use Rattle.cip_rows.specs.Rows.{OrdersPlaces}
 use Rattle.cip_branches.specs.Views.{IsView}
 
 -- numbers that are the same order alike

@@ -1,7 +1,7 @@
 -- Open branches are fewer than the wanted ones.
 use Rattle.std.proofs.Common.{◌≡◌, ◌<◌, ℕ, zero, suc, Bool, true, false, List, [], ◌∷◌, length, arith}
 use Rattle.cip_branches.specs.Closing.{FlagOpen}
-use Rattle.cip_branches.specs.Parting.{has_flag}
+use Rattle.cip_rows.specs.Parting.{has_flag}
 use Rattle.cip_branches.specs.Ruled.{WantsFewer}
 
 -- a flag that is set stands within the flags

@@ -5,7 +5,7 @@ use Rattle.std.specs.List.{AllByRecursion}
 use Rattle.cip_rank.specs.Comparison.{comparison}
 use Rattle.cip_rank.specs.Ranking.{by_number}
 use Rattle.cip_branches.specs.Views.{IsView, Reaches, AreAhead}
-use Rattle.cip_branches.proofs.Cases.{both}
+use Rattle.cip_rows.proofs.Cases.{both}
 
 -- the places of open branches, whose children are of open branches
 pub open_view : {N : Type 0} (children : N → List N) (node : ℕ → N) (kids : ℕ → List ℕ) (At : ℕ → ℕ → Type 0)

@@ -5,13 +5,13 @@ use Rattle.std.specs.Ordering.{int_cmp, then_cmp, on}
 use Rattle.std.proofs.lemmas.Bool.{cases_lt}
 use Rattle.cip_rank.specs.Ranking.{by_number}
 use Rattle.cip_rank.proofs.Descending.{all_by}
-use Rattle.cip_branches.specs.Parting.{KeepsSphere}
+use Rattle.cip_rows.specs.Parting.{KeepsSphere}
 use Rattle.cip_branches.specs.Passing.{AreSteadyButNew, Passes}
 use Rattle.cip_branches.specs.Refining.{Refines}
-use Rattle.cip_branches.specs.Rows.{IsRow, OrdersPlaces}
+use Rattle.cip_rows.specs.Rows.{IsRow, OrdersPlaces}
 use Rattle.cip_branches.specs.Turning.{in_sphere, AreSpheres, AreSteadyBefore, SamePlaces}
-use Rattle.cip_branches.proofs.Cases.{both, cases_same}
-use Rattle.cip_branches.proofs.ClassInSphere.{place_high}
+use Rattle.cip_rows.proofs.Cases.{both, cases_same}
+use Rattle.cip_rows.proofs.ClassInSphere.{place_high}
 use Rattle.cip_branches.proofs.KeptSpheres.{other_place, places_kept, spheres_kept}
 
 -- the same children in other rows

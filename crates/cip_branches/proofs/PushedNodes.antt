@@ -2,7 +2,7 @@
 use Rattle.std.proofs.Common.{◌≡◌, ◌≤◌, ◌+◌, ◌-◌, ◌++◌, ◌∷◌, ℕ, List, [], length, slice_index, refl, sym, ap, ◌∙◌, arith, length-append, append-nil, append_assoc}
 use Rattle.std.specs.List.{range_with_len}
 use Rattle.cip_rank.proofs.Ranges.{range_more}
-use Rattle.cip_branches.specs.Kin.{with_children}
+use Rattle.cip_rows.specs.Kin.{with_children}
 use Rattle.cip_branches.specs.Layers.{Layers, with_new_place, with_nodes, with_kids}
 
 -- one more node behind the others

@@ -13,18 +13,19 @@ use Rattle.cip_rank.specs.Comparison.{comparison}
 use Rattle.cip_rank.specs.Ranking.{by_number, key_at}
 use Rattle.cip_rank.proofs.Descending.{all_by}
 use Rattle.cip_branches.specs.Following.{AreRanked, Begins as TopsBegin}
-use Rattle.cip_branches.specs.Kids.{kids_of, IsAmong}
+use Rattle.cip_rows.specs.Kids.{kids_of, IsAmong}
 use Rattle.cip_branches.specs.Layers.{Layers, with_sphere}
-use Rattle.cip_branches.specs.Parting.{has_flag}
-use Rattle.cip_branches.specs.Passing.{AreKeyed, Passes, key_of}
-use Rattle.cip_branches.specs.Ranked.{Ranked}
+use Rattle.cip_rows.specs.Parting.{has_flag}
+use Rattle.cip_branches.specs.Passing.{Passes}
+use Rattle.cip_rows.specs.Keys.{AreKeyed, key_of}
+use Rattle.cip_rows.specs.Ranked.{Ranked}
 use Rattle.cip_branches.specs.Refining.{Refines}
 use Rattle.cip_branches.specs.Ruled.{IsWanted, IsBelow, WantsFewer, node_of, IsRuled, Names}
 use Rattle.cip_branches.specs.Turning.{in_sphere, SamePlaces}
 use Rattle.cip_branches.specs.Views.{IsView, OrdersSphere, Reaches, AreAhead, Begins}
 use Rattle.cip_branches.specs.Walking.{LastPlaces, Walks, MayWalk}
 use Rattle.cip_branches.proofs.Beginning.{begun}
-use Rattle.cip_branches.proofs.Cases.{both, holds_among}
+use Rattle.cip_rows.proofs.Cases.{both, holds_among}
 use Rattle.cip_branches.proofs.InwardSpheres.{reaches_next}
 use Rattle.cip_branches.proofs.WalkedSpheres.{old_at, at_old, is_known, at_new, which, told_at, up_at}
 

@@ -1,7 +1,7 @@
 -- Branches whose ranks are put back stand as they did.
 use Rattle.std.proofs.Common.{◌≡◌, ℕ, Bool, List, sym, ap, ◌∙◌}
 use Rattle.cip_branches.specs.Deciding.{Branched, AreFollowed}
-use Rattle.cip_branches.specs.Kin.{Kin}
+use Rattle.cip_rows.specs.Kin.{Kin}
 use Rattle.cip_branches.specs.Saving.{Saved, saved_of, restored}
 use Rattle.cip_branches.specs.Taking.{KeepsPlaces}
 

@@ -8,8 +8,8 @@ use Rattle.cip_reroot.proofs.ChildrenSeen.{all_append, all_at, off_below, off_vi
 use Rattle.cip_reroot.proofs.Times.{times, times_append, at_most}
 use Rattle.cip_reroot.proofs.Walked.{each_node}
 use Rattle.cip_branches.specs.Around.{kids_around}
-use Rattle.cip_branches.specs.Kin.{Kin}
-use Rattle.cip_branches.specs.Parting.{has_flag}
+use Rattle.cip_rows.specs.Kin.{Kin}
+use Rattle.cip_rows.specs.Parting.{has_flag}
 use Rattle.cip_branches.specs.Rising.{kids_list}
 use Rattle.cip_branches.specs.Walking.{kids_left, wanted_kids}
 use Rattle.cip_branches.proofs.ToldKids.{kids_count, list_all, all_walked, kids_split, kids_alike, kids_flat}

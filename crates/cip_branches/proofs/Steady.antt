@@ -12,7 +12,7 @@ use Rattle.cip_rank.proofs.RestOnTies.{both_tie}
 use Rattle.cip_rank.proofs.SortedDown.{numbers_equal}
 use Rattle.cip_rank.proofs.Descending.{all_by}
 use Rattle.cip_rank.proofs.Parts.{map_alike}
-use Rattle.cip_branches.specs.Kids.{kid_set}
+use Rattle.cip_rows.specs.Kids.{kid_set}
 use Rattle.cip_branches.specs.Refining.{AreSteady, AreNext, Refines}
 
 pub steady_after : (kids : ℕ → List ℕ) (At : ℕ → ℕ → Type 0) (last far : ℕ) (before start now : List ℕ) → far ≤ last

@@ -4,7 +4,7 @@ use Rattle.std.specs.List.{AllByRecursion}
 use Rattle.std.specs.Ordering.{nat_cmp}
 use Rattle.std.proofs.lemmas.Bool.{cases_lt}
 use Rattle.cip_rank.specs.Comparison.{sorted_down}
-use Rattle.cip_branches.specs.Kids.{kid_set}
+use Rattle.cip_rows.specs.Kids.{kid_set}
 use Rattle.cip_branches.specs.Refining.{AreSteady}
 use Rattle.cip_branches.specs.Turning.{in_sphere, AreSteadyBefore}
 

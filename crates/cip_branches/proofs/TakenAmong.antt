@@ -16,18 +16,18 @@ use Rattle.cip_rank.proofs.Refining.{depths_refine}
 use Rattle.cip_rank.proofs.TotalOrder.{comparison_total}
 use Rattle.cip_branches.specs.Among.{AreToldAmong, AreShownAmong, StandsAmong, IsTakenAmong}
 use Rattle.cip_branches.specs.Deciding.{Branched, FlagsOpen}
-use Rattle.cip_branches.specs.Kids.{kids_of, kid_set}
-use Rattle.cip_branches.specs.Kin.{Kin}
-use Rattle.cip_branches.specs.Parting.{has_flag}
-use Rattle.cip_branches.specs.Passing.{key_of}
+use Rattle.cip_rows.specs.Kids.{kids_of, kid_set}
+use Rattle.cip_rows.specs.Kin.{Kin}
+use Rattle.cip_rows.specs.Parting.{has_flag}
+use Rattle.cip_rows.specs.Keys.{key_of}
 use Rattle.cip_branches.specs.Refining.{Refines}
-use Rattle.cip_branches.specs.Rows.{OrdersPlaces}
+use Rattle.cip_rows.specs.Rows.{OrdersPlaces}
 use Rattle.cip_branches.specs.Standing.{node_in, WantedIn, AreKeysOf}
 use Rattle.cip_branches.specs.Taking.{KeepsPlaces, SplitsFirst, Deepens}
 use Rattle.cip_branches.specs.Turning.{in_sphere}
 use Rattle.cip_branches.specs.Views.{IsEnded, OrdersSphere, Reaches, AreAhead, Begins}
 use Rattle.cip_branches.proofs.Beginning.{begun, still_ahead}
-use Rattle.cip_branches.proofs.Cases.{both, cases_same}
+use Rattle.cip_rows.proofs.Cases.{both, cases_same}
 use Rattle.cip_branches.proofs.DecidedBranches.{first_stays, same_number}
 use Rattle.cip_branches.proofs.Ending.{whole}
 use Rattle.cip_branches.proofs.InwardSpheres.{reaches_next}

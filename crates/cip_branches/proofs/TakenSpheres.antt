@@ -11,18 +11,19 @@ use Rattle.cip_rank.proofs.NumberedNodes.{equal_is}
 use Rattle.cip_rank.proofs.Parts.{map_alike}
 use Rattle.cip_branches.specs.Deciding.{Branched, AreFollowed}
 use Rattle.cip_branches.specs.Following.{AreRanked}
-use Rattle.cip_branches.specs.Kids.{kids_of, kid_set}
-use Rattle.cip_branches.specs.Kin.{Kin}
+use Rattle.cip_rows.specs.Kids.{kids_of, kid_set}
+use Rattle.cip_rows.specs.Kin.{Kin}
 use Rattle.cip_branches.specs.Layers.{Layers}
-use Rattle.cip_branches.specs.Parting.{KeepsSphere, has_flag}
-use Rattle.cip_branches.specs.Passing.{AreSteadyButNew, Passes, key_of}
-use Rattle.cip_branches.specs.Ranked.{Ranked}
+use Rattle.cip_rows.specs.Parting.{KeepsSphere, has_flag}
+use Rattle.cip_branches.specs.Passing.{AreSteadyButNew, Passes}
+use Rattle.cip_rows.specs.Keys.{key_of}
+use Rattle.cip_rows.specs.Ranked.{Ranked}
 use Rattle.cip_branches.specs.Refining.{AreNext, AreSteady}
-use Rattle.cip_branches.specs.Rows.{OrdersPlaces}
+use Rattle.cip_rows.specs.Rows.{OrdersPlaces}
 use Rattle.cip_branches.specs.Taking.{KeepsPlaces, SplitsFirst, Deepens}
 use Rattle.cip_branches.specs.Turning.{in_sphere, AreSpheres, SamePlaces}
 use Rattle.cip_branches.specs.Walking.{LastPlaces}
-use Rattle.cip_branches.proofs.Cases.{cases_same}
+use Rattle.cip_rows.proofs.Cases.{cases_same}
 use Rattle.cip_branches.proofs.KeptSpheres.{other_place, places_kept, same_after, spheres_kept}
 use Rattle.cip_branches.proofs.Steady.{steady_after}
 

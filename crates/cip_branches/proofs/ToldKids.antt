@@ -3,8 +3,8 @@ use Rattle.std.proofs.Common.{◌≡◌, ◌<◌, ◌≤◌, ◌+◌, ◌++◌, 
 use Rattle.std.specs.List.{AllByRecursion, flat_map}
 use Rattle.cip_rank.proofs.Children.{next_index}
 use Rattle.cip_reroot.proofs.ChildrenSeen.{all_append}
-use Rattle.cip_branches.specs.Kin.{Kin}
-use Rattle.cip_branches.specs.Parting.{has_flag}
+use Rattle.cip_rows.specs.Kin.{Kin}
+use Rattle.cip_rows.specs.Parting.{has_flag}
 use Rattle.cip_branches.specs.Rising.{kids_list}
 use Rattle.cip_branches.specs.Walking.{kids_left, wanted_kids}
 

@@ -1,14 +1,14 @@
 -- One turn inwards: flags by what changed in the sphere behind, and then the sphere itself.
 use Rattle.std.proofs.Common.{◌≡◌, ◌<◌, ◌≤◌, ℕ, Bool, false, List, true, slice_index, sym, ap, ◌∙◌, subst, arith, inl, inr}
 use Rattle.cip_rank.proofs.Descending.{all_by}
-use Rattle.cip_branches.specs.Kids.{AreCalm, by_kids, kid_set, KnowTheirKids}
-use Rattle.cip_branches.specs.Parting.{has_flag, is_shared, FlagHeads}
-use Rattle.cip_branches.specs.Rows.{IsRow, number_in, AreClassed, OrdersPlaces}
-use Rattle.cip_branches.specs.Stirring.{number_above, StirsAbove, KnowParents, TieUnlessStirred, NoFlags}
-use Rattle.cip_branches.proofs.ClassInSphere.{place_low, place_high, place_head, one_place}
-use Rattle.cip_branches.proofs.Cases.{cases_flag, not_both}
+use Rattle.cip_rows.specs.Kids.{AreCalm, by_kids, kid_set, KnowTheirKids}
+use Rattle.cip_rows.specs.Parting.{has_flag, is_shared, FlagHeads}
+use Rattle.cip_rows.specs.Rows.{IsRow, number_in, AreClassed, OrdersPlaces}
+use Rattle.cip_rows.specs.Stirring.{number_above, StirsAbove, KnowParents, TieUnlessStirred, NoFlags}
+use Rattle.cip_rows.proofs.ClassInSphere.{place_low, place_high, place_head, one_place}
+use Rattle.cip_rows.proofs.Cases.{cases_flag, not_both}
 use Rattle.cip_branches.proofs.KidSets.{still_ordered}
-use Rattle.cip_branches.proofs.Stirred.{as_before}
+use Rattle.cip_rows.proofs.Stirred.{as_before}
 
 -- a place in some rows is one in more of them
 pub wider : (rows : List ℕ) (from to past : ℕ) → to ≤ past → (place : ℕ) → IsRow rows from to place

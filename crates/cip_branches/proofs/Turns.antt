@@ -5,14 +5,14 @@ use Rattle.std.specs.Ordering.{nat_cmp}
 use Rattle.cip_rank.specs.Comparison.{sorted_down}
 use Rattle.cip_rank.proofs.Descending.{all_by}
 use Rattle.cip_rank.proofs.Parts.{map_alike}
-use Rattle.cip_branches.specs.Kids.{by_kids, kids_of}
+use Rattle.cip_rows.specs.Kids.{by_kids, kids_of}
 use Rattle.cip_branches.specs.Layers.{Layers}
-use Rattle.cip_branches.specs.Parting.{KeepsSphere}
+use Rattle.cip_rows.specs.Parting.{KeepsSphere}
 use Rattle.cip_branches.specs.Refining.{AreNext}
-use Rattle.cip_branches.specs.Rows.{IsRow, AreClassed, OrdersPlaces}
-use Rattle.cip_branches.specs.Stirring.{KnowParents, TieUnlessStirred}
+use Rattle.cip_rows.specs.Rows.{IsRow, AreClassed, OrdersPlaces}
+use Rattle.cip_rows.specs.Stirring.{KnowParents, TieUnlessStirred}
 use Rattle.cip_branches.specs.Turning.{in_sphere, AreSpheres, AreSteadyBefore, Turns}
-use Rattle.cip_branches.proofs.Cases.{both}
+use Rattle.cip_rows.proofs.Cases.{both}
 use Rattle.cip_branches.proofs.InwardSpheres.{refines_none, refines_step}
 use Rattle.cip_branches.proofs.KeptSpheres.{same_itself, same_after, other_place, places_kept, spheres_kept}
 use Rattle.cip_branches.proofs.KidSets.{still_ordered}

@@ -10,11 +10,11 @@ use Rattle.cip_rank.proofs.Descending.{all_by}
 use Rattle.cip_rank.proofs.NumberedNodes.{less_is, greater_is}
 use Rattle.cip_branches.specs.Deciding.{Branched, AreFollowed}
 use Rattle.cip_branches.specs.Following.{AreRanked}
-use Rattle.cip_branches.specs.Kids.{kids_of, kid_set}
-use Rattle.cip_branches.specs.Rows.{AreClassed}
+use Rattle.cip_rows.specs.Kids.{kids_of, kid_set}
+use Rattle.cip_rows.specs.Rows.{AreClassed}
 use Rattle.cip_branches.specs.Turning.{in_sphere, AreSpheres}
 use Rattle.cip_branches.specs.Twins.{twins_of, kept_spheres, MayDouble}
-use Rattle.cip_branches.proofs.TwinLists.{halves_length, pairs_length}
+use Rattle.cip_rows.proofs.TwinLists.{halves_length, pairs_length}
 use Rattle.cip_branches.proofs.TwinSpheres.{IsTwinIn, kept_at_most, none_behind, start_at, start_past, starts_len, none_at, place_below, number_first, number_second, first_in, second_in, is_twin_in, kids_first, kids_second, up_first, up_second, no_kids, all_moved, classed}
 
 -- doubled numbers compare and are sorted as they do themselves

@@ -4,13 +4,14 @@ use Rattle.std.specs.List.{AllByRecursion, range_with_len}
 use Rattle.std.proofs.lemmas.Bool.{cases_lt}
 use Rattle.std.proofs.lemmas.List.{length-append, length-map, length-take-le, get_or-map, get_or_append_left, get_or-append-add, get_or-take, get_or_past}
 use Rattle.cip_branches.specs.Deciding.{Branched, AreFollowed}
-use Rattle.cip_branches.specs.Kids.{kids_of}
-use Rattle.cip_branches.specs.Rows.{number_in, AreClassed}
+use Rattle.cip_rows.specs.Kids.{kids_of}
+use Rattle.cip_rows.specs.Rows.{number_in, AreClassed}
 use Rattle.cip_branches.specs.Turning.{in_sphere}
-use Rattle.cip_branches.specs.Twins.{moved_on, halves, twice, kept_spheres, twins_of, MayDouble}
-use Rattle.cip_branches.proofs.ClassInSphere.{place_high}
-use Rattle.cip_branches.proofs.TwinLists.{IsOfPair, in_first, in_second, in_front, in_back, moved_low, twice_is, of_pair, pair_first, pair_second}
-use Rattle.cip_branches.proofs.TwinPlaces.{half_low, half_high}
+use Rattle.cip_branches.specs.Twins.{kept_spheres, twins_of, MayDouble}
+use Rattle.cip_rows.specs.Twins.{moved_on, halves, twice}
+use Rattle.cip_rows.proofs.ClassInSphere.{place_high}
+use Rattle.cip_rows.proofs.TwinLists.{IsOfPair, in_first, in_second, in_front, in_back, moved_low, twice_is, of_pair, pair_first, pair_second}
+use Rattle.cip_rows.proofs.TwinPlaces.{half_low, half_high}
 
 range_moved : (by first count : ℕ) → range_with_len (by + first) count ≡ map (λ k. by + k) (range_with_len first count)
 range_moved by first zero = refl

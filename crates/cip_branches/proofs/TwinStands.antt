@@ -13,16 +13,17 @@ use Rattle.cip_rank.specs.Ranking.{by_number}
 use Rattle.cip_rank.proofs.Descending.{all_by}
 use Rattle.cip_branches.specs.Among.{AreShownAmong, StandsAmong}
 use Rattle.cip_branches.specs.Deciding.{Branched, AreFollowed}
-use Rattle.cip_branches.specs.Kids.{kids_of}
-use Rattle.cip_branches.specs.Parting.{has_flag}
+use Rattle.cip_rows.specs.Kids.{kids_of}
+use Rattle.cip_rows.specs.Parting.{has_flag}
 use Rattle.cip_branches.specs.Standing.{node_in, WantedIn, StandsBy}
 use Rattle.cip_branches.specs.Turning.{in_sphere}
-use Rattle.cip_branches.specs.Twins.{moved_on, twins_of, kept_spheres, MayDouble}
+use Rattle.cip_branches.specs.Twins.{twins_of, kept_spheres, MayDouble}
+use Rattle.cip_rows.specs.Twins.{moved_on}
 use Rattle.cip_branches.specs.Views.{IsView, IsEnded}
-use Rattle.cip_branches.proofs.Cases.{both, cases_same}
+use Rattle.cip_rows.proofs.Cases.{both, cases_same}
 use Rattle.cip_branches.proofs.RuledSpheres.{map_same}
-use Rattle.cip_branches.proofs.TwinLists.{moved_low, moved_high}
-use Rattle.cip_branches.proofs.TwinPlaces.{half_low, half_high, no_flags}
+use Rattle.cip_rows.proofs.TwinLists.{moved_low, moved_high}
+use Rattle.cip_rows.proofs.TwinPlaces.{half_low, half_high, no_flags}
 use Rattle.cip_branches.proofs.TwinRanks.{double_order, half_same, number_twin, before_last, in_none}
 use Rattle.cip_branches.proofs.TwinSpheres.{place_below, number_first, number_second, first_in, second_in, is_twin_in, kids_first, kids_second, no_kids, all_moved}
 

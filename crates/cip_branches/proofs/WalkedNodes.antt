@@ -5,8 +5,8 @@ use Rattle.std.proofs.lemmas.List.Elements.{All-from_recursion}
 use Rattle.cip_rank.specs.Tree.{children_of}
 use Rattle.cip_rank.proofs.Children.{children_are}
 use Rattle.cip_rank.proofs.Descending.{all_by}
-use Rattle.cip_branches.specs.Kin.{Kin}
-use Rattle.cip_branches.specs.Parting.{has_flag}
+use Rattle.cip_rows.specs.Kin.{Kin}
+use Rattle.cip_rows.specs.Parting.{has_flag}
 use Rattle.cip_branches.specs.Rising.{Rises, IsAscending, kids_list}
 use Rattle.cip_branches.specs.Walking.{kids_left, wanted_kids}
 use Rattle.cip_branches.proofs.FewKids.{rises_few, children_rise, rises_append, lower, kids_rise}

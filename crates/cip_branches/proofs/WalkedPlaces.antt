@@ -5,11 +5,11 @@ use Rattle.std.proofs.lemmas.Bool.{cases_lt}
 use Rattle.std.proofs.lemmas.List.{get_or-set_same, get_or-set_other, length-set}
 use Rattle.cip_rank.proofs.Descending.{all_by}
 use Rattle.cip_rank.proofs.Parts.{map_alike}
-use Rattle.cip_branches.specs.Kids.{kids_of, IsAmong}
+use Rattle.cip_rows.specs.Kids.{kids_of, IsAmong}
 use Rattle.cip_branches.specs.Layers.{Layers, with_nodes, with_kids}
-use Rattle.cip_branches.specs.Parting.{has_flag}
+use Rattle.cip_rows.specs.Parting.{has_flag}
 use Rattle.cip_branches.specs.Walking.{HaveEntries, Grows, Walks, kids_left, wanted_kids}
-use Rattle.cip_branches.proofs.Cases.{cases_flag, not_both, among_range}
+use Rattle.cip_rows.proofs.Cases.{cases_flag, not_both, among_range}
 use Rattle.cip_branches.proofs.GrownPlaces.{pushed_all, Extends, extended, nodes_told, new_nodes}
 use Rattle.cip_branches.proofs.PushedNodes.{places_more, nodes_behind}
 

@@ -7,10 +7,11 @@ use Rattle.std.proofs.lemmas.List.{get_or-append_right}
 use Rattle.cip_rank.specs.Comparison.{sorted_down}
 use Rattle.cip_rank.proofs.Descending.{all_by}
 use Rattle.cip_rank.proofs.Parts.{map_alike}
-use Rattle.cip_branches.specs.Kids.{kid_set, kids_of}
+use Rattle.cip_rows.specs.Kids.{kid_set, kids_of}
 use Rattle.cip_branches.specs.Layers.{Layers, with_sphere}
-use Rattle.cip_branches.specs.Passing.{AreKeyed, AreSteadyButNew}
-use Rattle.cip_branches.specs.Rows.{number_in, AreClassed}
+use Rattle.cip_branches.specs.Passing.{AreSteadyButNew}
+use Rattle.cip_rows.specs.Keys.{AreKeyed}
+use Rattle.cip_rows.specs.Rows.{number_in, AreClassed}
 use Rattle.cip_branches.specs.Turning.{in_sphere, AreSpheres}
 use Rattle.cip_branches.specs.Walking.{Walks, LastPlaces, MayWalk}
 use Rattle.cip_branches.proofs.GrownPlaces.{was_there, is_last}

@@ -1,6 +1,6 @@
 -- Which branches are looked at further: those that tie with another one. Own.
 use Rattle.std.specs.Prelude.{◌≡◌, ◌≢◌, ◌<◌, ℕ, Bool, true, List, length, slice_index}
-use Rattle.cip_branches.specs.Parting.{has_flag}
+use Rattle.cip_rows.specs.Parting.{has_flag}
 
 -- another wanted branch whose top has the same number
 pub record TiesWith (numbers : List ℕ) (wanted : List Bool) (branch other : ℕ) : Type 0 where

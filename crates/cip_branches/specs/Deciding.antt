@@ -6,8 +6,8 @@ use Rattle.cip_rank.specs.Ranking.{by_number}
 use Rattle.cip_branches.specs.Closing.{FlagOpen}
 use Rattle.cip_branches.specs.Following.{AreRanked}
 use Rattle.cip_branches.specs.Layers.{Layers}
-use Rattle.cip_branches.specs.Parting.{has_flag}
-use Rattle.cip_branches.specs.Reserved.{Reserved}
+use Rattle.cip_rows.specs.Parting.{has_flag}
+use Rattle.cip_rows.specs.Reserved.{Reserved}
 use Rattle.cip_branches.specs.Ruled.{WantsFewer, IsRuled}
 use Rattle.cip_branches.specs.Turning.{in_sphere}
 use Rattle.cip_branches.specs.Walking.{LastPlaces}

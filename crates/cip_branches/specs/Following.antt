@@ -2,9 +2,10 @@
 use Rattle.std.specs.Prelude.{◌≡◌, ◌<◌, ◌+◌, ℕ, ℤ, suc, Bool, List, length, slice_index}
 use Rattle.std.specs.Ordering.{int_cmp}
 use Rattle.cip_rank.specs.Ranking.{by_number}
-use Rattle.cip_branches.specs.Kids.{kids_of, kid_set}
+use Rattle.cip_rows.specs.Kids.{kids_of, kid_set}
 use Rattle.cip_branches.specs.Layers.{Layers}
-use Rattle.cip_branches.specs.Passing.{Passes, key_of}
+use Rattle.cip_branches.specs.Passing.{Passes}
+use Rattle.cip_rows.specs.Keys.{key_of}
 use Rattle.cip_branches.specs.Turning.{in_sphere, AreSpheres, SamePlaces}
 use Rattle.cip_branches.specs.Walking.{IsWalked}
 

@@ -1,9 +1,9 @@
 -- All columns of branches, by place, by row and by sphere. Own.
 use Rattle.std.specs.Prelude.{◌≡◌, ◌≤◌, ◌+◌, ◌++◌, ◌∷◌, ℕ, Bool, List, [], length, slice_index}
-use Rattle.cip_branches.specs.Kin.{Kin, with_place, with_children}
-use Rattle.cip_branches.specs.Ranked.{Ranked, with_row}
-use Rattle.cip_branches.specs.Reserved.{Reserved}
-use Rattle.cip_branches.specs.Stirring.{NoFlags}
+use Rattle.cip_rows.specs.Kin.{Kin, with_place, with_children}
+use Rattle.cip_rows.specs.Ranked.{Ranked, with_row}
+use Rattle.cip_rows.specs.Reserved.{Reserved}
+use Rattle.cip_rows.specs.Stirring.{NoFlags}
 
 pub record Layers : Type 0 where
   pub kin : Kin

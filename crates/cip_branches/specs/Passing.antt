@@ -1,20 +1,11 @@
 -- A rule taken one sphere further, over numbers that stand. Own.
-use Rattle.std.specs.Prelude.{◌≡◌, ◌≢◌, ◌<◌, ◌≤◌, ℕ, ℤ, suc, List, length, slice_index}
+use Rattle.std.specs.Prelude.{◌≡◌, ◌≢◌, ◌≤◌, ℕ, ℤ, suc, List, slice_index}
 use Rattle.std.specs.List.{AllByRecursion}
 use Rattle.std.specs.Ordering.{int_cmp, then_cmp, on}
-use Rattle.cip_rank.specs.Ranking.{by_number, key_at}
-use Rattle.cip_branches.specs.Kids.{kid_set}
-use Rattle.cip_branches.specs.Kin.{Kin}
+use Rattle.cip_rank.specs.Ranking.{by_number}
+use Rattle.cip_rows.specs.Kids.{kid_set}
 use Rattle.cip_branches.specs.Refining.{Refines}
-use Rattle.cip_branches.specs.Rows.{OrdersPlaces}
-
--- the key of the node at a place
-abbrev pub key_of : List ℤ → Kin → ℕ → ℤ
-key_of keys kin place = key_at keys (slice_index kin.nodes place)
-
--- the node at each place has a key
-pub record AreKeyed (count : ℕ) (kin : Kin) : Type 0 where
-  pub each : (place : ℕ) → place < length kin.ups → slice_index kin.nodes place < count
+use Rattle.cip_rows.specs.Rows.{OrdersPlaces}
 
 -- Numbers order each sphere up to `far` by the sets of children as well, where no child is new. A new place has a
 -- number that no row has.

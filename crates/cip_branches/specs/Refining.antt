@@ -4,8 +4,8 @@ use Rattle.std.specs.List.{AllByRecursion}
 use Rattle.std.specs.Ordering.{nat_cmp, then_cmp, on}
 use Rattle.std.specs.Cmp.Lexicographic.{slice_cmp}
 use Rattle.cip_rank.specs.Ranking.{by_number}
-use Rattle.cip_branches.specs.Kids.{kid_set}
-use Rattle.cip_branches.specs.Rows.{OrdersPlaces}
+use Rattle.cip_rows.specs.Kids.{kid_set}
+use Rattle.cip_rows.specs.Rows.{OrdersPlaces}
 
 module _ (kids : ℕ → List ℕ) (At : ℕ → ℕ → Type 0) (far : ℕ) where
   -- places that tie have the same sets

@@ -3,9 +3,9 @@ use Rattle.std.specs.Prelude.{◌≡◌, ◌<◌, ℕ, ℤ, suc, Bool, true, Lis
 use Rattle.std.specs.List.{AllByRecursion}
 use Rattle.std.specs.declared.cmp.Ordering.{Ordering}
 use Rattle.cip_rank.specs.Ranking.{key_at}
-use Rattle.cip_branches.specs.Kids.{kids_of, IsAmong}
+use Rattle.cip_rows.specs.Kids.{kids_of, IsAmong}
 use Rattle.cip_branches.specs.Layers.{Layers}
-use Rattle.cip_branches.specs.Parting.{has_flag}
+use Rattle.cip_rows.specs.Parting.{has_flag}
 use Rattle.cip_branches.specs.Turning.{in_sphere}
 use Rattle.cip_branches.specs.Views.{IsView, Reaches}
 

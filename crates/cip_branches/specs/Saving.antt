@@ -1,7 +1,7 @@
 -- Ranks of branches that were set aside. Own.
 use Rattle.std.specs.Prelude.{◌≡◌, ◌<◌, ℕ, Bool, List, length, slice_index}
 use Rattle.cip_branches.specs.Deciding.{Branched}
-use Rattle.cip_branches.specs.Reserved.{Reserved}
+use Rattle.cip_rows.specs.Reserved.{Reserved}
 
 -- rows and numbers, which branches were wanted, and for how many places there is room
 pub record Saved : Type 0 where

@@ -2,10 +2,11 @@
 use Rattle.std.specs.Prelude.{◌≡◌, ◌≢◌, ℕ, ℤ, List, slice_index}
 use Rattle.std.specs.Ordering.{int_cmp, then_cmp, on}
 use Rattle.cip_rank.specs.Ranking.{by_number}
-use Rattle.cip_branches.specs.Kids.{kids_of}
+use Rattle.cip_rows.specs.Kids.{kids_of}
 use Rattle.cip_branches.specs.Layers.{Layers}
-use Rattle.cip_branches.specs.Passing.{Passes, key_of}
-use Rattle.cip_branches.specs.Rows.{OrdersPlaces}
+use Rattle.cip_branches.specs.Passing.{Passes}
+use Rattle.cip_rows.specs.Keys.{key_of}
+use Rattle.cip_rows.specs.Rows.{OrdersPlaces}
 use Rattle.cip_branches.specs.Turning.{in_sphere, SamePlaces}
 
 -- the same places, in other rows of their spheres

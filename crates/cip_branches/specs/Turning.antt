@@ -1,9 +1,9 @@
 -- Spheres of rows, refined one after another from the outside inwards. Own.
 use Rattle.std.specs.Prelude.{◌≡◌, ◌<◌, ◌≤◌, ℕ, suc, List, length, slice_index}
 use Rattle.std.specs.List.{AllByRecursion}
-use Rattle.cip_branches.specs.Kids.{kid_set}
+use Rattle.cip_rows.specs.Kids.{kid_set}
 use Rattle.cip_branches.specs.Refining.{Refines}
-use Rattle.cip_branches.specs.Rows.{IsRow, AreClassed}
+use Rattle.cip_rows.specs.Rows.{IsRow, AreClassed}
 
 abbrev pub in_sphere : List ℕ → List ℕ → ℕ → ℕ → Type 0
 in_sphere rows starts t place = IsRow rows (slice_index starts t) (slice_index starts (suc t)) place

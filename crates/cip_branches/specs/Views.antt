@@ -5,7 +5,7 @@ use Rattle.std.specs.List.{AllByRecursion}
 use Rattle.std.specs.Ordering.{on}
 use Rattle.std.specs.declared.cmp.Ordering.{Ordering}
 use Rattle.cip_rank.specs.Comparison.{comparison}
-use Rattle.cip_branches.specs.Rows.{OrdersPlaces}
+use Rattle.cip_rows.specs.Rows.{OrdersPlaces}
 
 -- Which places are kept in each sphere, which node each is, and the places of its children, told in each sphere
 -- before the last one. Children of a kept place are kept, in whichever order they stand.

@@ -1,10 +1,10 @@
 -- A sphere walked below the places of the last one: what stands, and what is new. Own.
 use Rattle.std.specs.Prelude.{◌≡◌, ◌<◌, ◌≤◌, ◌+◌, ◌-◌, ◌++◌, ◌⊎◌, ℕ, zero, suc, Bool, true, cond, List, [], length, map, slice_index}
 use Rattle.std.specs.List.{AllByRecursion}
-use Rattle.cip_branches.specs.Kids.{kids_of, IsAmong}
-use Rattle.cip_branches.specs.Kin.{Kin}
+use Rattle.cip_rows.specs.Kids.{kids_of, IsAmong}
+use Rattle.cip_rows.specs.Kin.{Kin}
 use Rattle.cip_branches.specs.Layers.{Layers, with_sphere}
-use Rattle.cip_branches.specs.Parting.{has_flag}
+use Rattle.cip_rows.specs.Parting.{has_flag}
 use Rattle.cip_branches.specs.Turning.{in_sphere, AreSpheres}
 
 -- each place has its entry in each column

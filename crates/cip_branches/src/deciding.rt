@@ -5,15 +5,15 @@ ghost use Rattle.cip_rank.specs.Ranking.{by_number};
 ghost use Rattle.cip_branches.specs.Around.{kids_around};
 ghost use Rattle.cip_branches.specs.Deciding.{no_branches, AreFollowed, FlagsOpen};
 ghost use Rattle.cip_branches.specs.Following.{Begins, Follows};
-ghost use Rattle.cip_branches.specs.Parting.{has_flag};
-ghost use Rattle.cip_branches.specs.Passing.{AreKeyed};
+ghost use Rattle.cip_rows.specs.Parting.{has_flag};
+ghost use Rattle.cip_rows.specs.Keys.{AreKeyed};
 ghost use Rattle.cip_branches.specs.Walking.{kids_left};
 
 use crate::around::Around;
-use crate::column::Column;
 use crate::spheres::Spheres;
 use crate::walking::is_set;
 use cip_rank::{Keyed, both};
+use cip_rows::Column;
 use std::alloc::{AllocError, Global};
 use std::cmp::Ordering;
 use std::marker::Model;

@@ -4,7 +4,7 @@ ghost use Rattle.cip_rank.specs.Ranking.{by_number};
 ghost use Rattle.cip_branches.specs.Around.{kids_around};
 ghost use Rattle.cip_branches.specs.Following.{AreRanked, Begins, Follows};
 ghost use Rattle.cip_branches.specs.Layers.{begun_with, cleared};
-ghost use Rattle.cip_branches.specs.Passing.{AreKeyed};
+ghost use Rattle.cip_rows.specs.Keys.{AreKeyed};
 ghost use Rattle.cip_branches.specs.Walking.{LastPlaces, MayWalk};
 
 use crate::around::Around;

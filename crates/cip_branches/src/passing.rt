@@ -1,7 +1,8 @@
 // A rule taken one sphere further.
 ghost use Rattle.std.specs.Prelude.{◌≡◌, ◌<◌, ◌≤◌, ◌+◌, ◌^◌, ℕ, length, slice_index};
-ghost use Rattle.cip_branches.specs.Kids.{kids_of};
-ghost use Rattle.cip_branches.specs.Passing.{AreKeyed, AreSteadyButNew, Passes, key_of};
+ghost use Rattle.cip_rows.specs.Kids.{kids_of};
+ghost use Rattle.cip_branches.specs.Passing.{AreSteadyButNew, Passes};
+ghost use Rattle.cip_rows.specs.Keys.{AreKeyed, key_of};
 ghost use Rattle.cip_branches.specs.Turning.{in_sphere, AreSpheres, SamePlaces};
 
 use crate::spheres::Spheres;

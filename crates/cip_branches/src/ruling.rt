@@ -2,7 +2,7 @@
 ghost use Rattle.std.specs.Prelude.{◌≡◌, ◌<◌, ◌+◌, ◌^◌, true, length};
 ghost use Rattle.cip_branches.specs.Deciding.{AreFollowed, FlagsOpen};
 ghost use Rattle.cip_branches.specs.Following.{AreRanked};
-ghost use Rattle.cip_branches.specs.Passing.{AreKeyed};
+ghost use Rattle.cip_rows.specs.Keys.{AreKeyed};
 ghost use Rattle.cip_branches.specs.Taking.{SplitsFirst, Deepens};
 
 use crate::deciding::Branches;

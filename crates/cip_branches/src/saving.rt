@@ -1,11 +1,10 @@
 // Ranks set aside, for a rule that is taken more than once from the same numbers.
-ghost use Rattle.std.specs.Prelude.{◌≡◌, ◌<◌, ◌≤◌, ◌^◌, ℕ, [], IfOk, length, slice_index};
+ghost use Rattle.std.specs.Prelude.{◌≡◌, ◌<◌, ◌≤◌, ℕ, [], IfOk, length, slice_index};
 ghost use Rattle.cip_branches.specs.Saving.{restored, saved_of};
 
-use crate::column::Column;
 use crate::deciding::Branches;
-use crate::order::Order;
 use crate::spheres::Spheres;
+use cip_rows::Column;
 use std::alloc::{AllocError, Global};
 use std::marker::Model;
 
@@ -42,19 +41,6 @@ impl SavedRanks {
             numbers: Column::reserve(alloc, room)?,
             wanted: Column::reserve(alloc, room)?,
         })
-    }
-}
-
-impl Order {
-    // Puts places into other rows, and gives them other numbers.
-    fn restore(&mut self, rows: &[u32], numbers: &[u32])
-        requires rows { length rows.now ≤ self.old.room }
-        requires numbers { length numbers.now ≤ self.old.room }
-        requires below { (k : ℕ) → k < length rows.now → slice_index rows.now k < length numbers.now }
-        ensures { self.new ≡ record self.old { rows = rows.now; numbers = numbers.now } }
-    {
-        self.rows.copy(rows);
-        self.numbers.copy(numbers);
     }
 }
 

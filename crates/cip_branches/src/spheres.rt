@@ -1,10 +1,8 @@
 // All columns of branches.
 ghost use Rattle.std.specs.Prelude.{◌≡◌, ◌<◌, ◌+◌, ◌^◌, [], IfOk};
 
-use crate::column::Column;
-use crate::family::Family;
-use crate::order::Order;
 use cip_rank::both;
+use cip_rows::{Column, Family, Order};
 use std::alloc::{AllocError, Global};
 use std::marker::Model;
 

@@ -2,17 +2,14 @@
 ghost use Rattle.std.specs.Prelude.{◌≡◌, ◌≤◌, length};
 ghost use Rattle.std.specs.Ordering.{int_cmp, then_cmp, on};
 ghost use Rattle.cip_rank.specs.Ranking.{by_number};
-ghost use Rattle.cip_branches.specs.Parting.{FlagClasses, KeepsSphere};
-ghost use Rattle.cip_branches.specs.Passing.{AreKeyed, key_of};
-ghost use Rattle.cip_branches.specs.Rows.{IsRow, AreClassed, OrdersPlaces};
-ghost use Rattle.cip_branches.specs.Stirring.{NoFlags};
+ghost use Rattle.cip_rows.specs.Parting.{FlagClasses, KeepsSphere};
+ghost use Rattle.cip_rows.specs.Keys.{AreKeyed, key_of};
+ghost use Rattle.cip_rows.specs.Rows.{IsRow, AreClassed, OrdersPlaces};
+ghost use Rattle.cip_rows.specs.Stirring.{NoFlags};
 
-use crate::keys::ByKeys;
-use crate::order::Order;
-use crate::parting::part_sphere;
 use crate::spheres::Spheres;
-use crate::stirring::{clear_flags, set_flag_if};
 use cip_rank::Keyed;
+use cip_rows::{ByKeys, Order, clear_flags, part_sphere, set_flag_if};
 
 // Sets the flag of each class of two places and more.
 fn flag_classes(order: &Order, from: u32, to: u32, flags: &mut [bool])

@@ -1,15 +1,14 @@
 // Spheres refined from the outside inwards.
 ghost use Rattle.std.specs.Prelude.{◌≡◌, ◌<◌, ◌≤◌, ◌+◌, ◌^◌, false, length};
-ghost use Rattle.cip_branches.specs.Kids.{kids_of, by_kids};
-ghost use Rattle.cip_branches.specs.Parting.{KeepsSphere};
+ghost use Rattle.cip_rows.specs.Kids.{kids_of, by_kids};
+ghost use Rattle.cip_rows.specs.Parting.{KeepsSphere};
 ghost use Rattle.cip_branches.specs.Refining.{Refines};
-ghost use Rattle.cip_branches.specs.Rows.{IsRow, AreClassed, OrdersPlaces};
-ghost use Rattle.cip_branches.specs.Stirring.{KnowParents, TieUnlessStirred};
+ghost use Rattle.cip_rows.specs.Rows.{IsRow, AreClassed, OrdersPlaces};
+ghost use Rattle.cip_rows.specs.Stirring.{KnowParents, TieUnlessStirred};
 ghost use Rattle.cip_branches.specs.Turning.{in_sphere, AreSpheres, AreSteadyBefore, SamePlaces};
 
-use crate::refining::refine_sphere;
 use crate::spheres::Spheres;
-use crate::stirring::{clear_flags, stir_above};
+use cip_rows::{clear_flags, refine_sphere, stir_above};
 
 impl Spheres {
     // Refines the sphere in the rows `from` to `to` by the one in those from `to` to `past`. Only classes are looked at

@@ -1,146 +1,12 @@
 // Branches doubled, for a rule that reads each of them twice.
-ghost use Rattle.std.specs.Prelude.{◌≡◌, ◌<◌, ◌≤◌, ◌+◌, ◌++◌, ◌^◌, ◌∷◌, [], ℕ, length, map};
-ghost use Rattle.std.specs.Prelude.{Bool, false, replicate, slice_index, take};
+ghost use Rattle.std.specs.Prelude.{◌≡◌, ◌<◌, ◌≤◌, ◌+◌, ℕ, length, slice_index};
 ghost use Rattle.cip_branches.specs.Deciding.{AreFollowed};
-ghost use Rattle.cip_branches.specs.Kin.{IsFamily};
-ghost use Rattle.cip_branches.specs.Twins.{moved_on, twice, twin_place, twins_from, pairs, twin_kin};
-ghost use Rattle.cip_branches.specs.Twins.{twin_ranked, twin_starts, twin_wanted, twins_of, MayDouble};
+ghost use Rattle.cip_branches.specs.Twins.{twin_starts, twins_of, MayDouble};
+ghost use Rattle.cip_rows.specs.Kin.{IsFamily};
+ghost use Rattle.cip_rows.specs.Twins.{twin_kin, twin_ranked};
 
-use crate::column::Column;
 use crate::deciding::Branches;
-use crate::family::Family;
-use crate::order::Order;
-use crate::place::Place;
 use crate::spheres::Spheres;
-
-fn moved_on(by: u32, count: u32, number: u32) -> u32
-    requires few { by + count < 2 ^ 32 }
-    requires twice { count + count < 2 ^ 32 }
-    ensures { result ≡ moved_on by count number }
-{
-    if number < count {
-        by + number
-    } else {
-        count + count
-    }
-}
-
-fn twice(count: u32, number: u32) -> u32
-    requires { count + count < 2 ^ 32 }
-    ensures { result ≡ twice count number }
-{
-    if number < count {
-        number + number
-    } else {
-        count + count
-    }
-}
-
-fn twin_place(node: u32, by: u32, count: u32, place: Place) -> Place
-    requires few { by + count < 2 ^ 32 }
-    requires twice { count + count < 2 ^ 32 }
-    ensures { result ≡ twin_place node by count place }
-{
-    Place {
-        node,
-        branch: moved_on(by, count, place.branch),
-        up: moved_on(by, count, place.up),
-        first: moved_on(by, count, place.first),
-        count: place.count,
-    }
-}
-
-impl Column<Place> {
-    // Adds places moved on, each of which stands itself for its node.
-    fn push_moved(&mut self, by: u32, count: u32, places: &[Place])
-        requires room { length self.old.items + length places.now ≤ self.old.room }
-        requires few { by + count < 2 ^ 32 }
-        requires twice { count + count < 2 ^ 32 }
-        ensures { self.new ≡ record self.old {
-          items = self.old.items ++ twins_from (length self.old.items) by count
-              places.now;
-        } }
-    {
-        for place in places {
-            let node = self.len();
-            self.push(twin_place(node, by, count, *place));
-        }
-    }
-}
-
-impl Column<u32> {
-    // Adds the double of each number.
-    fn push_twice(&mut self, count: u32, numbers: &[u32])
-        requires room { length self.old.items + length numbers.now ≤ self.old.room }
-        requires twice { count + count < 2 ^ 32 }
-        ensures { self.new ≡ record self.old { items = self.old.items ++ map (twice count) numbers.now } }
-    {
-        for number in numbers {
-            self.push(twice(count, *number));
-        }
-    }
-
-    // Writes each place and its twin.
-    fn write_pairs(&mut self, count: u32, places: &[u32])
-        requires room { length places.now + length places.now ≤ self.old.room }
-        requires twice { count + count < 2 ^ 32 }
-        requires below { (k : ℕ) → k < length places.now → slice_index places.now k < count }
-        ensures { self.new ≡ record self.old { items = pairs count places.now } }
-    {
-        self.clear();
-        for place in places {
-            self.push(*place);
-            self.push(count + *place);
-        }
-    }
-}
-
-impl Family {
-    // The places of another one, and their twins.
-    fn write_twins(&mut self, from: &Family)
-        requires { length from.now.ups + length from.now.ups ≤ self.old.room }
-        ensures twins { self.new ≡ twin_kin self.old.room from.now }
-        ensures family { IsFamily from.now }
-    {
-        let count = from.len();
-        let _room = self.len();
-        let places = from.places.as_slice();
-        self.places.clear();
-        self.places.push_moved(0, count, places);
-        self.places.push_moved(count, count, places);
-    }
-}
-
-impl Order {
-    // The rows of another one, each followed by one of the twin, and their numbers.
-    fn write_twins(&mut self, from: &Order)
-        requires room { length from.now.numbers + length from.now.numbers ≤ self.old.room }
-        requires rows { length from.now.rows ≤ length from.now.numbers }
-        ensures twins { self.new ≡ twin_ranked self.old.room (length from.now.numbers) from.now }
-        ensures below { (k : ℕ) → k < length from.now.rows → slice_index from.now.rows k < length from.now.numbers }
-    {
-        let count = from.numbers.len();
-        let _rows = from.row_count();
-        self.rows.write_pairs(count, from.rows.as_slice());
-        self.numbers.clear();
-        self.numbers.push_twice(count, from.numbers.as_slice());
-        self.numbers.push_twice(count, from.numbers.as_slice());
-    }
-}
-
-impl Column<u32> {
-    // Writes twice the rows at which spheres begin, and behind them that of one without places.
-    fn write_starts(&mut self, count: u32, starts: &[u32], rows: u32)
-        requires room { length starts.now < self.old.room }
-        requires twice { count + count < 2 ^ 32 }
-        requires rows { rows ≤ count }
-        ensures { self.new ≡ record self.old { items = map (twice count) starts.now ++ (rows + rows) ∷ [] } }
-    {
-        self.clear();
-        self.push_twice(count, starts);
-        self.push(rows + rows);
-    }
-}
 
 impl Spheres {
     // The places of others and their twins, in so many spheres and one without places.
@@ -170,30 +36,6 @@ impl Spheres {
         let rows = from.order.row_count();
         let starts = &from.starts.as_slice()[..kept as usize + 1];
         self.starts.write_starts(count, starts, rows);
-    }
-}
-
-impl Column<bool> {
-    // Adds so many flags that aren't set.
-    fn push_unset(&mut self, count: u32)
-        requires { length self.old.items + count ≤ self.old.room }
-        ensures { self.new ≡ record self.old { items = self.old.items ++ replicate count false } }
-    {
-        for _ in 0..count {
-            self.push(false);
-        }
-    }
-
-    // The flags of branches, and of their twins.
-    fn write_wanted(&mut self, count: u32, wanted: &[bool])
-        requires tops { length wanted.now ≤ count }
-        requires room { count + length wanted.now ≤ self.old.room }
-        ensures { self.new ≡ record self.old { items = twin_wanted count wanted.now } }
-    {
-        self.copy(wanted);
-        let behind = count - self.len();
-        self.push_unset(behind);
-        self.push_all(wanted);
     }
 }
 

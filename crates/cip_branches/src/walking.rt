@@ -1,9 +1,9 @@
 // The next sphere, walked below the places of the last one.
 ghost use Rattle.std.specs.Prelude.{◌≡◌, ◌<◌, ◌≤◌, ◌+◌, suc, Bool, true, false, List, length, slice_index};
 ghost use Rattle.cip_branches.specs.Around.{kids_around};
-ghost use Rattle.cip_branches.specs.Kids.{kids_of};
+ghost use Rattle.cip_rows.specs.Kids.{kids_of};
 ghost use Rattle.cip_branches.specs.Layers.{with_new_place, with_kids, with_sphere};
-ghost use Rattle.cip_branches.specs.Parting.{has_flag};
+ghost use Rattle.cip_rows.specs.Parting.{has_flag};
 ghost use Rattle.cip_branches.specs.Turning.{AreSpheres};
 ghost use Rattle.cip_branches.specs.Walking.{IsWalked, LastPlaces, MayWalk};
 

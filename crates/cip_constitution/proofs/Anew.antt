@@ -12,7 +12,7 @@ use Rattle.cip_rank.specs.declared.rules.Rules.{Rules}
 use Rattle.cip_mol.specs.declared.site.Ligand.{Ligand}
 use Rattle.cip_mol.specs.declared.site.Unit as units
 use Rattle.cip_branches.specs.Deciding.{Branched}
-use Rattle.cip_branches.specs.Parting.{has_flag}
+use Rattle.cip_rows.specs.Parting.{has_flag}
 use Rattle.cip_branches.specs.Ruled.{IsWanted}
 use Rattle.cip_digraph.specs.rules.Auxiliary.{ligand_node}
 use Rattle.cip_digraph.specs.outcome.Deciding.{is_empty, nodes_below, nodes_within}

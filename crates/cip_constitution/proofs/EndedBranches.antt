@@ -5,10 +5,10 @@ use Rattle.std.specs.List.{AllByRecursion}
 use Rattle.std.specs.List.Sorted.{IsPermutation}
 use Rattle.std.proofs.lemmas.List.Elements.{All-from_recursion}
 use Rattle.std.proofs.lemmas.List.Sorted.{length_permutation, IsPermutation-sym, All-permutation}
-use Rattle.cip_branches.specs.Kids.{kids_of}
+use Rattle.cip_rows.specs.Kids.{kids_of}
 use Rattle.cip_branches.specs.Layers.{Layers}
 use Rattle.cip_branches.specs.Ruled.{IsWanted, IsRuled}
-use Rattle.cip_branches.proofs.Cases.{both, holds_among}
+use Rattle.cip_rows.proofs.Cases.{both, holds_among}
 use Rattle.cip_digraph.specs.digraph.SameBranch.{EndsWithin}
 use Rattle.cip_digraph.proofs.Lists.{all_by, all_mapped, by_recursion}
 

@@ -8,9 +8,9 @@ use Rattle.std.proofs.lemmas.List.FromFn.{length-range_with_len, get_or-range_wi
 use Rattle.cip_rank.specs.Tree.{children_of}
 use Rattle.cip_branches.specs.Deciding.{Branched, AreFollowed, FlagsOpen}
 use Rattle.cip_branches.specs.Following.{Begins, Follows as GoesFurther}
-use Rattle.cip_branches.specs.Kin.{Kin}
+use Rattle.cip_rows.specs.Kin.{Kin}
 use Rattle.cip_branches.specs.Layers.{Layers}
-use Rattle.cip_branches.specs.Passing.{AreKeyed}
+use Rattle.cip_rows.specs.Keys.{AreKeyed}
 use Rattle.cip_branches.specs.Rising.{Rises}
 use Rattle.cip_branches.specs.Ruled.{Names}
 use Rattle.cip_branches.specs.Turning.{in_sphere}

@@ -1,7 +1,7 @@
 -- The branches of a root's children, followed with the digraph by Rule 1a. Own.
 use Rattle.std.specs.Prelude.{◌≡◌, ◌<◌, ◌≤◌, ◌∷◌, ℕ, suc, pos, List, length, slice_index}
 use Rattle.cip_branches.specs.Deciding.{Branched, AreFollowed, AreDecided}
-use Rattle.cip_branches.specs.Passing.{AreKeyed}
+use Rattle.cip_rows.specs.Keys.{AreKeyed}
 use Rattle.cip_digraph.specs.digraph.Digraph.{Node, children, digraph}
 use Rattle.cip_digraph.specs.graph.Graph.{Graph}
 use Rattle.cip_digraph.specs.rules.Keys.{atomic_key}

@@ -4,7 +4,7 @@ ghost use Rattle.cip_digraph.specs.outcome.Deciding.{is_empty};
 ghost use Rattle.cip_digraph.specs.digraph.Digraph.{children, digraph};
 ghost use Rattle.cip_digraph.specs.digraph.Telling.{node_at};
 ghost use Rattle.cip_arena.specs.Growth.{Holds};
-ghost use Rattle.cip_branches.specs.Passing.{AreKeyed};
+ghost use Rattle.cip_rows.specs.Keys.{AreKeyed};
 ghost use Rattle.cip_constitution.specs.Ending.{EndsElsewhere, LigandEndsElsewhere};
 
 use crate::marking::MarkedUnits;

@@ -7,8 +7,9 @@ ghost use Rattle.cip_constitution.specs.Following.{Follows};
 
 use crate::keys::ByAtom;
 use cip_arena::Arena;
-use cip_branches::{Around, Branches, Column};
+use cip_branches::{Around, Branches};
 use cip_digraph::{Graph, Nodes, Positions};
+use cip_rows::Column;
 
 // Numbers the nodes behind the root.
 fn fill_tops(tops: &mut Column<u32>, past: u32)

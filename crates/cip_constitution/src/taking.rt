@@ -1,7 +1,7 @@
 // Rules 1b and 2 over the branches that stand, as far as the last sphere.
 ghost use Rattle.std.specs.Prelude.{◌≡◌, ◌≤◌, ◌<◌, length, map, pos};
 ghost use Rattle.cip_branches.specs.Deciding.{AreFollowed};
-ghost use Rattle.cip_branches.specs.Passing.{AreKeyed};
+ghost use Rattle.cip_rows.specs.Keys.{AreKeyed};
 ghost use Rattle.cip_branches.specs.Saving.{saved_of};
 ghost use Rattle.cip_constitution.specs.Alike.{TakesWhole, TakesBoth};
 ghost use Rattle.cip_mol.specs.declared.outcome.Rule.{Rule as AnyRule};

@@ -21,11 +21,12 @@ use crate::noting::{begin_noting, note_sphere};
 use crate::pairs::{Pair, pair_up};
 use crate::taking::take_both;
 use cip_arena::Arena;
-use cip_branches::{Branches, Column, SavedRanks};
+use cip_branches::{Branches, SavedRanks};
 use cip_digraph::{Graph, Nodes, Positions};
 use cip_ligands::Asked;
 use cip_mol::{Ligand, Ligands};
 use cip_rank::{Rules, both};
+use cip_rows::Column;
 use std::alloc::{AllocError, Global};
 use std::marker::Model;
 

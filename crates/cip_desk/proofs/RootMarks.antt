@@ -2,7 +2,7 @@
 use Rattle.std.proofs.Common.{◌≡◌, ◌<◌, ◌≤◌, ℕ, zero, suc, Bool, true, List, [], ◌∷◌, cond, length, None, slice_index, refl, sym, ap, ◌∙◌, subst, arith, inl, inr}
 use Rattle.std.proofs.lemmas.Bool.{cases_lt}
 use Rattle.cip_branches.specs.Deciding.{AreFollowed}
-use Rattle.cip_branches.specs.Passing.{AreKeyed}
+use Rattle.cip_rows.specs.Keys.{AreKeyed}
 use Rattle.cip_digraph.proofs.Numbered.{some_nodes}
 use Rattle.std.specs.declared.option.Option.{Option}
 use Rattle.cip_mol.specs.declared.descriptor.Descriptor.{Descriptor}

@@ -5,7 +5,7 @@ ghost use Rattle.cip_constitution.specs.Noting.{asked_by};
 ghost use Rattle.std.specs.List.{AllByRecursion, list_all};
 ghost use Rattle.cip_aux.specs.Sights.{IsReal, Sight, sight_of};
 ghost use Rattle.cip_branches.specs.Deciding.{AreFollowed};
-ghost use Rattle.cip_branches.specs.Passing.{AreKeyed};
+ghost use Rattle.cip_rows.specs.Keys.{AreKeyed};
 ghost use Rattle.cip_digraph.specs.digraph.Telling.{node_at};
 ghost use Rattle.cip_ligands.specs.Marked.{AreMarksOf};
 ghost use Rattle.cip_ligands.specs.declared.asked.Asked.{Asked as AnyAsked};

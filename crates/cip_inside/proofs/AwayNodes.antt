@@ -1,8 +1,8 @@
 -- Nodes so many spheres away from another one, by number: how far that can be.
 use Rattle.std.proofs.Common.{◌≡◌, ◌<◌, ◌≤◌, ◌+◌, ◌*◌, ◌∷◌, ℕ, zero, suc, true, List, [], length, sym, ap, ◌∙◌, subst, arith}
 use Rattle.std.specs.List.{AllByRecursion}
-use Rattle.cip_branches.specs.Kids.{IsAmong}
-use Rattle.cip_branches.proofs.Cases.{holds_among}
+use Rattle.cip_rows.specs.Kids.{IsAmong}
+use Rattle.cip_rows.proofs.Cases.{holds_among}
 use Rattle.cip_digraph.specs.digraph.Digraph.{Node, is_real}
 use Rattle.cip_digraph.specs.digraph.Telling.{node_at}
 use Rattle.cip_digraph.specs.digraph.View.{apart, real_at, view_children, height_below}

@@ -7,9 +7,9 @@ use Rattle.cip_rank.specs.Tree.{IsTree, children_of}
 use Rattle.cip_rank.proofs.Children.{IsChild, children_are}
 use Rattle.cip_reroot.specs.View.{on_way, parent_list}
 use Rattle.cip_reroot.proofs.ChildrenSeen.{all_append, all_at, all_kept}
-use Rattle.cip_branches.specs.Parting.{has_flag}
+use Rattle.cip_rows.specs.Parting.{has_flag}
 use Rattle.cip_branches.specs.Deciding.{Branched}
-use Rattle.cip_branches.specs.Passing.{AreKeyed}
+use Rattle.cip_rows.specs.Keys.{AreKeyed}
 use Rattle.cip_branches.specs.Standing.{node_in, WantedIn}
 use Rattle.cip_mol.specs.declared.descriptor.Descriptor.{Descriptor}
 use Rattle.cip_digraph.specs.digraph.NodeList.{parents_of}

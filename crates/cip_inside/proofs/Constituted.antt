@@ -11,8 +11,8 @@ use Rattle.cip_digraph.specs.digraph.NodeList.{parents_of}
 use Rattle.cip_digraph.specs.digraph.Telling.{node_at}
 use Rattle.cip_digraph.specs.rules.Decisions.{difference_by, first_decision}
 use Rattle.cip_branches.specs.Deciding.{Branched, AreFollowed}
-use Rattle.cip_branches.specs.Kin.{Kin}
-use Rattle.cip_branches.specs.Passing.{AreKeyed}
+use Rattle.cip_rows.specs.Kin.{Kin}
+use Rattle.cip_rows.specs.Keys.{AreKeyed}
 use Rattle.cip_branches.specs.Standing.{node_in, WantedIn, AreKeysOf}
 use Rattle.cip_branches.specs.Turning.{in_sphere}
 use Rattle.cip_reroot.specs.View.{on_way}

@@ -11,7 +11,7 @@ use Rattle.cip_rank.proofs.Children.{IsChild, children_are}
 use Rattle.cip_reroot.specs.View.{parent_list}
 use Rattle.cip_reroot.proofs.ChildrenSeen.{all_append, all_at, all_kept}
 use Rattle.cip_branches.specs.Deciding.{Branched}
-use Rattle.cip_branches.specs.Parting.{has_flag}
+use Rattle.cip_rows.specs.Parting.{has_flag}
 use Rattle.cip_branches.specs.Standing.{WantedIn}
 use Rattle.cip_digraph.specs.declared.nodes.Told.{Told}
 use Rattle.cip_digraph.specs.digraph.NodeList.{parents_of}

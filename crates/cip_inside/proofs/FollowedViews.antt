@@ -15,11 +15,11 @@ use Rattle.cip_reroot.proofs.Times.{times}
 use Rattle.cip_branches.specs.Around.{kids_around}
 use Rattle.cip_branches.specs.Deciding.{Branched, AreFollowed, FlagsOpen, AreDecided}
 use Rattle.cip_branches.specs.Following.{Begins, Follows}
-use Rattle.cip_branches.specs.Kids.{IsAmong}
-use Rattle.cip_branches.specs.Kin.{Kin}
+use Rattle.cip_rows.specs.Kids.{IsAmong}
+use Rattle.cip_rows.specs.Kin.{Kin}
 use Rattle.cip_branches.specs.Layers.{Layers}
-use Rattle.cip_branches.specs.Parting.{has_flag}
-use Rattle.cip_branches.specs.Passing.{AreKeyed}
+use Rattle.cip_rows.specs.Parting.{has_flag}
+use Rattle.cip_rows.specs.Keys.{AreKeyed}
 use Rattle.cip_branches.specs.Ruled.{Names}
 use Rattle.cip_branches.specs.Standing.{node_in, WantedIn}
 use Rattle.cip_branches.specs.Views.{IsEnded}

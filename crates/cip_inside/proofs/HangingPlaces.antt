@@ -12,10 +12,10 @@ use Rattle.cip_reroot.specs.View.{is_above, on_way, parent_list}
 use Rattle.cip_reroot.proofs.Way.{start, to_above, from_above, above_le, closed, fuel_free}
 use Rattle.cip_branches.specs.Around.{kids_around}
 use Rattle.cip_branches.specs.Deciding.{Branched, AreDecided}
-use Rattle.cip_branches.specs.Kids.{IsAmong, kids_of}
-use Rattle.cip_branches.specs.Parting.{has_flag}
+use Rattle.cip_rows.specs.Kids.{IsAmong, kids_of}
+use Rattle.cip_rows.specs.Parting.{has_flag}
 use Rattle.cip_branches.specs.Standing.{WantedIn}
-use Rattle.cip_branches.proofs.Cases.{holds_among}
+use Rattle.cip_rows.proofs.Cases.{holds_among}
 use Rattle.cip_digraph.specs.rules.Orders.{all_tie}
 use Rattle.cip_inside.specs.Near.{HangBelow}
 

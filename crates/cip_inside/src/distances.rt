@@ -2,7 +2,7 @@
 ghost use Rattle.std.specs.Prelude.{◌≡◌, ◌<◌, true, false, length, None, unwrap_or};
 ghost use Rattle.std.specs.Ordering.{int_cmp};
 ghost use Rattle.cip_aux.specs.Sights.{IsReal, path_at, sight_of};
-ghost use Rattle.cip_branches.specs.Parting.{has_flag};
+ghost use Rattle.cip_rows.specs.Parting.{has_flag};
 ghost use Rattle.cip_digraph.specs.digraph.NodeList.{parents_of, told_at};
 ghost use Rattle.cip_digraph.specs.digraph.View.{apart};
 ghost use Rattle.cip_digraph.specs.rules.Keys.{lower_precedes};

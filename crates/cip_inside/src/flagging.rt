@@ -1,6 +1,6 @@
 // Flags of the nodes of branches that are wanted.
 ghost use Rattle.std.specs.Prelude.{◌≡◌, ◌<◌, ◌≤◌, ◌^◌, ℕ, All, true, if◌then◌else◌, length, slice_index, slice_set};
-ghost use Rattle.cip_branches.specs.Parting.{has_flag};
+ghost use Rattle.cip_rows.specs.Parting.{has_flag};
 ghost use Rattle.cip_aux.specs.Marking.{AreWanted, flag_at};
 
 use cip_branches::Branches;

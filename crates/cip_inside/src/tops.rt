@@ -3,9 +3,9 @@ ghost use Rattle.std.specs.Prelude.{◌≡◌, ◌<◌, ◌^◌, ◌∷◌, ◌+
 ghost use Rattle.std.specs.List.{list_any};
 ghost use Rattle.cip_inside.specs.Near.{is_ligand, asked_tops, branch_of};
 
-use cip_branches::Column;
 use cip_rank::Table;
 use cip_reroot::marks::parent_of;
+use cip_rows::Column;
 
 fn is_asked(ligands: &[Option<u32>], node: u32) -> bool
     ensures { result ≡ list_any (is_ligand node) ligands.now }

@@ -5,9 +5,9 @@ use Rattle.std.specs.List.{range_with_len}
 use Rattle.std.proofs.lemmas.List.{map-append}
 use Rattle.std.proofs.lemmas.List.FromFn.{get_or-map-range_with_len}
 use Rattle.cip_rank.specs.Ranking.{key_at}
+use Rattle.cip_rank.proofs.Ranges.{range_more}
 use Rattle.cip_mol.specs.declared.descriptor.Descriptor.{Descriptor}
 use Rattle.cip_branches.specs.Deciding.{Branched}
-use Rattle.cip_branches.proofs.TwinLists.{places_more}
 use Rattle.cip_ligands.specs.Readings.{reading_key, reading_keys}
 
 pub key_here : (marks : List (Option Descriptor)) (from : Branched) (place : ℕ)
@@ -20,4 +20,5 @@ key_here marks from place lt =
 
 pub mapped_place : {X : Type 0} (f : ℕ → X) (count : ℕ)
     → map f (range_with_len 0 (count + 1)) ≡ map f (range_with_len 0 count) ++ f count ∷ []
-mapped_place f count = ap (map f) (places_more count) ∙ map-append f (range_with_len 0 count) (count ∷ [])
+mapped_place f count = ap (map f) (range_more 0 count count (omega arith))
+    ∙ map-append f (range_with_len 0 count) (count ∷ [])

@@ -26,12 +26,12 @@ use Rattle.cip_digraph.proofs.ExchangedOrders.{total_4a}
 use Rattle.cip_digraph.proofs.WholeOrder.{side_at, first_side}
 use Rattle.cip_branches.specs.Among.{StandsAmong}
 use Rattle.cip_branches.specs.Deciding.{Branched, AreFollowed}
-use Rattle.cip_branches.specs.Kids.{kids_of}
-use Rattle.cip_branches.specs.Parting.{has_flag}
+use Rattle.cip_rows.specs.Kids.{kids_of}
+use Rattle.cip_rows.specs.Parting.{has_flag}
 use Rattle.cip_branches.specs.Standing.{node_in, WantedIn, AreKeysOf, StandsBy}
 use Rattle.cip_branches.specs.Twins.{twins_of, kept_spheres, MayDouble}
 use Rattle.cip_branches.specs.Views.{IsView, IsEnded}
-use Rattle.cip_branches.proofs.Cases.{cases_same, cases_flag, not_both}
+use Rattle.cip_rows.proofs.Cases.{cases_same, cases_flag, not_both}
 use Rattle.cip_branches.proofs.DecidedBranches.{first_stays}
 use Rattle.cip_branches.proofs.Ending.{deep}
 use Rattle.cip_branches.proofs.TwinSpheres.{kept_at_most}

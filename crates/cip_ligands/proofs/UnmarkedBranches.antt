@@ -21,11 +21,11 @@ use Rattle.cip_digraph.proofs.ExchangedOrders.{found_at}
 use Rattle.cip_digraph.proofs.TieFromSame.{arranged}
 use Rattle.cip_digraph.proofs.TurnedTies.{tie_turned}
 use Rattle.cip_branches.specs.Deciding.{Branched}
-use Rattle.cip_branches.specs.Kids.{kids_of}
-use Rattle.cip_branches.specs.Parting.{has_flag}
+use Rattle.cip_rows.specs.Kids.{kids_of}
+use Rattle.cip_rows.specs.Parting.{has_flag}
 use Rattle.cip_branches.specs.Standing.{node_in, WantedIn, AreShown}
 use Rattle.cip_branches.specs.Views.{IsEnded}
-use Rattle.cip_branches.proofs.Cases.{cases_same}
+use Rattle.cip_rows.proofs.Cases.{cases_same}
 use Rattle.cip_ligands.specs.declared.asked.Asked.{Asked}
 use Rattle.cip_ligands.specs.Asking.{AreWithin, decided, kept_or, with_found}
 use Rattle.cip_ligands.specs.Deciding.{AreDecidedBy}

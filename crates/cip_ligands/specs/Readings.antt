@@ -8,8 +8,8 @@ use Rattle.cip_mol.specs.declared.outcome.Rule.TheVariants.{R4b}
 use Rattle.cip_digraph.specs.declared.decision.Decision.{Decision}
 use Rattle.cip_digraph.specs.rules.Kinds.{KindR, KindS, marked, like_key}
 use Rattle.cip_branches.specs.Deciding.{Branched, AreFollowed}
-use Rattle.cip_branches.specs.Parting.{has_flag}
-use Rattle.cip_branches.specs.Reserved.{Reserved}
+use Rattle.cip_rows.specs.Parting.{has_flag}
+use Rattle.cip_rows.specs.Reserved.{Reserved}
 use Rattle.cip_branches.specs.Saving.{Saved, saved_of}
 use Rattle.cip_branches.specs.Taking.{KeepsPlaces}
 use Rattle.cip_branches.specs.Twins.{twins_of}

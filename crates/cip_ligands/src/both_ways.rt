@@ -2,7 +2,7 @@
 ghost use Rattle.std.specs.Prelude.{◌≡◌, ◌≤◌, length};
 ghost use Rattle.cip_mol.specs.declared.outcome.Rule.TheVariants.{R5};
 ghost use Rattle.cip_branches.specs.Deciding.{AreFollowed};
-ghost use Rattle.cip_branches.specs.Passing.{AreKeyed};
+ghost use Rattle.cip_rows.specs.Keys.{AreKeyed};
 ghost use Rattle.cip_ligands.specs.Taking.{TakesOnce, TakesRule};
 
 use crate::asked::Asked;

@@ -5,7 +5,7 @@ ghost use Rattle.cip_mol.specs.declared.outcome.Rule.TheVariants.{R1a};
 ghost use Rattle.cip_digraph.specs.digraph.Digraph.{Node};
 ghost use Rattle.cip_digraph.specs.rules.Orders.{Seen, rule_1a};
 ghost use Rattle.cip_branches.specs.Deciding.{AreFollowed};
-ghost use Rattle.cip_branches.specs.Passing.{AreKeyed};
+ghost use Rattle.cip_rows.specs.Keys.{AreKeyed};
 ghost use Rattle.cip_branches.specs.Standing.{AreKeysOf};
 ghost use Rattle.cip_ligands.specs.declared.asked.Asked.{Asked as AnyAsked};
 ghost use Rattle.cip_ligands.specs.Asking.{AreWithin, is_decided};

@@ -11,10 +11,10 @@ use Rattle.cip_reroot.proofs.Times.{times, times_append, children_below}
 use Rattle.cip_branches.specs.Around.{kids_around}
 use Rattle.cip_branches.specs.Deciding.{Branched, AreFollowed}
 use Rattle.cip_branches.specs.Following.{Begins, Follows}
-use Rattle.cip_branches.specs.Kin.{Kin}
+use Rattle.cip_rows.specs.Kin.{Kin}
 use Rattle.cip_branches.specs.Layers.{Layers}
-use Rattle.cip_branches.specs.Parting.{has_flag}
-use Rattle.cip_branches.specs.Passing.{AreKeyed}
+use Rattle.cip_rows.specs.Parting.{has_flag}
+use Rattle.cip_rows.specs.Keys.{AreKeyed}
 use Rattle.cip_branches.specs.Walking.{kids_left, wanted_kids}
 use Rattle.cip_branches.proofs.SeenNodes.{AreSeen, around_is, seen_first, few_seen, seen_next}
 

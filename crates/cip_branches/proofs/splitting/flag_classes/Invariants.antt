@@ -1,4 +1,4 @@
-use Rattle.cip_branches.specs.Parting.{FlagClasses}
+use Rattle.cip_rows.specs.Parting.{FlagClasses}
 use Rattle.cip_branches.proofs.splitting.flag_classes.Given as goal
 
 abbrev pub invariant-loop-row : goal.invariant-loop-row

@@ -1,7 +1,7 @@
 use Rattle.std.proofs.Common.{◌≡◌, ◌-◌, ℕ, List, length, slice_index, arith, ap, ◌∙◌}
 use Rattle.std.specs.List.{range_with_len}
 use Rattle.std.proofs.lemmas.List.FromFn.{length-range_with_len, get_or-range_with_len}
-use Rattle.cip_branches.specs.Reserved.{Reserved}
+use Rattle.cip_rows.specs.Reserved.{Reserved}
 use Rattle.cip_constitution.proofs.FollowedBranches.{begins_now}
 use Rattle.cip_constitution.proofs.following.begin_branches.Goals as goal
 

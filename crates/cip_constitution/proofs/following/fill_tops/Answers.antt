@@ -2,7 +2,7 @@ use Rattle.std.proofs.Common.{◌≡◌, ◌+◌, ◌-◌, ◌++◌, ◌∷◌, 
 use Rattle.std.specs.List.{range_with_len}
 use Rattle.std.proofs.lemmas.List.FromFn.{length-range_with_len}
 use Rattle.cip_rank.proofs.Ranges.{range_more}
-use Rattle.cip_branches.specs.Reserved.{Reserved}
+use Rattle.cip_rows.specs.Reserved.{Reserved}
 use Rattle.cip_constitution.proofs.following.fill_tops.Goals as goal
 
 pub push-requires : goal.push-requires

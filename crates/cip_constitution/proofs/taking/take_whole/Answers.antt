@@ -1,7 +1,7 @@
 use Rattle.std.proofs.Common.{◌≡◌, ◌+◌, ◌<◌, [], suc, refl, arith, ◌∙◌, sym, ap, subst}
 use Rattle.cip_branches.specs.Deciding.{Branched}
-use Rattle.cip_branches.specs.Kin.{Kin}
-use Rattle.cip_branches.specs.Passing.{AreKeyed}
+use Rattle.cip_rows.specs.Kin.{Kin}
+use Rattle.cip_rows.specs.Keys.{AreKeyed}
 use Rattle.cip_ligands.specs.Taking.{TakesSoFar}
 use Rattle.cip_ligands.proofs.TakenSteps.{so_far_begun, so_far_on}
 use Rattle.cip_constitution.proofs.taking.take_whole.Goals as goal

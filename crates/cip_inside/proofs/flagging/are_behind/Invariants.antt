@@ -1,5 +1,5 @@
 use Rattle.std.proofs.Common.{◌≡◌, ◌<◌, ℕ, true, slice_index}
-use Rattle.cip_branches.specs.Parting.{has_flag}
+use Rattle.cip_rows.specs.Parting.{has_flag}
 use Rattle.cip_inside.proofs.flagging.are_behind.Given as goal
 
 abbrev pub invariant-loop-branch : goal.invariant-loop-branch

@@ -1,7 +1,7 @@
 use Rattle.std.proofs.Common.{◌≡◌, ◌<◌, ◌∙◌, List, Bool, true, if◌then◌else◌, length, slice_index, sym, ap, subst, arith, inl, inr}
 use Rattle.std.specs.List.{slice_set}
 use Rattle.std.proofs.lemmas.Bool.{cases_order}
-use Rattle.cip_branches.specs.Parting.{has_flag}
+use Rattle.cip_rows.specs.Parting.{has_flag}
 use Rattle.cip_aux.specs.Marking.{flag_at}
 use Rattle.cip_inside.proofs.FlaggedNodes.{set_stays, set_there, set_len}
 use Rattle.cip_inside.proofs.flagging.flag_tops.Goals as goal

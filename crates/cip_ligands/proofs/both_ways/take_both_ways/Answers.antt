@@ -1,8 +1,8 @@
 use Rattle.std.proofs.Common.{List, length, ◌∙◌, sym, ap, subst}
 use Rattle.cip_mol.specs.declared.outcome.Rule.TheVariants.{R5}
 use Rattle.cip_branches.specs.Deciding.{Branched, AreFollowed}
-use Rattle.cip_branches.specs.Kin.{Kin}
-use Rattle.cip_branches.specs.Passing.{AreKeyed}
+use Rattle.cip_rows.specs.Kin.{Kin}
+use Rattle.cip_rows.specs.Keys.{AreKeyed}
 use Rattle.cip_branches.specs.Saving.{Saved, restored}
 use Rattle.cip_ligands.specs.declared.asked.Asked.{Asked}
 use Rattle.cip_ligands.specs.Taking.{TakesRule}

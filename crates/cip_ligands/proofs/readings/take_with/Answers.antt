@@ -1,11 +1,11 @@
 use Rattle.std.proofs.Common.{false, true, List, ◌+◌, length, map, sym, ap, ◌∙◌, subst}
 use Rattle.cip_mol.specs.declared.outcome.Rule.TheVariants.{R4b}
 use Rattle.cip_branches.specs.Deciding.{Branched}
-use Rattle.cip_branches.specs.Kin.{Kin}
-use Rattle.cip_branches.specs.Passing.{AreKeyed}
-use Rattle.cip_branches.specs.Reserved.{Reserved}
+use Rattle.cip_rows.specs.Kin.{Kin}
+use Rattle.cip_rows.specs.Keys.{AreKeyed}
+use Rattle.cip_rows.specs.Reserved.{Reserved}
 use Rattle.cip_branches.specs.Twins.{twins_of}
-use Rattle.cip_branches.proofs.TwinPlaces.{twins_keyed}
+use Rattle.cip_rows.proofs.TwinPlaces.{twins_keyed}
 use Rattle.cip_ligands.specs.declared.asked.Asked.{Asked}
 use Rattle.cip_ligands.specs.Readings.{reading_keys, s_higher, base_of, read_as, between}
 use Rattle.cip_ligands.specs.Taking.{TakesRule}

@@ -1,7 +1,7 @@
 use Rattle.std.proofs.Common.{◌≡◌, ◌<◌, ℕ, true, slice_index}
 use Rattle.std.specs.Prelude.{None}
 use Rattle.std.specs.List.{slice_index_or}
-use Rattle.cip_branches.specs.Parting.{has_flag}
+use Rattle.cip_rows.specs.Parting.{has_flag}
 use Rattle.cip_ligands.proofs.unmarked.are_unmarked.Given as goal
 
 abbrev pub invariant-loop-place : goal.invariant-loop-place

@@ -1,6 +1,6 @@
 use Rattle.std.proofs.Common.{◌≡◌, ◌+◌, suc, length, arith, ◌∙◌, sym, ap, subst}
 use Rattle.cip_branches.specs.Following.{AreRanked}
-use Rattle.cip_branches.specs.Kin.{Kin}
+use Rattle.cip_rows.specs.Kin.{Kin}
 use Rattle.cip_branches.specs.Layers.{Layers}
 use Rattle.cip_branches.specs.Walking.{LastPlaces}
 use Rattle.cip_branches.proofs.deciding.Branches.follow.Goals as goal

@@ -3,9 +3,9 @@ use Rattle.std.specs.Ordering.{int_cmp, then_cmp, on}
 use Rattle.cip_rank.specs.Ranking.{by_number}
 use Rattle.cip_branches.specs.Following.{AreRanked, Begins}
 use Rattle.cip_branches.specs.Layers.{Layers, begun_with, cleared, with_sphere}
-use Rattle.cip_branches.specs.Parting.{KeepsSphere}
-use Rattle.cip_branches.specs.Passing.{AreKeyed, key_of}
-use Rattle.cip_branches.specs.Rows.{IsRow, AreClassed, OrdersPlaces}
+use Rattle.cip_rows.specs.Parting.{KeepsSphere}
+use Rattle.cip_rows.specs.Keys.{AreKeyed, key_of}
+use Rattle.cip_rows.specs.Rows.{IsRow, AreClassed, OrdersPlaces}
 use Rattle.cip_branches.specs.Walking.{LastPlaces}
 use Rattle.cip_branches.proofs.Begun.{begun_classed, begun_keyed, first_begins, first_ranked, first_places, tops_room}
 use Rattle.cip_branches.proofs.spheres.Spheres.begin.Goals as goal

@@ -1,9 +1,10 @@
 use Rattle.std.proofs.Common.{◌≡◌, ◌≤◌, ◌+◌, suc, ℕ, length, slice_index, arith, sym, ap, subst}
 use Rattle.cip_branches.specs.Around.{kids_around}
 use Rattle.cip_branches.specs.Following.{AreRanked}
-use Rattle.cip_branches.specs.Kids.{kids_of}
+use Rattle.cip_rows.specs.Kids.{kids_of}
 use Rattle.cip_branches.specs.Layers.{Layers}
-use Rattle.cip_branches.specs.Passing.{AreKeyed, AreSteadyButNew, key_of}
+use Rattle.cip_branches.specs.Passing.{AreSteadyButNew}
+use Rattle.cip_rows.specs.Keys.{AreKeyed, key_of}
 use Rattle.cip_branches.specs.Turning.{in_sphere, AreSpheres}
 use Rattle.cip_branches.specs.Walking.{LastPlaces}
 use Rattle.cip_branches.proofs.Followed.{starts_more, ends_behind, ranked_after, last_after}

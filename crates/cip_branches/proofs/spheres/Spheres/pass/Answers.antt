@@ -1,12 +1,13 @@
 use Rattle.std.proofs.Common.{◌≤◌, ◌+◌, suc, length, slice_index, arith, ◌∙◌, sym, ap, subst}
 use Rattle.std.specs.Ordering.{int_cmp, then_cmp, on}
 use Rattle.cip_rank.specs.Ranking.{by_number}
-use Rattle.cip_branches.specs.Kids.{kids_of}
+use Rattle.cip_rows.specs.Kids.{kids_of}
 use Rattle.cip_branches.specs.Layers.{Layers}
-use Rattle.cip_branches.specs.Parting.{KeepsSphere}
-use Rattle.cip_branches.specs.Passing.{Passes, key_of}
+use Rattle.cip_rows.specs.Parting.{KeepsSphere}
+use Rattle.cip_branches.specs.Passing.{Passes}
+use Rattle.cip_rows.specs.Keys.{key_of}
 use Rattle.cip_branches.specs.Refining.{Refines}
-use Rattle.cip_branches.specs.Rows.{IsRow, OrdersPlaces}
+use Rattle.cip_rows.specs.Rows.{IsRow, OrdersPlaces}
 use Rattle.cip_branches.specs.Turning.{in_sphere, AreSpheres, AreSteadyBefore, SamePlaces}
 use Rattle.cip_branches.proofs.KeptSpheres.{same_after}
 use Rattle.cip_branches.proofs.Passed.{places, passed, split_spheres, split_steady}

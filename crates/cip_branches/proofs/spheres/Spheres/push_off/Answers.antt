@@ -3,7 +3,7 @@ use Rattle.std.specs.List.{range_with_len}
 use Rattle.cip_reroot.proofs.ChildrenSeen.{kept_one, kept_part}
 use Rattle.cip_branches.specs.Around.{kept_off}
 use Rattle.cip_branches.specs.Layers.{Layers, with_nodes}
-use Rattle.cip_branches.specs.Parting.{has_flag}
+use Rattle.cip_rows.specs.Parting.{has_flag}
 use Rattle.cip_branches.proofs.PushedNodes.{nodes_both, places_more, room_stays}
 use Rattle.cip_branches.proofs.spheres.Spheres.push_off.Goals as goal
 

@@ -1,7 +1,7 @@
 use Rattle.std.proofs.Common.{arith, ◌+◌, ◌-◌, suc, slice_index, ◌∙◌, sym, ap, subst}
-use Rattle.cip_branches.specs.Kids.{kids_of, by_kids}
+use Rattle.cip_rows.specs.Kids.{kids_of, by_kids}
 use Rattle.cip_branches.specs.Layers.{Layers}
-use Rattle.cip_branches.specs.Rows.{IsRow, OrdersPlaces}
+use Rattle.cip_rows.specs.Rows.{IsRow, OrdersPlaces}
 use Rattle.cip_branches.specs.Turning.{Turns}
 use Rattle.cip_branches.proofs.Turns.{given, read_at, turned_at, stopped_at}
 use Rattle.cip_branches.proofs.spheres.Spheres.refine_inwards.Goals as goal

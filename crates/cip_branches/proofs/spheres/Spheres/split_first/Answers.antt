@@ -3,9 +3,9 @@ use Rattle.std.specs.Ordering.{int_cmp, then_cmp, on}
 use Rattle.cip_rank.specs.Ranking.{by_number}
 use Rattle.cip_branches.specs.Following.{AreRanked}
 use Rattle.cip_branches.specs.Layers.{Layers}
-use Rattle.cip_branches.specs.Parting.{KeepsSphere}
-use Rattle.cip_branches.specs.Passing.{key_of}
-use Rattle.cip_branches.specs.Rows.{IsRow, AreClassed, OrdersPlaces}
+use Rattle.cip_rows.specs.Parting.{KeepsSphere}
+use Rattle.cip_rows.specs.Keys.{key_of}
+use Rattle.cip_rows.specs.Rows.{IsRow, AreClassed, OrdersPlaces}
 use Rattle.cip_branches.specs.Taking.{SplitsFirst}
 use Rattle.cip_branches.proofs.TakenSpheres.{first_splits, first_ranked}
 use Rattle.cip_branches.proofs.Turns.{read_at}

@@ -4,10 +4,10 @@ use Rattle.std.proofs.lemmas.Cmp.{on_total, int_cmp_total}
 use Rattle.std.proofs.lemmas.List.{with_items_is}
 use Rattle.cip_rank.specs.Ranking.{by_number}
 use Rattle.cip_branches.specs.Layers.{Layers}
-use Rattle.cip_branches.specs.Parting.{FlagClasses, KeepsSphere}
-use Rattle.cip_branches.specs.Passing.{key_of}
-use Rattle.cip_branches.specs.Rows.{IsRow, AreClassed, OrdersPlaces}
-use Rattle.cip_branches.proofs.PartedSphere.{have_flags, sphere_split}
+use Rattle.cip_rows.specs.Parting.{FlagClasses, KeepsSphere}
+use Rattle.cip_rows.specs.Keys.{key_of}
+use Rattle.cip_rows.specs.Rows.{IsRow, AreClassed, OrdersPlaces}
+use Rattle.cip_rows.proofs.PartedSphere.{have_flags, sphere_split}
 use Rattle.cip_branches.proofs.spheres.Spheres.split_sphere.Goals as goal
 
 pub returns-clause-split : goal.returns-clause-split

@@ -1,12 +1,12 @@
 use Rattle.std.proofs.Common.{arith, ◌≡◌, ◌≤◌, ℕ, Bool, List, true, false, length, slice_index, ◌∙◌, sym, ap, subst}
 use Rattle.std.specs.Vec.{with_items}
 use Rattle.std.proofs.lemmas.List.{with_items_is}
-use Rattle.cip_branches.specs.Kids.{kids_of, by_kids, AreCalm}
+use Rattle.cip_rows.specs.Kids.{kids_of, by_kids, AreCalm}
 use Rattle.cip_branches.specs.Layers.{Layers}
-use Rattle.cip_branches.specs.Parting.{FlagHeads, has_flag}
-use Rattle.cip_branches.specs.Reserved.{Reserved}
-use Rattle.cip_branches.specs.Rows.{IsRow, AreClassed, OrdersPlaces}
-use Rattle.cip_branches.specs.Stirring.{KnowParents, StirsAbove, TieUnlessStirred, NoFlags}
+use Rattle.cip_rows.specs.Parting.{FlagHeads, has_flag}
+use Rattle.cip_rows.specs.Reserved.{Reserved}
+use Rattle.cip_rows.specs.Rows.{IsRow, AreClassed, OrdersPlaces}
+use Rattle.cip_rows.specs.Stirring.{KnowParents, StirsAbove, TieUnlessStirred, NoFlags}
 use Rattle.cip_branches.proofs.Turned.{above_within, heads_after, calm_after, none_after, stands, knows, wider}
 use Rattle.cip_branches.proofs.spheres.Spheres.turn_inwards.Goals as goal
 

@@ -1,9 +1,9 @@
 use Rattle.std.proofs.Common.{◌≡◌, ◌<◌, ◌≤◌, ◌+◌, ◌-◌, suc, ℕ, List, length, slice_index, arith, ◌∙◌, sym, ap, subst}
 use Rattle.cip_reroot.proofs.ChildrenSeen.{off_below}
 use Rattle.cip_branches.specs.Around.{kids_around}
-use Rattle.cip_branches.specs.Kids.{kids_of}
+use Rattle.cip_rows.specs.Kids.{kids_of}
 use Rattle.cip_branches.specs.Layers.{Layers}
-use Rattle.cip_branches.specs.Parting.{has_flag}
+use Rattle.cip_rows.specs.Parting.{has_flag}
 use Rattle.cip_branches.specs.Turning.{AreSpheres}
 use Rattle.cip_branches.specs.Walking.{Walks, HaveEntries, LastPlaces, kids_left}
 use Rattle.cip_branches.proofs.WalkedPlaces.{none_walked, stepped, few_more, left_at}

@@ -1,6 +1,6 @@
 use Rattle.std.proofs.Common.{◌≡◌, ◌-◌, length, slice_index, arith, ◌∙◌, ap}
 use Rattle.cip_branches.specs.Around.{kids_around}
-use Rattle.cip_branches.specs.Kin.{Kin}
+use Rattle.cip_rows.specs.Kin.{Kin}
 use Rattle.cip_branches.specs.Layers.{Layers}
 use Rattle.cip_branches.proofs.PushedNodes.{places_more, kids_walked}
 use Rattle.cip_branches.proofs.spheres.Spheres.walk_place.Goals as goal

@@ -1,8 +1,8 @@
 use Rattle.std.proofs.Common.{ℕ, Bool, length, ◌∙◌, sym, ap, arith}
 use Rattle.cip_branches.specs.Layers.{Layers}
-use Rattle.cip_branches.specs.Reserved.{Reserved}
-use Rattle.cip_branches.specs.Twins.{twin_ranked}
-use Rattle.cip_branches.proofs.TwinPlaces.{keep_columns}
+use Rattle.cip_rows.specs.Reserved.{Reserved}
+use Rattle.cip_rows.specs.Twins.{twin_ranked}
+use Rattle.cip_branches.proofs.TwinColumns.{keep_columns}
 use Rattle.cip_branches.proofs.spheres.Spheres.write_twins.Goals as goal
 
 pub invariant_of-self : goal.invariant_of-self

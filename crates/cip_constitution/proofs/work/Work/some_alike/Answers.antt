@@ -1,6 +1,6 @@
 use Rattle.std.proofs.Common.{◌≡◌, ◌-◌, length, sym, ap, ◌∙◌, subst, arith}
 use Rattle.cip_branches.specs.Deciding.{Branched, AreFollowed}
-use Rattle.cip_branches.specs.Kin.{Kin}
+use Rattle.cip_rows.specs.Kin.{Kin}
 use Rattle.cip_branches.specs.Saving.{Saved, restored}
 use Rattle.cip_digraph.specs.rules.EarlyOrder.{seen_at}
 use Rattle.cip_ligands.proofs.TakenSteps.{stands_back}

@@ -1,9 +1,0 @@
-use Rattle.std.proofs.Common.{◌≡◌, ◌<◌, ◌≤◌, ℕ, true, false}
-use Rattle.cip_branches.specs.Parting.{has_flag}
-use Rattle.cip_branches.proofs.stirring.clear_flags.Given as goal
-
-abbrev pub invariant-loop-row : goal.invariant-loop-row
-invariant-loop-row l = record {
-  cleared : (k : ℕ) → l.from ≤ k → k < l.row → has_flag l.flags k ≡ false;
-  fewer : (k : ℕ) → has_flag l.flags k ≡ true → has_flag l.fn.flags k ≡ true;
-}

@@ -1,0 +1,102 @@
+-- Places in one column, as the lists of what is known of them.
+use Rattle.std.proofs.Common.{◌≡◌, ◌<◌, ◌≤◌, ◌+◌, ℕ, List, length, map, slice_index, slice_set, refl, sym, ap, ◌∙◌, subst, arith, inl, inr}
+use Rattle.std.specs.List.{slice_index_or}
+use Rattle.std.proofs.lemmas.List.{length-map, length-set, get_or-map, get_or-set_same, get_or-set_other, map-set}
+use lib.Seq.{map-set_same}
+use Rattle.cip_rows.specs.Kin.{Kin, IsFamily, KeepKin, kin_of, with_children}
+use Rattle.cip_rows.specs.Reserved.{Reserved}
+use Rattle.cip_rows.specs.declared.place.Place.{Place}
+use Rattle.cip_rows.proofs.Cases.{cases_same}
+
+abbrev pub none : Place
+none = record { node = 0; branch = 0; up = 0; first = 0; count = 0 }
+
+-- how many places there are
+pub place_count : (places : Reserved Place) (kin : Kin) → kin_of places ≡ kin → length kin.ups ≡ length places.items
+place_count places kin is =
+    let ups : length (map (λ (p : Place). p.up) places.items) ≡ length places.items = simp length-map in
+    sym (ap (λ (k : Kin). length k.ups) is) ∙ ups
+
+pub kids_within : (places : Reserved Place) → KeepKin places → (kin : Kin) → kin_of places ≡ kin → (lent : List Place)
+    → lent ≡ places.items → (at : ℕ) → at < length kin.ups
+    → (slice_index_or lent at none).first + (slice_index_or lent at none).count ≤ length places.items
+kids_within places keep kin is lent lent_is at lt =
+    let items = places.items in
+    let known = place_count places kin is in
+    let low : at < length items = omega (arith, known, lt) in
+    let ups : length (map (λ (p : Place). p.up) items) ≡ length items = simp length-map in
+    let first = get_or-map (λ (p : Place). p.first) items at none 0 low in
+    let count = get_or-map (λ (p : Place). p.count) items at none 0 low in
+    let within = keep.family.within at (omega (arith, ups, low)) in
+    subst (λ (xs : List Place). (slice_index_or xs at none).first + (slice_index_or xs at none).count ≤ length items)
+    (sym lent_is) (omega (arith, first, count, within, ups))
+
+-- a family in which the range of a place's children is another one
+family_with : (kin : Kin) → IsFamily kin → (at first count : ℕ) → at < length kin.ups → first + count ≤ length kin.ups
+    → IsFamily (with_children at first count kin)
+family_with kin is at first count lt fits = record {
+  nodes_len = is.nodes_len;
+  branches_len = is.branches_len;
+  firsts_len = length-set kin.firsts at first ∙ is.firsts_len;
+  counts_len = length-set kin.counts at count ∙ is.counts_len;
+  within = λ p h. elim (cases_same p at) [
+    | inl same ↦
+        let firsts = is.firsts_len in
+        let counts = is.counts_len in
+        let start = ap (slice_index (slice_set kin.firsts at first)) same
+        ∙ get_or-set_same kin.firsts at first 0 (omega (arith, lt, firsts)) in
+        let some = ap (slice_index (slice_set kin.counts at count)) same
+        ∙ get_or-set_same kin.counts at count 0 (omega (arith, lt, counts)) in
+        omega (arith, start, some, fits)
+    | inr differ ↦
+        let start = get_or-set_other kin.firsts at p first 0 differ in
+        let some = get_or-set_other kin.counts at p count 0 differ in
+        let before = is.within p h in
+        omega (arith, start, some, before)
+  ];
+}
+
+abbrev rewritten : List Place → ℕ → ℕ → ℕ → Place
+rewritten items at first count = record {
+  node = (slice_index_or items at none).node;
+  branch = (slice_index_or items at none).branch;
+  up = (slice_index_or items at none).up;
+  first = first;
+  count = count;
+}
+
+module _ (places now : Reserved Place) (lent : List Place) (lent_is : lent ≡ places.items) (at first count : ℕ)
+    (is : now ≡ record places { items = slice_set places.items at (rewritten lent at first count) }) where
+  pub kids_set : kin_of now ≡ with_children at first count (kin_of places)
+  kids_set =
+      let items = places.items in
+      let here = rewritten items at first count in
+      let set : kin_of now ≡ kin_of (record places { items = slice_set items at here }) =
+      ap kin_of is ∙ ap (λ (xs : List Place). kin_of (record places {
+        items = slice_set items at (rewritten xs at first
+            count);
+      })) lent_is in
+      let nodes = map-set_same (λ (p : Place). p.node) items at here none refl in
+      let branches = map-set_same (λ (p : Place). p.branch) items at here none refl in
+      let ups = map-set_same (λ (p : Place). p.up) items at here none refl in
+      let firsts = map-set (λ (p : Place). p.first) items at here in
+      let counts = map-set (λ (p : Place). p.count) items at here in
+      let all : kin_of (record places { items = slice_set items at here }) ≡ with_children at first count
+      (kin_of places) = cc in
+      set ∙ all
+
+  pub keep_set : KeepKin places → (kin : Kin) → kin_of places ≡ kin → at < length kin.ups
+      → first + count ≤ length kin.ups → KeepKin now
+  keep_set keep kin kin_is lt fits =
+      let room = ap (λ (r : Reserved Place). r.room) is in
+      let len = ap (λ (r : Reserved Place). length r.items) is
+      ∙ length-set places.items at (rewritten lent at first count) in
+      let few = keep.few in
+      let held = keep.fits in
+      let same = ap (λ (k : Kin). length k.ups) kin_is in
+      record {
+        few = omega (arith, room, few);
+        fits = omega (arith, room, len, held);
+        family = subst IsFamily (sym kids_set) (family_with (kin_of places) keep.family at first count
+            (omega (arith, lt, same)) (omega (arith, fits, same)));
+      }

@@ -1,0 +1,11 @@
+pub mod Cases
+pub mod ClassInSphere
+pub mod FamilyColumn
+pub mod PartedClass
+pub mod PartedPair
+pub mod PartedSphere
+pub mod RefinedSphere
+pub mod Stirred
+pub mod TwinLists
+pub mod TwinPlaces
+pub mod WrittenSets

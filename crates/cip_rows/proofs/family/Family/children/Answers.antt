@@ -1,0 +1,18 @@
+use Rattle.std.proofs.Common.{arith}
+use Rattle.cip_rows.proofs.FamilyColumn.{kids_within, place_count}
+use Rattle.cip_rows.proofs.family.Family.children.Goals as goal
+
+pub overflow_add-result : goal.overflow_add-result
+overflow_add-result c =
+    let within = kids_within c.self.inside.places c.self.invariant c.args.self.now c.self.view_is c.as_slice.result.now
+    c.as_slice.ensures c.args.place c.requires in
+    let fits = c.self.invariant.fits in
+    let few = c.self.invariant.few in
+    omega (arith, within, fits, few)
+
+pub returns-clause-within : goal.returns-clause-within
+returns-clause-within c =
+    let within = kids_within c.self.inside.places c.self.invariant c.args.self.now c.self.view_is c.as_slice.result.now
+    c.as_slice.ensures c.args.place c.requires in
+    let count = place_count c.self.inside.places c.args.self.now c.self.view_is in
+    omega (arith, within, count)

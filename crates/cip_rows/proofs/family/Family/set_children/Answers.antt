@@ -1,0 +1,15 @@
+use Rattle.std.proofs.Common.{◌∙◌, ap}
+use Rattle.cip_rows.specs.Kin.{Kin, with_children}
+use Rattle.cip_rows.proofs.FamilyColumn.{kids_set, keep_set}
+use Rattle.cip_rows.proofs.family.Family.set_children.Goals as goal
+
+pub invariant_of-self : goal.invariant_of-self
+invariant_of-self c = keep_set c.self.inside.places c.set.new.self c.as_slice.result.now c.as_slice.ensures c.args.place
+    c.args.first c.args.count c.set.ensures c.self.invariant c.args.self.now c.self.view_is c.requires.place
+    c.requires.within
+
+pub returns : goal.returns
+returns c =
+    kids_set c.self.inside.places c.set.new.self c.as_slice.result.now c.as_slice.ensures c.args.place c.args.first
+    c.args.count c.set.ensures
+    ∙ ap (λ (k : Kin). with_children c.args.place c.args.first c.args.count k) c.self.view_is

@@ -1,0 +1,32 @@
+use Rattle.std.proofs.Common.{ℕ, List, ◌<◌, ◌++◌, length, map, slice_index, sym, ap, ◌∙◌, subst, arith}
+use Rattle.cip_rows.specs.Ranked.{Ranked}
+use Rattle.cip_rows.specs.Reserved.{Reserved}
+use Rattle.cip_rows.specs.Twins.{pairs, twice}
+use Rattle.cip_rows.proofs.TwinPlaces.{keep_rows}
+use Rattle.cip_rows.proofs.order.Order.write_twins.Goals as goal
+
+pub invariant_of-self : goal.invariant_of-self
+invariant_of-self c =
+    let items = λ (r : Reserved ℕ). r.items in
+    let room = λ (r : Reserved ℕ). r.room in
+    let count = c.len-count.result in
+    let one = c.as_slice-2.ensures ∙ ap (λ (r : Ranked). r.numbers) c.from.view_is in
+    let two = c.as_slice-3.ensures ∙ ap (λ (r : Ranked). r.numbers) c.from.view_is in
+    let half = λ (ns : List ℕ). map (twice count) ns in
+    let numbers = c.args.from.now.numbers in
+    let first = c.push_twice.ensures
+    ∙ ap (λ (r : Reserved ℕ). record r { items = r.items ++ half c.as_slice-2.result.now }) c.clear.ensures in
+    let len = c.len-count.ensures.count ∙ ap (λ (r : Ranked). length r.numbers) c.from.view_is in
+    let same = ap (λ (r : Ranked). r.room) c.self.view_is in
+    let rows = ap room c.write_pairs.ensures in
+    let few = c.self.invariant.few in
+    let fits = c.requires.room in
+    let rows_fit = c.requires.rows in
+    keep_rows _ _ _ count c.args.from.now (omega (arith, rows, few))
+    (ap room c.push_twice-2.ensures ∙ ap room first ∙ c.self.invariant.numbers_room ∙ sym rows)
+    (c.self.invariant.offsets_room ∙ sym rows) (sym len) (omega (arith, rows, same, fits, rows_fit))
+    (λ k lt. subst (λ n. slice_index c.args.from.now.rows k < n) (sym len) (c.row_count-rows.ensures.below k lt))
+    (ap items c.write_pairs.ensures ∙ ap (pairs count) (c.as_slice.ensures ∙ ap (λ (r : Ranked). r.rows) c.from.view_is))
+    (ap items c.push_twice-2.ensures ∙ ap (λ (r : Reserved ℕ). r.items ++ half c.as_slice-3.result.now) first
+    ∙ ap (λ (ns : List ℕ). half ns ++ half c.as_slice-3.result.now) one
+    ∙ ap (λ (ns : List ℕ). half numbers ++ half ns) two)

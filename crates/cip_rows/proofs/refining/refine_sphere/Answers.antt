@@ -1,0 +1,12 @@
+use Rattle.cip_rows.specs.Kids.{kids_of}
+use Rattle.cip_rows.proofs.RefinedSphere.{flags_within, kids_parted}
+use Rattle.cip_rows.proofs.refining.refine_sphere.Goals as goal
+
+pub write_kid_sets-requires-clause-flags : goal.write_kid_sets-requires-clause-flags
+write_kid_sets-requires-clause-flags c = flags_within (kids_of c.args.family.now) c.args.order.now.rows
+    c.args.order.now.numbers c.args.from c.args.to c.args.flags.now c.requires.classed c.requires.flags
+
+pub returns-clause-ordered : goal.returns-clause-ordered
+returns-clause-ordered c = kids_parted (kids_of c.args.family.now) c.args.order.now.rows c.args.order.now.numbers
+    c.args.from c.args.to c.args.flags.now c.requires.classed c.write_kid_sets.new.sets c.part_sphere.new.order.rows
+    c.part_sphere.new.order.numbers c.part_sphere.ensures.parted c.write_kid_sets.ensures c.requires.calm

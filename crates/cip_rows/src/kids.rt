@@ -1,0 +1,103 @@
+// The order of places by the sets of their children.
+ghost use Rattle.std.specs.Prelude.{◌≡◌, ◌<◌, ◌≤◌, ◌+◌, ℕ, true, length, map, slice_index};
+ghost use Rattle.std.specs.Ordering.{nat_cmp, on};
+ghost use Rattle.std.specs.Cmp.Lexicographic.{slice_cmp};
+ghost use Rattle.cip_rank.specs.Ranged.{KeepsOthers};
+ghost use Rattle.cip_rows.specs.Kids.{kids_of, kid_set, HoldKidSets, KnowTheirKids};
+ghost use Rattle.cip_rows.specs.Rows.{number_in};
+
+use crate::family::Family;
+use crate::order::Order;
+use cip_rank::sets::{compare_sets, write_part};
+use cip_rank::sorting::NodeOrder;
+use std::cmp::Ordering;
+
+/// By sets that were written at the places of children.
+#[derive(Drop)]
+pub struct ByKids<'a> {
+    pub family: &'a Family,
+    pub sets: &'a [u32],
+    ghost len: { length sets.now ≡ length family.now.ups },
+}
+
+impl ByKids<'_> {
+    fn set(&self, place: u32) -> &[u32]
+        requires { place < length self.now.family.now.ups }
+        ensures { result.now ≡ map (slice_index self.now.sets.now) (kids_of self.now.family.now place) }
+    {
+        let (first, past) = self.family.children(place);
+        &self.sets[first as usize..past as usize]
+    }
+}
+
+impl NodeOrder for ByKids<'_> {
+    ghost use Rattle.std.proofs.lemmas.Cmp.{on_total, nat_cmp_total, lists_total};
+
+    ghost nodes = { λ by. length by.family.now.ups };
+
+    ghost order = { λ by. on (λ place. map (slice_index by.sets.now) (kids_of by.family.now place))
+        (slice_cmp nat_cmp) };
+
+    fn count(&self) -> u32 {
+        self.family.len()
+    }
+
+    fn compare_nodes(&self, a: u32, b: u32) -> Ordering {
+        compare_sets(self.set(a), self.set(b))
+    }
+
+    ghost total = { λ by. on_total (λ place. map (slice_index by.sets.now) (kids_of by.family.now place))
+        (lists_total nat_cmp_total) };
+}
+
+// Writes the set of a place.
+fn write_set(family: &Family, numbers: &[u32], place: u32, sets: &mut [u32])
+    requires place { place < length family.now.ups }
+    requires numbers { length family.now.ups ≤ length numbers.now }
+    requires room { length family.now.ups ≤ length sets.old }
+    ensures set { map (slice_index sets.new) (kids_of family.now place)
+        ≡ kid_set (kids_of family.now) numbers.now place }
+    ensures others { KeepsOthers (slice_index family.now.firsts place)
+        (slice_index family.now.firsts place + slice_index family.now.counts place) sets.old sets.new }
+{
+    let (first, past) = family.children(place);
+    write_part(numbers, sets, first as usize, past as usize);
+}
+
+// The same, where it is wanted.
+fn write_set_if(is_wanted: bool, family: &Family, numbers: &[u32], place: u32, sets: &mut [u32])
+    requires place { place < length family.now.ups }
+    requires numbers { length family.now.ups ≤ length numbers.now }
+    requires room { length family.now.ups ≤ length sets.old }
+    ensures set { is_wanted ≡ true → map (slice_index sets.new) (kids_of family.now place)
+        ≡ kid_set (kids_of family.now) numbers.now place }
+    ensures others { KeepsOthers (slice_index family.now.firsts place)
+        (slice_index family.now.firsts place + slice_index family.now.counts place) sets.old sets.new }
+{
+    if is_wanted {
+        write_set(family, numbers, place, sets);
+    }
+}
+
+/// Writes the sets of the places in some rows whose class has a flag.
+pub fn write_kid_sets(
+    family: &Family,
+    order: &Order,
+    from: u32,
+    to: u32,
+    flags: &[bool],
+    sets: &mut [u32],
+)
+    requires within { to ≤ length order.now.rows }
+    requires flags { (k : ℕ) → from ≤ k → k < to → number_in order.now.rows order.now.numbers k < length flags.now }
+    requires family { length family.now.ups ≡ length order.now.numbers }
+    requires known { KnowTheirKids (kids_of family.now) family.now.ups order.now.rows from to }
+    requires sets { length sets.old ≡ length order.now.numbers }
+    ensures { HoldKidSets (kids_of family.now) order.now.rows order.now.numbers from to flags.now sets.new }
+{
+    for row in from..to {
+        let place = order.place(row);
+        let is_wanted = flags[order.number(place) as usize];
+        write_set_if(is_wanted, family, order.numbers(), place, sets);
+    }
+}

@@ -1,0 +1,93 @@
+// Classes that are to be looked at again.
+ghost use Rattle.std.specs.Prelude.{◌≡◌, ◌<◌, ◌≤◌, ℕ, true, false, if◌then◌else◌, length, slice_index, slice_set};
+ghost use Rattle.cip_rows.specs.Parting.{has_flag, is_shared};
+ghost use Rattle.cip_rows.specs.Rows.{IsRow};
+ghost use Rattle.cip_rows.specs.Stirring.{number_above, StirsAbove};
+
+use crate::family::Family;
+use crate::order::Order;
+
+/// Sets a flag, where it is wanted.
+pub fn set_flag_if(is_wanted: bool, flags: &mut [bool], number: u32)
+    requires { number < length flags.old }
+    ensures { flags.new ≡ (if is_wanted then slice_set flags.old number true else flags.old) }
+{
+    if is_wanted {
+        flags[number as usize] = true;
+    }
+}
+
+// Sets the flag of the class above a place, if the place has another number than before and that class has two places
+// and more. Says whether it did.
+fn stir_place(
+    family: &Family,
+    order: &Order,
+    before: &[u32],
+    place: u32,
+    from: u32,
+    flags: &mut [bool],
+) -> bool
+    requires place { place < length order.now.numbers }
+    requires family { length family.now.ups ≡ length order.now.numbers }
+    requires before { length before.now ≡ length order.now.numbers }
+    requires parent { slice_index family.now.ups place < length order.now.numbers }
+    requires above { slice_index order.now.numbers (slice_index family.now.ups place) < from }
+    requires within { from ≤ length order.now.rows }
+    requires flags { from ≤ length flags.old }
+    ensures none { result ≡ false → is_shared order.now.rows order.now.numbers
+        (slice_index order.now.numbers (slice_index family.now.ups place)) from ≡ true
+        → slice_index order.now.numbers place ≡ slice_index before.now place }
+    ensures set { flags.new ≡ (if result then slice_set flags.old (slice_index order.now.numbers
+        (slice_index family.now.ups place)) true else flags.old) }
+{
+    if order.number(place) == before[place as usize] {
+        return false;
+    }
+    let above = order.number(family.parent(place));
+    let is_shared = order.is_shared(above, from);
+    set_flag_if(is_shared, flags, above);
+    is_shared
+}
+
+/// Sets the flag of each class of two places and more of which a member's child stands in these rows and has another
+/// number than before. Says whether there is any.
+pub fn stir_above(
+    family: &Family,
+    order: &Order,
+    before: &[u32],
+    from: u32,
+    to: u32,
+    flags: &mut [bool],
+) -> bool
+    requires ordered { from ≤ to }
+    requires within { to ≤ length order.now.rows }
+    requires family { length family.now.ups ≡ length order.now.numbers }
+    requires before { length before.now ≡ length order.now.numbers }
+    requires parents { (k : ℕ) → from ≤ k → k < to → IsRow order.now.rows 0 (length order.now.rows)
+        (slice_index family.now.ups (slice_index order.now.rows k)) }
+    requires above { (k : ℕ) → from ≤ k → k < to → number_above family.now.ups order.now.rows order.now.numbers k
+        < from }
+    requires flags { from ≤ length flags.old }
+    ensures stirred { StirsAbove family.now.ups order.now.rows before.now order.now.numbers from to flags.old flags.new }
+    ensures none { result ≡ false → flags.new ≡ flags.old }
+{
+    let rows = order.rows();
+    let mut any = false;
+    for row in from..to {
+        let is_stirred = stir_place(family, order, before, rows[row as usize], from, flags);
+        any |= is_stirred;
+    }
+    any
+}
+
+/// Clears the flags of some rows.
+pub fn clear_flags(flags: &mut [bool], from: u32, to: u32)
+    requires ordered { from ≤ to }
+    requires within { to ≤ length flags.old }
+    ensures cleared { (row : ℕ) → from ≤ row → row < to → has_flag flags.new row ≡ false }
+    ensures fewer { (row : ℕ) → has_flag flags.new row ≡ true → has_flag flags.old row ≡ true }
+{
+    for row in from..to {
+        flags[row as usize] = false;
+    }
+}
