@@ -32,8 +32,12 @@ impl Spheres {
         if !is_set(wanted, branch) {
             return false;
         }
-        for other in 0..wanted.len() as u32 {
-            if self.ties_with(wanted, branch, other) {
+        // from both ends, where branches stand that were doubled
+        let count = wanted.len() as u32;
+        for other in 0..count {
+            if self.ties_with(wanted, branch, other)
+                || self.ties_with(wanted, branch, count - 1 - other)
+            {
                 return true;
             }
         }
