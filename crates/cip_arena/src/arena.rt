@@ -14,7 +14,7 @@ ghost use Rattle.cip_arena.specs.Growth.{Holds, GrownAs};
 use crate::finding::{find_above, is_above};
 use crate::presence::{clear_flags, mark_vertex};
 use crate::sizes::{copies, node_size, real_vertex, sphere_size};
-use crate::telling::{mass_of, tell_closure, tell_duplicate, tell_real, z_of};
+use crate::telling::{RealNode, mass_of, tell_closure, tell_duplicate, tell_real, z_of};
 use cip_digraph::{Edge, Graph, NodeKind, Nodes, Positions, Told};
 use cip_rank::{Rules, Table};
 use cip_steps::Steps;
@@ -98,7 +98,7 @@ impl Arena {
         self.nodes.clear();
         clear_flags(&mut self.present, graph.vertices().len(), self.bound);
         let _ = self.table.push(None);
-        let _ = self.nodes.push(node);
+        self.nodes.push_reserved(node);
         mark_vertex(&mut self.present, root);
         self.root = root;
         self.sphere = 0;
@@ -212,7 +212,7 @@ impl Arena {
             return;
         };
         for edge in graph.edges_at(vertex) {
-            self.make_edge(graph, positions, node, vertex, edge, steps);
+            self.make_edge(graph, positions, RealNode { node, vertex }, edge, steps);
         }
     }
 
@@ -221,35 +221,25 @@ impl Arena {
         &mut self,
         graph: &Graph,
         positions: &Positions,
-        node: u32,
-        vertex: u32,
+        from: RealNode,
         edge: &Edge,
         steps: &mut Steps<L>,
     )
-        requires within { node < length self.old.nodes }
-        requires room { length self.old.nodes + size_of_edge self.old.nodes node vertex edge.now ≤ self.old.bound }
-        requires last { last_parent (parents_of self.old.nodes) ≤ node }
+        requires within { from.node < length self.old.nodes }
+        requires room { length self.old.nodes + size_of_edge self.old.nodes from.node from.vertex edge.now
+            ≤ self.old.bound }
+        requires last { last_parent (parents_of self.old.nodes) ≤ from.node }
         ensures made { self.new ≡ record self.old {
-          nodes = with_edge graph.now positions.now node vertex self.old.nodes edge.now;
+          nodes = with_edge graph.now positions.now from.node from.vertex self.old.nodes edge.now;
         } }
-        ensures last { last_parent (parents_of self.new.nodes) ≤ node }
+        ensures last { last_parent (parents_of self.new.nodes) ≤ from.node }
         ensures kept { Keeps self.old.nodes self.new.nodes }
-        ensures size { length self.new.nodes ≡ length self.old.nodes + size_of_edge self.old.nodes node vertex
-            edge.now }
+        ensures size { length self.new.nodes ≡ length self.old.nodes + size_of_edge self.old.nodes from.node
+            from.vertex edge.now }
         ensures cost { steps.new + length self.old.nodes ≡ steps.old + length self.new.nodes }
     {
-        let other = edge.other_end(vertex);
-        let stands = self.make_neighbour(graph, node, other, steps);
-        let told = tell_duplicate(
-            graph,
-            positions,
-            &self.nodes,
-            node,
-            vertex,
-            other,
-            stands,
-            edge.order,
-        );
+        let stands = self.make_neighbour(graph, from.node, edge.other_end(from.vertex), steps);
+        let told = tell_duplicate(graph, positions, &self.nodes, from, edge, stands);
         self.add_copies(told, copies(edge), steps);
     }
 
@@ -314,7 +304,7 @@ impl Arena {
         ensures cost { steps.new ≡ steps.old + 1 }
     {
         let number = self.table.push(Some(node.parent));
-        let _ = self.nodes.push(node);
+        self.nodes.push_reserved(node);
         mark_vertex(&mut self.present, node.vertex);
         steps.tick();
         number

@@ -1,12 +1,19 @@
 // What is told of one node.
 ghost use Rattle.std.specs.Prelude.{◌≡◌, ◌<◌, ◌≤◌, ◌+◌, ◌-◌, ◌*◌, ◌/◌, ◌^◌, ℕ, length, sum, map};
 ghost use Rattle.cip_arena.specs.Making.{real_told, closure_told, duplicate_told};
-ghost use Rattle.cip_digraph.specs.graph.Graph.{vertex_at};
+ghost use Rattle.cip_digraph.specs.graph.Graph.{vertex_at, other_end as end_of};
 ghost use Rattle.cip_digraph.specs.rules.Keys.{atom_mass};
 ghost use Rattle.cip_digraph.specs.digraph.NodeList.{told_at};
 
-use cip_digraph::{Graph, NodeKind, Positions, Told};
+use cip_digraph::{Edge, Graph, NodeKind, Positions, Told};
 use cip_elem::natural_half;
+
+/// A real node, and the vertex that it stands for.
+#[derive(Clone, Copy)]
+pub struct RealNode {
+    pub node: u32,
+    pub vertex: u32,
+}
 
 /// The atomic number of a vertex, 0 at a number that is no vertex.
 pub fn z_of(graph: &Graph, vertex: u32) -> u8
@@ -85,28 +92,27 @@ pub fn tell_closure(graph: &Graph, nodes: &[Told], node: u32, other: u32, at: u3
     }
 }
 
-/// What is told of the duplicate for a multiple bond from a vertex to another one, which stands at a node.
+/// What is told of the duplicate for a multiple bond from a real node, whose other end stands at a node.
 pub fn tell_duplicate(
     graph: &Graph,
     positions: &Positions,
     nodes: &[Told],
-    node: u32,
-    vertex: u32,
-    other: u32,
+    from: RealNode,
+    edge: &Edge,
     stands: u32,
-    order: u8,
 ) -> Told
-    requires within { node < length nodes.now }
+    requires within { from.node < length nodes.now }
     requires stands { stands < length nodes.now }
-    ensures { result ≡ duplicate_told graph.now positions.now nodes.now node vertex other stands order }
+    ensures { result ≡ duplicate_told graph.now positions.now nodes.now from.node from.vertex
+        (end_of from.vertex edge.now) stands edge.now.order }
 {
-    let others = positions.of(vertex);
-    let sphere = nodes[node as usize].as_printed;
-    if order == 2 && others.len() > 1 {
+    let others = positions.of(from.vertex);
+    let sphere = nodes[from.node as usize].as_printed;
+    if edge.order == 2 && others.len() > 1 {
         Told {
-            parent: node,
+            parent: from.node,
             kind: NodeKind::Delocalised,
-            vertex,
+            vertex: from.vertex,
             counterpart: None,
             atomic: mean_of(graph, others),
             mass: 0,
@@ -114,8 +120,9 @@ pub fn tell_duplicate(
             as_corrected: sphere,
         }
     } else {
+        let other = edge.other_end(from.vertex);
         Told {
-            parent: node,
+            parent: from.node,
             kind: NodeKind::Multiple,
             vertex: other,
             counterpart: Some(stands),

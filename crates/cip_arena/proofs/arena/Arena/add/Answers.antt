@@ -35,15 +35,15 @@ invariant_of-self g c =
     let below : t.parent < length ts = subst (λ a. t.parent < length a.nodes) (sym c.self.view_is) c.requires.below in
     let near : t.as_printed ≤ length ts = subst (λ a. t.as_printed ≤ length a.nodes) (sym c.self.view_is)
     c.requires.near in
-    let items : c.push.new.self.items ≡ ts ++ t ∷ [] = grind (arith, common_steps) in
-    let more : length c.push.new.self.items ≡ length ts + 1 = ap length items ∙ length-append ts (t ∷ []) in
+    let items : c.push_reserved.new.self.items ≡ ts ++ t ∷ [] = grind (arith, common_steps) in
+    let more : length c.push_reserved.new.self.items ≡ length ts + 1 = ap length items ∙ length-append ts (t ∷ []) in
     record {
       few = inv.few;
       table_bound = grind (arith, common_steps);
       parents = ap (λ tree. tree.parents) c.push-number.ensures.pushed ∙ ap (λ ps. ps ++ t.parent ∷ []) inv.parents
           ∙ sym (parents_added ts t) ∙ ap parents_of (sym items);
       fits = omega (arith, more, room);
-      room = omega (arith, inv.room, c.push.ensures.capacity);
+      room = omega (arith, inv.room, c.push_reserved.ensures.capacity);
       earlier = subst IsEarlier (sym items) (earlier_added ts t inv.earlier below);
       near = subst (λ (xs : List Told). (k : ℕ) → k < length xs → (told_at xs k).as_printed ≤ k) (sym items)
           (near_added ts t inv.near near);
