@@ -35,7 +35,7 @@ use Rattle.cip_digraph.specs.rules.EarlyOrder.{seen_at}
 use Rattle.cip_digraph.specs.outcome.Outcomes.{is_in_unit, end_root}
 use Rattle.cip_digraph.specs.graph.SoundGraphs.{IsSound}
 use Rattle.cip_constitution.proofs.DecidingSphere.{whole_is, settled_is, settled_beyond, settled_alone, cost_beyond}
-use Rattle.cip_digraph.proofs.Numbered.{digraph_length}
+use Rattle.cip_digraph.proofs.Numbered.{digraph_length, some_nodes}
 use Rattle.cip_arena.specs.Growth.{Growth, Holds, GrownAs, next_size}
 use Rattle.cip_arena.specs.declared.arena.Grown.{Grown as Answer}
 use Rattle.cip_arena.specs.declared.arena.Grown.TheVariants.{Grown, Whole as Finished, Over as Full}
@@ -54,6 +54,7 @@ use Rattle.cip_constitution.specs.Settling.{
   one_if_grown,
   Kept,
 }
+use Rattle.cip_constitution.specs.Trials.{IsGrown}
 use Rattle.cip_constitution.specs.declared.settling.Settled.{Settled}
 use Rattle.cip_constitution.specs.declared.settling.Settled.TheVariants.{Ordered, Tied, Whole, Over}
 
@@ -272,6 +273,21 @@ module _ (t : Setting) (sound : IsSound t.graph) (first a : Growth) (before afte
     (lt : first.root < length t.graph.vertices) where
   low_root : Kept t first a before after Grown → a.root < length t.graph.vertices
   low_root k = subst (λ r. r < length t.graph.vertices) (sym k.root) lt
+
+  pub is_grown : (r : Answer) → r ≡ Grown → Kept t first a before after r → IsGrown t a
+  is_grown r is kept =
+      let k = subst (Kept t first a before after) is kept in
+      let some = some_nodes t.graph t.positions a.root a.sphere in
+      let len = k.holds.tells.len in
+      record {
+        holds = k.holds;
+        sound = sound;
+        root = low_root k;
+        some = k.head;
+        last = k.some;
+        nodes = omega (arith, some, len);
+        fits = k.fits;
+      }
 
   -- the answers
   pub ordered : Kept t first a before after Grown → differs t a.root a.sphere ≡ true → SettledAs t a Ordered

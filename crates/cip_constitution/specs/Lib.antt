@@ -7,4 +7,5 @@ pub mod Noting
 pub mod Pairs
 pub mod Settling
 pub mod Standing
+pub mod Trials
 pub mod WorkColumns

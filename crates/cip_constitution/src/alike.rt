@@ -1,10 +1,8 @@
 // Ligands that are alike: their branches have ended, hold no atom of a unit and tie.
-ghost use Rattle.std.specs.Prelude.{◌≡◌, ◌<◌, ◌≤◌, length, vec_capacity};
+ghost use Rattle.std.specs.Prelude.{◌≡◌, ◌≤◌, length, vec_capacity};
 ghost use Rattle.std.specs.List.{list_any};
 ghost use Rattle.cip_digraph.specs.units.Ranked.{some_pair};
-ghost use Rattle.cip_arena.specs.Growth.{Holds};
-ghost use Rattle.cip_constitution.specs.Alike.{is_closed_ligand, alike_told};
-ghost use Rattle.cip_constitution.specs.Following.{numbers_of};
+ghost use Rattle.cip_constitution.specs.Trials.{told, is_closed_in, are_alike_in, IsGrown};
 
 use crate::closing::is_closed;
 use crate::differing::part;
@@ -13,36 +11,22 @@ use crate::standing::number_of;
 use cip_mol::Ligand;
 
 /// Whether a ligand has no node beyond the last sphere and no atom of a unit.
-pub fn is_closed_at(trial: &Trial<'_, '_>, under: &mut Vec<bool>, ligand: &Ligand) -> bool
-    requires holds { Holds trial.now.graph.now trial.now.positions.now trial.now.arena.now }
-    requires some { 0 < trial.now.arena.now.sphere }
-    requires nodes { 0 < length trial.now.arena.now.nodes }
+pub(crate) fn is_closed_at(trial: &Trial<'_, '_>, under: &mut Vec<bool>, ligand: &Ligand) -> bool
+    requires grown { IsGrown (told trial.now.setting) trial.now.arena.now }
     requires room { length trial.now.arena.now.nodes ≤ vec_capacity under.old }
-    ensures closed { result ≡ is_closed_ligand trial.now.rules trial.now.graph.now trial.now.positions.now
-        trial.now.units.now trial.now.arena.now ligand.now }
+    ensures closed { result ≡ is_closed_in trial.now ligand.now }
     ensures room { vec_capacity under.old ≤ vec_capacity under.new }
 {
-    let _vertices = trial.graph.vertices();
     match number_of(trial.arena, ligand) {
         None => true,
-        Some(top) => is_closed(
-            trial.arena,
-            trial.graph,
-            trial.positions,
-            trial.units,
-            under,
-            top,
-        ),
+        Some(top) => is_closed(trial.arena, &trial.setting, under, top),
     }
 }
 
 fn are_alike(trial: &Trial<'_, '_>, under: &mut Vec<bool>, a: &Ligand, b: &Ligand) -> bool
-    requires holds { Holds trial.now.graph.now trial.now.positions.now trial.now.arena.now }
-    requires some { 0 < trial.now.arena.now.sphere }
-    requires nodes { 0 < length trial.now.arena.now.nodes }
+    requires grown { IsGrown (told trial.now.setting) trial.now.arena.now }
     requires room { length trial.now.arena.now.nodes ≤ vec_capacity under.old }
-    ensures alike { result ≡ alike_told trial.now.rules trial.now.graph.now trial.now.positions.now trial.now.units.now
-        trial.now.arena.now (numbers_of trial.now.branches.now) a.now b.now }
+    ensures alike { result ≡ are_alike_in trial.now a.now b.now }
     ensures room { vec_capacity under.old ≤ vec_capacity under.new }
 {
     if part(trial.arena, trial.branches, a, b) {
@@ -60,12 +44,9 @@ fn alike_from(
     ligand: &Ligand,
     others: &[Ligand],
 ) -> bool
-    requires holds { Holds trial.now.graph.now trial.now.positions.now trial.now.arena.now }
-    requires some { 0 < trial.now.arena.now.sphere }
-    requires nodes { 0 < length trial.now.arena.now.nodes }
+    requires grown { IsGrown (told trial.now.setting) trial.now.arena.now }
     requires room { length trial.now.arena.now.nodes ≤ vec_capacity under.old }
-    ensures alike { result ≡ list_any (alike_told trial.now.rules trial.now.graph.now trial.now.positions.now
-        trial.now.units.now trial.now.arena.now (numbers_of trial.now.branches.now) ligand.now) others.now }
+    ensures alike { result ≡ list_any (are_alike_in trial.now ligand.now) others.now }
     ensures room { vec_capacity under.old ≤ vec_capacity under.new }
 {
     let mut rest = others;
@@ -79,16 +60,13 @@ fn alike_from(
 }
 
 /// Whether some two are alike, by the numbers of their branches.
-pub fn alike_each(trial: &Trial<'_, '_>, under: &mut Vec<bool>, ligands: &[Ligand]) -> bool
-    requires holds { Holds trial.now.graph.now trial.now.positions.now trial.now.arena.now }
-    requires some { 0 < trial.now.arena.now.sphere }
-    requires nodes { 0 < length trial.now.arena.now.nodes }
+pub(crate) fn alike_each(trial: &Trial<'_, '_>, under: &mut Vec<bool>) -> bool
+    requires grown { IsGrown (told trial.now.setting) trial.now.arena.now }
     requires room { length trial.now.arena.now.nodes ≤ vec_capacity under.old }
-    ensures alike { result ≡ some_pair (alike_told trial.now.rules trial.now.graph.now trial.now.positions.now
-        trial.now.units.now trial.now.arena.now (numbers_of trial.now.branches.now)) ligands.now }
+    ensures alike { result ≡ some_pair (are_alike_in trial.now) trial.now.setting.ligands.now }
     ensures room { vec_capacity under.old ≤ vec_capacity under.new }
 {
-    let mut rest = ligands;
+    let mut rest = trial.setting.ligands;
     while let [ligand, others @ ..] = rest {
         if alike_from(trial, under, ligand, others) {
             return true;

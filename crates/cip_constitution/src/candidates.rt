@@ -1,9 +1,8 @@
 // Ligands that may be alike within the last sphere, and were not before.
-ghost use Rattle.std.specs.Prelude.{◌≡◌, ◌<◌, ◌≤◌, false, length, vec_capacity};
+ghost use Rattle.std.specs.Prelude.{◌≡◌, ◌≤◌, false, length, vec_capacity};
 ghost use Rattle.std.specs.List.{AllByRecursion};
-ghost use Rattle.cip_arena.specs.Growth.{Holds};
-ghost use Rattle.cip_rows.specs.Keys.{AreKeyed};
-ghost use Rattle.cip_constitution.specs.Ending.{NotAnew, EachPair};
+ghost use Rattle.cip_constitution.specs.Ending.{EachPair};
+ghost use Rattle.cip_constitution.specs.Trials.{told, IsGrown, HasKeys, AreNotAnew};
 
 use crate::alike::is_closed_at;
 use crate::differing::part;
@@ -12,13 +11,10 @@ use cip_mol::Ligand;
 
 // Whether the branches of two have not parted, one of them may end here, and both are closed.
 fn are_candidates(trial: &Trial<'_, '_>, under: &mut Vec<bool>, a: &Ligand, b: &Ligand) -> bool
-    requires holds { Holds trial.now.graph.now trial.now.positions.now trial.now.arena.now }
-    requires some { 0 < trial.now.arena.now.sphere }
-    requires nodes { 0 < length trial.now.arena.now.nodes }
-    requires keyed { AreKeyed (length trial.now.arena.now.nodes) trial.now.branches.now.layers.kin }
+    requires grown { IsGrown (told trial.now.setting) trial.now.arena.now }
+    requires keyed { HasKeys trial.now }
     requires room { length trial.now.arena.now.nodes ≤ vec_capacity under.old }
-    ensures anew { result ≡ false → NotAnew trial.now.rules trial.now.graph.now trial.now.positions.now
-        trial.now.units.now trial.now.arena.now trial.now.branches.now a.now b.now }
+    ensures anew { result ≡ false → AreNotAnew trial.now a.now b.now }
     ensures room { vec_capacity under.old ≤ vec_capacity under.new }
 {
     if part(trial.arena, trial.branches, a, b) {
@@ -39,13 +35,10 @@ fn has_candidate_from(
     ligand: &Ligand,
     others: &[Ligand],
 ) -> bool
-    requires holds { Holds trial.now.graph.now trial.now.positions.now trial.now.arena.now }
-    requires some { 0 < trial.now.arena.now.sphere }
-    requires nodes { 0 < length trial.now.arena.now.nodes }
-    requires keyed { AreKeyed (length trial.now.arena.now.nodes) trial.now.branches.now.layers.kin }
+    requires grown { IsGrown (told trial.now.setting) trial.now.arena.now }
+    requires keyed { HasKeys trial.now }
     requires room { length trial.now.arena.now.nodes ≤ vec_capacity under.old }
-    ensures anew { result ≡ false → AllByRecursion (NotAnew trial.now.rules trial.now.graph.now
-        trial.now.positions.now trial.now.units.now trial.now.arena.now trial.now.branches.now ligand.now) others.now }
+    ensures anew { result ≡ false → AllByRecursion (AreNotAnew trial.now ligand.now) others.now }
     ensures room { vec_capacity under.old ≤ vec_capacity under.new }
 {
     let mut rest = others;
@@ -59,17 +52,14 @@ fn has_candidate_from(
 }
 
 /// Whether some two may be alike within the last sphere, and were not before, by Rule 1a alone.
-pub fn has_candidates(trial: &Trial<'_, '_>, under: &mut Vec<bool>, ligands: &[Ligand]) -> bool
-    requires holds { Holds trial.now.graph.now trial.now.positions.now trial.now.arena.now }
-    requires some { 0 < trial.now.arena.now.sphere }
-    requires nodes { 0 < length trial.now.arena.now.nodes }
-    requires keyed { AreKeyed (length trial.now.arena.now.nodes) trial.now.branches.now.layers.kin }
+pub(crate) fn has_candidates(trial: &Trial<'_, '_>, under: &mut Vec<bool>) -> bool
+    requires grown { IsGrown (told trial.now.setting) trial.now.arena.now }
+    requires keyed { HasKeys trial.now }
     requires room { length trial.now.arena.now.nodes ≤ vec_capacity under.old }
-    ensures anew { result ≡ false → EachPair (NotAnew trial.now.rules trial.now.graph.now trial.now.positions.now
-        trial.now.units.now trial.now.arena.now trial.now.branches.now) ligands.now }
+    ensures anew { result ≡ false → EachPair (AreNotAnew trial.now) trial.now.setting.ligands.now }
     ensures room { vec_capacity under.old ≤ vec_capacity under.new }
 {
-    let mut rest = ligands;
+    let mut rest = trial.setting.ligands;
     while let [ligand, others @ ..] = rest {
         if has_candidate_from(trial, under, ligand, others) {
             return true;

@@ -2,18 +2,18 @@
 ghost use Rattle.std.specs.Prelude.{◌≡◌, ◌<◌, ◌≤◌, ◌==◌, ◌&&◌, ◌++◌, ◌∷◌, [], ℕ, true, false, length, vec_capacity};
 ghost use Rattle.std.specs.Prelude.{flat_map, slice_index_or};
 ghost use Rattle.cip_rank.specs.Tree.{IsTree};
-ghost use Rattle.cip_rank.specs.declared.rules.Rules.{Rules as Wording};
 ghost use Rattle.cip_digraph.specs.digraph.Digraph.{is_real as is_kind_real};
 ghost use Rattle.cip_digraph.specs.rings.Alternating.{is_in};
 ghost use Rattle.cip_digraph.specs.units.Ends.{atoms_of};
 ghost use Rattle.cip_digraph.specs.digraph.NodeList.{told_at, parents_of};
 ghost use Rattle.cip_arena.specs.Growth.{Holds};
-ghost use Rattle.cip_constitution.specs.Closing.{is_under, keeps_open};
+ghost use Rattle.cip_constitution.specs.Closing.{is_under};
+ghost use Rattle.cip_constitution.specs.Trials.{told, is_open_in};
 
-use crate::columns::push_reserved;
 use crate::marking::MarkedUnits;
+use crate::setting::Setting;
 use cip_arena::Arena;
-use cip_digraph::{Graph, NodeKind, Nodes, Positions};
+use cip_digraph::{NodeKind, Nodes};
 use cip_rank::Table;
 
 fn is_atom_of_unit(arena: &Arena, units: &MarkedUnits<'_>, node: u32) -> bool
@@ -28,36 +28,21 @@ fn is_atom_of_unit(arena: &Arena, units: &MarkedUnits<'_>, node: u32) -> bool
 }
 
 // Whether a node keeps its branch open: an atom of a unit, or a node of the last sphere that has children.
-fn keeps_it_open(
-    arena: &Arena,
-    graph: &Graph,
-    positions: &Positions,
-    units: &MarkedUnits<'_>,
-    node: u32,
-) -> bool
-    requires holds { Holds graph.now positions.now arena.now }
+fn keeps_it_open(arena: &Arena, setting: &Setting<'_, '_>, node: u32) -> bool
+    requires holds { Holds setting.now.graph.now setting.now.positions.now arena.now }
     requires within { node < length arena.now.nodes }
-    ensures { (rules : Wording) → result ≡ keeps_open rules graph.now positions.now units.now arena.now node }
+    ensures { result ≡ is_open_in (told setting.now) arena.now node }
 {
-    let _positions = positions;
-    is_atom_of_unit(arena, units, node)
-        || (node >= arena.first() && arena.child_count(graph, node) > 0)
+    is_atom_of_unit(arena, setting.units, node)
+        || (node >= arena.first() && arena.child_count(setting.graph, node) > 0)
 }
 
-fn is_open(
-    arena: &Arena,
-    graph: &Graph,
-    positions: &Positions,
-    units: &MarkedUnits<'_>,
-    node: u32,
-    is_below: bool,
-) -> bool
-    requires holds { Holds graph.now positions.now arena.now }
+fn is_open(arena: &Arena, setting: &Setting<'_, '_>, node: u32, is_below: bool) -> bool
+    requires holds { Holds setting.now.graph.now setting.now.positions.now arena.now }
     requires within { node < length arena.now.nodes }
-    ensures { (rules : Wording) → result
-        ≡ (is_below && keeps_open rules graph.now positions.now units.now arena.now node) }
+    ensures { result ≡ (is_below && is_open_in (told setting.now) arena.now node) }
 {
-    is_below && keeps_it_open(arena, graph, positions, units, node)
+    is_below && keeps_it_open(arena, setting, node)
 }
 
 fn is_under_by(table: &Table, under: &[bool], top: u32, node: u32) -> bool
@@ -74,29 +59,27 @@ fn is_under_by(table: &Table, under: &[bool], top: u32, node: u32) -> bool
 }
 
 /// Whether the branch of a node has no node beyond the last sphere and no atom of a unit.
-pub fn is_closed(
+pub(crate) fn is_closed(
     arena: &Arena,
-    graph: &Graph,
-    positions: &Positions,
-    units: &MarkedUnits<'_>,
+    setting: &Setting<'_, '_>,
     under: &mut Vec<bool>,
     top: u32,
 ) -> bool
-    requires holds { Holds graph.now positions.now arena.now }
+    requires holds { Holds setting.now.graph.now setting.now.positions.now arena.now }
     requires room { length arena.now.nodes ≤ vec_capacity under.old }
-    ensures closed { (rules : Wording) → result ≡ true → (node : ℕ) → node < length arena.now.nodes
+    ensures closed { result ≡ true → (node : ℕ) → node < length arena.now.nodes
         → is_under (parents_of arena.now.nodes) top node ≡ true
-        → keeps_open rules graph.now positions.now units.now arena.now node ≡ false }
-    ensures opened { (rules : Wording) → result ≡ false
+        → is_open_in (told setting.now) arena.now node ≡ false }
+    ensures opened { result ≡ false
         → (node : ℕ) × ((node < length arena.now.nodes) × ((is_under (parents_of arena.now.nodes) top node ≡ true)
-        × (keeps_open rules graph.now positions.now units.now arena.now node ≡ true))) }
+        × (is_open_in (told setting.now) arena.now node ≡ true))) }
     ensures room { vec_capacity under.old ≤ vec_capacity under.new }
 {
     under.clear();
     for node in 0..arena.len() {
         let is_below = is_under_by(arena.table(), under.as_slice(), top, node);
-        push_reserved(under, is_below);
-        if is_open(arena, graph, positions, units, node, is_below) {
+        under.push_reserved(is_below);
+        if is_open(arena, setting, node, is_below) {
             return false;
         }
     }

@@ -1,14 +1,13 @@
 // The branches of a root's children, followed with its digraph.
 ghost use Rattle.std.specs.Prelude.{◌≡◌, ◌<◌, ◌≤◌, ◌+◌, ◌-◌, length};
 ghost use Rattle.std.specs.List.{range_with_len};
-ghost use Rattle.cip_digraph.specs.digraph.Digraph.{sphere as sphere_of};
-ghost use Rattle.cip_arena.specs.Growth.{Holds};
-ghost use Rattle.cip_constitution.specs.Following.{Follows};
+ghost use Rattle.cip_constitution.specs.Trials.{told, IsGrown, FollowsTo};
 
 use crate::keys::ByAtom;
+use crate::setting::Setting;
 use cip_arena::Arena;
 use cip_branches::{Around, Branches};
-use cip_digraph::{Graph, Nodes, Positions};
+use cip_digraph::Nodes;
 use cip_rows::Column;
 
 // Numbers the nodes behind the root.
@@ -24,42 +23,36 @@ fn fill_tops(tops: &mut Column<u32>, past: u32)
 }
 
 /// Begins with the branches of the root's children, where there are no nodes beyond these.
-pub fn begin_branches(
+pub(crate) fn begin_branches(
     arena: &Arena,
-    graph: &Graph,
-    positions: &Positions,
+    setting: &Setting<'_, '_>,
     tops: &mut Column<u32>,
     branches: &mut Branches,
 )
-    requires holds { Holds graph.now positions.now arena.now }
+    requires grown { IsGrown (told setting.now) arena.now }
     requires first { arena.now.sphere ≡ 1 }
-    requires last { 0 < length (sphere_of graph.now positions.now arena.now.root arena.now.sphere) }
     requires tops_room { arena.now.bound ≤ tops.old.room }
     requires room { arena.now.bound ≤ branches.old.layers.kin.room + 1 }
-    ensures followed { Follows graph.now positions.now arena.now.root arena.now.bound arena.now.sphere branches.new }
+    ensures followed { FollowsTo (told setting.now) arena.now arena.now.sphere branches.new }
     ensures tops_room { tops.new.room ≡ tops.old.room }
     ensures room { branches.new.layers.kin.room ≡ branches.old.layers.kin.room }
 {
-    let _graph = graph;
-    let _positions = positions;
+    let _setting = setting;
     let past = arena.len();
     fill_tops(tops, past);
     branches.begin(tops.as_slice(), &ByAtom { nodes: arena });
 }
 
 /// Follows the branches that are wanted still to the sphere that was grown.
-pub fn follow_branches(arena: &Arena, graph: &Graph, positions: &Positions, branches: &mut Branches)
-    requires holds { Holds graph.now positions.now arena.now }
+pub(crate) fn follow_branches(arena: &Arena, setting: &Setting<'_, '_>, branches: &mut Branches)
+    requires grown { IsGrown (told setting.now) arena.now }
     requires further { 1 < arena.now.sphere }
-    requires last { 0 < length (sphere_of graph.now positions.now arena.now.root arena.now.sphere) }
     requires room { arena.now.bound ≤ branches.old.layers.kin.room + 1 }
-    requires followed { Follows graph.now positions.now arena.now.root arena.now.bound (arena.now.sphere - 1)
-        branches.old }
-    ensures followed { Follows graph.now positions.now arena.now.root arena.now.bound arena.now.sphere branches.new }
+    requires followed { FollowsTo (told setting.now) arena.now (arena.now.sphere - 1) branches.old }
+    ensures followed { FollowsTo (told setting.now) arena.now arena.now.sphere branches.new }
     ensures room { branches.new.layers.kin.room ≡ branches.old.layers.kin.room }
 {
-    let _graph = graph;
-    let _positions = positions;
+    let _setting = setting;
     let _count = arena.len();
     let around = Around {
         table: arena.table(),

@@ -4,7 +4,6 @@
 mod alike;
 mod candidates;
 mod closing;
-mod columns;
 mod differing;
 mod ending;
 mod following;
@@ -12,6 +11,7 @@ mod keys;
 mod marking;
 mod noting;
 mod pairs;
+mod setting;
 mod settling;
 mod standing;
 mod taking;

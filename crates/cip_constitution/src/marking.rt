@@ -5,7 +5,6 @@ ghost use Rattle.cip_digraph.specs.rings.Alternating.{is_in};
 ghost use Rattle.cip_digraph.specs.units.Ends.{atoms_of};
 ghost use Rattle.cip_constitution.specs.Marking.{with_mark, with_marks};
 
-use crate::columns::push_reserved;
 use cip_mol::{Site, Unit};
 use std::alloc::{AllocError, Global};
 use std::marker::Model;
@@ -67,7 +66,7 @@ fn clear_flags(flags: &mut Vec<bool>, count: u32)
 {
     flags.clear();
     for _ in 0..count {
-        push_reserved(flags, false);
+        flags.push_reserved(false);
     }
 }
 

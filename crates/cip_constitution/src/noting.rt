@@ -1,17 +1,15 @@
 // What Rule 1a decides between the branches of a root's ligands, noted at each sphere.
 ghost use Rattle.std.specs.Prelude.{◌≡◌, ◌<◌, ◌≤◌, ◌-◌, length, map, vec_capacity};
-ghost use Rattle.cip_arena.specs.Growth.{Holds};
-ghost use Rattle.cip_digraph.specs.digraph.Digraph.{sphere as sphere_of};
-ghost use Rattle.cip_constitution.specs.Following.{Follows};
-ghost use Rattle.cip_constitution.specs.Noting.{branch_at, asked_by, Notes};
+ghost use Rattle.cip_constitution.specs.Noting.{branch_at, asked_by};
 ghost use Rattle.cip_constitution.specs.Standing.{number_at};
+ghost use Rattle.cip_constitution.specs.Trials.{told, IsGrown, FollowsTo, NotesTo};
 
-use crate::columns::push_reserved;
 use crate::pairs::Pair;
+use crate::setting::Setting;
 use crate::standing::number_of;
 use cip_arena::Arena;
 use cip_branches::Branches;
-use cip_digraph::{Graph, Nodes, Positions};
+use cip_digraph::Nodes;
 use cip_ligands::{Asked, note};
 use cip_mol::{Ligand, Rule};
 
@@ -44,56 +42,46 @@ fn ask(arena: &Arena, pairs: &[Pair], noted: &mut Vec<Asked>)
     noted.clear();
     let mut rest = pairs;
     while let [pair, others @ ..] = rest {
-        push_reserved(
-            noted,
-            Asked {
-                first: branch_at(arena, pair.a),
-                second: branch_at(arena, pair.b),
-                decision: None,
-            },
-        );
+        noted.push_reserved(Asked {
+            first: branch_at(arena, pair.a),
+            second: branch_at(arena, pair.b),
+            decision: None,
+        });
         rest = others;
     }
 }
 
 /// Asks for each pair of vertices by their branches, in the first sphere. Nothing is decided yet.
-pub fn begin_noting(
+pub(crate) fn begin_noting(
     arena: &Arena,
-    graph: &Graph,
-    positions: &Positions,
+    setting: &Setting<'_, '_>,
     pairs: &[Pair],
     noted: &mut Vec<Asked>,
 )
-    requires holds { Holds graph.now positions.now arena.now }
+    requires grown { IsGrown (told setting.now) arena.now }
     requires first { arena.now.sphere ≡ 1 }
-    requires last { 0 < length (sphere_of graph.now positions.now arena.now.root arena.now.sphere) }
     requires room { length pairs.now ≤ vec_capacity noted.old }
-    ensures noted { Notes graph.now positions.now arena.now.root arena.now.bound 0 pairs.now noted.new.items }
+    ensures noted { NotesTo (told setting.now) arena.now 0 pairs.now noted.new.items }
     ensures room { vec_capacity noted.old ≤ vec_capacity noted.new }
 {
-    let _vertices = graph.vertices();
-    let _positions = positions;
-    let _count = arena.len();
+    let _setting = setting;
     ask(arena, pairs, noted);
 }
 
 /// Notes what the branches' numbers tell in the last sphere.
-pub fn note_sphere(
+pub(crate) fn note_sphere(
     arena: &Arena,
-    graph: &Graph,
-    positions: &Positions,
+    setting: &Setting<'_, '_>,
     branches: &Branches,
     pairs: &[Pair],
     noted: &mut [Asked],
 )
     requires some { 0 < arena.now.sphere }
-    requires followed { Follows graph.now positions.now arena.now.root arena.now.bound arena.now.sphere branches.now }
-    requires noted { Notes graph.now positions.now arena.now.root arena.now.bound (arena.now.sphere - 1) pairs.now
-        noted.old }
-    ensures noted { Notes graph.now positions.now arena.now.root arena.now.bound arena.now.sphere pairs.now noted.new }
+    requires followed { FollowsTo (told setting.now) arena.now arena.now.sphere branches.now }
+    requires noted { NotesTo (told setting.now) arena.now (arena.now.sphere - 1) pairs.now noted.old }
+    ensures noted { NotesTo (told setting.now) arena.now arena.now.sphere pairs.now noted.new }
 {
-    let _graph = graph;
-    let _positions = positions;
+    let _setting = setting;
     let _pairs = pairs;
     note(branches, Rule::R1a, arena.sphere() - 1, noted);
 }

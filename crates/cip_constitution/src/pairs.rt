@@ -2,7 +2,6 @@
 ghost use Rattle.std.specs.Prelude.{◌≡◌, ◌≤◌, ◌+◌, ◌++◌, length, flat_map, vec_capacity};
 ghost use Rattle.cip_constitution.specs.Pairs.{pair_with, pairs_at, pairs_of};
 
-use crate::columns::push_reserved;
 use cip_mol::Ligand;
 
 /// Two neighbours of a root whose branches are asked about.
@@ -58,7 +57,7 @@ fn pair_with(a: u32, ligand: &Ligand, pairs: &mut Vec<Pair>)
         Ligand::LonePair => {}
         Ligand::Vertex(b) => {
             if a != *b {
-                push_reserved(pairs, Pair { a, b: *b });
+                pairs.push_reserved(Pair { a, b: *b });
             }
         }
     }

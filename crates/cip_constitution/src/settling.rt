@@ -5,6 +5,7 @@ ghost use Rattle.cip_constitution.specs.Noting.{Notes};
 ghost use Rattle.cip_constitution.specs.Settling.{setting_of, SettledAs, cost_of};
 
 use crate::marking::MarkedUnits;
+use crate::setting::Setting;
 use crate::work::Work;
 use cip_arena::{Arena, Grown};
 use cip_digraph::{Graph, Positions};
@@ -59,13 +60,20 @@ pub fn settle<L: Ledger>(
     ensures pairs { work.new.pairs ≡ work.old.pairs }
 {
     let _vertices = graph.vertices();
+    let setting = Setting {
+        graph,
+        positions,
+        units,
+        ligands,
+        rules,
+    };
     let mut grown = arena.grow(graph, positions, steps);
     while grown == Grown::Grown {
-        work.follow(arena, graph, positions);
-        if work.all_differ(arena, graph, positions, ligands) {
+        work.follow(arena, &setting);
+        if work.all_differ(arena, &setting) {
             return Settled::Ordered;
         }
-        if work.some_alike(arena, graph, positions, rules, units, ligands) {
+        if work.some_alike(arena, &setting) {
             return Settled::Tied;
         }
         grown = arena.grow(graph, positions, steps);

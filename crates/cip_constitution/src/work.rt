@@ -1,31 +1,25 @@
 // Ligands tried by the numbers of their branches.
-ghost use Rattle.std.specs.Prelude.{◌≡◌, ◌<◌, ◌≤◌, ◌+◌, ◌-◌, ◌^◌, ℕ, false, List, [], pos, map, length};
+ghost use Rattle.std.specs.Prelude.{◌≡◌, ◌<◌, ◌≤◌, ◌+◌, ◌-◌, ◌^◌, ℕ, false, [], length};
 ghost use Rattle.std.specs.Prelude.{vec_capacity, IfOk};
-ghost use Rattle.cip_rank.specs.declared.rules.Rules.{Rules as Wording};
-ghost use Rattle.cip_mol.specs.declared.site.Unit.{Unit as AnyUnit};
 ghost use Rattle.cip_branches.specs.Deciding.{no_branches};
-ghost use Rattle.cip_digraph.specs.digraph.Digraph.{sphere as sphere_of};
-ghost use Rattle.cip_arena.specs.Growth.{Holds};
-ghost use Rattle.cip_constitution.specs.Following.{Follows, IsFollowed};
-ghost use Rattle.cip_constitution.specs.Noting.{Notes, IsNoted};
 ghost use Rattle.cip_constitution.specs.Pairs.{pairs_of};
-ghost use Rattle.cip_constitution.specs.Settling.{setting_of, differs, has_alike};
+ghost use Rattle.cip_constitution.specs.Settling.{differs, has_alike};
+ghost use Rattle.cip_constitution.specs.Trials.{told, IsGrown, FollowsTo, IsFollowedTo, NotesTo, IsNotedTo};
 
 use crate::alike::alike_each;
 use crate::candidates::has_candidates;
 use crate::differing::part_each;
 use crate::ending::Trial;
 use crate::following::{begin_branches, follow_branches};
-use crate::marking::MarkedUnits;
 use crate::noting::{begin_noting, note_sphere};
 use crate::pairs::{Pair, pair_up};
+use crate::setting::Setting;
 use crate::taking::take_both;
 use cip_arena::Arena;
 use cip_branches::{Branches, SavedRanks};
-use cip_digraph::{Graph, Nodes, Positions};
 use cip_ligands::Asked;
-use cip_mol::{Ligand, Ligands};
-use cip_rank::{Rules, both};
+use cip_mol::Ligands;
+use cip_rank::both;
 use cip_rows::Column;
 use std::alloc::{AllocError, Global};
 use std::marker::Model;
@@ -113,19 +107,13 @@ impl Work {
     }
 
     /// Follows a digraph that was grown by one sphere, and notes what its last sphere tells.
-    pub fn follow(&mut self, arena: &Arena, graph: &Graph, positions: &Positions)
-        requires holds { Holds graph.now positions.now arena.now }
-        requires some { 0 < arena.now.sphere }
-        requires last { 0 < length (sphere_of graph.now positions.now arena.now.root arena.now.sphere) }
+    pub(crate) fn follow(&mut self, arena: &Arena, setting: &Setting<'_, '_>)
+        requires grown { IsGrown (told setting.now) arena.now }
         requires room { arena.now.bound ≤ self.old.bound }
-        requires followed { IsFollowed graph.now positions.now arena.now.root arena.now.bound (arena.now.sphere - 1)
-            self.old.branched }
-        requires noted { IsNoted graph.now positions.now arena.now.root arena.now.bound (arena.now.sphere - 1)
-            self.old.pairs self.old.noted }
-        ensures followed { Follows graph.now positions.now arena.now.root arena.now.bound arena.now.sphere
-            self.new.branched }
-        ensures noted { Notes graph.now positions.now arena.now.root arena.now.bound arena.now.sphere
-            self.new.pairs self.new.noted }
+        requires followed { IsFollowedTo (told setting.now) arena.now (arena.now.sphere - 1) self.old.branched }
+        requires noted { IsNotedTo (told setting.now) arena.now (arena.now.sphere - 1) self.old.pairs self.old.noted }
+        ensures followed { FollowsTo (told setting.now) arena.now arena.now.sphere self.new.branched }
+        ensures noted { NotesTo (told setting.now) arena.now arena.now.sphere self.new.pairs self.new.noted }
         ensures pairs { self.new.pairs ≡ self.old.pairs }
         ensures bound { self.new.bound ≡ self.old.bound }
     {
@@ -133,90 +121,54 @@ impl Work {
         let noted = &mut self.noted;
         let pairs = self.pairs.as_slice();
         if arena.sphere() == 1 {
-            begin_branches(arena, graph, positions, &mut self.tops, branches);
-            begin_noting(arena, graph, positions, pairs, noted);
-            note_sphere(arena, graph, positions, branches, pairs, noted);
+            begin_branches(arena, setting, &mut self.tops, branches);
+            begin_noting(arena, setting, pairs, noted);
+            note_sphere(arena, setting, branches, pairs, noted);
         } else {
-            follow_branches(arena, graph, positions, branches);
-            note_sphere(arena, graph, positions, branches, pairs, noted);
+            follow_branches(arena, setting, branches);
+            note_sphere(arena, setting, branches, pairs, noted);
         }
     }
 
     /// Whether every two ligands differ by Rule 1a within the last sphere.
-    pub fn all_differ(
-        &self,
-        arena: &Arena,
-        graph: &Graph,
-        positions: &Positions,
-        ligands: &[Ligand],
-    ) -> bool
-        requires holds { Holds graph.now positions.now arena.now }
-        requires some { 0 < arena.now.sphere }
-        requires last { 0 < length (sphere_of graph.now positions.now arena.now.root arena.now.sphere) }
-        requires followed { Follows graph.now positions.now arena.now.root arena.now.bound arena.now.sphere
-            self.now.branched }
-        ensures result { (rules : Wording) (units : List AnyUnit)
-            → result ≡ differs (setting_of rules graph.now positions.now units ligands.now) arena.now.root
-            arena.now.sphere }
+    pub(crate) fn all_differ(&self, arena: &Arena, setting: &Setting<'_, '_>) -> bool
+        requires grown { IsGrown (told setting.now) arena.now }
+        requires followed { FollowsTo (told setting.now) arena.now arena.now.sphere self.now.branched }
+        ensures { result ≡ differs (told setting.now) arena.now.root arena.now.sphere }
     {
-        let _vertices = graph.vertices();
-        let _positions = positions;
-        let _count = arena.len();
-        part_each(arena, &self.branches, ligands)
+        part_each(arena, &self.branches, setting.ligands)
     }
 
     /// Whether two ligands have no node beyond the last sphere and are alike, where none were within the sphere before.
-    pub fn some_alike(
-        &mut self,
-        arena: &Arena,
-        graph: &Graph,
-        positions: &Positions,
-        rules: Rules,
-        units: &MarkedUnits<'_>,
-        ligands: &[Ligand],
-    ) -> bool
-        requires holds { Holds graph.now positions.now arena.now }
-        requires some { 0 < arena.now.sphere }
-        requires last { 0 < length (sphere_of graph.now positions.now arena.now.root arena.now.sphere) }
-        requires root { arena.now.root < length graph.now.vertices }
+    pub(crate) fn some_alike(&mut self, arena: &Arena, setting: &Setting<'_, '_>) -> bool
+        requires grown { IsGrown (told setting.now) arena.now }
         requires room { arena.now.bound ≤ self.old.bound }
-        requires followed { Follows graph.now positions.now arena.now.root arena.now.bound arena.now.sphere
-            self.old.branched }
+        requires followed { FollowsTo (told setting.now) arena.now arena.now.sphere self.old.branched }
         requires before { 1 < arena.now.sphere
-            → has_alike (setting_of rules graph.now positions.now units.now ligands.now) arena.now.root
-            (arena.now.sphere - 1) ≡ false }
-        ensures result { result ≡ has_alike (setting_of rules graph.now positions.now units.now ligands.now)
-            arena.now.root arena.now.sphere }
+            → has_alike (told setting.now) arena.now.root (arena.now.sphere - 1) ≡ false }
+        ensures result { result ≡ has_alike (told setting.now) arena.now.root arena.now.sphere }
         ensures kept { self.new ≡ self.old }
     {
-        let _vertices = graph.vertices();
-        let _count = arena.len();
         // Rule 1a, whose numbers stand already, tells most ligands apart
         let found = {
             let trial = Trial {
                 arena: &*arena,
                 branches: &self.branches,
-                graph: &*graph,
-                positions: &*positions,
-                units: &*units,
-                rules,
+                setting: *setting,
             };
-            has_candidates(&trial, &mut self.under, ligands)
+            has_candidates(&trial, &mut self.under)
         };
         if !found {
             return false;
         }
-        take_both(&mut self.branches, &mut self.saved, arena, rules);
+        take_both(&mut self.branches, &mut self.saved, arena, setting.rules);
         let alike = {
             let trial = Trial {
                 arena: &*arena,
                 branches: &self.branches,
-                graph: &*graph,
-                positions: &*positions,
-                units: &*units,
-                rules,
+                setting: *setting,
             };
-            alike_each(&trial, &mut self.under, ligands)
+            alike_each(&trial, &mut self.under)
         };
         self.branches.restore(&self.saved);
         alike

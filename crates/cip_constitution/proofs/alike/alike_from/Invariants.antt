@@ -1,15 +1,11 @@
 use Rattle.std.proofs.Common.{◌≡◌, ◌≤◌, length, vec_capacity}
 use Rattle.std.specs.List.{list_any}
-use Rattle.cip_constitution.specs.Alike.{alike_told}
-use Rattle.cip_constitution.specs.Following.{numbers_of}
+use Rattle.cip_constitution.specs.Trials.{are_alike_in}
 use Rattle.cip_constitution.proofs.alike.alike_from.Given as goal
 
 abbrev pub invariant-loop-rest : goal.invariant-loop-rest
 invariant-loop-rest l = record {
-  rest : list_any (alike_told l.trial.rules l.trial.graph.now l.trial.positions.now l.trial.units.now l.trial.arena.now
-      (numbers_of l.trial.branches.now) l.ligand) l.rest ≡ list_any
-      (alike_told l.trial.rules l.trial.graph.now l.trial.positions.now l.trial.units.now l.trial.arena.now
-      (numbers_of l.trial.branches.now) l.ligand) l.others;
+  rest : list_any (are_alike_in l.trial l.ligand) l.rest ≡ list_any (are_alike_in l.trial l.ligand) l.others;
   room : vec_capacity l.fn.under ≤ vec_capacity l.under;
 }
 

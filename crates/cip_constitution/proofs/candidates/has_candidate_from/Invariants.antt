@@ -1,14 +1,11 @@
 use Rattle.std.proofs.Common.{◌≤◌, length, vec_capacity}
 use Rattle.std.specs.List.{AllByRecursion}
-use Rattle.cip_constitution.specs.Ending.{NotAnew}
+use Rattle.cip_constitution.specs.Trials.{AreNotAnew}
 use Rattle.cip_constitution.proofs.candidates.has_candidate_from.Given as goal
 
 abbrev pub invariant-loop-rest : goal.invariant-loop-rest
 invariant-loop-rest l = record {
-  anew : AllByRecursion (NotAnew l.trial.rules l.trial.graph.now l.trial.positions.now l.trial.units.now
-      l.trial.arena.now l.trial.branches.now l.ligand) l.rest
-      → AllByRecursion (NotAnew l.trial.rules l.trial.graph.now l.trial.positions.now l.trial.units.now
-      l.trial.arena.now l.trial.branches.now l.ligand) l.others;
+  anew : AllByRecursion (AreNotAnew l.trial l.ligand) l.rest → AllByRecursion (AreNotAnew l.trial l.ligand) l.others;
   room : vec_capacity l.fn.under ≤ vec_capacity l.under;
 }
 

@@ -1,13 +1,11 @@
 use Rattle.std.proofs.Common.{◌≤◌, length, vec_capacity}
-use Rattle.cip_constitution.specs.Ending.{NotAnew, EachPair}
+use Rattle.cip_constitution.specs.Ending.{EachPair}
+use Rattle.cip_constitution.specs.Trials.{AreNotAnew}
 use Rattle.cip_constitution.proofs.candidates.has_candidates.Given as goal
 
 abbrev pub invariant-loop-rest : goal.invariant-loop-rest
 invariant-loop-rest l = record {
-  anew : EachPair (NotAnew l.trial.rules l.trial.graph.now l.trial.positions.now l.trial.units.now l.trial.arena.now
-      l.trial.branches.now) l.rest
-      → EachPair (NotAnew l.trial.rules l.trial.graph.now l.trial.positions.now l.trial.units.now l.trial.arena.now
-      l.trial.branches.now) l.ligands;
+  anew : EachPair (AreNotAnew l.trial) l.rest → EachPair (AreNotAnew l.trial) l.trial.setting.ligands.now;
   room : vec_capacity l.fn.under ≤ vec_capacity l.under;
 }
 

@@ -1,8 +1,8 @@
 use Rattle.std.proofs.Common.{◌≡◌, ◌<◌, ◌≤◌, ℕ, true, false, length, vec_capacity}
 use Rattle.std.specs.Prelude.{slice_index_or}
-use Rattle.cip_rank.specs.declared.rules.Rules.{Rules}
 use Rattle.cip_digraph.specs.digraph.NodeList.{parents_of}
-use Rattle.cip_constitution.specs.Closing.{is_under, keeps_open}
+use Rattle.cip_constitution.specs.Closing.{is_under}
+use Rattle.cip_constitution.specs.Trials.{told, is_open_in}
 use Rattle.cip_constitution.proofs.closing.is_closed.Given as goal
 
 abbrev pub invariant-loop-node : goal.invariant-loop-node
@@ -10,6 +10,6 @@ invariant-loop-node l = record {
   len : length l.under.items ≡ l.node;
   room : vec_capacity l.fn.under ≤ vec_capacity l.under;
   under : (k : ℕ) → k < l.node → slice_index_or l.under.items k false ≡ is_under (parents_of l.arena.nodes) l.top k;
-  none : (rules : Rules) (k : ℕ) → k < l.node → is_under (parents_of l.arena.nodes) l.top k ≡ true
-      → keeps_open rules l.graph l.positions l.units l.arena k ≡ false;
+  none : (k : ℕ) → k < l.node → is_under (parents_of l.arena.nodes) l.top k ≡ true
+      → is_open_in (told l.setting) l.arena k ≡ false;
 }

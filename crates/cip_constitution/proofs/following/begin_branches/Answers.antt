@@ -35,6 +35,7 @@ returns-clause-followed c =
     let fits = c.len-past.ensures in
     let tops : c.as_slice.result.now ≡ range_with_len 1 (length a.nodes - 1) = c.as_slice.ensures
     ∙ ap (λ (t : Reserved ℕ). t.items) c.fill_tops.ensures ∙ ap (λ n. range_with_len 1 (n - 1)) fits.len in
-    begins_now c.args.graph.now c.args.positions.now a c.requires.holds c.requires.last
-    (omega (arith, fits.len, fits.fits)) c.requires.first c.begin.new.self c.as_slice.result.now tops
+    begins_now c.args.setting.now.graph.now c.args.setting.now.positions.now a c.requires.grown.holds
+    c.requires.grown.last
+    c.requires.grown.fits c.requires.first c.begin.new.self c.as_slice.result.now tops
     c.begin.ensures.begun c.begin.ensures.followed c.begin.ensures.first c.begin.ensures.last c.begin.ensures.chosen

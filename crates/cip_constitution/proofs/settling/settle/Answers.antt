@@ -9,6 +9,7 @@ use Rattle.cip_constitution.proofs.FollowedBranches.{grown_first, grown_next}
 use Rattle.cip_constitution.proofs.Rounds.{
   none_before,
   first_keeps,
+  is_grown,
   more_keeps,
   nearer,
   ordered,
@@ -26,7 +27,7 @@ returns-then-all_differ-clause-settled g c =
     let kept = subst (Kept t c.args.arena.now c.loop-grown.arena c.args.steps.now c.loop-grown.steps) is
     c.loop-grown.invariant.kept in
     ordered t c.vertices-vertices.ensures.sound c.args.arena.now c.loop-grown.arena c.args.steps.now c.loop-grown.steps
-    c.requires.root kept (sym (c.all_differ.ensures.result c.args.rules c.args.units.now) ∙ c.if-all_differ.true)
+    c.requires.root kept (sym c.all_differ.ensures ∙ c.if-all_differ.true)
 
 pub returns-then-some_alike-clause-settled : goal.returns-then-some_alike-clause-settled
 returns-then-some_alike-clause-settled g c =
@@ -36,8 +37,26 @@ returns-then-some_alike-clause-settled g c =
     c.loop-grown.invariant.kept in
     tied t c.vertices-vertices.ensures.sound c.args.arena.now c.loop-grown.arena c.args.steps.now c.loop-grown.steps
     c.requires.root kept
-    (sym (c.all_differ.ensures.result c.args.rules c.args.units.now) ∙ c.if-all_differ.false)
+    (sym c.all_differ.ensures ∙ c.if-all_differ.false)
     (sym c.some_alike.ensures.result ∙ c.if-some_alike.true)
+
+pub follow-requires-clause-grown : goal.follow-requires-clause-grown
+follow-requires-clause-grown g c =
+    let t = setting_of c.args.rules c.args.graph.now c.args.positions.now c.args.units.now c.args.ligands.now in
+    is_grown t c.vertices-vertices.ensures.sound c.args.arena.now c.loop-grown.arena c.args.steps.now
+    c.loop-grown.steps c.requires.root c.loop-grown.grown (search rules) c.loop-grown.invariant.kept
+
+pub all_differ-requires-clause-grown : goal.all_differ-requires-clause-grown
+all_differ-requires-clause-grown g c =
+    let t = setting_of c.args.rules c.args.graph.now c.args.positions.now c.args.units.now c.args.ligands.now in
+    is_grown t c.vertices-vertices.ensures.sound c.args.arena.now c.loop-grown.arena c.args.steps.now
+    c.loop-grown.steps c.requires.root c.loop-grown.grown (search rules) c.loop-grown.invariant.kept
+
+pub some_alike-requires-clause-grown : goal.some_alike-requires-clause-grown
+some_alike-requires-clause-grown g c =
+    let t = setting_of c.args.rules c.args.graph.now c.args.positions.now c.args.units.now c.args.ligands.now in
+    is_grown t c.vertices-vertices.ensures.sound c.args.arena.now c.loop-grown.arena c.args.steps.now
+    c.loop-grown.steps c.requires.root c.loop-grown.grown (search rules) c.loop-grown.invariant.kept
 
 pub loop-grown-smaller : goal.loop-grown-smaller
 loop-grown-smaller g c =
@@ -96,7 +115,7 @@ loop-grown-preserved g c =
     record {
       kept = more_keeps t c.vertices-vertices.ensures.sound c.args.arena.now c.loop-grown.arena next.new.self
           c.args.steps.now c.loop-grown.steps next.new.steps next.result kept c.requires.root
-          (sym (c.all_differ.ensures.result c.args.rules c.args.units.now) ∙ c.if-all_differ.false)
+          (sym c.all_differ.ensures ∙ c.if-all_differ.false)
           (sym c.some_alike.ensures.result ∙ c.if-some_alike.false)
           next.ensures.holds next.ensures.fits next.ensures.answer;
       followed = λ grown. grown_next c.args.graph.now c.args.positions.now c.loop-grown.arena next.new.self

@@ -15,39 +15,39 @@ use Rattle.cip_constitution.proofs.work.Work.some_alike.Goals as goal
 
 pub returns-then-not-found-clause-result : goal.returns-then-not-found-clause-result
 returns-then-not-found-clause-result c =
+    let s = c.args.setting.now in
     let a = c.args.arena.now in
     let branched = c.args.self.now.branched in
-    let fits = c.len-count.ensures in
-    let anew = subst (λ (w : Trying). EachPair (NotAnew c.args.rules c.args.graph.now c.args.positions.now
-    c.args.units.now a w.branched) c.args.ligands.now) c.self.view_is
-    (c.has_candidates-found.ensures.anew c.if-not-found.true) in
-    sym (none_anew c.args.graph.now c.args.positions.now a c.requires.holds c.requires.some
-    c.vertices-vertices.ensures.sound (omega (arith, fits.len, fits.fits)) c.requires.last branched
-    c.requires.followed c.args.rules c.args.units.now c.requires.root c.args.ligands.now anew c.requires.before)
+    let grown = c.requires.grown in
+    let anew = subst (λ (w : Trying). EachPair (NotAnew s.rules s.graph.now s.positions.now s.units.now a w.branched)
+    s.ligands.now) c.self.view_is (c.has_candidates-found.ensures.anew c.if-not-found.true) in
+    sym (none_anew s.graph.now s.positions.now a grown.holds grown.some grown.sound grown.fits grown.last branched
+    c.requires.followed s.rules s.units.now grown.root s.ligands.now anew c.requires.before)
 
 pub restore-requires-clause-rows : goal.restore-requires-clause-rows
 restore-requires-clause-rows c =
-    let same = same_both c.self.inside.branches c.args.rules c.args.arena.now.nodes c.take_both.new.branches
+    let same = same_both c.self.inside.branches c.args.setting.now.rules c.args.arena.now.nodes c.take_both.new.branches
     c.take_both.ensures.taken in
     ap (λ (s : Saved). length s.rows) c.take_both.ensures.saved ∙ sym same.kept.places.len
 
 pub restore-requires-clause-numbers : goal.restore-requires-clause-numbers
 restore-requires-clause-numbers c =
-    let same = same_both c.self.inside.branches c.args.rules c.args.arena.now.nodes c.take_both.new.branches
+    let same = same_both c.self.inside.branches c.args.setting.now.rules c.args.arena.now.nodes c.take_both.new.branches
     c.take_both.ensures.taken in
     ap (λ (s : Saved). length s.numbers) c.take_both.ensures.saved ∙ c.take_both.ensures.count
     ∙ sym (ap (λ (k : Kin). length k.ups) same.kept.kin)
 
 pub restore-requires-clause-wanted : goal.restore-requires-clause-wanted
 restore-requires-clause-wanted c =
-    let same = same_both c.self.inside.branches c.args.rules c.args.arena.now.nodes c.take_both.new.branches
+    let same = same_both c.self.inside.branches c.args.setting.now.rules c.args.arena.now.nodes c.take_both.new.branches
     c.take_both.ensures.taken in
     ap (λ (s : Saved). length s.wanted) c.take_both.ensures.saved ∙ sym same.count
 
 pub invariant_of-self-2 : goal.invariant_of-self-2
 invariant_of-self-2 c =
     let begin = c.self.inside.branches in
-    let same = same_both begin c.args.rules c.args.arena.now.nodes c.take_both.new.branches c.take_both.ensures.taken in
+    let same = same_both begin c.args.setting.now.rules c.args.arena.now.nodes c.take_both.new.branches
+    c.take_both.ensures.taken in
     let followed = subst AreFollowed (sym (ap (λ (w : Trying). w.branched) c.self.view_is))
     c.requires.followed.followed in
     let back : c.restore.new.self ≡ begin = c.restore.ensures
@@ -68,27 +68,27 @@ invariant_of-self-2 c =
 
 pub returns-clause-result : goal.returns-clause-result
 returns-clause-result c =
+    let s = c.args.setting.now in
     let a = c.args.arena.now in
-    let g = c.args.graph.now in
-    let positions = c.args.positions.now in
     let branched = c.args.self.now.branched in
     let third = c.take_both.new.branches in
-    let fits = c.len-count.ensures in
+    let grown = c.requires.grown in
     let far = c.requires.followed.last in
-    let takes = subst (λ (b : Branched). TakesBoth b c.args.rules a.nodes third)
+    let takes = subst (λ (b : Branched). TakesBoth b s.rules a.nodes third)
     (ap (λ (w : Trying). w.branched) c.self.view_is) c.take_both.ensures.taken in
     c.alike_each-alike.ensures.alike
-    ∙ alike_is c.args.rules g positions c.args.units.now a c.requires.holds c.requires.some
-    c.vertices-vertices.ensures.sound c.requires.root (numbers_of third)
-    (over_within g positions a c.requires.holds c.requires.some (omega (arith, fits.len, fits.fits)) c.requires.last
-    branched c.requires.followed c.args.rules takes.mid third takes.distances takes.masses
-    c.vertices-vertices.ensures.sound (seen_at c.args.rules g positions c.args.units.now a.root).height (a.sphere - 1)
-    (omega (arith, far))) c.args.ligands.now
+    ∙ alike_is s.rules s.graph.now s.positions.now s.units.now a grown.holds grown.some grown.sound grown.root
+    (numbers_of third)
+    (over_within s.graph.now s.positions.now a grown.holds grown.some grown.fits grown.last branched
+    c.requires.followed s.rules takes.mid third takes.distances takes.masses grown.sound
+    (seen_at s.rules s.graph.now s.positions.now s.units.now a.root).height (a.sphere - 1) (omega (arith, far)))
+    s.ligands.now
 
 pub returns-clause-kept : goal.returns-clause-kept
 returns-clause-kept c =
     let begin = c.self.inside.branches in
-    let same = same_both begin c.args.rules c.args.arena.now.nodes c.take_both.new.branches c.take_both.ensures.taken in
+    let same = same_both begin c.args.setting.now.rules c.args.arena.now.nodes c.take_both.new.branches
+    c.take_both.ensures.taken in
     let followed = subst AreFollowed (sym (ap (λ (w : Trying). w.branched) c.self.view_is))
     c.requires.followed.followed in
     let back : c.restore.new.self ≡ begin = c.restore.ensures
