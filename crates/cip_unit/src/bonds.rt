@@ -5,30 +5,30 @@ ghost use Rattle.cip_digraph.specs.graph.Graph.{other_end};
 ghost use Rattle.cip_digraph.specs.rings.Positions.{is_delocalised};
 ghost use Rattle.cip_unit.specs.Sites.{can_be_bond_unit, LeadsToAtoms, one_bond_site, units_at};
 
+use crate::drawn::Drawn;
 use crate::ends::{end_ligands, is_bond_end};
 use crate::unit::push_unit;
 use cip_digraph::{Edge, Graph, Positions, Units};
-use cip_mol::{Molecule, Site};
+use cip_mol::Site;
 use cip_ring::{VertexSet, is_in_small_ring};
 use std::alloc::{AllocError, Global};
 
 /// Adds the bond units of a first end, by the second one. The set serves the search for rings.
 pub fn push_bonds(
     alloc: Global,
-    molecule: &Molecule,
-    graph: &Graph,
-    positions: &Positions,
+    drawn: &Drawn<'_>,
     a: u32,
     reached: &mut VertexSet,
     units: &mut Units,
 ) -> Result<(), AllocError>
-    requires drawn { graph.now.drawn ≡ length molecule.now.atoms }
-    requires within { a < graph.now.drawn }
-    requires leads { LeadsToAtoms graph.now }
-    ensures { OnOk result (units.new ≡ units.old ++ units_at molecule.now (bond_sites graph.now positions.now a)) }
+    requires drawn { drawn.now.graph.now.drawn ≡ length drawn.now.molecule.now.atoms }
+    requires within { a < drawn.now.graph.now.drawn }
+    requires leads { LeadsToAtoms drawn.now.graph.now }
+    ensures { OnOk result (units.new ≡ units.old
+        ++ units_at drawn.now.molecule.now (bond_sites drawn.now.graph.now drawn.now.positions.now a)) }
 {
-    for edge in graph.edges_at(a) {
-        push_bond(alloc, molecule, graph, positions, a, edge, reached, units)?;
+    for edge in drawn.graph.edges_at(a) {
+        push_bond(alloc, drawn, a, edge, reached, units)?;
     }
     Ok(())
 }
@@ -36,30 +36,29 @@ pub fn push_bonds(
 // Adds the unit of a bond, where it is one.
 fn push_bond(
     alloc: Global,
-    molecule: &Molecule,
-    graph: &Graph,
-    positions: &Positions,
+    drawn: &Drawn<'_>,
     a: u32,
     edge: &Edge,
     reached: &mut VertexSet,
     units: &mut Units,
 ) -> Result<(), AllocError>
-    requires drawn { graph.now.drawn ≡ length molecule.now.atoms }
-    requires within { a < graph.now.drawn }
-    requires leads { edge.now.order ≡ 2 → other_end a edge.now < graph.now.drawn }
+    requires drawn { drawn.now.graph.now.drawn ≡ length drawn.now.molecule.now.atoms }
+    requires within { a < drawn.now.graph.now.drawn }
+    requires leads { edge.now.order ≡ 2 → other_end a edge.now < drawn.now.graph.now.drawn }
     ensures { OnOk result
-        (units.new ≡ units.old ++ units_at molecule.now (one_bond_site graph.now positions.now a edge.now)) }
+        (units.new ≡ units.old
+        ++ units_at drawn.now.molecule.now (one_bond_site drawn.now.graph.now drawn.now.positions.now a edge.now)) }
 {
     let b = edge.other_end(a);
-    if is_bond_unit(graph, positions, a, b, edge, reached)? {
+    if is_bond_unit(drawn.graph, drawn.positions, a, b, edge, reached)? {
         let unit = [a, b];
         let site = Site::Bond {
             a,
             b,
-            first: end_ligands(alloc, graph, &unit, a),
-            second: end_ligands(alloc, graph, &unit, b),
+            first: end_ligands(alloc, drawn.graph, &unit, a),
+            second: end_ligands(alloc, drawn.graph, &unit, b),
         };
-        push_unit(alloc, molecule, site, units)?;
+        push_unit(alloc, drawn.molecule, site, units)?;
     }
     Ok(())
 }
