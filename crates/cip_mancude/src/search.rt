@@ -26,15 +26,12 @@ pub fn closes_ring(
     if !can_close(alternation, vertex, next, other) {
         return Ok(false);
     }
-    finds_ring(
-        alloc,
-        alternation,
-        vertex,
-        next,
-        other,
-        MOST_DOUBLES,
-        reached,
-    )
+    // Each way meets the atom with which it begins.
+    let aim = Aim {
+        target: other,
+        third: vertex,
+    };
+    finds_ring(alloc, alternation, aim, next, MOST_DOUBLES, reached)
 }
 
 // Whether a single bond joins two atoms that alternate, as the partner of the one does.
@@ -53,27 +50,21 @@ fn can_close(alternation: &Alternation, vertex: u32, next: u32, other: u32) -> b
 fn finds_ring(
     alloc: Global,
     alternation: &Alternation,
-    vertex: u32,
+    aim: Aim,
     next: u32,
-    target: u32,
     most: u32,
     reached: &mut VertexSet,
 ) -> Result<bool, AllocError>
     requires { most ≤ 11 }
-    ensures { IfOk result (λ found. found ≡ reaches alternation.now target most (next ∷ vertex ∷ []) next) }
+    ensures { IfOk result (λ found. found ≡ reaches alternation.now aim.target most (next ∷ aim.third ∷ []) next) }
 {
     let mut path = Path::new(alloc);
-    path.push(vertex);
+    path.push(aim.third);
     path.push(next);
-    // Each way meets the atom with which it begins.
-    let aim = Aim {
-        target,
-        third: vertex,
-    };
     if reaches_soon(alternation, aim, most, &mut path, next) {
         return Ok(true);
     }
-    let walks = has_walk(alternation, target, most, next, reached)?;
+    let walks = has_walk(alternation, aim.target, most, next, reached)?;
     if !walks {
         return Ok(false);
     }

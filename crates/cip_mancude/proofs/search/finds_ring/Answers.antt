@@ -6,18 +6,18 @@ use Rattle.cip_mancude.proofs.search.finds_ring.Goals as goal
 pub returns-then-reaches_soon : goal.returns-then-reaches_soon
 returns-then-reaches_soon c =
     sym (c.reaches_soon.ensures.found c.if-reaches_soon.true)
-    ∙ begun_with c.args.alternation.now c.args.vertex c.args.next c.args.target c.args.most _
+    ∙ begun_with c.args.alternation.now c.args.aim.third c.args.next c.args.aim.target c.args.most _
     (c.push-2.ensures
-    ∙ ap (λ path. c.args.next ∷ path) (c.push.ensures ∙ ap (λ path. c.args.vertex ∷ path) c.new-path.ensures))
+    ∙ ap (λ path. c.args.next ∷ path) (c.push.ensures ∙ ap (λ path. c.args.aim.third ∷ path) c.new-path.ensures))
 
 pub returns-then-not-walks : goal.returns-then-not-walks
 returns-then-not-walks c =
-    no_ring c.args.alternation.now c.args.target c.args.most (c.args.next ∷ c.args.vertex ∷ []) c.args.next
+    no_ring c.args.alternation.now c.args.aim.target c.args.most (c.args.next ∷ c.args.aim.third ∷ []) c.args.next
     (sym c.in_ok-walks.ensures ∙ c.if-not-walks.true)
 
 pub returns : goal.returns
 returns c =
     c.reaches_by.ensures.value
-    ∙ begun_with c.args.alternation.now c.args.vertex c.args.next c.args.target c.args.most _
+    ∙ begun_with c.args.alternation.now c.args.aim.third c.args.next c.args.aim.target c.args.most _
     (c.reaches_soon.ensures.path ∙ c.push-2.ensures
-    ∙ ap (λ path. c.args.next ∷ path) (c.push.ensures ∙ ap (λ path. c.args.vertex ∷ path) c.new-path.ensures))
+    ∙ ap (λ path. c.args.next ∷ path) (c.push.ensures ∙ ap (λ path. c.args.aim.third ∷ path) c.new-path.ensures))
