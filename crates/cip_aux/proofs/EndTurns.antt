@@ -7,15 +7,15 @@ use Rattle.cip_digraph.specs.rules.Auxiliary.{nearer_first, root_at, roots_at}
 use Rattle.cip_digraph.specs.units.Ends.{end_at}
 use Rattle.cip_digraph.specs.digraph.NodeList.{parents_of}
 use Rattle.cip_digraph.specs.digraph.Telling.{node_at}
-use Rattle.cip_aux.specs.declared.turns.Turns.{Turns}
+use Rattle.cip_letters.specs.declared.turns.Turns.{Turns}
 use Rattle.cip_aux.specs.Inner.{Inner, Ready}
 use Rattle.cip_aux.specs.Marking.{AreRootTurns, AreEndTurns}
 use Rattle.cip_aux.specs.Neighbours.{shape_at}
-use Rattle.cip_aux.specs.Turned.{listed, Joins, far_number, both_turns, roots_turns}
-use Rattle.cip_aux.specs.TurnsOf.{root_turns}
+use Rattle.cip_letters.specs.TurnsOf.{both_turns, root_turns, roots_turns}
+use Rattle.cip_aux.specs.Joining.{listed, Joins, far_number}
 use Rattle.cip_aux.specs.Sights.{path_at}
 use Rattle.cip_aux.proofs.FarEnds.{IsFar, far_found, far_none, far_same}
-use Rattle.cip_aux.proofs.LettersTurn.{both_are, none_are}
+use Rattle.cip_aux.proofs.RootsAt.{both_are, none_are}
 
 module _ (inner : Inner) (node : ℕ) (r : Ready inner node) (between : Option ℕ) (far : ℕ) where
   far_is : (c : ℕ) → Some c ≡ far_number (shape_at inner.sight.told) (parents_of inner.sight.told) node between far

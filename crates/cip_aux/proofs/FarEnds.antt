@@ -14,10 +14,11 @@ use Rattle.cip_digraph.specs.digraph.NodeList.{told_at, parents_of}
 use Rattle.cip_digraph.specs.digraph.Telling.{node_at}
 use Rattle.cip_digraph.specs.digraph.View.{real_at}
 use Rattle.cip_aux.specs.Neighbours.{first_where, is_real_of, real_child, shape_at}
-use Rattle.cip_aux.specs.Turned.{listed, Joins, next_child, far_number}
+use Rattle.cip_aux.specs.Joining.{listed, Joins, next_child, far_number}
 use Rattle.cip_aux.specs.Sights.{Sight, Shows, SidesAre, path_at, IsReal}
 use Rattle.cip_aux.proofs.Paths.{hangs, path_is, real_is, some_path, within_parents}
-use Rattle.cip_aux.proofs.RootTurns.{any_mapped, first_same, children_within}
+use Rattle.cip_letters.proofs.PairTurns.{any_mapped}
+use Rattle.cip_aux.proofs.RootTurns.{first_same, children_within}
 
 first_found : (test : ℕ → Bool) (P : ℕ → Type 0) (ns : List ℕ) (n : ℕ) → AllByRecursion P ns
     → first_where test ns ≡ Some n → P n × (test n ≡ true)

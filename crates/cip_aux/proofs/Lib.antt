@@ -2,14 +2,12 @@ pub mod EndTurns
 pub mod FarEnds
 pub mod FirstLetters
 pub mod FoundFirst
-pub mod LettersTurn
 pub mod NodeMarks
-pub mod OddTurns
 pub mod Paths
-pub mod RanksTurn
 pub mod ReadyNodes
 pub mod RootTurns
 pub mod RootView
+pub mod RootsAt
 pub mod Rows
 pub mod SitesJoin
 pub mod Subtrees

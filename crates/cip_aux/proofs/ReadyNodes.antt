@@ -13,9 +13,9 @@ use Rattle.cip_aux.specs.Early.{AreEarly}
 use Rattle.cip_aux.specs.Inner.{Inner, AgreesInside, Ready}
 use Rattle.cip_aux.specs.Marking.{AreRootTurns}
 use Rattle.cip_aux.specs.Neighbours.{ligand_number, neighbours_of, shape_at}
-use Rattle.cip_aux.specs.Sides.{pair_sides}
+use Rattle.cip_letters.specs.Sides.{pair_sides}
 use Rattle.cip_aux.specs.Sights.{seen_sides}
-use Rattle.cip_aux.specs.TurnsOf.{turns_of}
+use Rattle.cip_letters.specs.TurnsOf.{turns_of}
 use Rattle.cip_aux.proofs.FoundFirst.{first_among}
 use Rattle.cip_aux.proofs.Paths.{within_told}
 use Rattle.cip_aux.proofs.RootTurns.{root_is}

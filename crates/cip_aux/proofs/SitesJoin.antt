@@ -18,7 +18,7 @@ use Rattle.cip_digraph.proofs.Lists.{all_by, all_append, all_flat, all_filtered,
 use Rattle.cip_digraph.proofs.NeighbourOrder.{sorted_all}
 use Rattle.cip_aux.specs.Marking.{UnitsJoin}
 use Rattle.cip_aux.specs.Sights.{Sight}
-use Rattle.cip_aux.specs.Turned.{EndsJoin}
+use Rattle.cip_aux.specs.Joining.{EndsJoin}
 
 -- a test that an element passes is passed by one of the list
 abbrev Shows : {X : Type 0} → List X → X → Type 0

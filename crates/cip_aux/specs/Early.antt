@@ -4,7 +4,7 @@ use Rattle.std.specs.declared.option.Option.{Option}
 use Rattle.std.specs.declared.cmp.Ordering.{Ordering}
 use Rattle.cip_mol.specs.declared.descriptor.Descriptor.{Descriptor}
 use Rattle.cip_aux.specs.Inner.{Inner, AgreesInside}
-use Rattle.cip_aux.specs.Sides.{pair_sides}
+use Rattle.cip_letters.specs.Sides.{pair_sides}
 use Rattle.cip_aux.specs.Sights.{seen_sides}
 
 -- the sides of each two ligands with R and with S first in the last rule, whichever descriptors agree with those inside

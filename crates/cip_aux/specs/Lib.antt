@@ -1,10 +1,7 @@
 pub mod Early
-pub mod Falls
 pub mod Inner
+pub mod Joining
 pub mod Marking
 pub mod Neighbours
-pub mod Sides
 pub mod Sights
-pub mod Turned
-pub mod TurnsOf
 pub mod UnitsAt

@@ -10,11 +10,11 @@ use Rattle.cip_digraph.specs.digraph.Telling.{node_at}
 use Rattle.cip_digraph.specs.rules.Auxiliary.{root_at, roots_at, unit_letter, first_letter, auxiliary}
 use Rattle.cip_digraph.specs.units.Ends.{End}
 use Rattle.cip_views.specs.Below.{is_below}
-use Rattle.cip_aux.specs.declared.turns.Turns.{Turns}
+use Rattle.cip_letters.specs.declared.turns.Turns.{Turns}
+use Rattle.cip_letters.specs.TurnsOf.{root_turns, roots_turns}
 use Rattle.cip_aux.specs.Inner.{Inner, AgreesInside, mark_at}
+use Rattle.cip_aux.specs.Joining.{EndsJoin}
 use Rattle.cip_aux.specs.Sights.{Sight, path_at}
-use Rattle.cip_aux.specs.Turned.{roots_turns, EndsJoin}
-use Rattle.cip_aux.specs.TurnsOf.{root_turns}
 
 module _ (inner : Inner) (node : ℕ) where
   -- the turns of these ligands at the node, whichever descriptors agree with those inside

@@ -1,19 +1,19 @@
 // The turns of a unit's ends, seen from a node.
-ghost use Rattle.std.specs.Prelude.{◌≡◌, ◌<◌, ◌≤◌, ℕ, [], ◌∷◌, length, Some, IfOk};
+ghost use Rattle.std.specs.Prelude.{◌≡◌, ◌<◌, ◌≤◌, [], ◌∷◌, length, IfOk};
 ghost use Rattle.cip_digraph.specs.digraph.NodeList.{parents_of};
 ghost use Rattle.cip_digraph.specs.digraph.Telling.{node_at};
 ghost use Rattle.cip_digraph.specs.rules.Auxiliary.{nearer_first};
 ghost use Rattle.cip_digraph.specs.units.Ends.{end_at, ends_of, between_of};
 ghost use Rattle.cip_aux.specs.Inner.{Ready};
+ghost use Rattle.cip_aux.specs.Joining.{listed, Joins, EndsJoin, far_number};
 ghost use Rattle.cip_aux.specs.Marking.{AreRootTurns, AreEndTurns};
 ghost use Rattle.cip_aux.specs.Neighbours.{shape_at};
-ghost use Rattle.cip_aux.specs.Turned.{both_turns, listed, Joins, EndsJoin, far_number};
 
 use crate::inner::Inner;
 use crate::neighbours::{ligands_at, real_child};
-use crate::turns::{Turns, turns_from};
 use crate::viewer::Viewer;
 use cip_digraph::Nodes;
+use cip_letters::{Turns, both, turns_from};
 use cip_mol::{Ligands, Site};
 use std::alloc::{AllocError, Global};
 
@@ -35,16 +35,6 @@ fn turns_at<N: Nodes, V: Viewer>(
     Ok(turns_from(&sides))
 }
 
-fn both(one: Turns, other: Option<Turns>) -> Option<Turns>
-    ensures { result ≡ both_turns (Some one) other }
-{
-    let other = other?;
-    Some(Turns {
-        natural: one.natural != other.natural,
-        turned: one.turned != other.turned,
-    })
-}
-
 // The node of a unit's other end, where the rest of the unit follows below a node.
 fn far_end<N: Nodes>(nodes: &N, node: u32, between: Option<u32>, far: u32) -> Option<u32>
     requires { node < length (N.nodes nodes.now) }
@@ -59,34 +49,6 @@ fn far_end<N: Nodes>(nodes: &N, node: u32, between: Option<u32>, far: u32) -> Op
     }
 }
 
-// The turns of both ends, the nearer of which stands at the node whose descriptors count.
-fn ends_turns<N: Nodes, V: Viewer>(
-    alloc: Global,
-    inner: &Inner<'_, N>,
-    viewer: &mut V,
-    near: &Ligands,
-    between: Option<u32>,
-    far: u32,
-    others: &Ligands,
-) -> Result<Option<Turns>, AllocError>
-    requires ready { Ready inner.now inner.now.from }
-    requires joins { Joins inner.now.sight.graph (node_at inner.now.sight.nodes inner.now.from).vertex between far }
-    requires room { length inner.now.sight.told ≤ V.room viewer.old }
-    ensures room { V.room viewer.new ≡ V.room viewer.old }
-    ensures turns { IfOk result (λ turns. (at : ℕ) → AreEndTurns inner.now inner.now.from (listed between)
-        (end_at at near.now ∷ end_at far others.now ∷ []) turns) }
-{
-    let node = inner.from();
-    let Some(other) = far_end(inner.whole().nodes(), node, between, far) else {
-        return Ok(None);
-    };
-    let Some(one) = turns_at(alloc, inner, viewer, node, near)? else {
-        return Ok(None);
-    };
-    let two = turns_at(alloc, inner, viewer, other, others)?;
-    Ok(both(one, two))
-}
-
 // A unit with two ends, and what lies between them.
 #[derive(Clone, Copy)]
 struct TwoEnds<'a> {
@@ -95,6 +57,55 @@ struct TwoEnds<'a> {
     between: Option<u32>,
     b: u32,
     second: &'a Ligands,
+}
+
+impl<'a> TwoEnds<'a> {
+    // The same from its other end.
+    fn reversed(&self) -> TwoEnds<'a>
+        ensures { result ≡ record {
+          a = self.now.b;
+          first = self.now.second;
+          between = self.now.between;
+          b = self.now.a;
+          second = self.now.first;
+        } }
+    {
+        TwoEnds {
+            a: self.b,
+            first: self.second,
+            between: self.between,
+            b: self.a,
+            second: self.first,
+        }
+    }
+}
+
+// The turns of both ends, the first of which stands at the node whose descriptors count.
+fn ends_turns<N: Nodes, V: Viewer>(
+    alloc: Global,
+    inner: &Inner<'_, N>,
+    viewer: &mut V,
+    unit: &TwoEnds<'_>,
+) -> Result<Option<Turns>, AllocError>
+    requires ready { Ready inner.now inner.now.from }
+    requires joins { Joins inner.now.sight.graph (node_at inner.now.sight.nodes inner.now.from).vertex
+        unit.now.between unit.now.b }
+    requires room { length inner.now.sight.told ≤ V.room viewer.old }
+    ensures room { V.room viewer.new ≡ V.room viewer.old }
+    ensures turns { IfOk result (AreEndTurns inner.now inner.now.from (listed unit.now.between)
+        (end_at unit.now.a unit.now.first.now ∷ end_at unit.now.b unit.now.second.now ∷ [])) }
+{
+    let node = inner.from();
+    let Some(other) = far_end(inner.whole().nodes(), node, unit.between, unit.b) else {
+        return Ok(None);
+    };
+    let Some(one) = turns_at(alloc, inner, viewer, node, unit.first)? else {
+        return Ok(None);
+    };
+    let Some(two) = turns_at(alloc, inner, viewer, other, unit.second)? else {
+        return Ok(None);
+    };
+    Ok(Some(both(one, two)))
 }
 
 // The turns of a unit with two ends, where a vertex is one of them: that end is the nearer one.
@@ -115,25 +126,9 @@ fn two_ends<N: Nodes, V: Viewer>(
         (end_at unit.now.a unit.now.first.now ∷ end_at unit.now.b unit.now.second.now ∷ []))) }
 {
     if unit.a == vertex {
-        ends_turns(
-            alloc,
-            inner,
-            viewer,
-            unit.first,
-            unit.between,
-            unit.b,
-            unit.second,
-        )
+        ends_turns(alloc, inner, viewer, unit)
     } else if unit.b == vertex {
-        ends_turns(
-            alloc,
-            inner,
-            viewer,
-            unit.second,
-            unit.between,
-            unit.a,
-            unit.first,
-        )
+        ends_turns(alloc, inner, viewer, &unit.reversed())
     } else {
         Ok(None)
     }

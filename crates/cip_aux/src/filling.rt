@@ -54,12 +54,21 @@ fn mark_of<N: Nodes, V: Viewer>(
     first_letter(alloc, inner, viewer, vertex, units)
 }
 
-fn is_wanted(wanted: &[bool], node: u32) -> bool
-    ensures { result ≡ flag_at wanted.now node }
-{
-    match wanted.get(node as usize) {
-        Some(flag) => *flag,
-        None => false,
+// The units of a record, and at which nodes their descriptors are wanted.
+#[derive(Clone, Copy)]
+struct Wanted<'a> {
+    units: &'a UnitsAt<'a>,
+    flags: &'a [bool],
+}
+
+impl<'a> Wanted<'a> {
+    fn is_at(&self, node: u32) -> bool
+        ensures { result ≡ flag_at self.now.flags.now node }
+    {
+        match self.flags.get(node as usize) {
+            Some(flag) => *flag,
+            None => false,
+        }
     }
 }
 
@@ -69,25 +78,25 @@ fn wanted_mark<N: Nodes, V: Viewer>(
     whole: &Whole<'_, N>,
     viewer: &mut V,
     node: u32,
-    units: &UnitsAt<'_>,
-    wanted: &[bool],
+    wanted: &Wanted<'_>,
     marks: &Descriptors,
 ) -> Result<Option<Descriptor>, AllocError>
     requires shows { Shows (sight_of whole.now) }
     requires within { node < length (sight_of whole.now).nodes }
-    requires joined { UnitsJoin (sight_of whole.now) units.now }
-    requires wanted { AreWanted (parents_of whole.now.told) wanted.now }
-    requires behind { AreMarked (sight_of whole.now) units.now wanted.now (node + 1) marks.now.marks }
+    requires joined { UnitsJoin (sight_of whole.now) wanted.now.units.now }
+    requires wanted { AreWanted (parents_of whole.now.told) wanted.now.flags.now }
+    requires behind { AreMarked (sight_of whole.now) wanted.now.units.now wanted.now.flags.now (node + 1)
+        marks.now.marks }
     requires room { length whole.now.told ≤ V.room viewer.old }
     ensures room { V.room viewer.new ≡ V.room viewer.old }
-    ensures mark { IfOk result (λ mark. mark ≡ cond (flag_at wanted.now node)
-        (node_mark (sight_of whole.now) units.now (node_at (sight_of whole.now).nodes node)) None) }
+    ensures mark { IfOk result (λ mark. mark ≡ cond (flag_at wanted.now.flags.now node)
+        (node_mark (sight_of whole.now) wanted.now.units.now (node_at (sight_of whole.now).nodes node)) None) }
 {
-    if !is_wanted(wanted, node) {
+    if !wanted.is_at(node) {
         return Ok(None);
     }
     let inner = Inner::new(whole, node, marks);
-    mark_of(alloc, &inner, viewer, units)
+    mark_of(alloc, &inner, viewer, wanted.units)
 }
 
 // No descriptor at each of so many nodes.
@@ -121,9 +130,13 @@ pub fn auxiliaries<N: Nodes, V: Viewer>(
 {
     let count = whole.nodes().table().len();
     clear(marks, count);
+    let wanted = Wanted {
+        units,
+        flags: wanted,
+    };
     for done in 0..count {
         let node = count - 1 - done;
-        let mark = wanted_mark(alloc, whole, viewer, node, units, wanted, marks)?;
+        let mark = wanted_mark(alloc, whole, viewer, node, &wanted, marks)?;
         marks.set(node, mark);
     }
     Ok(())

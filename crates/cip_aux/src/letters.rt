@@ -3,14 +3,14 @@ ghost use Rattle.std.specs.Prelude.{◌≡◌, ◌≤◌, IfOk, length};
 ghost use Rattle.cip_digraph.specs.digraph.Telling.{node_at};
 ghost use Rattle.cip_aux.specs.Inner.{Ready};
 ghost use Rattle.cip_aux.specs.Marking.{IsUnitLetter, IsFirstLetter, UnitsJoin};
-ghost use Rattle.cip_aux.specs.Turned.{EndsJoin};
+ghost use Rattle.cip_aux.specs.Joining.{EndsJoin};
 
 use crate::ends::site_turns;
 use crate::inner::Inner;
-use crate::naming::named;
 use crate::units_at::UnitsAt;
 use crate::viewer::Viewer;
 use cip_digraph::Nodes;
+use cip_letters::named;
 use cip_mol::{Descriptor, Geometry, Unit};
 use std::alloc::{AllocError, Global};
 

@@ -7,19 +7,8 @@ ghost use Rattle.cip_aux.specs.Neighbours.{neighbours_of};
 
 use crate::inner::Inner;
 use cip_digraph::Nodes;
-use smallvec::SmallVec;
+use cip_letters::BothSides;
 use std::alloc::{AllocError, Global};
-use std::cmp::Ordering;
-
-/// How many pairs four ligands have. Those of more take memory.
-pub const MOST_PAIRS: usize = 6;
-
-/// Which of each two ligands precedes, with R and with S first in the last rule.
-#[derive(Drop)]
-pub struct BothSides {
-    pub natural: SmallVec<Option<Ordering>, MOST_PAIRS>,
-    pub turned: SmallVec<Option<Ordering>, MOST_PAIRS>,
-}
 
 /// What looks at whole digraphs from their nodes, and says which of two ligands precedes.
 pub trait Viewer {

@@ -15,7 +15,7 @@ use Rattle.cip_ligands.proofs.RulesGoOn.{order_told}
 use Rattle.cip_aux.specs.Early.{AreEarly}
 use Rattle.cip_aux.specs.Inner.{Inner, AgreesInside}
 use Rattle.cip_aux.specs.Neighbours.{neighbours_of}
-use Rattle.cip_aux.specs.Sides.{pair_sides}
+use Rattle.cip_letters.specs.Sides.{pair_sides}
 use Rattle.cip_aux.specs.Sights.{Sight, seen_sides}
 use Rattle.cip_inside.specs.Asking.{asked_pairs, side_at}
 use Rattle.cip_inside.specs.Near.{AreConstituted, AreOrdered, asked_tops, seen_at, top_node}

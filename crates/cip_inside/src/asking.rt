@@ -3,8 +3,8 @@ ghost use Rattle.std.specs.Prelude.{◌≡◌, ◌++◌, IfOk, OnOk, Some, None,
 ghost use Rattle.cip_inside.specs.Asking.{asked_between, known, asked_of, asked_pairs, branch_at, side_at};
 
 use crate::near::Near;
-use cip_aux::{BothSides, MOST_PAIRS};
 use cip_digraph::Decision;
+use cip_letters::{BothSides, MOST_PAIRS};
 use cip_ligands::Asked;
 use cip_mol::Rule;
 use smallvec::SmallVec;

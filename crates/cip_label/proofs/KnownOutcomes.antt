@@ -47,10 +47,13 @@ use Rattle.cip_digraph.specs.units.Ranked.{
   side_of,
   turned_ranks,
 }
+use Rattle.cip_letters.specs.declared.turns.Turns.{Turns}
+use Rattle.cip_letters.specs.TurnsOf.{places_turns, together}
+use Rattle.cip_letters.proofs.LettersTurn.{letter_of_both}
 use Rattle.cip_label.specs.declared.roots.Ranked.{Ranked}
 use Rattle.cip_label.specs.declared.roots.Ranked.TheVariants as rankeds
 use Rattle.cip_label.specs.Settings.{Setting, cost_in, known_in, root_in}
-use Rattle.cip_label.specs.Labelling.{FitTogether, is_over, ranked_root, labelled, in_order, of_one, of_two}
+use Rattle.cip_label.specs.Labelling.{FitTogether, is_over, ranked_root, labelled, of_one, of_two}
 use Rattle.cip_label.proofs.LastReason.{last_of_two, later_of}
 
 abbrev with_label : Bool → Bool → Outcome → Outcome
@@ -71,8 +74,8 @@ one_by site sense ordered label same false true = refl
 one_by site sense ordered label same false false = same
 
 two_by : (site : Site) (sense : Sense) (p p-turned q q-turned : List ℕ) (one other : Reason) (label : Outcome) →
-    labelled site (in_order p (in_order q sense)) (in_order p-turned (in_order q-turned sense)) (later_of one other)
-    (p ++ q) ≡ label →
+    labelled site sense (together (places_turns p p-turned) (places_turns q q-turned)) (later_of one other) (p ++ q)
+    ≡ label →
     (over tie more_over more_tie : Bool) →
     of_two site sense (with_ranks over tie (rankeds.Ordered p p-turned one.rule one.sphere))
     (with_ranks more_over more_tie (rankeds.Ordered q q-turned other.rule other.sphere))
@@ -103,13 +106,15 @@ module _ (setting : Setting) (bound : ℕ) (site : Site) (sense : Sense) where
   abbrev needed : End → Reason
   needed end = reason_needed (root end ∷ [])
 
+  abbrev turns : End → Turns
+  turns end = places_turns (ranks (root end)) (turned_ranks (root end))
+
   one_end : (end : End) → of_one site sense (ranked_root setting bound end) ≡ by_ends (end ∷ [])
   one_end end =
       one_by site sense (rankeds.Ordered (ranks (root end)) (turned_ranks (root end)) (needed end).rule
       (needed end).sphere) (outcomes.Label (label_of setting.rules setting.graph setting.positions setting.units site
       sense (root end ∷ [])))
-      (ap (λ order. labelled site (in_order (ranks (root end)) sense) (in_order (turned_ranks (root end)) sense)
-      (needed end) order) (sym (append-nil (ranks (root end)))))
+      (ap (labelled site sense (turns end) (needed end)) (sym (append-nil (ranks (root end)))))
       (is_larger end) (has_tie (root end))
 
   needed_of_two : (one other : End) → later_of (needed one) (needed other) ≡ reason_needed (root one ∷ root other ∷ [])
@@ -124,9 +129,12 @@ module _ (setting : Setting) (bound : ℕ) (site : Site) (sense : Sense) where
       (needed one) (needed other)
       (outcomes.Label (label_of setting.rules setting.graph setting.positions setting.units site sense
       (root one ∷ root other ∷ [])))
-      (λ k. labelled site (in_order (ranks (root one)) (in_order (ranks (root other)) sense))
-      (in_order (turned_ranks (root one)) (in_order (turned_ranks (root other)) sense))
-      (needed_of_two one other k) (ranks (root one) ++ sym (append-nil (ranks (root other))) k))
+      (λ k. outcomes.Label (record {
+        letter = sym (letter_of_both site sense (turns one) (turns other)) k;
+        rule = (needed_of_two one other k).rule;
+        sphere = (needed_of_two one other k).sphere;
+        order = ranks (root one) ++ sym (append-nil (ranks (root other))) k;
+      }))
       (is_larger one) (has_tie (root one)) (is_larger other) (has_tie (root other))
 
   pub known_by_one : (end : End) → ends_of site ≡ end ∷ [] →

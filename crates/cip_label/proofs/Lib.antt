@@ -1,4 +1,3 @@
-pub mod Odd
 pub mod PlaceLists
 pub mod LastReason
 pub mod KnownOutcomes

@@ -61,6 +61,7 @@ use Rattle.cip_digraph.specs.units.Ranked.{
 }
 use Rattle.cip_digraph.specs.graph.SoundGraphs.{IsSound}
 use Rattle.cip_digraph.specs.digraph.View.{real_at, view_children}
+use Rattle.cip_letters.proofs.PairTurns.{pairs_mapped}
 use Rattle.cip_label.specs.declared.roots.Ranked.{Ranked}
 use Rattle.cip_label.specs.declared.roots.Ranked.TheVariants as rankeds
 use Rattle.cip_label.specs.Fitting.{IsFit, IsNeighbour}
@@ -84,18 +85,6 @@ entry_at f (ligand ∷ ligands) (suc i) = entry_at f ligands i
 
 pub All-at : {X : Type 0} (P : X → Type 0) (xs : List X) (i : ℕ) (x : X) → slice_get xs i ≡ Some x → All P xs → P x
 All-at P xs i x e all = subst P (get_or_from_slice_get xs i x x e) (all i x (slice_get_within xs i x e))
-
-any_mapped : {X : Type 0} (test : X → Bool) (f : Ligand → X) (ligands : List Ligand) →
-    list_any test (map f ligands) ≡ list_any (λ l. test (f l)) ligands
-any_mapped test f [] = refl
-any_mapped test f (ligand ∷ ligands) = ap (λ b. test (f ligand) || b) (any_mapped test f ligands)
-
-pairs_mapped : {X : Type 0} (test : X → X → Bool) (f : Ligand → X) (ligands : List Ligand) →
-    some_pair test (map f ligands) ≡ some_pair (λ a b. test (f a) (f b)) ligands
-pairs_mapped test f [] = refl
-pairs_mapped test f (ligand ∷ ligands) =
-    ap (λ b. b || some_pair test (map f ligands)) (any_mapped (test (f ligand)) f ligands)
-    ∙ ap (λ b. list_any (λ l. test (f ligand) (f l)) ligands || b) (pairs_mapped test f ligands)
 
 any_same : (one other : Ligand → Bool) (ligands : List Ligand) →
     ((i : ℕ) (a : Ligand) → slice_get ligands i ≡ Some a → one a ≡ other a) →
@@ -188,11 +177,11 @@ module _ (graph : Graph) (positions : List (List ℕ)) (root : ℕ) (ligands : L
 
   tie_same : has_tie (root_of standing ligands) ≡ has_tie there
   tie_same =
-      pairs_mapped (λ a b. is_tie (ligand_order (standing true) a b)) branch ligands
+      pairs_mapped branch (λ a b. is_tie (ligand_order (standing true) a b)) ligands
       ∙ pairs_same (λ a b. is_tie (ligand_order (standing true) (branch a) (branch b)))
       (λ a b. is_tie (ligand_order (by_rules true) (node a) (node b))) ligands
       (λ i j a b e f. ap is_tie (pair_same true i j a b e f))
-      ∙ sym (pairs_mapped (λ a b. is_tie (ligand_order (by_rules true) a b)) node ligands)
+      ∙ sym (pairs_mapped node (λ a b. is_tie (ligand_order (by_rules true) a b)) ligands)
 
   counted : length (map branch ligands) ≡ length (map node ligands)
   counted = length-map ligands branch ∙ sym (length-map ligands node)

@@ -5,11 +5,13 @@ use Rattle.cip_mol.specs.declared.descriptor.Sense.{Sense}
 use Rattle.cip_mol.specs.declared.outcome.Outcome.{Outcome}
 use Rattle.cip_mol.specs.declared.outcome.Outcome.TheVariants as outcomes
 use Rattle.cip_mol.specs.declared.site.Site.{Site}
-use Rattle.cip_mol.specs.FlatCentres.{inversions}
-use Rattle.cip_digraph.specs.units.Descriptors.{is_odd, letter_by, reason_needed, turned_if}
+use Rattle.cip_digraph.specs.units.Descriptors.{reason_needed}
 use Rattle.cip_digraph.specs.units.Ends.{End}
 use Rattle.cip_digraph.specs.units.Ranked as digraphs
 use Rattle.cip_digraph.specs.units.Ranked.{Root, has_tie, later_reason, ranks, turned_ranks}
+use Rattle.cip_letters.specs.declared.turns.Turns.{Turns}
+use Rattle.cip_letters.specs.Lettered.{letter_in}
+use Rattle.cip_letters.specs.TurnsOf.{places_turns, together}
 use Rattle.cip_label.specs.declared.reasons.Reason.{Reason}
 use Rattle.cip_label.specs.declared.roots.Ranked.{Ranked}
 use Rattle.cip_label.specs.declared.roots.Ranked.TheVariants.{Ordered, Tie, Over}
@@ -31,14 +33,10 @@ ranked_root setting bound end =
     let within = ranked_by (root_in setting end) in
     elim (nat_lt bound (cost_in setting end)) as (λ _. Ranked) [ true ↦ Over | false ↦ within ]
 
--- the sense with the ligands of one end, or of both, in an order
-abbrev pub in_order : List ℕ → Sense → Sense
-in_order places sense = turned_if (is_odd (inversions places)) sense
-
-abbrev pub labelled : Site → Sense → Sense → digraphs.Reason → List ℕ → Outcome
-labelled site sense turned reason order =
+abbrev pub labelled : Site → Sense → Turns → digraphs.Reason → List ℕ → Outcome
+labelled site sense turns reason order =
     outcomes.Label (record {
-      letter = letter_by site sense turned;
+      letter = letter_in site sense turns;
       rule = reason.rule;
       sphere = reason.sphere;
       order = order;
@@ -48,7 +46,7 @@ abbrev pub of_one : Site → Sense → Ranked → Outcome
 of_one site sense Over = outcomes.Over
 of_one site sense Tie = outcomes.Tie
 of_one site sense (Ordered places turned rule sphere) =
-    labelled site (in_order places sense) (in_order turned sense) (record { rule = rule; sphere = sphere }) places
+    labelled site sense (places_turns places turned) (record { rule = rule; sphere = sphere }) places
 
 abbrev pub of_two : Site → Sense → Ranked → Ranked → Outcome
 of_two site sense Over other = outcomes.Over
@@ -60,8 +58,7 @@ of_two site sense (Ordered places turned rule sphere) Tie = outcomes.Tie
 of_two site sense (Ordered places turned rule sphere) (Ordered more more_turned other_rule other_sphere) =
     let first : digraphs.Reason = record { rule = rule; sphere = sphere } in
     let last = later_reason first (Some (record { side = Equal; rule = other_rule; sphere = other_sphere })) in
-    labelled site (in_order places (in_order more sense)) (in_order turned (in_order more_turned sense)) last
-    (places ++ more)
+    labelled site sense (together (places_turns places turned) (places_turns more more_turned)) last (places ++ more)
 
 -- the label has room for the places of both ends
 abbrev pub FitTogether : Ranked → Ranked → Type 0

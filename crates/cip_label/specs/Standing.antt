@@ -8,7 +8,8 @@ use Rattle.cip_digraph.specs.declared.decision.Decision.{Decision}
 use Rattle.cip_digraph.specs.digraph.Digraph.{real_node}
 use Rattle.cip_digraph.specs.rules.Decisions.{order}
 use Rattle.cip_digraph.specs.units.Ends.{end_at}
-use Rattle.cip_digraph.specs.units.Ranked.{Root, has_tie, place_order, side_of}
+use Rattle.cip_digraph.specs.units.Ranked.{Root, has_tie, ligand_order, place_order, side_of}
+use Rattle.cip_letters.specs.Sides.{found_side}
 use Rattle.cip_label.specs.declared.digraphs.Ranking.{Ranking}
 use Rattle.cip_label.specs.declared.digraphs.Ranking.TheVariants.{Known, Tied, Over}
 use Rattle.cip_label.specs.Settings.{Setting, seen_in, root_in, cost_in}
@@ -29,6 +30,10 @@ root_of standing ligands = record {
   turned = standing false;
   ligands = map branch ligands;
 }
+
+-- which of two ligands precedes, by all rules
+abbrev pub side_between : Stands → Ligand → Ligand → Option Ordering
+side_between standing one other = found_side (ligand_order (standing true) (branch one) (branch other))
 
 -- two ligands by their places
 abbrev pub compared : Stands → Bool → List Ligand → ℕ → ℕ → Ordering

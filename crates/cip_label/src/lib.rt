@@ -5,7 +5,6 @@ mod digraphs;
 mod labeller;
 mod labels;
 mod laws;
-mod letters;
 mod places;
 mod reasons;
 mod roots;

@@ -10,7 +10,7 @@ use crate::digraphs::{Digraphs, Ranking};
 use crate::places::ranked;
 use crate::reasons::reason_along;
 use crate::setting::Setting;
-use crate::standing::has_tie;
+use crate::standing::some_tie;
 use cip_mol::{Ligands, Places, Rule};
 use cip_steps::Steps;
 use std::alloc::{AllocError, Global};
@@ -51,24 +51,28 @@ pub fn rank_root<D: Digraphs, L: Ledger>(
     match digraphs.rank(alloc, setting, root, ligands, steps)? {
         Ranking::Over => Ok(Ranked::Over),
         Ranking::Tied => Ok(Ranked::Tie),
-        Ranking::Known => Ok(ranked_by(alloc, digraphs, ligands)),
+        Ranking::Known => ranked_by(alloc, digraphs, ligands),
     }
 }
 
 // By how the branches at neighbours of the root stand.
-fn ranked_by<D: Digraphs>(alloc: Global, digraphs: &D, ligands: &Ligands) -> Ranked
-    ensures { result ≡ ranked_by (root_of (D.standing digraphs.now) ligands.now) }
+fn ranked_by<D: Digraphs>(
+    alloc: Global,
+    digraphs: &D,
+    ligands: &Ligands,
+) -> Result<Ranked, AllocError>
+    ensures { IfOk result (λ ranked. ranked ≡ ranked_by (root_of (D.standing digraphs.now) ligands.now)) }
 {
-    if has_tie(digraphs, ligands.as_slice()) {
-        return Ranked::Tie;
+    if some_tie(alloc, digraphs, ligands.as_slice())? {
+        return Ok(Ranked::Tie);
     }
     let places = ranked(alloc, digraphs, ligands, true);
     let turned = ranked(alloc, digraphs, ligands, false);
     let reason = reason_along(digraphs, ligands, &places);
-    Ranked::Ordered {
+    Ok(Ranked::Ordered {
         places,
         turned,
         rule: reason.rule,
         sphere: reason.sphere,
-    }
+    })
 }

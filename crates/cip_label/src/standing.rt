@@ -1,13 +1,16 @@
 // How the ligands of a root stand.
-ghost use Rattle.std.specs.Prelude.{◌≡◌, [], true, map, slice_index_or};
-ghost use Rattle.std.specs.List.{list_any};
+ghost use Rattle.std.specs.Prelude.{◌≡◌, ◌++◌, [], IfOk, OnOk, map, slice_index_or};
 ghost use Rattle.std.specs.Ordering.{is_lt};
-ghost use Rattle.cip_digraph.specs.units.Ranked.{ligand_order, place_order, is_tie, some_pair};
-ghost use Rattle.cip_label.specs.Standing.{branch, compared};
+ghost use Rattle.cip_digraph.specs.units.Ranked.{has_tie, ligand_order, place_order};
+ghost use Rattle.cip_label.specs.Standing.{branch, compared, root_of, side_between};
+ghost use Rattle.cip_letters.specs.Sides.{each_two};
 
 use crate::digraphs::Digraphs;
 use cip_digraph::Decision;
+use cip_letters::{MOST_PAIRS, has_tie};
 use cip_mol::{Ligand, Ligands, Rule};
+use smallvec::SmallVec;
+use std::alloc::{AllocError, Global};
 use std::cmp::Ordering;
 
 /// How two ligands stand; none where they tie. A lone pair is below every branch.
@@ -75,33 +78,51 @@ pub fn is_below<D: Digraphs>(digraphs: &D, ligands: &Ligands, i: u32, j: u32, r_
     }
 }
 
-/// Whether two of the ligands tie by all rules.
-pub fn has_tie<D: Digraphs>(digraphs: &D, ligands: &[Ligand]) -> bool
-    ensures { result ≡ some_pair (λ a b. is_tie (ligand_order (D.standing digraphs.now true) a b))
-        (map branch ligands.now) }
+// Which of two ligands precedes by all rules.
+fn side<D: Digraphs>(digraphs: &D, one: Ligand, other: Ligand) -> Option<Ordering>
+    ensures { result ≡ side_between (D.standing digraphs.now) one other }
 {
-    for (place, one) in ligands.iter().enumerate() {
-        if ties_with(digraphs, *one, &ligands[place + 1..]) {
-            return true;
-        }
-    }
-    false
+    Some(decide(digraphs, one, other, true)?.side)
 }
 
-fn ties_with<D: Digraphs>(digraphs: &D, one: Ligand, others: &[Ligand]) -> bool
-    ensures { result ≡ list_any (λ b. is_tie (ligand_order (D.standing digraphs.now true) (branch one) b))
-        (map branch others.now) }
+fn push_sides<D: Digraphs>(
+    digraphs: &D,
+    one: Ligand,
+    others: &[Ligand],
+    sides: &mut SmallVec<Option<Ordering>, MOST_PAIRS>,
+) -> Result<(), AllocError>
+    ensures { OnOk result (sides.new.items
+        ≡ sides.old.items ++ map (side_between (D.standing digraphs.now) one) others.now) }
 {
     for other in others {
-        if tie(digraphs, one, *other) {
-            return true;
-        }
+        sides.push(side(digraphs, one, *other))?;
     }
-    false
+    Ok(())
 }
 
-fn tie<D: Digraphs>(digraphs: &D, one: Ligand, other: Ligand) -> bool
-    ensures { result ≡ is_tie (ligand_order (D.standing digraphs.now true) (branch one) (branch other)) }
+// Which of each two ligands precedes.
+fn sides<D: Digraphs>(
+    alloc: Global,
+    digraphs: &D,
+    ligands: &[Ligand],
+) -> Result<SmallVec<Option<Ordering>, MOST_PAIRS>, AllocError>
+    ensures { IfOk result (λ sides. sides.items ≡ each_two (side_between (D.standing digraphs.now)) ligands.now) }
 {
-    decide(digraphs, one, other, true).is_none()
+    let mut sides = SmallVec::new(alloc);
+    for (place, one) in ligands.iter().enumerate() {
+        push_sides(digraphs, *one, &ligands[place + 1..], &mut sides)?;
+    }
+    Ok(sides)
+}
+
+/// Whether two of the ligands tie by all rules.
+pub fn some_tie<D: Digraphs>(
+    alloc: Global,
+    digraphs: &D,
+    ligands: &[Ligand],
+) -> Result<bool, AllocError>
+    ensures { IfOk result (λ tie. tie ≡ has_tie (root_of (D.standing digraphs.now) ligands.now)) }
+{
+    let sides = sides(alloc, digraphs, ligands)?;
+    Ok(has_tie(sides.as_slice()))
 }

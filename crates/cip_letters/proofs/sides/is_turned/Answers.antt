@@ -1,7 +1,7 @@
 use Rattle.std.proofs.Common.{rules, ◌∙◌}
-use Rattle.cip_aux.specs.Sides.{is_below}
-use Rattle.cip_aux.proofs.OddTurns.{count_odd}
-use Rattle.cip_aux.proofs.turns.is_turned.Goals as goal
+use Rattle.cip_letters.specs.Sides.{is_below}
+use Rattle.cip_letters.proofs.OddTurns.{count_odd}
+use Rattle.cip_letters.proofs.sides.is_turned.Goals as goal
 
 pub loop-rest-preserved : goal.loop-rest-preserved
 loop-rest-preserved c =

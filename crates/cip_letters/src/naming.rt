@@ -1,7 +1,7 @@
 // The descriptor of a unit from its sense and the turns of its ends.
 ghost use Rattle.std.specs.Prelude.{◌≡◌};
-ghost use Rattle.cip_digraph.specs.units.Descriptors.{turned_if, capital, small, letter_by};
-ghost use Rattle.cip_aux.specs.Turned.{turned_letter};
+ghost use Rattle.cip_digraph.specs.units.Descriptors.{turned_if, capital, small};
+ghost use Rattle.cip_letters.specs.Lettered.{turned_letter, letter_in};
 
 use crate::turns::Turns;
 use cip_mol::{Descriptor, Sense, Site};
@@ -43,9 +43,9 @@ fn small(letter: Descriptor) -> Descriptor
     }
 }
 
-// Small where the last rule, turned, gives the opposite.
-fn letter(site: &Site, sense: Sense, turns: Turns) -> Descriptor
-    ensures { result ≡ letter_by site.now (turned_if turns.natural sense) (turned_if turns.turned sense) }
+/// The descriptor by the turns: small where the last rule, turned, gives the opposite.
+pub fn letter(site: &Site, sense: Sense, turns: Turns) -> Descriptor
+    ensures { result ≡ letter_in site.now sense turns }
 {
     let letter = capital(site, turned(sense, turns.natural));
     if turns.natural == turns.turned {

@@ -1,8 +1,8 @@
 use Rattle.std.proofs.Common.{◌≡◌, length, count_by}
 use Rattle.cip_digraph.specs.units.Descriptors.{is_odd}
-use Rattle.cip_aux.specs.Falls.{differ}
-use Rattle.cip_aux.specs.Sides.{is_below}
-use Rattle.cip_aux.proofs.turns.is_turned.Given as goal
+use Rattle.cip_letters.specs.Falls.{differ}
+use Rattle.cip_letters.specs.Sides.{is_below}
+use Rattle.cip_letters.proofs.sides.is_turned.Given as goal
 
 abbrev pub invariant-loop-rest : goal.invariant-loop-rest
 invariant-loop-rest l = differ l.odd (is_odd (count_by is_below l.rest)) ≡ is_odd (count_by is_below l.sides)

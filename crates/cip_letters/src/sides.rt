@@ -1,21 +1,26 @@
-// How the ranks of a root's ligands turn a sense.
+// How each two ligands of an end stand.
 ghost use Rattle.std.specs.Prelude.{◌≡◌, count_by};
 ghost use Rattle.std.specs.List.{list_any};
 ghost use Rattle.cip_digraph.specs.units.Descriptors.{is_odd};
-ghost use Rattle.cip_aux.specs.Sides.{is_tied, is_below};
-ghost use Rattle.cip_aux.specs.TurnsOf.{turns_of};
+ghost use Rattle.cip_letters.specs.Sides.{is_tied, is_below};
+ghost use Rattle.cip_letters.specs.TurnsOf.{turns_of};
 
-use crate::viewer::BothSides;
+use crate::turns::Turns;
+use smallvec::SmallVec;
 use std::cmp::Ordering;
 
-/// Whether a sense is turned, with R and with S first in the last rule.
-#[derive(Clone, Copy)]
-pub struct Turns {
-    pub natural: bool,
-    pub turned: bool,
+/// How many pairs four ligands have. Those of more take memory.
+pub const MOST_PAIRS: usize = 6;
+
+/// Which of each two ligands precedes, with R and with S first in the last rule.
+#[derive(Drop)]
+pub struct BothSides {
+    pub natural: SmallVec<Option<Ordering>, MOST_PAIRS>,
+    pub turned: SmallVec<Option<Ordering>, MOST_PAIRS>,
 }
 
-fn has_tie(sides: &[Option<Ordering>]) -> bool
+/// Whether some two of the ligands tie.
+pub fn has_tie(sides: &[Option<Ordering>]) -> bool
     ensures { result ≡ list_any is_tied sides.now }
 {
     let mut rest = sides;
@@ -51,7 +56,7 @@ fn is_turned(sides: &[Option<Ordering>]) -> bool
     odd
 }
 
-/// How the sides of each two of a root's ligands turn the sense; none where two of them tie.
+/// How the sides of each two of an end's ligands turn the sense; none where two of them tie.
 pub fn turns_from(sides: &BothSides) -> Option<Turns>
     ensures { result ≡ turns_of sides.now.natural.items sides.now.turned.items }
 {

@@ -1,36 +1,12 @@
--- Letters from the turns of their roots, and where the ends of a unit stand. Own.
+-- Where the ends of a unit stand. Own.
 use Rattle.std.specs.Prelude.{◌≡◌, ◌≢◌, ℕ, true, List, [], ◌∷◌, None, Some}
 use Rattle.std.specs.declared.option.Option.{Option}
-use Rattle.cip_mol.specs.declared.descriptor.Descriptor.{Descriptor}
-use Rattle.cip_mol.specs.declared.descriptor.Sense.{Sense}
 use Rattle.cip_mol.specs.declared.site.Site.{Site}
 use Rattle.cip_mol.specs.declared.site.Site.TheVariants.{Centre, Bond, Axis}
 use Rattle.cip_digraph.specs.rings.Alternating.{is_in}
-use Rattle.cip_digraph.specs.units.Descriptors.{letter_by, turned_if}
 use Rattle.cip_digraph.specs.digraph.Digraph.{Node}
 use Rattle.cip_digraph.specs.graph.Graph.{Graph, neighbours}
-use Rattle.cip_digraph.specs.units.Ranked.{Root}
-use Rattle.cip_aux.specs.declared.turns.Turns.{Turns}
-use Rattle.cip_aux.specs.Falls.{differ}
 use Rattle.cip_aux.specs.Neighbours.{real_child}
-use Rattle.cip_aux.specs.TurnsOf.{root_turns}
-
--- of both ends together
-abbrev pub both_turns : Option Turns → Option Turns → Option Turns
-both_turns None other = None
-both_turns (Some one) None = None
-both_turns (Some one) (Some other) =
-    Some (record { natural = differ one.natural other.natural; turned = differ one.turned other.turned })
-
-abbrev pub roots_turns : {N : Type 0} → List (Root N) → Option Turns
-roots_turns [] = None
-roots_turns (root ∷ []) = root_turns root
-roots_turns (root ∷ other ∷ roots) = both_turns (root_turns root) (root_turns other)
-
-abbrev pub turned_letter : Site → Sense → Option Turns → Option Descriptor
-turned_letter site sense None = None
-turned_letter site sense (Some turns) =
-    Some (letter_by site (turned_if turns.natural sense) (turned_if turns.turned sense))
 
 -- the atom between the ends of an axis
 abbrev pub listed : Option ℕ → List ℕ

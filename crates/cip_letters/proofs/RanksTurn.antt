@@ -17,7 +17,7 @@ use Rattle.cip_rank.specs.Comparison.{insert_down, sorted_down}
 use Rattle.cip_rank.proofs.Descending.{IsDown, all_by, weak, sorted_is_down, insert_all}
 use Rattle.cip_digraph.specs.declared.decision.Decision.{Decision}
 use Rattle.cip_digraph.specs.units.Ranked.{ligand_order, place_order, side_of, ranked_places}
-use Rattle.cip_aux.specs.Falls.{falls}
+use Rattle.cip_letters.specs.Falls.{falls}
 
 not_below : (k n : ℕ) → n < k → nat_lt k n ≡ false
 not_below k n h = grind (arith, nat_tests)

@@ -1,7 +1,7 @@
 use Rattle.std.proofs.Common.{◌≡◌, length}
 use Rattle.std.specs.List.{list_any}
-use Rattle.cip_aux.specs.Sides.{is_tied}
-use Rattle.cip_aux.proofs.turns.has_tie.Given as goal
+use Rattle.cip_letters.specs.Sides.{is_tied}
+use Rattle.cip_letters.proofs.sides.has_tie.Given as goal
 
 abbrev pub invariant-loop-rest : goal.invariant-loop-rest
 invariant-loop-rest l = list_any is_tied l.rest ≡ list_any is_tied l.sides

@@ -4,7 +4,7 @@ use Rattle.std.proofs.lemmas.List.{take_all}
 use Rattle.std.proofs.lemmas.List.Elements.{All-tail}
 use Rattle.cip_num.proofs.Counting.{count_cons}
 use Rattle.cip_digraph.specs.units.Descriptors.{is_odd}
-use Rattle.cip_aux.specs.Falls.{differ}
+use Rattle.cip_letters.specs.Falls.{differ}
 use mathlib.Core.Bool.{beq}
 
 differ_differ : (a b c : Bool) → differ (not (beq a b)) c ≡ differ a (differ b c)

@@ -21,10 +21,13 @@ number_side sides None (Some b) = Some Less
 number_side sides (Some a) None = Some Greater
 number_side sides (Some a) (Some b) = sides a b
 
--- of each two ligands, the first one with each later one, and so on
+-- what is between each two elements, the first one with each later one, and so on
+abbrev pub each_two : {X Y : Type 0} → (X → X → Y) → List X → List Y
+each_two between [] = []
+each_two between (x ∷ xs) = map (between x) xs ++ each_two between xs
+
 abbrev pub pair_sides : (ℕ → ℕ → Option Ordering) → List (Option ℕ) → List (Option Ordering)
-pair_sides sides [] = []
-pair_sides sides (ligand ∷ ligands) = map (number_side sides ligand) ligands ++ pair_sides sides ligands
+pair_sides sides ligands = each_two (number_side sides) ligands
 
 abbrev pub is_tied : Option Ordering → Bool
 is_tied None = true

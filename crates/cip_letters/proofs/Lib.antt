@@ -1,0 +1,5 @@
+pub mod LettersTurn
+pub mod Odd
+pub mod OddTurns
+pub mod PairTurns
+pub mod RanksTurn

@@ -1,0 +1,4 @@
+pub mod Falls
+pub mod Lettered
+pub mod Sides
+pub mod TurnsOf

@@ -1,0 +1,40 @@
+// The turns of ligands that are in rank order.
+ghost use Rattle.std.specs.Prelude.{◌≡◌, ◌≤◌, length};
+ghost use Rattle.cip_mol.specs.FlatCentres.{inversions};
+ghost use Rattle.cip_digraph.specs.units.Descriptors.{is_odd};
+ghost use Rattle.cip_letters.specs.TurnsOf.{places_turns};
+
+use crate::turns::Turns;
+use cip_mol::Places;
+
+/// How the places of an end's ligands in rank order turn the sense, with R and with S first in the last rule.
+pub fn turns_in(places: &Places, turned: &Places) -> Turns
+    ensures { result ≡ places_turns places.now turned.now }
+{
+    Turns {
+        natural: is_odd(inversions(places.as_slice())),
+        turned: is_odd(inversions(turned.as_slice())),
+    }
+}
+
+#[tactic(auto, using(crate::proofs::Odd::odd_is))]
+fn is_odd(number: usize) -> bool
+    ensures { result ≡ is_odd number }
+{
+    number % 2 == 1
+}
+
+// How many pairs of places stand in descending order.
+fn inversions(places: &[u32]) -> usize
+    requires { length places.now ≤ 4 }
+    ensures { result ≡ inversions places.now }
+{
+    let mut count = 0;
+    for (at, place) in places.iter().enumerate() {
+        count += places[at + 1..]
+            .iter()
+            .filter(|later| **later < *place)
+            .count();
+    }
+    count
+}
