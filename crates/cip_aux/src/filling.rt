@@ -130,13 +130,13 @@ pub fn auxiliaries<N: Nodes, V: Viewer>(
 {
     let count = whole.nodes().table().len();
     clear(marks, count);
-    let wanted = Wanted {
+    let asked = Wanted {
         units,
         flags: wanted,
     };
     for done in 0..count {
         let node = count - 1 - done;
-        let mark = wanted_mark(alloc, whole, viewer, node, &wanted, marks)?;
+        let mark = wanted_mark(alloc, whole, viewer, node, &asked, marks)?;
         marks.set(node, mark);
     }
     Ok(())

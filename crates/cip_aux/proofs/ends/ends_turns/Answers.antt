@@ -1,4 +1,4 @@
-use Rattle.std.proofs.Common.{◌≡◌, ◌∙◌, sym, ap, subst, [], ◌∷◌, Some}
+use Rattle.std.proofs.Common.{◌≡◌, ◌∙◌, sym, ap, subst, [], ◌∷◌, None, Some}
 use Rattle.cip_digraph.specs.digraph.NodeList.{parents_of}
 use Rattle.cip_digraph.specs.units.Ends.{end_at}
 use Rattle.cip_letters.specs.declared.turns.Turns.{Turns}
@@ -27,6 +27,19 @@ turns_at-requires-2-clause-ready g c =
     far_ready inner inner.from c.requires.ready unit.between unit.b c.in-Some.other
     (sym c.in-Some.is ∙ c.far_end.ensures
     ∙ (λ i. far_number (shape_at (told i)) (parents_of (told i)) (c.from-node.ensures i) unit.between unit.b))
+
+pub returns-in_default-3-clause-turns : goal.returns-in_default-3-clause-turns
+returns-in_default-3-clause-turns g c =
+    let inner = c.args.inner.now in
+    let unit = c.args.unit.now in
+    let told = c.nodes.ensures.told ∙ ap (λ (s : Sight). s.told) c.whole.ensures in
+    both_ends inner inner.from c.requires.ready unit.between unit.b unit.first.now unit.second.now unit.a
+    c.in-Some.other (Some c.in-Some-2.one) None
+    (sym c.in-Some.is ∙ c.far_end.ensures
+    ∙ (λ i. far_number (shape_at (told i)) (parents_of (told i)) (c.from-node.ensures i) unit.between unit.b))
+    (subst (λ n. AreRootTurns inner n unit.first.now (Some c.in-Some-2.one)) c.from-node.ensures
+    (subst (AreRootTurns inner c.from-node.result unit.first.now) c.in-Some-2.is c.in_ok-one.ensures.turns))
+    (subst (AreRootTurns inner c.in-Some.other unit.second.now) c.in_default-3.is c.in_ok-two.ensures.turns)
 
 pub returns-clause-turns : goal.returns-clause-turns
 returns-clause-turns g c =
