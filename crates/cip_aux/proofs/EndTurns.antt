@@ -1,7 +1,6 @@
 -- The turns of a unit's ends.
 use Rattle.std.proofs.Common.{◌≡◌, ℕ, List, [], ◌∷◌, ◌++◌, cond, sym, ap, ◌∙◌, subst, None, Some, eq-eqb}
 use Rattle.std.specs.declared.option.Option.{Option}
-use Rattle.cip_mol.specs.declared.descriptor.Descriptor.{Descriptor}
 use Rattle.cip_mol.specs.declared.site.Ligand.{Ligand}
 use Rattle.cip_digraph.specs.rules.Auxiliary.{nearer_first, root_at, roots_at}
 use Rattle.cip_digraph.specs.units.Ends.{end_at}

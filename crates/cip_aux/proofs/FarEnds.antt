@@ -5,7 +5,6 @@ use Rattle.std.specs.declared.option.Option.{Option}
 use Rattle.std.proofs.lemmas.Bool.{eq-eqb, or_cases, or_parts, and_parts, ne_eqb}
 use Rattle.cip_rank.specs.Tree.{children_of}
 use Rattle.cip_rank.proofs.Children.{IsChild, children_are}
-use Rattle.cip_digraph.specs.declared.nodes.Told.{Told}
 use Rattle.cip_digraph.specs.rings.Alternating.{is_in}
 use Rattle.cip_digraph.specs.digraph.Digraph.{Node, is_real, real_node, begins_with, neighbour_child, bond_children, edge_children, real_children, children}
 use Rattle.cip_digraph.specs.declared.graph.Edge.{Edge}
@@ -15,7 +14,7 @@ use Rattle.cip_digraph.specs.digraph.Telling.{node_at}
 use Rattle.cip_digraph.specs.digraph.View.{real_at}
 use Rattle.cip_aux.specs.Neighbours.{first_where, is_real_of, real_child, shape_at}
 use Rattle.cip_aux.specs.Joining.{listed, Joins, next_child, far_number}
-use Rattle.cip_aux.specs.Sights.{Sight, Shows, SidesAre, path_at, IsReal}
+use Rattle.cip_aux.specs.Sights.{Sight, Shows, path_at, IsReal}
 use Rattle.cip_aux.proofs.Paths.{hangs, path_is, real_is, some_path, within_parents}
 use Rattle.cip_letters.proofs.PairTurns.{any_mapped}
 use Rattle.cip_aux.proofs.RootTurns.{first_same, children_within}

@@ -1,7 +1,6 @@
 -- The paths of nodes by number.
-use Rattle.std.proofs.Common.{◌≡◌, ℕ, zero, suc, ◌<◌, ◌≤◌, Bool, true, false, List, [], ◌∷◌, length, slice_index, refl, sym, ap, ◌∙◌, arith, inl, inr}
+use Rattle.std.proofs.Common.{◌≡◌, ℕ, zero, suc, ◌<◌, ◌≤◌, true, false, List, [], ◌∷◌, length, slice_index, refl, sym, ap, ◌∙◌, arith}
 use Rattle.std.specs.List.{AllByRecursion}
-use Rattle.std.proofs.lemmas.Bool.{cases_order}
 use Rattle.cip_digraph.specs.rings.Alternating.{is_in}
 use Rattle.cip_digraph.specs.declared.nodes.NodeKind.{NodeKind}
 use Rattle.cip_digraph.specs.declared.nodes.NodeKind.TheVariants.{Real, Closure, Multiple, Delocalised}
@@ -12,7 +11,7 @@ use Rattle.cip_digraph.specs.digraph.View.{real_at}
 use Rattle.cip_digraph.specs.graph.Graph.{Graph}
 use Rattle.cip_digraph.proofs.Children.{Passed, children_have}
 use Rattle.cip_digraph.proofs.Ended.{Anywhere, leads_anywhere}
-use Rattle.cip_views.proofs.Standing.{from_parent, few, long, root_path}
+use Rattle.cip_views.proofs.Standing.{from_parent, few, root_path}
 use Rattle.cip_views.proofs.WholeTold.{parents_len}
 use Rattle.cip_aux.specs.Sights.{Sight, Shows, path_at, IsReal}
 

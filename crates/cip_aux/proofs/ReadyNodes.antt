@@ -1,19 +1,17 @@
 -- What is known where a node is ready to be looked from.
-use Rattle.std.proofs.Common.{◌≡◌, ◌<◌, ℕ, List, [], ◌∷◌, map, length, true, false, refl, ◌∙◌, All, Contains, IfSome}
+use Rattle.std.proofs.Common.{◌<◌, ℕ, List, [], ◌∷◌, map, length, refl, ◌∙◌, All, Contains, IfSome}
 use Rattle.std.specs.List.{AllByRecursion}
 use Rattle.std.specs.declared.cmp.Ordering.{Ordering}
 use Rattle.std.specs.declared.option.Option.{Option}
 use Rattle.std.proofs.lemmas.List.Elements.{All-from_recursion}
-use Rattle.cip_mol.specs.declared.descriptor.Descriptor.{Descriptor}
 use Rattle.cip_mol.specs.declared.site.Ligand.{Ligand}
 use Rattle.cip_mol.specs.declared.site.Ligand.TheVariants.{Vertex, LonePair}
 use Rattle.cip_digraph.specs.digraph.NodeList.{parents_of}
 use Rattle.cip_digraph.specs.rules.Auxiliary.{stands_for}
 use Rattle.cip_aux.specs.Early.{AreEarly}
-use Rattle.cip_aux.specs.Inner.{Inner, AgreesInside, Ready}
+use Rattle.cip_aux.specs.Inner.{Inner, Ready}
 use Rattle.cip_aux.specs.Marking.{AreRootTurns}
 use Rattle.cip_aux.specs.Neighbours.{ligand_number, neighbours_of, shape_at}
-use Rattle.cip_letters.specs.Sides.{pair_sides}
 use Rattle.cip_aux.specs.Sights.{seen_sides}
 use Rattle.cip_letters.specs.TurnsOf.{turns_of}
 use Rattle.cip_aux.proofs.FoundFirst.{first_among}

@@ -7,7 +7,6 @@ use Rattle.cip_mol.specs.declared.site.Ligand.{Ligand}
 use Rattle.cip_mol.specs.declared.site.Ligand.TheVariants.{Vertex, LonePair}
 use Rattle.cip_rank.specs.Tree.{children_of}
 use Rattle.cip_rank.proofs.Children.{IsChild, children_are}
-use Rattle.cip_digraph.specs.declared.nodes.Told.{Told}
 use Rattle.cip_digraph.specs.rules.Auxiliary.{stands_for, ligand_node, root_at}
 use Rattle.cip_digraph.specs.declared.decision.Decision.{Decision}
 use Rattle.cip_digraph.specs.rules.Decisions.{order}

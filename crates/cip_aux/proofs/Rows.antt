@@ -1,10 +1,10 @@
 -- Rows of places, one place more.
-use Rattle.std.proofs.Common.{◌≡◌, ◌⊎◌, ◌<◌, ◌≤◌, ◌+◌, ◌-◌, ℕ, zero, suc, Bool, true, false, ◌==◌, ◌||◌, ◌&&◌, cond, List, [], ◌∷◌, ◌++◌, length, map, refl, sym, ap, ◌∙◌, subst, arith, inl, inr, All, append_assoc, slice_index_or, slice_set, take, drop, filter}
+use Rattle.std.proofs.Common.{◌≡◌, ◌⊎◌, ◌<◌, ℕ, zero, suc, Bool, true, false, ◌==◌, ◌||◌, cond, List, [], ◌∷◌, ◌++◌, length, map, refl, sym, ap, ◌∙◌, subst, inl, inr, All}
 use Rattle.std.proofs.lemmas.Bool.{cases_eq, eq-eqb, ne_eqb}
-use Rattle.std.proofs.lemmas.List.{map-append, get_or-set_same, get_or-set_other, take_all}
+use Rattle.std.proofs.lemmas.List.{map-append, get_or-set_same, get_or-set_other}
 use Rattle.std.proofs.lemmas.List.Elements.{All-append, All-from_recursion, All-nil, filter-append}
 use Rattle.cip_mol.specs.declared.site.Unit as units
-use Rattle.cip_aux.specs.UnitsAt.{ArePlaces, AreRows, AreAdded, ends_at, row, unit_at, with_last}
+use Rattle.cip_aux.specs.UnitsAt.{AreRows, AreAdded, ends_at, row, unit_at, with_last}
 
 -- an empty row at the end changes none
 pub row_more : (rows : List (List ℕ)) (vertex : ℕ) → row (rows ++ [] ∷ []) vertex ≡ row rows vertex

@@ -1,13 +1,10 @@
-use Rattle.std.proofs.Common.{◌≡◌, ◌∙◌, ◌<◌, ℕ, List, true, false, length, map, sym, ap, subst, All, Contains, IfSome}
+use Rattle.std.proofs.Common.{◌≡◌, ◌∙◌, ℕ, List, map, sym, ap, subst, All, Contains, IfSome}
 use Rattle.std.specs.declared.option.Option.{Option}
 use Rattle.cip_digraph.specs.digraph.NodeList.{parents_of}
-use Rattle.cip_letters.specs.declared.sides.BothSides.{BothSides}
 use Rattle.cip_aux.specs.Early.{AreEarly}
 use Rattle.cip_aux.specs.Marking.{AreRootTurns}
 use Rattle.cip_aux.specs.Neighbours.{ligand_number, neighbours_of, shape_at}
-use Rattle.cip_letters.specs.Sides.{pair_sides}
 use Rattle.cip_aux.specs.Sights.{Sight}
-use Rattle.cip_letters.specs.TurnsOf.{turns_of}
 use Rattle.cip_aux.proofs.ReadyNodes.{numbers_of, ready_neighbours, ready_early}
 use Rattle.cip_aux.proofs.ends.turns_at.Goals as goal
 

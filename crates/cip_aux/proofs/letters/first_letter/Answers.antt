@@ -1,4 +1,4 @@
-use Rattle.std.proofs.Common.{rules, ◌<◌, ◌∙◌, refl, sym, subst, length, None}
+use Rattle.std.proofs.Common.{rules, ◌<◌, ◌∙◌, refl, subst, length, None}
 use Rattle.cip_aux.specs.Marking.{IsUnitLetter}
 use Rattle.cip_letters.proofs.OddTurns.{all_rest}
 use Rattle.cip_aux.proofs.UnitLetters.{ends_leave, none_here}
