@@ -10,42 +10,40 @@ use crate::tree::PlainTree;
 use cip_digraph::{Edge, Graph, Positions};
 use std::alloc::{AllocError, Global};
 
+// A graph, and where the double bonds at a vertex can stand.
+#[derive(Clone, Copy)]
+struct Bonding<'a> {
+    graph: &'a Graph,
+    positions: &'a Positions,
+}
+
 // The real node at the end of a path, with so many spheres below it.
 #[cycle(grow)]
 fn grow(
     alloc: Global,
-    graph: &Graph,
-    positions: &Positions,
+    bonding: &Bonding<'_>,
     path: Vec<u32>,
     spheres: u32,
 ) -> Result<PlainTree, AllocError>
     requires some { 0 < length path.items }
     requires few { length path.items + spheres ≤ 2 ^ 32 }
-    ensures { IfOk result (λ tree. tree ≡ grown graph.now positions.now spheres (real_at path.items)) }
+    ensures { IfOk result (λ tree. tree ≡ grown bonding.now.graph.now bonding.now.positions.now spheres
+        (real_at path.items)) }
 {
     let mut children = Vec::new(alloc);
     if spheres > 0 {
-        for edge in graph.edges_at(path[0]) {
-            add_edge(
-                alloc,
-                graph,
-                positions,
-                &path,
-                edge,
-                spheres - 1,
-                &mut children,
-            )?;
+        for edge in bonding.graph.edges_at(path[0]) {
+            add_edge(alloc, bonding, &path, edge, spheres - 1, &mut children)?;
         }
     }
-    Ok(real(graph, path, children))
+    Ok(real(bonding.graph, path, children))
 }
 
 // Adds what an edge at the end of a path gives.
 #[cycle(grow)]
 fn add_edge(
     alloc: Global,
-    graph: &Graph,
-    positions: &Positions,
+    bonding: &Bonding<'_>,
     path: &[u32],
     edge: &Edge,
     spheres: u32,
@@ -53,19 +51,19 @@ fn add_edge(
 ) -> Result<(), AllocError>
     requires some { 0 < length path.now }
     requires few { length path.now + spheres < 2 ^ 32 }
-    ensures { OnOk result (children.new.items ≡ children.old.items ++ map (grown graph.now positions.now spheres)
-        (edge_below positions.now path.now edge.now)) }
+    ensures { OnOk result (children.new.items ≡ children.old.items
+        ++ map (grown bonding.now.graph.now bonding.now.positions.now spheres)
+        (edge_below bonding.now.positions.now path.now edge.now)) }
 {
     let other = edge.other_end(path[0]);
-    add_neighbour(alloc, graph, positions, path, other, spheres, children)?;
-    add_duplicates(alloc, graph, positions, path, edge, children)
+    add_neighbour(alloc, bonding, path, other, spheres, children)?;
+    add_duplicates(alloc, bonding, path, edge, children)
 }
 
 #[cycle(grow)]
 fn add_neighbour(
     alloc: Global,
-    graph: &Graph,
-    positions: &Positions,
+    bonding: &Bonding<'_>,
     path: &[u32],
     other: u32,
     spheres: u32,
@@ -73,22 +71,17 @@ fn add_neighbour(
 ) -> Result<(), AllocError>
     requires some { 0 < length path.now }
     requires few { length path.now + spheres < 2 ^ 32 }
-    ensures { OnOk result (children.new.items ≡ children.old.items ++ map (grown graph.now positions.now spheres)
+    ensures { OnOk result (children.new.items ≡ children.old.items
+        ++ map (grown bonding.now.graph.now bonding.now.positions.now spheres)
         (neighbour_below path.now other)) }
 {
     if is_above(path, other) {
         return Ok(());
     }
     let child = if is_on(path, other) {
-        closure(alloc, graph, path, other)?
+        closure(alloc, bonding.graph, path, other)?
     } else {
-        grow(
-            alloc,
-            graph,
-            positions,
-            longer(alloc, other, path)?,
-            spheres,
-        )?
+        grow(alloc, bonding, longer(alloc, other, path)?, spheres)?
     };
     children.push(child)?;
     Ok(())
@@ -97,8 +90,7 @@ fn add_neighbour(
 // Adds the duplicates for a multiple bond at the end of a path.
 fn add_duplicates(
     alloc: Global,
-    graph: &Graph,
-    positions: &Positions,
+    bonding: &Bonding<'_>,
     path: &[u32],
     edge: &Edge,
     children: &mut Vec<PlainTree>,
@@ -106,10 +98,11 @@ fn add_duplicates(
     requires some { 0 < length path.now }
     requires few { length path.now < 2 ^ 32 }
     ensures { OnOk result (children.new.items ≡ children.old.items ++ replicate (copies_of edge.now)
-        (bare graph.now positions.now (duplicate_of positions.now path.now edge.now))) }
+        (bare bonding.now.graph.now bonding.now.positions.now
+        (duplicate_of bonding.now.positions.now path.now edge.now))) }
 {
     for _ in 0..copies(edge) {
-        children.push(duplicate_for(alloc, graph, positions, path, edge)?)?;
+        children.push(duplicate_for(alloc, bonding, path, edge)?)?;
     }
     Ok(())
 }
@@ -134,21 +127,21 @@ fn is_shifted(positions: &Positions, vertex: u32, edge: &Edge) -> bool
 
 fn duplicate_for(
     alloc: Global,
-    graph: &Graph,
-    positions: &Positions,
+    bonding: &Bonding<'_>,
     path: &[u32],
     edge: &Edge,
 ) -> Result<PlainTree, AllocError>
     requires some { 0 < length path.now }
     requires few { length path.now < 2 ^ 32 }
     ensures { IfOk result (λ branch. branch
-        ≡ bare graph.now positions.now (duplicate_of positions.now path.now edge.now)) }
+        ≡ bare bonding.now.graph.now bonding.now.positions.now
+        (duplicate_of bonding.now.positions.now path.now edge.now)) }
 {
     let vertex = path[0];
-    if is_shifted(positions, vertex, edge) {
-        delocalised(alloc, graph, positions, path, vertex)
+    if is_shifted(bonding.positions, vertex, edge) {
+        delocalised(alloc, bonding.graph, bonding.positions, path, vertex)
     } else {
-        multiple(alloc, graph, path, edge.other_end(vertex))
+        multiple(alloc, bonding.graph, path, edge.other_end(vertex))
     }
 }
 
@@ -164,5 +157,6 @@ pub fn plain_tree(
 {
     let mut path = Vec::new(alloc);
     path.push(root)?;
-    grow(alloc, graph, positions, path, sphere)
+    let bonding = Bonding { graph, positions };
+    grow(alloc, &bonding, path, sphere)
 }

@@ -11,8 +11,8 @@ use Rattle.cip_tree.proofs.growing.+grow.Goals.{grow-then-spheres-gt0+else-loop-
 
 pub add_edge-returns : goal.add_edge-returns
 add_edge-returns t c =
-    let graph = c.args.graph.now in
-    let positions = c.args.positions.now in
+    let graph = c.args.bonding.now.graph.now in
+    let positions = c.args.bonding.now.positions.now in
     let path = c.args.path.now in
     let edge = c.args.edge.now in
     let old = c.args.children.now.items in
@@ -29,8 +29,8 @@ add_edge-returns t c =
 
 pub add_neighbour-returns : goal.add_neighbour-returns
 add_neighbour-returns t c =
-    let graph = c.args.graph.now in
-    let positions = c.args.positions.now in
+    let graph = c.args.bonding.now.graph.now in
+    let positions = c.args.bonding.now.positions.now in
     let path = c.args.path.now in
     let other = c.args.other in
     let spheres = c.args.spheres in
@@ -44,8 +44,8 @@ add_neighbour-returns t c =
 
 pub grow-returns : goal.grow-returns
 grow-returns t c =
-    let graph = c.args.graph.now in
-    let positions = c.args.positions.now in
+    let graph = c.args.bonding.now.graph.now in
+    let positions = c.args.bonding.now.positions.now in
     let path = c.args.path.items in
     c.real.ensures positions ∙ elim c.if-spheres-gt0.branch [
       | grow-then-spheres-gt0+else-loop-edge-test w ↦ grown_around graph positions c.args.spheres path

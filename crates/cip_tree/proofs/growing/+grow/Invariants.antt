@@ -15,6 +15,6 @@ abbrev pub decreases-grow : goal.decreases-grow
 decreases-grow l = 3 * l.spheres
 
 abbrev pub invariant-grow-loop-edge : goal.invariant-grow-loop-edge
-invariant-grow-loop-edge l = l.children.items ≡ map (grown l.graph l.positions (l.spheres - 1))
-    (flat_map (edge_below l.positions l.path.items)
-    (take l.edge-index (edges_at l.graph (slice_index l.path.items 0))))
+invariant-grow-loop-edge l = l.children.items ≡ map (grown l.bonding.graph.now l.bonding.positions.now (l.spheres - 1))
+    (flat_map (edge_below l.bonding.positions.now l.path.items)
+    (take l.edge-index (edges_at l.bonding.graph.now (slice_index l.path.items 0))))

@@ -5,4 +5,5 @@ use Rattle.cip_tree.proofs.growing.add_duplicates.Given as goal
 
 abbrev pub invariant-loop : goal.invariant-loop
 invariant-loop l = l.children.items
-    ≡ l.fn.children.items ++ replicate l.counter (bare l.graph l.positions (duplicate_of l.positions l.path l.edge))
+    ≡ l.fn.children.items ++ replicate l.counter
+    (bare l.bonding.graph.now l.bonding.positions.now (duplicate_of l.bonding.positions.now l.path l.edge))

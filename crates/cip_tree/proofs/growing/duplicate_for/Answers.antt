@@ -11,9 +11,10 @@ returns-else-is_shifted c =
     let path = c.args.path.now in
     let edge = c.args.edge.now in
     let vertex = slice_index path 0 in
-    let same : duplicate Multiple c.other_end.result path ≡ duplicate_of c.args.positions.now path edge =
+    let same : duplicate Multiple c.other_end.result path ≡ duplicate_of c.args.bonding.now.positions.now path edge =
     ap (λ other. duplicate Multiple other path) c.other_end.ensures
     ∙ ap (λ b. cond b (duplicate Delocalised vertex path) (duplicate Multiple (other_end vertex edge) path))
     c.if-is_shifted.ensures in
-    subst (λ node. IfOk c.multiple.result (λ branch. branch ≡ bare c.args.graph.now c.args.positions.now node)) same
-    (c.multiple.ensures c.args.positions.now)
+    subst (λ node. IfOk c.multiple.result
+    (λ branch. branch ≡ bare c.args.bonding.now.graph.now c.args.bonding.now.positions.now node)) same
+    (c.multiple.ensures c.args.bonding.now.positions.now)
