@@ -58,7 +58,7 @@ fn like_axis(alloc: Global, a: u32, b: u32, first: &Ligands, second: &Ligands) -
     }
 }
 
-#[tactic(auto, using(cip_label::proofs::Odd::odd_is))]
+#[tactic(auto, using(cip_letters::proofs::Odd::odd_is))]
 fn is_odd(number: u32) -> bool
     ensures { result ≡ is_odd number }
 {
