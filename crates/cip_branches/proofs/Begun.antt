@@ -1,10 +1,13 @@
 -- A first sphere of branches.
-use Rattle.std.proofs.Common.{◌≡◌, ◌<◌, ◌≤◌, ◌+◌, ◌-◌, ◌++◌, ◌∷◌, ℕ, ℤ, zero, suc, Bool, List, [], length, slice_index, refl, sym, ap, ◌∙◌, subst, arith, inl, append-nil, append_assoc}
+use Rattle.std.proofs.Common.{◌≡◌, ◌<◌, ◌≤◌, ◌+◌, ◌-◌, ◌++◌, ◌∷◌, ℕ, ℤ, zero, suc, Bool, List, [], length, slice_index, refl, sym, ap, ◌∙◌, subst, arith, inl, inr, append-nil, append_assoc}
 use Rattle.std.specs.Ordering.{nat_cmp, int_cmp, then_cmp, on, ordering_then}
+use Rattle.std.proofs.lemmas.Bool.{cases_lt}
+use Rattle.std.proofs.lemmas.List.{get_or_past}
 use Rattle.cip_rank.specs.Ranking.{by_number}
 use Rattle.cip_branches.specs.Following.{AreRanked, Begins}
 use Rattle.cip_rows.specs.Kids.{kids_of}
 use Rattle.cip_branches.specs.Layers.{Layers, cleared, with_new_place, with_sphere, with_tops, begun_with}
+use Rattle.cip_branches.specs.Passing.{AreNotedBut}
 use Rattle.cip_rows.specs.Parting.{KeepsSphere}
 use Rattle.cip_rows.specs.Keys.{AreKeyed, key_of}
 use Rattle.cip_rows.specs.Ranked.{Ranked}
@@ -195,6 +198,27 @@ module _ (old : Layers) where
     begun_keyed count each = record {
       each = λ place lt. subst (λ (ns : List ℕ). slice_index ns place < count) (sym (tops_nodes tops 0 none))
           (each place (omega (arith, lt, count_is)));
+    }
+
+    -- all places stand in the rows of the first sphere
+    pub first_noted : (ranked : Ranked) → KeepsSphere 0 (length now.ranked.rows) now.ranked.rows ranked.rows
+        now.ranked.numbers ranked.numbers
+        → AreNotedBut ranked.rows 0 (length now.ranked.rows) now.before ranked.numbers
+    first_noted ranked kept = record {
+      each = λ place none. elim (cases_lt place (length now.kin.ups)) [
+        | inl lt ↦ absurd (none (kept.back place (record {
+          row = place;
+          low = omega arith;
+          high = omega (arith, lt, rows_len);
+          here = place_in place (omega (arith, lt, rows_len));
+        })))
+        | inr ge ↦
+            let before_len = grows.entries.before in
+            let numbers_len = grows.entries.numbers in
+            let len = kept.len in
+            get_or_past now.before place 0 (omega (arith, ge, before_len))
+            ∙ sym (get_or_past ranked.numbers place 0 (omega (arith, ge, numbers_len, len)))
+      ];
     }
 
     -- what the first sphere is where its classes are parted by keys

@@ -1,5 +1,5 @@
 -- A sphere walked and ranked: what stands behind it.
-use Rattle.std.proofs.Common.{◌≡◌, ◌+◌, ℕ, ℤ, suc, Bool, List, length, slice_index, sym, ap, ◌∙◌, arith}
+use Rattle.std.proofs.Common.{◌≡◌, ◌<◌, ◌≤◌, ◌+◌, ℕ, ℤ, suc, Bool, List, length, slice_index, sym, ap, ◌∙◌, subst, arith}
 use Rattle.std.specs.declared.cmp.Ordering.TheVariants.{Equal}
 use Rattle.std.specs.Ordering.{nat_cmp}
 use Rattle.std.specs.Cmp.Lexicographic.{slice_cmp}
@@ -7,14 +7,14 @@ use Rattle.std.proofs.lemmas.Cmp.{tied_itself, nat_cmp_total}
 use Rattle.cip_rank.specs.Ranking.{by_number}
 use Rattle.cip_rank.proofs.RestOnTies.{both_tie}
 use Rattle.cip_rank.proofs.SortedDown.{numbers_equal}
-use Rattle.cip_branches.specs.Following.{AreRanked}
+use Rattle.cip_branches.specs.Following.{AreRanked, Follows}
 use Rattle.cip_rows.specs.Kids.{kid_set, kids_of}
-use Rattle.cip_branches.specs.Layers.{Layers}
+use Rattle.cip_branches.specs.Layers.{Layers, with_sphere}
 use Rattle.cip_branches.specs.Passing.{Passes}
 use Rattle.cip_rows.specs.Ranked.{Ranked}
 use Rattle.cip_branches.specs.Turning.{in_sphere, AreSpheres, SamePlaces}
 use Rattle.cip_branches.specs.Walking.{IsWalked, LastPlaces, MayWalk}
-use Rattle.cip_branches.proofs.GrownPlaces.{one_more, is_last}
+use Rattle.cip_branches.proofs.GrownPlaces.{one_more, is_last, was_there}
 
 -- where a sphere was walked, there is one start more, behind all rows
 module _ (begin : Layers) (first last size : ℕ) (kids_at : ℕ → List ℕ) (wanted : List Bool)
@@ -69,3 +69,26 @@ module _ (mid : Layers) (ranked : Ranked) (before : List ℕ)
     inner = λ t p lt at. lasts.inner t p lt (places.there t p at);
     bare = lasts.bare;
   }
+
+-- places of the first sphere stand in it
+pub first_stays : (begin now : Layers) (first last size : ℕ) (kids_at : ℕ → List ℕ) (wanted : List Bool)
+    (keys : List ℤ) → AreRanked begin last → Follows begin first last size kids_at wanted keys now → (place : ℕ)
+    → in_sphere begin.ranked.rows begin.starts 0 place → in_sphere now.ranked.rows now.starts 0 place
+first_stays begin now first last size kids_at wanted keys ranked follows place p =
+    let walked = follows.walked.walked in
+    let grows = follows.walked.walks.grows in
+    let count = ranked.count in
+    let len = ap (λ (ns : List ℕ). length ns) grows.starts in
+    let start_at : (t : ℕ) → t ≤ 1 → slice_index (with_sphere walked).starts t ≡ slice_index begin.starts t =
+    λ t le. was_there walked.starts (length walked.ranked.rows) t (omega (arith, le, count, len))
+    ∙ ap (λ (ns : List ℕ). slice_index ns t) grows.starts in
+    let within = ranked.spheres.within 0 (omega arith) in
+    let below = p.high in
+    let at : in_sphere (with_sphere walked).ranked.rows (with_sphere walked).starts 0 place = record {
+      row = p.row;
+      low = subst (λ n. n ≤ p.row) (sym (start_at 0 (omega arith))) p.low;
+      high = subst (λ n. p.row < n) (sym (start_at 1 (omega arith))) p.high;
+      here = grows.row p.row (omega (arith, below, within)) ∙ p.here;
+    } in
+    subst (λ ss. in_sphere now.ranked.rows ss 0 place) (sym follows.starts) (follows.places.here 0 place
+    (subst (λ (s : Layers). in_sphere s.ranked.rows s.starts 0 place) (sym follows.walked.ended) at))

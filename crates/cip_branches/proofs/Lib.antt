@@ -9,6 +9,7 @@ pub mod GrownPlaces
 pub mod InwardSpheres
 pub mod KeptSpheres
 pub mod KidSets
+pub mod NotedPlaces
 pub mod OpenBranches
 pub mod Opening
 pub mod Passed
@@ -25,6 +26,7 @@ pub mod ToldKids
 pub mod Turned
 pub mod Turns
 pub mod TwinColumns
+pub mod TwinFlags
 pub mod TwinRanks
 pub mod TwinSpheres
 pub mod TwinStands

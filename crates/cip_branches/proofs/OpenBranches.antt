@@ -1,6 +1,7 @@
--- Open branches are fewer than the wanted ones.
-use Rattle.std.proofs.Common.{◌≡◌, ◌<◌, ℕ, zero, suc, Bool, true, false, List, [], ◌∷◌, length, arith}
-use Rattle.cip_branches.specs.Closing.{FlagOpen}
+-- Open branches are fewer than the wanted ones, and no further one is told apart among them.
+use Rattle.std.proofs.Common.{◌≡◌, ◌<◌, ℕ, zero, suc, Bool, true, false, List, [], ◌∷◌, length, slice_index, refl, sym, ◌∙◌, subst, arith}
+use Rattle.cip_branches.specs.Closing.{TiesWith, FlagOpen}
+use Rattle.cip_branches.specs.Deciding.{FlagsOpen}
 use Rattle.cip_rows.specs.Parting.{has_flag}
 use Rattle.cip_branches.specs.Ruled.{WantsFewer}
 
@@ -16,4 +17,67 @@ open_fewer numbers wanted flags len flagged = record {
   each = λ branch has.
       let lt = flag_within flags branch has in
       (flagged.open_only branch (omega (arith, lt, len)) has).chosen;
+}
+
+-- among open branches all are open
+module _ (numbers : List ℕ) (wanted flags : List Bool) (chosen : FlagsOpen numbers wanted flags) where
+  -- what an open branch ties with is open
+  open_too : (branch other : ℕ) → has_flag flags branch ≡ true → TiesWith numbers wanted branch other
+      → has_flag flags other ≡ true
+  open_too branch other has ties =
+      let was = chosen.fewer.each branch has in
+      chosen.flagged.all_open other ties.within (record {
+        chosen = ties.chosen;
+        other = branch;
+        ties = record {
+          within = flag_within wanted branch was;
+          chosen = was;
+          apart = λ e. ties.apart (sym e);
+          tie = sym ties.tie;
+        };
+      })
+
+  pub open_again : FlagsOpen numbers flags flags
+  open_again = record {
+    len = refl;
+    flagged = record {
+      open_only = λ branch lt has.
+          let is = chosen.flagged.open_only branch (subst (λ n. branch < n) chosen.len lt) has in
+          record {
+            chosen = has;
+            other = is.other;
+            ties = record {
+              within = subst (λ n. is.other < n) (sym chosen.len) is.ties.within;
+              chosen = open_too branch is.other has is.ties;
+              apart = is.ties.apart;
+              tie = is.ties.tie;
+            };
+          };
+      all_open = λ branch lt is. is.chosen;
+    };
+    fewer = record { each = λ branch has. has };
+  }
+
+-- the same by other numbers, where those of the wanted branches stand
+pub open_still : (numbers new : List ℕ) (wanted : List Bool)
+    → ((branch : ℕ) → has_flag wanted branch ≡ true → slice_index new branch ≡ slice_index numbers branch)
+    → FlagsOpen numbers wanted wanted → FlagsOpen new wanted wanted
+open_still numbers new wanted same tie = record {
+  len = refl;
+  flagged = record {
+    open_only = λ branch lt has.
+        let was = tie.flagged.open_only branch lt has in
+        record {
+          chosen = has;
+          other = was.other;
+          ties = record {
+            within = was.ties.within;
+            chosen = was.ties.chosen;
+            apart = was.ties.apart;
+            tie = same was.other was.ties.chosen ∙ was.ties.tie ∙ sym (same branch has);
+          };
+        };
+    all_open = λ branch lt is. is.chosen;
+  };
+  fewer = record { each = λ branch has. has };
 }

@@ -1,23 +1,23 @@
 -- A rule taken one sphere further: what the spheres further in are refined by, and what the pass leaves.
-use Rattle.std.proofs.Common.{◌≡◌, ◌≢◌, ◌<◌, ◌≤◌, ℕ, ℤ, suc, List, length, slice_index, ◌∙◌, arith, inl, inr}
+use Rattle.std.proofs.Common.{◌≡◌, ◌≢◌, ◌<◌, ◌≤◌, ℕ, ℤ, suc, List, length, slice_index, sym, ◌∙◌, arith, inl, inr}
 use Rattle.std.specs.List.{AllByRecursion}
 use Rattle.std.specs.Ordering.{int_cmp, then_cmp, on}
 use Rattle.std.proofs.lemmas.Bool.{cases_lt}
 use Rattle.cip_rank.specs.Ranking.{by_number}
 use Rattle.cip_rank.proofs.Descending.{all_by}
 use Rattle.cip_rows.specs.Parting.{KeepsSphere}
-use Rattle.cip_branches.specs.Passing.{AreSteadyButNew, Passes}
+use Rattle.cip_branches.specs.Passing.{AreNotedBut, AreSteadyButNew, Passes}
 use Rattle.cip_branches.specs.Refining.{Refines}
 use Rattle.cip_rows.specs.Rows.{IsRow, OrdersPlaces}
-use Rattle.cip_branches.specs.Turning.{in_sphere, AreSpheres, AreSteadyBefore, SamePlaces}
+use Rattle.cip_branches.specs.Turning.{in_sphere, AreSpheres, AreSteadyBefore, SamePlaces, Stands, StandBut}
 use Rattle.cip_rows.proofs.Cases.{both, cases_same}
 use Rattle.cip_rows.proofs.ClassInSphere.{place_high}
-use Rattle.cip_branches.proofs.KeptSpheres.{other_place, places_kept, spheres_kept}
+use Rattle.cip_branches.proofs.KeptSpheres.{other_place, places_kept, rises_to, spheres_kept}
 
 -- the same children in other rows
 module _ (kids : ℕ → List ℕ) (ups rows starts : List ℕ) (last far room : ℕ) (far_in : far < last)
     (old before : List ℕ) (are : AreSpheres kids ups rows starts last old) (fits : length rows ≤ room)
-    (begins : (t place : ℕ) → t ≤ far → in_sphere rows starts t place → slice_index old place ≡ slice_index before place)
+    (noted : AreNotedBut rows (slice_index starts (suc far)) (slice_index starts (suc (suc far))) before old)
     (steady : AreSteadyButNew kids (in_sphere rows starts) far room before)
     (new_rows start : List ℕ)
     (kept : KeepsSphere (slice_index starts (suc far)) (slice_index starts (suc (suc far))) rows new_rows old start) where
@@ -26,6 +26,10 @@ module _ (kids : ℕ → List ℕ) (ups rows starts : List ℕ) (last far room :
 
   pub split_spheres : AreSpheres kids ups new_rows starts last start
   split_spheres = spheres_kept kids ups rows starts last old are (suc far) (omega (arith, far_in)) new_rows start kept
+
+  begins : (t place : ℕ) → t ≤ far → in_sphere rows starts t place → slice_index old place ≡ slice_index before place
+  begins t place le p = sym (noted.each place (λ q. let same = are.once t (suc far) place p q in
+      absurd (omega (arith, same, le))))
 
   other : (t place : ℕ) → t ≢ suc far → in_sphere rows starts t place → slice_index start place ≡ slice_index old place
   other = other_place kids ups rows starts last old are (suc far) (omega (arith, far_in)) new_rows start kept
@@ -90,3 +94,43 @@ module _ (kids : ℕ → List ℕ) (ups rows starts : List ℕ) (last far room :
       outside = λ t place lt p. refines.outside t place lt (places.here t place p);
     };
   }
+
+  -- what was turned from a sphere on
+  module _ (inner : ℕ) (high : inner ≤ suc far) (now : List ℕ)
+      (stand : StandBut new_rows starts inner far start now) where
+    -- the first sphere stands, unless it was reached
+    pub tops_stand : 0 < inner → Stands rows starts 0 old now
+    tops_stand some = record {
+      each = λ place p.
+          stand.each place (λ u low le q. let same = are.once 0 u place p (places.there u place q) in
+          absurd (omega (arith, same, low, some)))
+          ∙ other 0 place (λ e. absurd (omega (arith, e))) p;
+    }
+
+    -- outside these spheres all numbers are noted
+    pub noted_after : (last_rows : List ℕ) → SamePlaces new_rows last_rows starts
+        → AreNotedBut last_rows (slice_index starts inner) (slice_index starts (suc (suc far))) before now
+    noted_after last_rows after = record {
+      each = λ place none.
+          let apart : (t : ℕ) → inner ≤ t → t ≤ suc far → in_sphere new_rows starts t place → ⊥ =
+          λ t low le p. none (wider t place low le (after.here t place p)) in
+          let new_one : in_sphere rows starts (suc far) place → ⊥ =
+          λ p. apart (suc far) high (omega arith) (places.here (suc far) place p) in
+          noted.each place new_one ∙ sym (kept.others place new_one)
+          ∙ sym (stand.each place (λ t low le. apart t low (omega (arith, le))));
+    }
+      where
+        wider : (t place : ℕ) → inner ≤ t → t ≤ suc far → in_sphere last_rows starts t place
+            → IsRow last_rows (slice_index starts inner) (slice_index starts (suc (suc far))) place
+        wider t place low le p =
+            let from = rises_to kids ups rows starts last old are inner t low (omega (arith, le, far_in)) in
+            let to = rises_to kids ups rows starts last old are (suc t) (suc (suc far)) (omega (arith, le))
+            (omega (arith, far_in)) in
+            let at_least = p.low in
+            let below = p.high in
+            record {
+              row = p.row;
+              low = omega (arith, at_least, from);
+              high = omega (arith, below, to);
+              here = p.here;
+            }

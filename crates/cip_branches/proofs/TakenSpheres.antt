@@ -9,13 +9,13 @@ use Rattle.cip_rank.proofs.RestOnTies.{both_tie}
 use Rattle.cip_rank.proofs.Descending.{all_by}
 use Rattle.cip_rank.proofs.NumberedNodes.{equal_is}
 use Rattle.cip_rank.proofs.Parts.{map_alike}
-use Rattle.cip_branches.specs.Deciding.{Branched, AreFollowed}
+use Rattle.cip_branches.specs.Deciding.{Branched, AreFollowed, FlagsOpen}
 use Rattle.cip_branches.specs.Following.{AreRanked}
 use Rattle.cip_rows.specs.Kids.{kids_of, kid_set}
 use Rattle.cip_rows.specs.Kin.{Kin}
 use Rattle.cip_branches.specs.Layers.{Layers}
 use Rattle.cip_rows.specs.Parting.{KeepsSphere, has_flag}
-use Rattle.cip_branches.specs.Passing.{AreSteadyButNew, Passes}
+use Rattle.cip_branches.specs.Passing.{AreNotedBut, AreSteadyButNew, Passes}
 use Rattle.cip_rows.specs.Keys.{key_of}
 use Rattle.cip_rows.specs.Ranked.{Ranked}
 use Rattle.cip_branches.specs.Refining.{AreNext, AreSteady}
@@ -25,6 +25,7 @@ use Rattle.cip_branches.specs.Turning.{in_sphere, AreSpheres, SamePlaces}
 use Rattle.cip_branches.specs.Walking.{LastPlaces}
 use Rattle.cip_rows.proofs.Cases.{cases_same}
 use Rattle.cip_branches.proofs.KeptSpheres.{other_place, places_kept, same_after, spheres_kept}
+use Rattle.cip_branches.proofs.OpenBranches.{open_again}
 use Rattle.cip_branches.proofs.Steady.{steady_after}
 
 -- what ties by numbers and then by keys ties by numbers
@@ -39,9 +40,9 @@ tied_by key before start a b by tie =
 
 -- what taking a rule one sphere further asks for
 module _ (old : Layers) (last : ℕ) (ranked : AreRanked old last) (far : ℕ) where
-  pub deeper_begins : (t place : ℕ) → t ≤ far → in_sphere old.ranked.rows old.starts t place
-      → slice_index old.ranked.numbers place ≡ slice_index old.before place
-  deeper_begins t place le p = ap (λ (ns : List ℕ). slice_index ns place) (sym ranked.before)
+  pub deeper_noted : AreNotedBut old.ranked.rows (slice_index old.starts (suc far))
+      (slice_index old.starts (suc (suc far))) old.before old.ranked.numbers
+  deeper_noted = record { each = λ place none. ap (λ (ns : List ℕ). slice_index ns place) ranked.before }
 
   pub deeper_steady : far < last
       → AreSteadyButNew (kids_of old.kin) (in_sphere old.ranked.rows old.starts) far old.kin.room old.before
@@ -185,8 +186,9 @@ last_kept old new kept flags first last lasts = record {
     known p lt = subst (λ (k : Kin). p < length k.ups) kept.kin lt
 
 pub followed_kept : (old new : Branched) → AreFollowed old → KeepsPlaces old.layers new.layers
-    → AreRanked new.layers old.last → new.first ≡ old.first → new.last ≡ old.last → AreFollowed new
-followed_kept old new followed kept ranked first last = record {
+    → AreRanked new.layers old.last → new.first ≡ old.first → new.last ≡ old.last
+    → FlagsOpen new.layers.ranked.numbers old.wanted new.wanted → AreFollowed new
+followed_kept old new followed kept ranked first last chosen = record {
   ranked = subst (AreRanked new.layers) (sym last) ranked;
   places = λ flags. subst (λ t. LastPlaces new.layers flags new.first t) (sym last)
       (subst (λ n. LastPlaces new.layers flags n old.last) (sym first)
@@ -195,4 +197,9 @@ followed_kept old new followed kept ranked first last = record {
       (subst (λ n. n ≤ length old.layers.kin.ups) (sym first) followed.within);
   nodes_len = ap (λ (k : Kin). length k.nodes) kept.kin ∙ followed.nodes_len
       ∙ sym (ap (λ (k : Kin). length k.ups) kept.kin);
+  chosen = record {
+    tie = open_again new.layers.ranked.numbers old.wanted new.wanted chosen;
+    top = λ branch has. subst (λ ss. in_sphere new.layers.ranked.rows ss 0 branch) (sym kept.starts)
+        (kept.places.here 0 branch (followed.chosen.top branch (chosen.fewer.each branch has)));
+  };
 }

@@ -32,6 +32,7 @@ module _ (kids : ℕ → List ℕ) (ups rows starts : List ℕ) (last : ℕ) (st
     refines = refines_none kids At far are_next start;
     places = same_itself rows starts;
     spheres = are;
+    stand = record { each = λ place none. refl };
   }
 
   module _ (s : ℕ) (le : s ≤ far) (mid_rows mid : List ℕ)
@@ -83,6 +84,10 @@ module _ (kids : ℕ → List ℕ) (ups rows starts : List ℕ) (last : ℕ) (st
           places = same_after rows mid_rows new_rows starts turns.places (places_kept kids ups mid_rows starts last mid
               turns.spheres s in_last new_rows new kept);
           spheres = spheres_kept kids ups mid_rows starts last mid turns.spheres s in_last new_rows new kept;
+          stand = record {
+            each = λ place none. kept.others place (λ p. none s (omega arith) le (was_at place p))
+                ∙ turns.stand.each place (λ u low high. none u (omega (arith, low)) high);
+          };
         }
 
     pub keeps_itself : KeepsSphere (slice_index starts s) (slice_index starts (suc s)) mid_rows mid_rows mid mid

@@ -15,6 +15,7 @@ use Rattle.cip_rows.specs.Rows.{AreClassed}
 use Rattle.cip_branches.specs.Turning.{in_sphere, AreSpheres}
 use Rattle.cip_branches.specs.Twins.{twins_of, kept_spheres, MayDouble}
 use Rattle.cip_rows.proofs.TwinLists.{halves_length, pairs_length}
+use Rattle.cip_branches.proofs.TwinFlags.{is_flagged, twins_tie}
 use Rattle.cip_branches.proofs.TwinSpheres.{IsTwinIn, kept_at_most, none_behind, start_at, start_past, starts_len, none_at, place_below, number_first, number_second, first_in, second_in, is_twin_in, kids_first, kids_second, up_first, up_second, no_kids, all_moved, classed}
 
 -- doubled numbers compare and are sorted as they do themselves
@@ -330,4 +331,16 @@ module _ (room : ℕ) (from : Branched) (followed : AreFollowed from) (may : May
     };
     within = let len = ups_len in omega (arith, len);
     nodes_len = length-range_with_len 0 (count + count) ∙ sym ups_len;
+    chosen = record {
+      tie = twins_tie count from.wanted may.tops new_numbers (λ branch has.
+          let at = followed.chosen.top branch has in
+          number_first room from followed may 0 branch at ∙ sym (number_second room from followed may 0 branch at));
+      top = λ x has.
+          let one = is_flagged count from.wanted may.tops x has in
+          let at = followed.chosen.top one.branch one.chosen in
+          elim one.which [
+            | inl e ↦ subst (In 0) (sym e) (first_in room from followed may 0 one.branch at)
+            | inr e ↦ subst (In 0) (sym e) (second_in room from followed may 0 one.branch at)
+          ];
+    };
   }

@@ -1,12 +1,11 @@
 -- Branches that are doubled stand by the order of those that they are made of, each node read in two ways.
-use Rattle.std.proofs.Common.{◌≡◌, ◌≢◌, ◌<◌, ◌≤◌, ◌+◌, ◌-◌, ◌++◌, ◌∷◌, ◌⊎◌, [], ℕ, suc, Bool, true, false, if◌then◌else◌, List, length, map, nat_lt, replicate, slice_index, refl, sym, ap, ◌∙◌, subst, arith, inl, inr}
+use Rattle.std.proofs.Common.{◌≡◌, ◌≢◌, ◌<◌, ◌≤◌, ◌+◌, ◌-◌, ◌∷◌, ◌⊎◌, [], ℕ, suc, true, if◌then◌else◌, List, length, map, nat_lt, slice_index, refl, sym, ap, ◌∙◌, subst, arith, inl, inr}
 use Rattle.std.specs.declared.cmp.Ordering.{Ordering}
 use Rattle.std.specs.List.{AllByRecursion}
 use Rattle.std.specs.List.Sorted.{IsPermutation}
 use Rattle.std.specs.Ordering.{nat_cmp}
 use Rattle.std.proofs.lemmas.Bool.{cases_lt}
 use Rattle.std.proofs.lemmas.Bool.Decides.{nat_tests}
-use Rattle.std.proofs.lemmas.List.{length-append, length-replicate, get_or_append_left, get_or-append-add, get_or_past}
 use Rattle.std.proofs.lemmas.List.FromFn.{get_or-range_with_len}
 use Rattle.std.proofs.lemmas.List.Sorted.{IsPermutation-map, IsPermutation-refl}
 use Rattle.cip_rank.specs.Ranking.{by_number}
@@ -23,7 +22,8 @@ use Rattle.cip_branches.specs.Views.{IsView, IsEnded}
 use Rattle.cip_rows.proofs.Cases.{both, cases_same}
 use Rattle.cip_branches.proofs.RuledSpheres.{map_same}
 use Rattle.cip_rows.proofs.TwinLists.{moved_low, moved_high}
-use Rattle.cip_rows.proofs.TwinPlaces.{half_low, half_high, no_flags}
+use Rattle.cip_rows.proofs.TwinPlaces.{half_low, half_high}
+use Rattle.cip_branches.proofs.TwinFlags.{flag_first, flag_second, no_flag, twin_wanted_len}
 use Rattle.cip_branches.proofs.TwinRanks.{double_order, half_same, number_twin, before_last, in_none}
 use Rattle.cip_branches.proofs.TwinSpheres.{place_below, number_first, number_second, first_in, second_in, is_twin_in, kids_first, kids_second, no_kids, all_moved}
 
@@ -66,38 +66,6 @@ module _ (room : ℕ) (from : Branched) (followed : AreFollowed from) (may : May
   abbrev kept : ℕ
   kept = kept_spheres from.last count
 
-  -- flags of branches, and of their twins
-  abbrev unset : List Bool
-  unset = replicate (count - length from.wanted) false
-
-  front_len : length (from.wanted ++ unset) ≡ count
-  front_len =
-      let tops = may.tops in
-      let len = length-replicate (count - length from.wanted) false in
-      let all = length-append from.wanted unset in
-      omega (arith, tops, len, all)
-
-  flag_first : (x : ℕ) → x < count → has_flag twins.wanted x ≡ has_flag from.wanted x
-  flag_first x lt =
-      let all = front_len in
-      let in_it = get_or_append_left (from.wanted ++ unset) from.wanted false x (omega (arith, lt, all)) in
-      elim (cases_lt x (length from.wanted)) [
-        | inl low ↦ in_it ∙ get_or_append_left from.wanted unset false x low
-        | inr high ↦
-            let sum : x ≡ length from.wanted + (x - length from.wanted) = omega (arith, high) in
-            in_it ∙ ap (has_flag (from.wanted ++ unset)) sum
-            ∙ get_or-append-add from.wanted unset (x - length from.wanted) false
-            ∙ no_flags (count - length from.wanted) (x - length from.wanted)
-            ∙ sym (get_or_past from.wanted x false high)
-      ]
-
-  flag_second : (k : ℕ) → has_flag twins.wanted (count + k) ≡ has_flag from.wanted k
-  flag_second k = ap (λ n. has_flag twins.wanted (n + k)) (sym front_len)
-      ∙ get_or-append-add (from.wanted ++ unset) from.wanted k false
-
-  no_flag : (k : ℕ) → count ≤ k → has_flag from.wanted k ≡ false
-  no_flag k le = let tops = may.tops in get_or_past from.wanted k false (omega (arith, le, tops))
-
   chosen_first : (p : ℕ) → p < count
       → has_flag twins.wanted (slice_index twins.layers.kin.branches p)
       ≡ has_flag from.wanted (slice_index from.layers.kin.branches p)
@@ -107,9 +75,9 @@ module _ (room : ℕ) (from : Branched) (followed : AreFollowed from) (may : May
       elim (cases_lt b count) [
         | inl low ↦
             let same : moved_on 0 count b ≡ b = moved_low 0 count b low ∙ omega arith in
-            ap (has_flag twins.wanted) (here ∙ same) ∙ flag_first b low
-        | inr high ↦ ap (has_flag twins.wanted) (here ∙ moved_high 0 count b high) ∙ flag_second count
-            ∙ no_flag count (omega arith) ∙ sym (no_flag b high)
+            ap (has_flag twins.wanted) (here ∙ same) ∙ flag_first count from.wanted may.tops b low
+        | inr high ↦ ap (has_flag twins.wanted) (here ∙ moved_high 0 count b high) ∙ flag_second count from.wanted may.tops count
+            ∙ no_flag count from.wanted may.tops count (omega arith) ∙ sym (no_flag count from.wanted may.tops b high)
       ]
 
   chosen_second : (p : ℕ) → p < count
@@ -119,9 +87,9 @@ module _ (room : ℕ) (from : Branched) (followed : AreFollowed from) (may : May
       let b = slice_index from.layers.kin.branches p in
       let here = half_high from.layers.kin may.family from.layers.kin.branches may.family.branches_len p lt in
       elim (cases_lt b count) [
-        | inl low ↦ ap (has_flag twins.wanted) (here ∙ moved_low count count b low) ∙ flag_second b
-        | inr high ↦ ap (has_flag twins.wanted) (here ∙ moved_high count count b high) ∙ flag_second count
-            ∙ no_flag count (omega arith) ∙ sym (no_flag b high)
+        | inl low ↦ ap (has_flag twins.wanted) (here ∙ moved_low count count b low) ∙ flag_second count from.wanted may.tops b
+        | inr high ↦ ap (has_flag twins.wanted) (here ∙ moved_high count count b high) ∙ flag_second count from.wanted may.tops count
+            ∙ no_flag count from.wanted may.tops count (omega arith) ∙ sym (no_flag count from.wanted may.tops b high)
       ]
 
   want_first : (t p : ℕ) → WantedIn from t p → WantedIn twins t p
@@ -356,7 +324,7 @@ module _ (room : ℕ) (from : Branched) (followed : AreFollowed from) (may : May
           ]
 
       wanted_len : length twins.wanted ≡ count + length from.wanted
-      wanted_len = length-append (from.wanted ++ unset) from.wanted ∙ ap (λ n. n + length from.wanted) front_len
+      wanted_len = twin_wanted_len count from.wanted may.tops
 
       inherit_first : (p : ℕ) → p < count → slice_index twins.layers.kin.branches p
           ≡ moved_on 0 count (slice_index from.layers.kin.branches p)
@@ -453,8 +421,8 @@ module _ (room : ℕ) (from : Branched) (followed : AreFollowed from) (may : May
           let lt = reading.low in
           let tops = may.tops in
           elim reading.which [
-            | inl e ↦ ap (has_flag twins.wanted) e ∙ flag_first reading.branch (omega (arith, lt, tops)) ∙ flag
-            | inr e ↦ ap (has_flag twins.wanted) e.0 ∙ flag_second reading.branch ∙ flag
+            | inl e ↦ ap (has_flag twins.wanted) e ∙ flag_first count from.wanted may.tops reading.branch (omega (arith, lt, tops)) ∙ flag
+            | inr e ↦ ap (has_flag twins.wanted) e.0 ∙ flag_second count from.wanted may.tops reading.branch ∙ flag
           ]
 
       -- where a branch is wanted, both of its readings are

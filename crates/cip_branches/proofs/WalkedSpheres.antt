@@ -3,13 +3,13 @@ use Rattle.std.proofs.Common.{◌≡◌, ◌≢◌, ◌<◌, ◌≤◌, ◌+◌,
 use Rattle.std.specs.List.{AllByRecursion}
 use Rattle.std.specs.Ordering.{nat_cmp}
 use Rattle.std.proofs.lemmas.Bool.{cases_lt}
-use Rattle.std.proofs.lemmas.List.{get_or-append_right}
+use Rattle.std.proofs.lemmas.List.{get_or-append_right, get_or_past}
 use Rattle.cip_rank.specs.Comparison.{sorted_down}
 use Rattle.cip_rank.proofs.Descending.{all_by}
 use Rattle.cip_rank.proofs.Parts.{map_alike}
 use Rattle.cip_rows.specs.Kids.{kid_set, kids_of}
 use Rattle.cip_branches.specs.Layers.{Layers, with_sphere}
-use Rattle.cip_branches.specs.Passing.{AreSteadyButNew}
+use Rattle.cip_branches.specs.Passing.{AreNotedBut, AreSteadyButNew}
 use Rattle.cip_rows.specs.Keys.{AreKeyed}
 use Rattle.cip_rows.specs.Rows.{number_in, AreClassed}
 use Rattle.cip_branches.specs.Turning.{in_sphere, AreSpheres}
@@ -247,13 +247,23 @@ module _ (begin : Layers) (first last size : ℕ) (kids_at : ℕ → List ℕ) (
     bare = walks.grows.new_count;
   }
 
-  -- places of before have their numbers as those of before
-  pub begins_walked : begin.before ≡ begin.ranked.numbers → (t place : ℕ) → t ≤ last → in_sphere rows starts t place
-      → slice_index now.ranked.numbers place ≡ slice_index now.before place
-  begins_walked before t place le p =
-      let lt = is_known t place le (at_old t place le p) in
-      walks.grows.number place lt ∙ ap (λ (ns : List ℕ). slice_index ns place) (sym before)
-      ∙ sym (walks.grows.before place lt)
+  -- the numbers of all places that aren't new are noted
+  pub noted_walked : begin.before ≡ begin.ranked.numbers → AreNotedBut rows (slice_index starts (suc last))
+      (slice_index starts (suc (suc last))) now.before now.ranked.numbers
+  noted_walked before = record {
+    each = λ place none. elim (cases_lt place known) [
+      | inl lt ↦ walks.grows.before place lt ∙ ap (λ (ns : List ℕ). slice_index ns place) before
+          ∙ sym (walks.grows.number place lt)
+      | inr ge ↦ elim (cases_lt place (length now.kin.ups)) [
+        | inl new ↦ absurd (none (new_at place ge new))
+        | inr beyond ↦
+            let before_len = walks.grows.entries.before in
+            let numbers_len = walks.grows.entries.numbers in
+            get_or_past now.before place 0 (omega (arith, beyond, before_len))
+            ∙ sym (get_or_past now.ranked.numbers place 0 (omega (arith, beyond, numbers_len)))
+      ]
+    ];
+  }
 
   none_new : (places : List ℕ) → AllByRecursion (λ kid. slice_index now.before kid ≢ now.kin.room) places
       → AllByRecursion (λ kid. slice_index now.before kid ≡ now.kin.room) places → places ≡ []

@@ -40,18 +40,25 @@ pub record KeepBranches (layers : Layers) (wanted opens : Reserved Bool) : Type 
   pub tops : length wanted.items ≤ length layers.kin.ups
   pub opens_len : length opens.items ≡ length wanted.items
 
--- they are ranked up to the last sphere, of which a first place is known
-pub record AreFollowed (now : Branched) : Type 0 where
-  pub ranked : AreRanked now.layers now.last
-  pub places : (flags : List Bool) → LastPlaces now.layers flags now.first now.last
-  pub within : now.first ≤ length now.layers.kin.ups
-  pub nodes_len : length now.layers.kin.nodes ≡ length now.layers.kin.ups
-
 -- flags of exactly those wanted branches that another wanted one ties with
 pub record FlagsOpen (numbers : List ℕ) (wanted flags : List Bool) : Type 0 where
   pub len : length flags ≡ length wanted
   pub flagged : FlagOpen numbers wanted (length wanted) flags
   pub fewer : WantsFewer wanted flags
+
+-- each branch that is wanted ties with another such, and has its top in the first sphere
+pub record AreOpen (now : Branched) : Type 0 where
+  pub tie : FlagsOpen now.layers.ranked.numbers now.wanted now.wanted
+  pub top : (branch : ℕ) → has_flag now.wanted branch ≡ true
+      → in_sphere now.layers.ranked.rows now.layers.starts 0 branch
+
+-- they are ranked up to the last sphere, of which a first place is known, and those that are told apart are let go
+pub record AreFollowed (now : Branched) : Type 0 where
+  pub ranked : AreRanked now.layers now.last
+  pub places : (flags : List Bool) → LastPlaces now.layers flags now.first now.last
+  pub within : now.first ≤ length now.layers.kin.ups
+  pub nodes_len : length now.layers.kin.nodes ≡ length now.layers.kin.ups
+  pub chosen : AreOpen now
 
 module _ {N : Type 0} (children : N → List N) (earlier : N → N → Ordering) (key : N → ℤ) (named : ℕ → N) where
   -- The first sphere has the top of each branch. The numbers of any two tops compare as their branches do by a rule,

@@ -5,7 +5,7 @@ use Rattle.std.specs.Ordering.{int_cmp, then_cmp, on}
 use Rattle.cip_rank.specs.Ranking.{by_number}
 use Rattle.cip_rows.specs.Kids.{kid_set}
 use Rattle.cip_branches.specs.Refining.{Refines}
-use Rattle.cip_rows.specs.Rows.{OrdersPlaces}
+use Rattle.cip_rows.specs.Rows.{IsRow, OrdersPlaces}
 
 -- Numbers order each sphere up to `far` by the sets of children as well, where no child is new. A new place has a
 -- number that no row has.
@@ -14,6 +14,10 @@ pub record AreSteadyButNew (kids : ℕ → List ℕ) (At : ℕ → ℕ → Type 
       → AllByRecursion (λ kid. slice_index numbers kid ≢ new) (kids a)
       → AllByRecursion (λ kid. slice_index numbers kid ≢ new) (kids b)
       → kid_set kids numbers a ≡ kid_set kids numbers b
+
+-- the numbers of all places but those in some rows are noted as those of before
+pub record AreNotedBut (rows : List ℕ) (from to : ℕ) (before numbers : List ℕ) : Type 0 where
+  pub each : (place : ℕ) → (IsRow rows from to place → ⊥) → slice_index before place ≡ slice_index numbers place
 
 -- The sphere behind `far` is split by keys, and the spheres further in are refined by it. The others stand.
 pub record Passes (kids : ℕ → List ℕ) (At : ℕ → ℕ → Type 0) (far : ℕ) (key : ℕ → ℤ) (before now : List ℕ) : Type 0

@@ -38,9 +38,19 @@ pub record SamePlaces (rows new_rows starts : List ℕ) : Type 0 where
   pub there : (t place : ℕ) → in_sphere new_rows starts t place → in_sphere rows starts t place
   pub len : length new_rows ≡ length rows
 
+-- the places of a sphere have their numbers of before
+pub record Stands (rows starts : List ℕ) (t : ℕ) (before now : List ℕ) : Type 0 where
+  pub each : (place : ℕ) → in_sphere rows starts t place → slice_index now place ≡ slice_index before place
+
+-- all places but those of the spheres from t to `far` have their numbers of before
+pub record StandBut (rows starts : List ℕ) (t far : ℕ) (before now : List ℕ) : Type 0 where
+  pub each : (place : ℕ) → ((u : ℕ) → t ≤ u → u ≤ far → in_sphere rows starts u place → ⊥)
+      → slice_index now place ≡ slice_index before place
+
 -- the spheres from t on are refined
 pub record Turns (kids : ℕ → List ℕ) (ups rows starts : List ℕ) (far last : ℕ) (start : List ℕ) (t : ℕ)
     (new_rows numbers : List ℕ) : Type 0 where
   pub refines : Refines kids (in_sphere rows starts) far t start numbers
   pub places : SamePlaces rows new_rows starts
   pub spheres : AreSpheres kids ups new_rows starts last numbers
+  pub stand : StandBut rows starts t far start numbers

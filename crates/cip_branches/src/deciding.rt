@@ -84,9 +84,7 @@ impl Branches {
         self.last = 0;
         self.opens.fill(count, true);
         self.wanted.fill(count, true);
-        let wanted = &mut self.wanted;
-        self.spheres
-            .flag_open(self.opens.as_slice(), &mut wanted.items);
+        self.let_go();
     }
 
     /// Follows the tree by one sphere below the branches that are wanted still, takes the rule as far by keys, and lets
@@ -113,6 +111,14 @@ impl Branches {
         self.spheres.follow(around, keys, self.wanted.as_slice(), self.first, self.last);
         self.first = known;
         self.last += 1;
+        self.let_go();
+    }
+
+    // Wants no branch any more that is told apart from all others.
+    pub(crate) fn let_go(&mut self)
+        ensures chosen { FlagsOpen self.old.layers.ranked.numbers self.old.wanted self.new.wanted }
+        ensures others { self.new ≡ record self.old { wanted = self.new.wanted } }
+    {
         let opens = &mut self.opens;
         self.spheres
             .flag_open(self.wanted.as_slice(), &mut opens.items);

@@ -54,7 +54,7 @@ impl Spheres {
         self.start(tops);
         let count = self.order.row_count();
         self.split_sphere(keys, 0, count);
-        self.note_numbers();
+        self.note_rows(0, count);
     }
 
     /// Follows a tree by one sphere: walks on below wanted branches, whose last places are those from `first` on, and

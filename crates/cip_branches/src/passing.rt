@@ -1,36 +1,49 @@
 // A rule taken one sphere further.
-ghost use Rattle.std.specs.Prelude.{◌≡◌, ◌<◌, ◌≤◌, ◌+◌, ◌^◌, ℕ, length, slice_index};
+ghost use Rattle.std.specs.Prelude.{◌≡◌, ◌<◌, ◌≤◌, ◌+◌, ◌^◌, ℕ, suc, length, slice_index};
 ghost use Rattle.cip_rows.specs.Kids.{kids_of};
-ghost use Rattle.cip_branches.specs.Passing.{AreSteadyButNew, Passes};
+ghost use Rattle.cip_branches.specs.Passing.{AreNotedBut, AreSteadyButNew, Passes};
 ghost use Rattle.cip_rows.specs.Keys.{AreKeyed, key_of};
-ghost use Rattle.cip_branches.specs.Turning.{in_sphere, AreSpheres, SamePlaces};
+ghost use Rattle.cip_branches.specs.Turning.{in_sphere, AreSpheres, SamePlaces, Stands};
 
 use crate::spheres::Spheres;
 use cip_rank::Keyed;
+use cip_rows::Order;
+
+// Notes the numbers of the places in these rows as those of before. Those of all other places are noted.
+fn note_places(order: &Order, from: u32, to: u32, before: &mut [u32])
+    requires within { to ≤ length order.now.rows }
+    requires len { length before.old ≡ length order.now.numbers }
+    requires noted { AreNotedBut order.now.rows from to before.old order.now.numbers }
+    ensures { before.new ≡ order.now.numbers }
+{
+    for row in from..to {
+        let place = order.place(row);
+        before[place as usize] = order.number(place);
+    }
+}
 
 impl Spheres {
-    // Notes the numbers as those of before.
-    pub(crate) fn note_numbers(&mut self)
+    /// Notes the numbers of the places in these rows as those of before. Those of all other places are noted.
+    pub(crate) fn note_rows(&mut self, from: u32, to: u32)
+        requires within { to ≤ length self.old.ranked.rows }
+        requires noted { AreNotedBut self.old.ranked.rows from to self.old.before self.old.ranked.numbers }
         ensures { self.new ≡ record self.old { before = self.old.ranked.numbers } }
     {
         let before = &mut self.before;
-        before
-            .items
-            .as_mut_slice()
-            .copy_from_slice(self.order.numbers());
+        note_places(&self.order, from, to, &mut before.items);
     }
 
     /// Takes a rule one sphere further, to the one behind `far`: splits its classes by keys, and refines the spheres
-    /// further in.
-    pub fn pass<K: Keyed>(&mut self, keys: &K, far: u32, last: u32)
+    /// further in. Says which one is the innermost of these that was looked at.
+    pub fn pass<K: Keyed>(&mut self, keys: &K, far: u32, last: u32) -> u32
         requires far { far < last }
         requires last { last + 2 ≡ length self.old.starts }
         requires few { last + 2 < 2 ^ 32 }
         requires keyed { AreKeyed (K.nodes keys.now) self.old.kin }
         requires spheres { AreSpheres (kids_of self.old.kin) self.old.kin.ups self.old.ranked.rows self.old.starts last
             self.old.ranked.numbers }
-        requires begins { (t place : ℕ) → t ≤ far → in_sphere self.old.ranked.rows self.old.starts t place
-            → slice_index self.old.ranked.numbers place ≡ slice_index self.old.before place }
+        requires noted { AreNotedBut self.old.ranked.rows (slice_index self.old.starts (suc far))
+            (slice_index self.old.starts (suc (suc far))) self.old.before self.old.ranked.numbers }
         requires steady { AreSteadyButNew (kids_of self.old.kin) (in_sphere self.old.ranked.rows self.old.starts) far
             self.old.kin.room self.old.before }
         ensures passed { Passes (kids_of self.old.kin) (in_sphere self.old.ranked.rows self.old.starts) far
@@ -39,13 +52,17 @@ impl Spheres {
             self.new.ranked.numbers }
         ensures places { SamePlaces self.old.ranked.rows self.new.ranked.rows self.old.starts }
         ensures before { self.new.before ≡ self.new.ranked.numbers }
+        ensures tops { 0 < result → Stands self.old.ranked.rows self.old.starts 0 self.old.ranked.numbers
+            self.new.ranked.numbers }
         ensures others { self.new ≡ record self.old { ranked = self.new.ranked; before = self.new.before } }
         ensures room { self.new.ranked.room ≡ self.old.ranked.room }
     {
         let from = self.starts.as_slice()[far as usize + 1];
         let to = self.starts.as_slice()[far as usize + 2];
         self.split_sphere(keys, from, to);
-        self.refine_inwards(far, last);
-        self.note_numbers();
+        let inner = self.refine_inwards(far, last);
+        let first = self.starts.as_slice()[inner as usize];
+        self.note_rows(first, to);
+        inner
     }
 }

@@ -1,9 +1,10 @@
 // A later rule, over the places that stand.
-ghost use Rattle.std.specs.Prelude.{◌≡◌, ◌<◌, ◌+◌, ◌^◌, true, length};
+ghost use Rattle.std.specs.Prelude.{◌≡◌, ◌<◌, ◌+◌, ◌^◌, true, false, length};
 ghost use Rattle.cip_branches.specs.Deciding.{AreFollowed, FlagsOpen};
 ghost use Rattle.cip_branches.specs.Following.{AreRanked};
 ghost use Rattle.cip_rows.specs.Keys.{AreKeyed};
 ghost use Rattle.cip_branches.specs.Taking.{SplitsFirst, Deepens};
+ghost use Rattle.cip_branches.specs.Turning.{Stands};
 
 use crate::deciding::Branches;
 use crate::spheres::Spheres;
@@ -21,19 +22,21 @@ impl Spheres {
         let from = self.starts.as_slice()[0];
         let to = self.starts.as_slice()[1];
         self.split_sphere(keys, from, to);
-        self.note_numbers();
+        self.note_rows(from, to);
     }
 
-    // Takes a rule to the sphere behind `far`.
-    fn deepen<K: Keyed>(&mut self, keys: &K, far: u32, last: u32)
+    // Takes a rule to the sphere behind `far`. Says whether that reached the first one.
+    fn deepen<K: Keyed>(&mut self, keys: &K, far: u32, last: u32) -> bool
         requires ranked { AreRanked self.old last }
         requires far { far < last }
         requires keyed { AreKeyed (K.nodes keys.now) self.old.kin }
         ensures deeper { Deepens self.old far (K.key keys.now) self.new }
         ensures ranked { AreRanked self.new last }
+        ensures tops { result ≡ false → Stands self.old.ranked.rows self.old.starts 0 self.old.ranked.numbers
+            self.new.ranked.numbers }
     {
         let _count = self.starts.len();
-        self.pass(keys, far, last);
+        self.pass(keys, far, last) == 0
     }
 }
 
@@ -63,23 +66,9 @@ impl Branches {
         ensures chosen { FlagsOpen self.new.layers.ranked.numbers self.old.wanted self.new.wanted }
         ensures others { self.new ≡ record self.old { layers = self.new.layers; wanted = self.new.wanted } }
     {
-        self.spheres.deepen(keys, far, self.last);
-        self.let_go();
-    }
-
-    // Wants no branch any more that is told apart from all others.
-    fn let_go(&mut self)
-        ensures chosen { FlagsOpen self.old.layers.ranked.numbers self.old.wanted self.new.wanted }
-        ensures others { self.new ≡ record self.old { wanted = self.new.wanted } }
-    {
-        let opens = &mut self.opens;
-        self.spheres
-            .flag_open(self.wanted.as_slice(), &mut opens.items);
-        let wanted = &mut self.wanted;
-        wanted
-            .items
-            .as_mut_slice()
-            .copy_from_slice(self.opens.as_slice());
+        if self.spheres.deepen(keys, far, self.last) {
+            self.let_go();
+        }
     }
 
     /// The last sphere that was followed.

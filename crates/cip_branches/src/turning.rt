@@ -5,7 +5,7 @@ ghost use Rattle.cip_rows.specs.Parting.{KeepsSphere};
 ghost use Rattle.cip_branches.specs.Refining.{Refines};
 ghost use Rattle.cip_rows.specs.Rows.{IsRow, AreClassed, OrdersPlaces};
 ghost use Rattle.cip_rows.specs.Stirring.{KnowParents, TieUnlessStirred};
-ghost use Rattle.cip_branches.specs.Turning.{in_sphere, AreSpheres, AreSteadyBefore, SamePlaces};
+ghost use Rattle.cip_branches.specs.Turning.{in_sphere, AreSpheres, AreSteadyBefore, SamePlaces, StandBut};
 
 use crate::spheres::Spheres;
 use cip_rows::{clear_flags, refine_sphere, stir_above};
@@ -54,8 +54,8 @@ impl Spheres {
     }
 
     /// Refines all spheres up to `far` by the one behind, which has its new numbers. Where a sphere stands, so do all
-    /// further in.
-    pub(crate) fn refine_inwards(&mut self, far: u32, last: u32)
+    /// further in. Says which one is the innermost that was looked at, `far + 1` where none was.
+    pub(crate) fn refine_inwards(&mut self, far: u32, last: u32) -> u32
         requires far { far < last }
         requires last { last + 2 ≡ length self.old.starts }
         requires few { last + 2 < 2 ^ 32 }
@@ -68,18 +68,23 @@ impl Spheres {
         ensures spheres { AreSpheres (kids_of self.old.kin) self.old.kin.ups self.new.ranked.rows self.old.starts last
             self.new.ranked.numbers }
         ensures places { SamePlaces self.old.ranked.rows self.new.ranked.rows self.old.starts }
+        ensures inner { result ≤ far + 1 }
+        ensures stand { StandBut self.old.ranked.rows self.old.starts result far self.old.ranked.numbers
+            self.new.ranked.numbers }
         ensures others { self.new ≡ record self.old { ranked = self.new.ranked } }
         ensures room { self.new.ranked.room ≡ self.old.ranked.room }
     {
-        let mut t = far + 1;
-        while t > 0 {
-            t -= 1;
+        let mut inner = far + 1;
+        while inner > 0 {
+            let t = inner - 1;
             let from = self.starts.as_slice()[t as usize];
             let to = self.starts.as_slice()[t as usize + 1];
             let past = self.starts.as_slice()[t as usize + 2];
             if !self.turn_inwards(from, to, past) {
-                return;
+                return inner;
             }
+            inner = t;
         }
+        0
     }
 }

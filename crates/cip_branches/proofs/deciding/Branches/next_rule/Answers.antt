@@ -1,5 +1,5 @@
 use Rattle.std.proofs.Common.{◌∙◌, sym, ap, subst}
-use Rattle.cip_branches.specs.Deciding.{Branched}
+use Rattle.cip_branches.specs.Deciding.{Branched, FlagsOpen}
 use Rattle.cip_branches.specs.Following.{AreRanked}
 use Rattle.cip_branches.specs.Taking.{KeepsPlaces}
 use Rattle.cip_branches.proofs.TakenSpheres.{followed_kept}
@@ -17,3 +17,6 @@ returns-clause-followed g c =
     (subst (λ (b : Branched). AreRanked b.layers old.last) (sym others) ranked)
     (ap (λ (b : Branched). b.first) others ∙ ap (λ (b : Branched). b.first) c.self.view_is)
     (ap (λ (b : Branched). b.last) others ∙ ap (λ (b : Branched). b.last) c.self.view_is)
+    (subst (λ (b : Branched). FlagsOpen b.layers.ranked.numbers old.wanted c.let_go.new.self.wanted) (sym others)
+    (subst (λ (b : Branched). FlagsOpen mid.ranked.numbers b.wanted c.let_go.new.self.wanted) c.self.view_is
+    c.let_go.ensures.chosen))

@@ -2,11 +2,11 @@ use Rattle.std.proofs.Common.{sym, subst}
 use Rattle.cip_branches.specs.Following.{AreRanked}
 use Rattle.cip_branches.specs.Layers.{Layers}
 use Rattle.cip_branches.specs.Taking.{Deepens}
-use Rattle.cip_branches.proofs.TakenSpheres.{deeper_is, deeper_ranked, deeper_begins, deeper_steady}
+use Rattle.cip_branches.proofs.TakenSpheres.{deeper_is, deeper_ranked, deeper_noted, deeper_steady}
 use Rattle.cip_branches.proofs.spheres.Spheres.deepen.Goals as goal
 
-pub pass-requires-clause-begins : goal.pass-requires-clause-begins
-pass-requires-clause-begins g c = deeper_begins c.args.self.now c.args.last c.requires.ranked c.args.far
+pub pass-requires-clause-noted : goal.pass-requires-clause-noted
+pass-requires-clause-noted g c = deeper_noted c.args.self.now c.args.last c.requires.ranked c.args.far
 
 pub pass-requires-clause-steady : goal.pass-requires-clause-steady
 pass-requires-clause-steady g c = deeper_steady c.args.self.now c.args.last c.requires.ranked c.args.far c.requires.far

@@ -1,14 +1,14 @@
-use Rattle.std.proofs.Common.{◌≡◌, ◌≤◌, ◌+◌, suc, ℕ, length, slice_index, arith, sym, ap, subst}
+use Rattle.std.proofs.Common.{◌≡◌, ◌+◌, suc, length, slice_index, arith, sym, ap, subst}
 use Rattle.cip_branches.specs.Around.{kids_around}
 use Rattle.cip_branches.specs.Following.{AreRanked}
 use Rattle.cip_rows.specs.Kids.{kids_of}
 use Rattle.cip_branches.specs.Layers.{Layers}
-use Rattle.cip_branches.specs.Passing.{AreSteadyButNew}
+use Rattle.cip_branches.specs.Passing.{AreNotedBut, AreSteadyButNew}
 use Rattle.cip_rows.specs.Keys.{AreKeyed, key_of}
 use Rattle.cip_branches.specs.Turning.{in_sphere, AreSpheres}
 use Rattle.cip_branches.specs.Walking.{LastPlaces}
 use Rattle.cip_branches.proofs.Followed.{starts_more, ends_behind, ranked_after, last_after}
-use Rattle.cip_branches.proofs.WalkedSpheres.{begins_walked, steady_walked, nodes_walked}
+use Rattle.cip_branches.proofs.WalkedSpheres.{noted_walked, steady_walked, nodes_walked}
 use Rattle.cip_branches.proofs.spheres.Spheres.follow.Goals as goal
 
 pub pass-requires-clause-last : goal.pass-requires-clause-last
@@ -39,16 +39,16 @@ pass-requires-clause-spheres g c =
     subst (λ n. AreSpheres (kids_of mid.kin) mid.kin.ups mid.ranked.rows mid.starts n mid.ranked.numbers) last
     c.walk_on.ensures.spheres
 
-pub pass-requires-clause-begins : goal.pass-requires-clause-begins
-pass-requires-clause-begins g c =
+pub pass-requires-clause-noted : goal.pass-requires-clause-noted
+pass-requires-clause-noted g c =
     let size = length c.args.around.now.table.now.parents in
     let kids_at = kids_around c.args.around.now.table.now.parents c.args.around.now.way.now in
     let walked = c.walk_on.ensures.walked in
     let mid = c.walk_on.new.self in
     let last : suc c.args.last ≡ c.args.last + 1 = omega arith in
-    subst (λ (s : Layers). (t place : ℕ) → t ≤ c.args.last → in_sphere s.ranked.rows s.starts t place
-    → slice_index s.ranked.numbers place ≡ slice_index s.before place) (sym walked.ended)
-    (begins_walked c.args.self.now c.args.first c.args.last size kids_at c.args.wanted.now c.requires.walk walked.below walked.walked walked.walks c.requires.ranked.before)
+    subst (λ (s : Layers). AreNotedBut s.ranked.rows (slice_index s.starts (suc c.args.last))
+    (slice_index s.starts (suc (suc c.args.last))) s.before s.ranked.numbers) (sym walked.ended)
+    (noted_walked c.args.self.now c.args.first c.args.last size kids_at c.args.wanted.now c.requires.walk walked.below walked.walked walked.walks c.requires.ranked.before)
 
 pub pass-requires-clause-steady : goal.pass-requires-clause-steady
 pass-requires-clause-steady g c =

@@ -1,4 +1,4 @@
-use Rattle.std.proofs.Common.{◌≡◌, slice_index, refl, ◌∙◌, sym, ap, subst, arith}
+use Rattle.std.proofs.Common.{◌≡◌, ℕ, List, slice_index, refl, ◌∙◌, sym, ap, subst, arith}
 use Rattle.std.specs.Ordering.{int_cmp, then_cmp, on}
 use Rattle.cip_rank.specs.Ranking.{by_number}
 use Rattle.cip_branches.specs.Following.{AreRanked}
@@ -22,6 +22,18 @@ split_sphere-requires-clause-classed g c =
     (subst (λ n. AreClassed first.ranked.rows first.ranked.numbers n (slice_index first.starts 1)) from_is
     (c.requires.ranked.spheres.classed 0 (omega arith)))
 
+pub note_rows-requires-clause-noted : goal.note_rows-requires-clause-noted
+note_rows-requires-clause-noted g c =
+    let first = c.args.self.now in
+    let new = c.split_sphere.new.self in
+    let before : new.before ≡ first.ranked.numbers =
+    ap (λ (s : Layers). s.before) c.split_sphere.ensures.others ∙ c.requires.ranked.before in
+    let kept = c.split_sphere.ensures.kept in
+    record {
+      each = λ place none. ap (λ (ns : List ℕ). slice_index ns place) before
+          ∙ sym (kept.others place (λ p. none (kept.back place p)));
+    }
+
 pub returns-clause-split : goal.returns-clause-split
 returns-clause-split g c =
     let first = c.args.self.now in
@@ -39,8 +51,8 @@ returns-clause-split g c =
     (then_cmp (by_number first.ranked.numbers) (on (key_of keys first.kin) int_cmp)) new.numbers)
     (sym from_is) (subst (λ n. OrdersPlaces (IsRow first.ranked.rows from n) (then_cmp (by_number first.ranked.numbers)
     (on (key_of keys first.kin) int_cmp)) new.numbers) (sym to_is) c.split_sphere.ensures.split) in
-    let now : c.note_numbers.new.self ≡ record first { ranked = new; before = new.numbers } =
-    c.note_numbers.ensures
+    let now : c.note_rows.new.self ≡ record first { ranked = new; before = new.numbers } =
+    c.note_rows.ensures
     ∙ ap (λ (s : Layers). record s { before = new.numbers }) c.split_sphere.ensures.others in
     subst (SplitsFirst first keys) (sym now)
     (first_splits first last c.requires.ranked new new.numbers refl kept keys split c.split_sphere.ensures.room)
@@ -62,8 +74,8 @@ returns-clause-ranked g c =
     (then_cmp (by_number first.ranked.numbers) (on (key_of keys first.kin) int_cmp)) new.numbers)
     (sym from_is) (subst (λ n. OrdersPlaces (IsRow first.ranked.rows from n) (then_cmp (by_number first.ranked.numbers)
     (on (key_of keys first.kin) int_cmp)) new.numbers) (sym to_is) c.split_sphere.ensures.split) in
-    let now : c.note_numbers.new.self ≡ record first { ranked = new; before = new.numbers } =
-    c.note_numbers.ensures
+    let now : c.note_rows.new.self ≡ record first { ranked = new; before = new.numbers } =
+    c.note_rows.ensures
     ∙ ap (λ (s : Layers). record s { before = new.numbers }) c.split_sphere.ensures.others in
     subst (λ (s : Layers). AreRanked s last) (sym now)
     (first_ranked first last c.requires.ranked new new.numbers refl kept keys split)
