@@ -10,16 +10,54 @@ use Rattle.cip_rows.specs.Rows.{IsRow, AreClassed, OrdersPlaces}
 use Rattle.cip_branches.specs.Walking.{LastPlaces}
 use Rattle.cip_branches.proofs.Begun.{begun_classed, begun_keyed, first_begins, first_noted, first_ranked, first_places, tops_room}
 use Rattle.cip_branches.proofs.spheres.Spheres.begin.Goals as goal
+use Rattle.cip_branches.proofs.spheres.Spheres.begin.Goals.{After-split_sphere, After-note_rows}
+
+count_is : (g : _) (c : After-split_sphere g) → c.row_count-count.result
+    ≡ length (begun_with c.args.tops.now c.args.self.now).ranked.rows
+count_is g c = c.row_count-count.ensures.count
+    ∙ ap (λ (s : Layers). length s.ranked.rows) (c.self.view_is ∙ c.start.ensures)
+
+kept : (g : _) (c : After-split_sphere g) →
+    let begun = begun_with c.args.tops.now c.args.self.now in
+    let ranked = c.split_sphere.new.self.ranked in
+    KeepsSphere 0 (length begun.ranked.rows) begun.ranked.rows ranked.rows begun.ranked.numbers ranked.numbers
+kept g c =
+    let begun = begun_with c.args.tops.now c.args.self.now in
+    let ranked = c.split_sphere.new.self.ranked in
+    subst (λ n. KeepsSphere 0 n begun.ranked.rows ranked.rows begun.ranked.numbers ranked.numbers)
+    (count_is g c)
+    (subst (λ (s : Layers). KeepsSphere 0 c.row_count-count.result s.ranked.rows ranked.rows s.ranked.numbers
+    ranked.numbers) c.start.ensures c.split_sphere.ensures.kept)
+
+split : (g : _) (c : After-split_sphere g) →
+    let begun = begun_with c.args.tops.now c.args.self.now in
+    OrdersPlaces (IsRow begun.ranked.rows 0 (length begun.ranked.rows)) (then_cmp (by_number begun.ranked.numbers)
+    (on (key_of (g.K.Keyed.key c.args.keys.now) begun.kin) int_cmp)) c.split_sphere.new.self.ranked.numbers
+split g c =
+    let begun = begun_with c.args.tops.now c.args.self.now in
+    let numbers = c.split_sphere.new.self.ranked.numbers in
+    subst (λ n. OrdersPlaces (IsRow begun.ranked.rows 0 n) (then_cmp (by_number begun.ranked.numbers)
+    (on (key_of (g.K.Keyed.key c.args.keys.now) begun.kin) int_cmp)) numbers) (count_is g c)
+    (subst (λ (s : Layers). OrdersPlaces (IsRow s.ranked.rows 0 c.row_count-count.result)
+    (then_cmp (by_number s.ranked.numbers) (on (key_of (g.K.Keyed.key c.args.keys.now) s.kin) int_cmp)) numbers)
+    c.start.ensures c.split_sphere.ensures.split)
+
+now : (g : _) (c : After-note_rows g) → c.note_rows.new.self ≡ record (begun_with c.args.tops.now c.args.self.now) {
+  ranked = c.split_sphere.new.self.ranked;
+  before = c.split_sphere.new.self.ranked.numbers;
+}
+now g c = c.note_rows.ensures
+    ∙ ap (λ (s : Layers). record s { before = c.split_sphere.new.self.ranked.numbers }) (c.split_sphere.ensures.others
+    ∙ ap (λ (s : Layers). record s { ranked = c.split_sphere.new.self.ranked }) c.start.ensures)
 
 pub split_sphere-requires-clause-classed : goal.split_sphere-requires-clause-classed
 split_sphere-requires-clause-classed g c =
-    let old = c.args.self.now in
-    let tops = c.args.tops.now in
-    let begun = begun_with tops old in
+    let begun = begun_with c.args.tops.now c.args.self.now in
     let count : c.row_count-count.result ≡ length begun.ranked.rows = c.row_count-count.ensures.count
     ∙ ap (λ (s : Layers). length s.ranked.rows) (c.self.view_is ∙ c.start.ensures) in
     subst (λ (s : Layers). AreClassed s.ranked.rows s.ranked.numbers 0 c.row_count-count.result) (sym c.start.ensures)
-    (subst (AreClassed begun.ranked.rows begun.ranked.numbers 0) (sym count) (begun_classed old tops))
+    (subst (AreClassed begun.ranked.rows begun.ranked.numbers 0) (sym count)
+    (begun_classed c.args.self.now c.args.tops.now))
 
 pub split_sphere-requires-clause-keyed : goal.split_sphere-requires-clause-keyed
 split_sphere-requires-clause-keyed g c =
@@ -28,109 +66,49 @@ split_sphere-requires-clause-keyed g c =
 
 pub note_rows-requires-clause-noted : goal.note_rows-requires-clause-noted
 note_rows-requires-clause-noted g c =
-    let old = c.args.self.now in
-    let tops = c.args.tops.now in
+    let at = (goal.at.note_rows-requires-clause-noted g c).After-split_sphere in
+    let begun = begun_with c.args.tops.now c.args.self.now in
     let ranked = c.split_sphere.new.self.ranked in
-    let begun = begun_with tops old in
-    let count : c.row_count-count.result ≡ length begun.ranked.rows = c.row_count-count.ensures.count
-    ∙ ap (λ (s : Layers). length s.ranked.rows) (c.self.view_is ∙ c.start.ensures) in
-    let kept = subst (λ n. KeepsSphere 0 n begun.ranked.rows ranked.rows begun.ranked.numbers ranked.numbers) count
-    (subst (λ (s : Layers). KeepsSphere 0 c.row_count-count.result s.ranked.rows ranked.rows s.ranked.numbers
-    ranked.numbers) c.start.ensures c.split_sphere.ensures.kept) in
-    let before : c.split_sphere.new.self.before ≡ begun.before =
-    ap (λ (s : Layers). s.before) (c.split_sphere.ensures.others
-    ∙ ap (λ (s : Layers). record s { ranked = ranked }) c.start.ensures) in
-    subst (λ n. AreNotedBut ranked.rows 0 n c.split_sphere.new.self.before ranked.numbers) (sym count)
-    (subst (λ ns. AreNotedBut ranked.rows 0 (length begun.ranked.rows) ns ranked.numbers) (sym before)
-    (first_noted old tops ranked kept))
+    subst (λ n. AreNotedBut ranked.rows 0 n c.split_sphere.new.self.before ranked.numbers) (sym (count_is g at))
+    (subst (λ ns. AreNotedBut ranked.rows 0 (length begun.ranked.rows) ns ranked.numbers)
+    (sym (ap (λ (s : Layers). s.before) (c.split_sphere.ensures.others
+    ∙ ap (λ (s : Layers). record s { ranked = ranked }) c.start.ensures)))
+    (first_noted c.args.self.now c.args.tops.now ranked (kept g at)))
 
 pub returns-clause-begun : goal.returns-clause-begun
 returns-clause-begun g c =
-    let old = c.args.self.now in
+    let at = (goal.at.returns-clause-begun g c).After-split_sphere in
+    let noted = (goal.at.returns-clause-begun g c).After-note_rows in
     let tops = c.args.tops.now in
+    let old = c.args.self.now in
     let ranked = c.split_sphere.new.self.ranked in
-    let begun = begun_with tops old in
-    let count : c.row_count-count.result ≡ length begun.ranked.rows = c.row_count-count.ensures.count
-    ∙ ap (λ (s : Layers). length s.ranked.rows) (c.self.view_is ∙ c.start.ensures) in
-    let kept = subst (λ n. KeepsSphere 0 n begun.ranked.rows ranked.rows begun.ranked.numbers ranked.numbers) count
-    (subst (λ (s : Layers). KeepsSphere 0 c.row_count-count.result s.ranked.rows ranked.rows s.ranked.numbers
-    ranked.numbers) c.start.ensures c.split_sphere.ensures.kept) in
-    let key = key_of (g.K.Keyed.key c.args.keys.now) begun.kin in
-    let split = subst (λ n. OrdersPlaces (IsRow begun.ranked.rows 0 n) (then_cmp (by_number begun.ranked.numbers)
-    (on key int_cmp)) ranked.numbers) count (subst (λ (s : Layers). OrdersPlaces (IsRow s.ranked.rows 0
-    c.row_count-count.result) (then_cmp (by_number s.ranked.numbers) (on (key_of (g.K.Keyed.key c.args.keys.now) s.kin)
-    int_cmp)) ranked.numbers) c.start.ensures c.split_sphere.ensures.split) in
-    let now : c.note_rows.new.self ≡ record begun { ranked = ranked; before = ranked.numbers } =
-    c.note_rows.ensures
-    ∙ ap (λ (s : Layers). record s { before = ranked.numbers }) (c.split_sphere.ensures.others
-    ∙ ap (λ (s : Layers). record s { ranked = ranked }) c.start.ensures) in
-    subst (Begins tops (g.K.Keyed.key c.args.keys.now)) (sym now)
-    (first_begins old tops key ranked ranked.numbers kept split (g.K.Keyed.key c.args.keys.now) (λ k. refl))
+    subst (Begins tops (g.K.Keyed.key c.args.keys.now)) (sym (now g noted))
+    (first_begins old tops (key_of (g.K.Keyed.key c.args.keys.now) (begun_with tops old).kin) ranked ranked.numbers
+    (kept g at) (split g at) (g.K.Keyed.key c.args.keys.now) (λ k. refl))
 
 pub returns-clause-room : goal.returns-clause-room
 returns-clause-room g c =
-    let old = c.args.self.now in
-    let tops = c.args.tops.now in
-    let ranked = c.split_sphere.new.self.ranked in
-    let begun = begun_with tops old in
-    let count : c.row_count-count.result ≡ length begun.ranked.rows = c.row_count-count.ensures.count
-    ∙ ap (λ (s : Layers). length s.ranked.rows) (c.self.view_is ∙ c.start.ensures) in
-    let kept = subst (λ n. KeepsSphere 0 n begun.ranked.rows ranked.rows begun.ranked.numbers ranked.numbers) count
-    (subst (λ (s : Layers). KeepsSphere 0 c.row_count-count.result s.ranked.rows ranked.rows s.ranked.numbers
-    ranked.numbers) c.start.ensures c.split_sphere.ensures.kept) in
-    let key = key_of (g.K.Keyed.key c.args.keys.now) begun.kin in
-    let split = subst (λ n. OrdersPlaces (IsRow begun.ranked.rows 0 n) (then_cmp (by_number begun.ranked.numbers)
-    (on key int_cmp)) ranked.numbers) count (subst (λ (s : Layers). OrdersPlaces (IsRow s.ranked.rows 0
-    c.row_count-count.result) (then_cmp (by_number s.ranked.numbers) (on (key_of (g.K.Keyed.key c.args.keys.now) s.kin)
-    int_cmp)) ranked.numbers) c.start.ensures c.split_sphere.ensures.split) in
-    let now : c.note_rows.new.self ≡ record begun { ranked = ranked; before = ranked.numbers } =
-    c.note_rows.ensures
-    ∙ ap (λ (s : Layers). record s { before = ranked.numbers }) (c.split_sphere.ensures.others
-    ∙ ap (λ (s : Layers). record s { ranked = ranked }) c.start.ensures) in
-    ap (λ (s : Layers). s.kin.room) now ∙ tops_room tops 0 (with_sphere (cleared old))
+    ap (λ (s : Layers). s.kin.room) (now g (goal.at.returns-clause-room g c).After-note_rows)
+    ∙ tops_room c.args.tops.now 0 (with_sphere (cleared c.args.self.now))
 
 pub returns-clause-ranked : goal.returns-clause-ranked
 returns-clause-ranked g c =
-    let old = c.args.self.now in
+    let at = (goal.at.returns-clause-ranked g c).After-split_sphere in
+    let noted = (goal.at.returns-clause-ranked g c).After-note_rows in
     let tops = c.args.tops.now in
+    let old = c.args.self.now in
     let ranked = c.split_sphere.new.self.ranked in
-    let begun = begun_with tops old in
-    let count : c.row_count-count.result ≡ length begun.ranked.rows = c.row_count-count.ensures.count
-    ∙ ap (λ (s : Layers). length s.ranked.rows) (c.self.view_is ∙ c.start.ensures) in
-    let kept = subst (λ n. KeepsSphere 0 n begun.ranked.rows ranked.rows begun.ranked.numbers ranked.numbers) count
-    (subst (λ (s : Layers). KeepsSphere 0 c.row_count-count.result s.ranked.rows ranked.rows s.ranked.numbers
-    ranked.numbers) c.start.ensures c.split_sphere.ensures.kept) in
-    let key = key_of (g.K.Keyed.key c.args.keys.now) begun.kin in
-    let split = subst (λ n. OrdersPlaces (IsRow begun.ranked.rows 0 n) (then_cmp (by_number begun.ranked.numbers)
-    (on key int_cmp)) ranked.numbers) count (subst (λ (s : Layers). OrdersPlaces (IsRow s.ranked.rows 0
-    c.row_count-count.result) (then_cmp (by_number s.ranked.numbers) (on (key_of (g.K.Keyed.key c.args.keys.now) s.kin)
-    int_cmp)) ranked.numbers) c.start.ensures c.split_sphere.ensures.split) in
-    let now : c.note_rows.new.self ≡ record begun { ranked = ranked; before = ranked.numbers } =
-    c.note_rows.ensures
-    ∙ ap (λ (s : Layers). record s { before = ranked.numbers }) (c.split_sphere.ensures.others
-    ∙ ap (λ (s : Layers). record s { ranked = ranked }) c.start.ensures) in
-    subst (λ (s : Layers). AreRanked s 0) (sym now)
-    (first_ranked old tops key ranked ranked.numbers kept split refl)
+    subst (λ (s : Layers). AreRanked s 0) (sym (now g noted))
+    (first_ranked old tops (key_of (g.K.Keyed.key c.args.keys.now) (begun_with tops old).kin) ranked ranked.numbers
+    (kept g at) (split g at) refl)
 
 pub returns-clause-places : goal.returns-clause-places
 returns-clause-places g c = λ wanted.
-    let old = c.args.self.now in
+    let at = (goal.at.returns-clause-places g c).After-split_sphere in
+    let noted = (goal.at.returns-clause-places g c).After-note_rows in
     let tops = c.args.tops.now in
+    let old = c.args.self.now in
     let ranked = c.split_sphere.new.self.ranked in
-    let begun = begun_with tops old in
-    let count : c.row_count-count.result ≡ length begun.ranked.rows = c.row_count-count.ensures.count
-    ∙ ap (λ (s : Layers). length s.ranked.rows) (c.self.view_is ∙ c.start.ensures) in
-    let kept = subst (λ n. KeepsSphere 0 n begun.ranked.rows ranked.rows begun.ranked.numbers ranked.numbers) count
-    (subst (λ (s : Layers). KeepsSphere 0 c.row_count-count.result s.ranked.rows ranked.rows s.ranked.numbers
-    ranked.numbers) c.start.ensures c.split_sphere.ensures.kept) in
-    let key = key_of (g.K.Keyed.key c.args.keys.now) begun.kin in
-    let split = subst (λ n. OrdersPlaces (IsRow begun.ranked.rows 0 n) (then_cmp (by_number begun.ranked.numbers)
-    (on key int_cmp)) ranked.numbers) count (subst (λ (s : Layers). OrdersPlaces (IsRow s.ranked.rows 0
-    c.row_count-count.result) (then_cmp (by_number s.ranked.numbers) (on (key_of (g.K.Keyed.key c.args.keys.now) s.kin)
-    int_cmp)) ranked.numbers) c.start.ensures c.split_sphere.ensures.split) in
-    let now : c.note_rows.new.self ≡ record begun { ranked = ranked; before = ranked.numbers } =
-    c.note_rows.ensures
-    ∙ ap (λ (s : Layers). record s { before = ranked.numbers }) (c.split_sphere.ensures.others
-    ∙ ap (λ (s : Layers). record s { ranked = ranked }) c.start.ensures) in
-    subst (λ (s : Layers). LastPlaces s wanted 0 0) (sym now)
-    (first_places old tops key ranked ranked.numbers kept split wanted)
+    subst (λ (s : Layers). LastPlaces s wanted 0 0) (sym (now g noted))
+    (first_places old tops (key_of (g.K.Keyed.key c.args.keys.now) (begun_with tops old).kin) ranked ranked.numbers
+    (kept g at) (split g at) wanted)

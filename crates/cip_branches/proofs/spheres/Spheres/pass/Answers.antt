@@ -1,4 +1,4 @@
-use Rattle.std.proofs.Common.{refl, ◌≤◌, ◌+◌, suc, length, slice_index, arith, ◌∙◌, sym, ap, subst}
+use Rattle.std.proofs.Common.{◌≡◌, ◌≤◌, ◌+◌, suc, length, slice_index, refl, arith, ◌∙◌, sym, ap, subst}
 use Rattle.std.specs.Ordering.{int_cmp, then_cmp, on}
 use Rattle.cip_rank.specs.Ranking.{by_number}
 use Rattle.cip_rows.specs.Kids.{kids_of}
@@ -13,156 +13,139 @@ use Rattle.cip_branches.proofs.KeptSpheres.{same_after}
 use Rattle.cip_branches.proofs.Passed.{noted_after, places, passed, split_spheres, split_steady, tops_stand}
 use Rattle.cip_branches.proofs.Turns.{read_at}
 use Rattle.cip_branches.proofs.spheres.Spheres.pass.Goals as goal
+use Rattle.cip_branches.proofs.spheres.Spheres.pass.Goals.{After-split_sphere}
+
+-- what the code reads of the starts
+from_is : (g : _) (c : After-split_sphere g) → slice_index c.args.self.now.starts (suc c.args.far)
+    ≡ slice_index c.as_slice.result.now (c.args.far + 1)
+from_is g c = read_at c.args.self.now.starts c.as_slice.result.now (c.args.far + 1) (suc c.args.far)
+    (c.as_slice.ensures ∙ ap (λ (s : Layers). s.starts) c.self.view_is) (omega arith)
+
+to_is : (g : _) (c : After-split_sphere g) → slice_index c.args.self.now.starts (suc (suc c.args.far))
+    ≡ slice_index c.as_slice-2.result.now (c.args.far + 2)
+to_is g c = read_at c.args.self.now.starts c.as_slice-2.result.now (c.args.far + 2) (suc (suc c.args.far))
+    (c.as_slice-2.ensures ∙ ap (λ (s : Layers). s.starts) c.self.view_is) (omega arith)
+
+-- the sphere as it is split
+kept : (g : _) (c : After-split_sphere g) →
+    let first = c.args.self.now in
+    let new = c.split_sphere.new.self.ranked in
+    KeepsSphere (slice_index first.starts (suc c.args.far)) (slice_index first.starts (suc (suc c.args.far)))
+    first.ranked.rows new.rows first.ranked.numbers new.numbers
+kept g c =
+    let first = c.args.self.now in
+    let new = c.split_sphere.new.self.ranked in
+    subst (λ n. KeepsSphere n (slice_index first.starts (suc (suc c.args.far))) first.ranked.rows new.rows
+    first.ranked.numbers new.numbers) (sym (from_is g c))
+    (subst (λ n. KeepsSphere (slice_index c.as_slice.result.now (c.args.far + 1)) n first.ranked.rows new.rows
+    first.ranked.numbers new.numbers) (sym (to_is g c)) c.split_sphere.ensures.kept)
+
+split : (g : _) (c : After-split_sphere g) →
+    let first = c.args.self.now in
+    OrdersPlaces (in_sphere first.ranked.rows first.starts (suc c.args.far)) (then_cmp (by_number first.ranked.numbers)
+    (on (key_of (g.K.Keyed.key c.args.keys.now) first.kin) int_cmp)) c.split_sphere.new.self.ranked.numbers
+split g c =
+    let first = c.args.self.now in
+    let numbers = c.split_sphere.new.self.ranked.numbers in
+    subst (λ n. OrdersPlaces (IsRow first.ranked.rows n (slice_index first.starts (suc (suc c.args.far))))
+    (then_cmp (by_number first.ranked.numbers) (on (key_of (g.K.Keyed.key c.args.keys.now) first.kin) int_cmp)) numbers)
+    (sym (from_is g c))
+    (subst (λ n. OrdersPlaces (IsRow first.ranked.rows (slice_index c.as_slice.result.now (c.args.far + 1)) n)
+    (then_cmp (by_number first.ranked.numbers) (on (key_of (g.K.Keyed.key c.args.keys.now) first.kin) int_cmp)) numbers)
+    (sym (to_is g c)) c.split_sphere.ensures.split)
+
+fits : (g : _) (c : After-split_sphere g) → length c.args.self.now.ranked.rows ≤ c.args.self.now.kin.room
+fits g c = subst (λ (s : Layers). length s.ranked.rows ≤ s.kin.room) c.self.view_is
+    (let one = c.self.invariant.rows_len in let two = c.self.invariant.fits in omega (arith, one, two))
 
 pub refine_inwards-inner-requires-clause-spheres : goal.refine_inwards-inner-requires-clause-spheres
 refine_inwards-inner-requires-clause-spheres g c =
+    let at = (goal.at.refine_inwards-inner-requires-clause-spheres g c).After-split_sphere in
     let first = c.args.self.now in
-    let starts = ap (λ (s : Layers). s.starts) c.self.view_is in
-    let from_is = read_at first.starts c.as_slice.result.now (c.args.far + 1) (suc c.args.far)
-    (c.as_slice.ensures ∙ starts) (omega arith) in
-    let to_is = read_at first.starts c.as_slice-2.result.now (c.args.far + 2) (suc (suc c.args.far))
-    (c.as_slice-2.ensures ∙ starts) (omega arith) in
     let new = c.split_sphere.new.self.ranked in
-    let from = slice_index c.as_slice.result.now (c.args.far + 1) in
-    let kept = subst (λ n. KeepsSphere n (slice_index first.starts (suc (suc c.args.far))) first.ranked.rows new.rows
-    first.ranked.numbers new.numbers) (sym from_is) (subst (λ n. KeepsSphere from n first.ranked.rows new.rows
-    first.ranked.numbers new.numbers) (sym to_is) c.split_sphere.ensures.kept) in
-    let fits = subst (λ (s : Layers). length s.ranked.rows ≤ s.kin.room) c.self.view_is
-    (let one = c.self.invariant.rows_len in let two = c.self.invariant.fits in omega (arith, one, two)) in
     subst (λ (s : Layers). AreSpheres (kids_of s.kin) s.kin.ups new.rows s.starts c.args.last new.numbers)
-    (sym c.split_sphere.ensures.others) (split_spheres (kids_of first.kin) first.kin.ups first.ranked.rows first.starts c.args.last c.args.far
-    first.kin.room c.requires.far first.ranked.numbers first.before c.requires.spheres fits c.requires.noted
-    c.requires.steady new.rows new.numbers kept)
+    (sym c.split_sphere.ensures.others) (split_spheres (kids_of first.kin) first.kin.ups first.ranked.rows first.starts
+    c.args.last c.args.far first.kin.room c.requires.far first.ranked.numbers first.before c.requires.spheres
+    (fits g at) c.requires.noted c.requires.steady new.rows new.numbers (kept g at))
 
 pub refine_inwards-inner-requires-clause-steady : goal.refine_inwards-inner-requires-clause-steady
 refine_inwards-inner-requires-clause-steady g c =
+    let at = (goal.at.refine_inwards-inner-requires-clause-steady g c).After-split_sphere in
     let first = c.args.self.now in
-    let starts = ap (λ (s : Layers). s.starts) c.self.view_is in
-    let from_is = read_at first.starts c.as_slice.result.now (c.args.far + 1) (suc c.args.far)
-    (c.as_slice.ensures ∙ starts) (omega arith) in
-    let to_is = read_at first.starts c.as_slice-2.result.now (c.args.far + 2) (suc (suc c.args.far))
-    (c.as_slice-2.ensures ∙ starts) (omega arith) in
     let new = c.split_sphere.new.self.ranked in
-    let from = slice_index c.as_slice.result.now (c.args.far + 1) in
-    let kept = subst (λ n. KeepsSphere n (slice_index first.starts (suc (suc c.args.far))) first.ranked.rows new.rows
-    first.ranked.numbers new.numbers) (sym from_is) (subst (λ n. KeepsSphere from n first.ranked.rows new.rows
-    first.ranked.numbers new.numbers) (sym to_is) c.split_sphere.ensures.kept) in
-    let fits = subst (λ (s : Layers). length s.ranked.rows ≤ s.kin.room) c.self.view_is
-    (let one = c.self.invariant.rows_len in let two = c.self.invariant.fits in omega (arith, one, two)) in
     subst (λ (s : Layers). AreSteadyBefore (kids_of s.kin) new.rows s.starts c.args.far s.before new.numbers)
-    (sym c.split_sphere.ensures.others) (split_steady (kids_of first.kin) first.kin.ups first.ranked.rows first.starts c.args.last c.args.far
-    first.kin.room c.requires.far first.ranked.numbers first.before c.requires.spheres fits c.requires.noted
-    c.requires.steady new.rows new.numbers kept)
-
-pub returns-clause-passed : goal.returns-clause-passed
-returns-clause-passed g c =
-    let first = c.args.self.now in
-    let starts = ap (λ (s : Layers). s.starts) c.self.view_is in
-    let from_is = read_at first.starts c.as_slice.result.now (c.args.far + 1) (suc c.args.far)
-    (c.as_slice.ensures ∙ starts) (omega arith) in
-    let to_is = read_at first.starts c.as_slice-2.result.now (c.args.far + 2) (suc (suc c.args.far))
-    (c.as_slice-2.ensures ∙ starts) (omega arith) in
-    let new = c.split_sphere.new.self.ranked in
-    let from = slice_index c.as_slice.result.now (c.args.far + 1) in
-    let kept = subst (λ n. KeepsSphere n (slice_index first.starts (suc (suc c.args.far))) first.ranked.rows new.rows
-    first.ranked.numbers new.numbers) (sym from_is) (subst (λ n. KeepsSphere from n first.ranked.rows new.rows
-    first.ranked.numbers new.numbers) (sym to_is) c.split_sphere.ensures.kept) in
-    let fits = subst (λ (s : Layers). length s.ranked.rows ≤ s.kin.room) c.self.view_is
-    (let one = c.self.invariant.rows_len in let two = c.self.invariant.fits in omega (arith, one, two)) in
-    let split = subst (λ n. OrdersPlaces (IsRow first.ranked.rows n (slice_index first.starts (suc (suc c.args.far))))
-    (then_cmp (by_number first.ranked.numbers) (on (key_of (g.K.Keyed.key c.args.keys.now) first.kin) int_cmp)) new.numbers)
-    (sym from_is) (subst (λ n. OrdersPlaces (IsRow first.ranked.rows from n) (then_cmp (by_number first.ranked.numbers)
-    (on (key_of (g.K.Keyed.key c.args.keys.now) first.kin) int_cmp)) new.numbers) (sym to_is) c.split_sphere.ensures.split) in
-    let refined = subst (λ (s : Layers). Refines (kids_of s.kin) (in_sphere new.rows s.starts) c.args.far 0 new.numbers
-    c.refine_inwards-inner.new.self.ranked.numbers) c.split_sphere.ensures.others c.refine_inwards-inner.ensures.refined in
-    let done = passed (kids_of first.kin) first.kin.ups first.ranked.rows first.starts c.args.last c.args.far
-    first.kin.room c.requires.far first.ranked.numbers first.before c.requires.spheres fits c.requires.noted
-    c.requires.steady new.rows new.numbers kept
-    (key_of (g.K.Keyed.key c.args.keys.now) first.kin) c.refine_inwards-inner.new.self.ranked.numbers split refined in
-    subst (λ (s : Layers). Passes (kids_of first.kin) (in_sphere first.ranked.rows first.starts) c.args.far
-    (key_of (g.K.Keyed.key c.args.keys.now) first.kin) first.ranked.numbers s.ranked.numbers) (sym c.note_rows.ensures) done
+    (sym c.split_sphere.ensures.others) (split_steady (kids_of first.kin) first.kin.ups first.ranked.rows first.starts
+    c.args.last c.args.far first.kin.room c.requires.far first.ranked.numbers first.before c.requires.spheres
+    (fits g at) c.requires.noted c.requires.steady new.rows new.numbers (kept g at))
 
 pub note_rows-requires-clause-noted : goal.note_rows-requires-clause-noted
 note_rows-requires-clause-noted g c =
+    let at = (goal.at.note_rows-requires-clause-noted g c).After-split_sphere in
     let first = c.args.self.now in
-    let starts = ap (λ (s : Layers). s.starts) c.self.view_is in
-    let from_is = read_at first.starts c.as_slice.result.now (c.args.far + 1) (suc c.args.far)
-    (c.as_slice.ensures ∙ starts) (omega arith) in
-    let to_is = read_at first.starts c.as_slice-2.result.now (c.args.far + 2) (suc (suc c.args.far))
-    (c.as_slice-2.ensures ∙ starts) (omega arith) in
     let new = c.split_sphere.new.self.ranked in
-    let from = slice_index c.as_slice.result.now (c.args.far + 1) in
-    let kept = subst (λ n. KeepsSphere n (slice_index first.starts (suc (suc c.args.far))) first.ranked.rows new.rows
-    first.ranked.numbers new.numbers) (sym from_is) (subst (λ n. KeepsSphere from n first.ranked.rows new.rows
-    first.ranked.numbers new.numbers) (sym to_is) c.split_sphere.ensures.kept) in
-    let fits = subst (λ (s : Layers). length s.ranked.rows ≤ s.kin.room) c.self.view_is
-    (let one = c.self.invariant.rows_len in let two = c.self.invariant.fits in omega (arith, one, two)) in
     let last = c.refine_inwards-inner.new.self in
+    let inner = c.refine_inwards-inner.result in
     let others = c.refine_inwards-inner.ensures.others ∙ ap (λ (s : Layers). record s { ranked = last.ranked })
     c.split_sphere.ensures.others in
-    let stand = subst (λ (s : Layers). StandBut new.rows s.starts c.refine_inwards-inner.result c.args.far new.numbers
-    last.ranked.numbers) c.split_sphere.ensures.others c.refine_inwards-inner.ensures.stand in
+    let stand = subst (λ (s : Layers). StandBut new.rows s.starts inner c.args.far new.numbers last.ranked.numbers)
+    c.split_sphere.ensures.others c.refine_inwards-inner.ensures.stand in
     let places = subst (λ (s : Layers). SamePlaces new.rows last.ranked.rows s.starts) c.split_sphere.ensures.others
     c.refine_inwards-inner.ensures.places in
-    let done = noted_after (kids_of first.kin) first.kin.ups first.ranked.rows first.starts c.args.last c.args.far
-    first.kin.room c.requires.far first.ranked.numbers first.before c.requires.spheres fits c.requires.noted
-    c.requires.steady new.rows new.numbers kept c.refine_inwards-inner.result
+    let noted = noted_after (kids_of first.kin) first.kin.ups first.ranked.rows first.starts c.args.last c.args.far
+    first.kin.room c.requires.far first.ranked.numbers first.before c.requires.spheres (fits g at) c.requires.noted
+    c.requires.steady new.rows new.numbers (kept g at) inner
     (let high = c.refine_inwards-inner.ensures.inner in omega (arith, high)) last.ranked.numbers stand last.ranked.rows
     places in
-    let inner_is = read_at first.starts c.as_slice-3.result.now c.refine_inwards-inner.result
-    c.refine_inwards-inner.result (c.as_slice-3.ensures ∙ ap (λ (s : Layers). s.starts) (c.self-2.view_is ∙ others))
-    refl in
-    let to = slice_index c.as_slice-2.result.now (c.args.far + 2) in
-    subst (λ ns. AreNotedBut last.ranked.rows (slice_index c.as_slice-3.result.now c.refine_inwards-inner.result) to ns
-    last.ranked.numbers) (sym (ap (λ (s : Layers). s.before) others))
-    (subst (λ n. AreNotedBut last.ranked.rows n to first.before last.ranked.numbers) inner_is
-    (subst (λ n. AreNotedBut last.ranked.rows (slice_index first.starts c.refine_inwards-inner.result) n first.before
-    last.ranked.numbers) to_is done))
+    let inner_is = read_at first.starts c.as_slice-3.result.now inner inner
+    (c.as_slice-3.ensures ∙ ap (λ (s : Layers). s.starts) (c.self-2.view_is ∙ others)) refl in
+    subst (λ ns. AreNotedBut last.ranked.rows (slice_index c.as_slice-3.result.now inner)
+    (slice_index c.as_slice-2.result.now (c.args.far + 2)) ns last.ranked.numbers)
+    (sym (ap (λ (s : Layers). s.before) others))
+    (subst (λ n. AreNotedBut last.ranked.rows n (slice_index c.as_slice-2.result.now (c.args.far + 2)) first.before
+    last.ranked.numbers) inner_is
+    (subst (λ n. AreNotedBut last.ranked.rows (slice_index first.starts inner) n first.before last.ranked.numbers)
+    (to_is g at) noted))
 
 pub returns-clause-tops : goal.returns-clause-tops
 returns-clause-tops g c = λ some.
+    let at = (goal.at.returns-clause-tops g c).After-split_sphere in
     let first = c.args.self.now in
-    let starts = ap (λ (s : Layers). s.starts) c.self.view_is in
-    let from_is = read_at first.starts c.as_slice.result.now (c.args.far + 1) (suc c.args.far)
-    (c.as_slice.ensures ∙ starts) (omega arith) in
-    let to_is = read_at first.starts c.as_slice-2.result.now (c.args.far + 2) (suc (suc c.args.far))
-    (c.as_slice-2.ensures ∙ starts) (omega arith) in
     let new = c.split_sphere.new.self.ranked in
-    let from = slice_index c.as_slice.result.now (c.args.far + 1) in
-    let kept = subst (λ n. KeepsSphere n (slice_index first.starts (suc (suc c.args.far))) first.ranked.rows new.rows
-    first.ranked.numbers new.numbers) (sym from_is) (subst (λ n. KeepsSphere from n first.ranked.rows new.rows
-    first.ranked.numbers new.numbers) (sym to_is) c.split_sphere.ensures.kept) in
-    let fits = subst (λ (s : Layers). length s.ranked.rows ≤ s.kin.room) c.self.view_is
-    (let one = c.self.invariant.rows_len in let two = c.self.invariant.fits in omega (arith, one, two)) in
     let last = c.refine_inwards-inner.new.self in
-    let stand = subst (λ (s : Layers). StandBut new.rows s.starts c.refine_inwards-inner.result c.args.far new.numbers
-    last.ranked.numbers) c.split_sphere.ensures.others c.refine_inwards-inner.ensures.stand in
-    let done = tops_stand (kids_of first.kin) first.kin.ups first.ranked.rows first.starts c.args.last c.args.far
-    first.kin.room c.requires.far first.ranked.numbers first.before c.requires.spheres fits c.requires.noted
-    c.requires.steady new.rows new.numbers kept c.refine_inwards-inner.result
-    (let high = c.refine_inwards-inner.ensures.inner in omega (arith, high)) last.ranked.numbers stand some in
+    let inner = c.refine_inwards-inner.result in
+    let stand = subst (λ (s : Layers). StandBut new.rows s.starts inner c.args.far new.numbers last.ranked.numbers)
+    c.split_sphere.ensures.others c.refine_inwards-inner.ensures.stand in
     subst (λ (s : Layers). Stands first.ranked.rows first.starts 0 first.ranked.numbers s.ranked.numbers)
-    (sym c.note_rows.ensures) done
+    (sym c.note_rows.ensures) (tops_stand (kids_of first.kin) first.kin.ups first.ranked.rows first.starts c.args.last
+    c.args.far first.kin.room c.requires.far first.ranked.numbers first.before c.requires.spheres (fits g at)
+    c.requires.noted c.requires.steady new.rows new.numbers (kept g at) inner
+    (let high = c.refine_inwards-inner.ensures.inner in omega (arith, high)) last.ranked.numbers stand some)
+
+pub returns-clause-passed : goal.returns-clause-passed
+returns-clause-passed g c =
+    let at = (goal.at.returns-clause-passed g c).After-split_sphere in
+    let first = c.args.self.now in
+    let new = c.split_sphere.new.self.ranked in
+    let now = c.refine_inwards-inner.new.self.ranked.numbers in
+    let refined = subst (λ (s : Layers). Refines (kids_of s.kin) (in_sphere new.rows s.starts) c.args.far 0 new.numbers
+    now) c.split_sphere.ensures.others c.refine_inwards-inner.ensures.refined in
+    let key = key_of (g.K.Keyed.key c.args.keys.now) first.kin in
+    subst (λ (s : Layers). Passes (kids_of first.kin) (in_sphere first.ranked.rows first.starts) c.args.far key
+    first.ranked.numbers s.ranked.numbers) (sym c.note_rows.ensures)
+    (passed (kids_of first.kin) first.kin.ups first.ranked.rows first.starts c.args.last c.args.far first.kin.room
+    c.requires.far first.ranked.numbers first.before c.requires.spheres (fits g at) c.requires.noted c.requires.steady
+    new.rows new.numbers (kept g at) key now (split g at) refined)
 
 pub returns-clause-places : goal.returns-clause-places
 returns-clause-places g c =
+    let at = (goal.at.returns-clause-places g c).After-split_sphere in
     let first = c.args.self.now in
-    let starts = ap (λ (s : Layers). s.starts) c.self.view_is in
-    let from_is = read_at first.starts c.as_slice.result.now (c.args.far + 1) (suc c.args.far)
-    (c.as_slice.ensures ∙ starts) (omega arith) in
-    let to_is = read_at first.starts c.as_slice-2.result.now (c.args.far + 2) (suc (suc c.args.far))
-    (c.as_slice-2.ensures ∙ starts) (omega arith) in
     let new = c.split_sphere.new.self.ranked in
-    let from = slice_index c.as_slice.result.now (c.args.far + 1) in
-    let kept = subst (λ n. KeepsSphere n (slice_index first.starts (suc (suc c.args.far))) first.ranked.rows new.rows
-    first.ranked.numbers new.numbers) (sym from_is) (subst (λ n. KeepsSphere from n first.ranked.rows new.rows
-    first.ranked.numbers new.numbers) (sym to_is) c.split_sphere.ensures.kept) in
-    let fits = subst (λ (s : Layers). length s.ranked.rows ≤ s.kin.room) c.self.view_is
-    (let one = c.self.invariant.rows_len in let two = c.self.invariant.fits in omega (arith, one, two)) in
-    let refined = subst (λ (s : Layers). SamePlaces new.rows c.refine_inwards-inner.new.self.ranked.rows s.starts)
-    c.split_sphere.ensures.others c.refine_inwards-inner.ensures.places in
-    let done = same_after first.ranked.rows new.rows c.refine_inwards-inner.new.self.ranked.rows first.starts
-    (places (kids_of first.kin) first.kin.ups first.ranked.rows first.starts c.args.last c.args.far
-    first.kin.room c.requires.far first.ranked.numbers first.before c.requires.spheres fits c.requires.noted
-    c.requires.steady new.rows new.numbers kept) refined in
-    subst (λ (s : Layers). SamePlaces first.ranked.rows s.ranked.rows first.starts) (sym c.note_rows.ensures) done
+    let last = c.refine_inwards-inner.new.self.ranked in
+    let refined = subst (λ (s : Layers). SamePlaces new.rows last.rows s.starts) c.split_sphere.ensures.others
+    c.refine_inwards-inner.ensures.places in
+    subst (λ (s : Layers). SamePlaces first.ranked.rows s.ranked.rows first.starts) (sym c.note_rows.ensures)
+    (same_after first.ranked.rows new.rows last.rows first.starts
+    (places (kids_of first.kin) first.kin.ups first.ranked.rows first.starts c.args.last c.args.far first.kin.room
+    c.requires.far first.ranked.numbers first.before c.requires.spheres (fits g at) c.requires.noted c.requires.steady
+    new.rows new.numbers (kept g at)) refined)
