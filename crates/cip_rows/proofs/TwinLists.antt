@@ -160,8 +160,3 @@ range_both first (suc n) m =
 pub range_twice : (n : ℕ) → range_with_len 0 n ++ range_with_len n n ≡ range_with_len 0 (n + n)
 range_twice n =
     let here : n ≡ 0 + n = omega arith in ap (λ k. range_with_len 0 n ++ range_with_len k n) here ∙ range_both 0 n n
-
-pub places_more : (count : ℕ) → range_with_len 0 (count + 1) ≡ range_with_len 0 count ++ count ∷ []
-places_more count =
-    let here : 0 + count ≡ count = omega arith in
-    sym (range_both 0 count 1) ∙ ap (λ k. range_with_len 0 count ++ k ∷ []) here

@@ -9,13 +9,39 @@ use Rattle.cip_branches.specs.Walking.{Walks, HaveEntries, LastPlaces, kids_left
 use Rattle.cip_branches.proofs.WalkedPlaces.{none_walked, stepped, few_more, left_at}
 use Rattle.cip_branches.proofs.WalkedSpheres.{spheres_walked, places_walked}
 use Rattle.cip_branches.proofs.spheres.Spheres.walk_on.Goals as goal
+use Rattle.cip_branches.proofs.spheres.Spheres.walk_on.Goals.{After-len-past, After-end_sphere}
+
+-- places behind the known ones are new
+past_is : (c : After-len-past) → c.len-past.result ≡ length c.args.self.now.kin.ups
+past_is c = c.len-past.ensures.count ∙ ap (λ (s : Layers). length s.kin.ups) c.self.view_is
+
+-- the walk has come to the last one
+walks : (c : After-end_sphere) → Walks c.args.self.now c.args.first (length c.args.around.now.table.now.parents)
+    (kids_around c.args.around.now.table.now.parents c.args.around.now.way.now) c.args.wanted.now
+    (length c.args.self.now.kin.ups) c.loop-place.self
+walks c =
+    let past : c.len-past.result ≡ length c.args.self.now.kin.ups = c.len-past.ensures.count
+    ∙ ap (λ (s : Layers). length s.kin.ups) c.self.view_is in
+    let high = c.loop-place.invariant.high in
+    let over = c.loop-place-test.false in
+    let ended : c.loop-place.place ≡ length c.args.self.now.kin.ups = omega (arith, high, over, past) in
+    subst (λ n. Walks c.args.self.now c.args.first (length c.args.around.now.table.now.parents)
+    (kids_around c.args.around.now.table.now.parents c.args.around.now.way.now) c.args.wanted.now n c.loop-place.self)
+    ended c.loop-place.invariant.walks
+
+below : (c : After-end_sphere) → (k : ℕ) → k < length c.args.self.now.ranked.rows
+    → slice_index c.args.self.now.ranked.rows k < length c.args.self.now.kin.ups
+below c = subst (λ (s : Layers). (k : ℕ) → k < length s.ranked.rows → slice_index s.ranked.rows k < length s.kin.ups)
+    c.self.view_is (λ k lt.
+    let b = c.row_count-number.ensures.below k lt in
+    let len = c.self.invariant.numbers_len in
+    omega (arith, b, len))
 
 pub loop-place-init : goal.loop-place-init
 loop-place-init c =
     let size = length c.args.around.now.table.now.parents in
     let kids_at = kids_around c.args.around.now.table.now.parents c.args.around.now.way.now in
-    let past : c.len-past.result ≡ length c.args.self.now.kin.ups = c.len-past.ensures.count
-    ∙ ap (λ (s : Layers). length s.kin.ups) c.self.view_is in
+    let past = past_is (goal.at.loop-place-init c).After-len-past in
     let family = c.len-past.ensures.family in
     let entries = subst HaveEntries c.self.view_is (record {
       nodes = family.nodes_len;
@@ -37,8 +63,7 @@ pub loop-place-preserved : goal.loop-place-preserved
 loop-place-preserved c =
     let size = length c.args.around.now.table.now.parents in
     let kids_at = kids_around c.args.around.now.table.now.parents c.args.around.now.way.now in
-    let past : c.len-past.result ≡ length c.args.self.now.kin.ups = c.len-past.ensures.count
-    ∙ ap (λ (s : Layers). length s.kin.ups) c.self.view_is in
+    let past = past_is (goal.at.loop-place-preserved c).After-len-past in
     let high : c.loop-place.place < length c.args.self.now.kin.ups = let lt = c.loop-place-test.true in
     omega (arith, lt, past) in
     let left = left_at kids_at c.args.self.now.kin.nodes c.loop-place.place c.len-past.result
@@ -66,8 +91,7 @@ loop-place-preserved c =
 
 pub walk_place_if-requires-clause-place : goal.walk_place_if-requires-clause-place
 walk_place_if-requires-clause-place c =
-    let past : c.len-past.result ≡ length c.args.self.now.kin.ups = c.len-past.ensures.count
-    ∙ ap (λ (s : Layers). length s.kin.ups) c.self.view_is in
+    let past = past_is (goal.at.walk_place_if-requires-clause-place c).After-len-past in
     let high : c.loop-place.place < length c.args.self.now.kin.ups = let lt = c.loop-place-test.true in
     omega (arith, lt, past) in
     let more = c.loop-place.invariant.walks.grows.more in
@@ -76,8 +100,7 @@ walk_place_if-requires-clause-place c =
 pub walk_place_if-requires-clause-node : goal.walk_place_if-requires-clause-node
 walk_place_if-requires-clause-node c =
     let size = length c.args.around.now.table.now.parents in
-    let past : c.len-past.result ≡ length c.args.self.now.kin.ups = c.len-past.ensures.count
-    ∙ ap (λ (s : Layers). length s.kin.ups) c.self.view_is in
+    let past = past_is (goal.at.walk_place_if-requires-clause-node c).After-len-past in
     let high : c.loop-place.place < length c.args.self.now.kin.ups = let lt = c.loop-place-test.true in
     omega (arith, lt, past) in
     subst (λ n. n < size) (sym (c.loop-place.invariant.walks.grows.node c.loop-place.place high))
@@ -86,8 +109,7 @@ walk_place_if-requires-clause-node c =
 pub walk_place_if-requires-clause-room : goal.walk_place_if-requires-clause-room
 walk_place_if-requires-clause-room c =
     let kids_at = kids_around c.args.around.now.table.now.parents c.args.around.now.way.now in
-    let past : c.len-past.result ≡ length c.args.self.now.kin.ups = c.len-past.ensures.count
-    ∙ ap (λ (s : Layers). length s.kin.ups) c.self.view_is in
+    let past = past_is (goal.at.walk_place_if-requires-clause-room c).After-len-past in
     let high : c.loop-place.place < length c.args.self.now.kin.ups = let lt = c.loop-place-test.true in
     omega (arith, lt, past) in
     let left = left_at kids_at c.args.self.now.kin.nodes c.loop-place.place c.len-past.result
@@ -109,50 +131,24 @@ end_sphere-requires c =
 
 pub returns-clause-walked : goal.returns-clause-walked
 returns-clause-walked c =
-    let size = length c.args.around.now.table.now.parents in
-    let kids_at = kids_around c.args.around.now.table.now.parents c.args.around.now.way.now in
-    let past : c.len-past.result ≡ length c.args.self.now.kin.ups = c.len-past.ensures.count
-    ∙ ap (λ (s : Layers). length s.kin.ups) c.self.view_is in
-    let ended : c.loop-place.place ≡ length c.args.self.now.kin.ups = let high = c.loop-place.invariant.high in
-    let over = c.loop-place-test.false in omega (arith, high, over, past) in
-    let walks = subst (λ n. Walks c.args.self.now c.args.first size kids_at c.args.wanted.now n
-    c.loop-place.self) ended c.loop-place.invariant.walks in
-    let below = subst (λ (s : Layers). (k : ℕ) → k < length s.ranked.rows → slice_index s.ranked.rows k
-    < length s.kin.ups) c.self.view_is (λ k lt. let b = c.row_count-number.ensures.below k lt in
-    let len = c.self.invariant.numbers_len in omega (arith, b, len)) in
-    record { walked = c.loop-place.self; below = below; walks = walks; ended = c.end_sphere.ensures }
+    let at = (goal.at.returns-clause-walked c).After-end_sphere in
+    record { walked = c.loop-place.self; below = below at; walks = walks at; ended = c.end_sphere.ensures }
 
 pub returns-clause-spheres : goal.returns-clause-spheres
 returns-clause-spheres c =
     let size = length c.args.around.now.table.now.parents in
     let kids_at = kids_around c.args.around.now.table.now.parents c.args.around.now.way.now in
-    let past : c.len-past.result ≡ length c.args.self.now.kin.ups = c.len-past.ensures.count
-    ∙ ap (λ (s : Layers). length s.kin.ups) c.self.view_is in
-    let ended : c.loop-place.place ≡ length c.args.self.now.kin.ups = let high = c.loop-place.invariant.high in
-    let over = c.loop-place-test.false in omega (arith, high, over, past) in
-    let walks = subst (λ n. Walks c.args.self.now c.args.first size kids_at c.args.wanted.now n
-    c.loop-place.self) ended c.loop-place.invariant.walks in
-    let below = subst (λ (s : Layers). (k : ℕ) → k < length s.ranked.rows → slice_index s.ranked.rows k
-    < length s.kin.ups) c.self.view_is (λ k lt. let b = c.row_count-number.ensures.below k lt in
-    let len = c.self.invariant.numbers_len in omega (arith, b, len)) in
+    let at = (goal.at.returns-clause-spheres c).After-end_sphere in
     subst (λ (s : Layers). AreSpheres (kids_of s.kin) s.kin.ups s.ranked.rows s.starts (suc c.args.last)
     s.ranked.numbers) (sym c.end_sphere.ensures) (spheres_walked c.args.self.now c.args.first c.args.last
-    size kids_at c.args.wanted.now c.requires below c.loop-place.self walks)
+    size kids_at c.args.wanted.now c.requires (below at) c.loop-place.self (walks at))
 
 pub returns-clause-places : goal.returns-clause-places
 returns-clause-places c =
     let size = length c.args.around.now.table.now.parents in
     let kids_at = kids_around c.args.around.now.table.now.parents c.args.around.now.way.now in
     λ others.
-    let past : c.len-past.result ≡ length c.args.self.now.kin.ups = c.len-past.ensures.count
-    ∙ ap (λ (s : Layers). length s.kin.ups) c.self.view_is in
-    let ended : c.loop-place.place ≡ length c.args.self.now.kin.ups = let high = c.loop-place.invariant.high in
-    let over = c.loop-place-test.false in omega (arith, high, over, past) in
-    let walks = subst (λ n. Walks c.args.self.now c.args.first size kids_at c.args.wanted.now n
-    c.loop-place.self) ended c.loop-place.invariant.walks in
-    let below = subst (λ (s : Layers). (k : ℕ) → k < length s.ranked.rows → slice_index s.ranked.rows k
-    < length s.kin.ups) c.self.view_is (λ k lt. let b = c.row_count-number.ensures.below k lt in
-    let len = c.self.invariant.numbers_len in omega (arith, b, len)) in
+    let at = (goal.at.returns-clause-places c).After-end_sphere in
     subst (λ (s : Layers). LastPlaces s others (length c.args.self.now.kin.ups) (suc c.args.last))
     (sym c.end_sphere.ensures) (places_walked c.args.self.now c.args.first c.args.last size kids_at
-    c.args.wanted.now c.requires below c.loop-place.self walks others)
+    c.args.wanted.now c.requires (below at) c.loop-place.self (walks at) others)
