@@ -51,34 +51,21 @@ fn grow_whole<L: Ledger>(
 // The descriptor of each node of a whole digraph, as it is looked at.
 fn mark(
     alloc: Global,
-    arena: &Arena,
-    graph: &Graph,
-    positions: &Positions,
-    units: &[Unit],
-    root: u32,
+    whole: &Whole<'_, Arena>,
+    units: &UnitsAt<'_>,
     sights: &mut Sights,
 ) -> Result<Descriptors, AllocError>
-    requires whole { TellsWhole graph.now positions.now root arena.now.sphere arena.now.nodes }
-    requires root { root < length graph.now.vertices }
-    requires sites { map (λ unit. unit.site) units.now ≡ sites_of graph.now positions.now }
-    requires room { length arena.now.nodes ≤ sights.old.bound }
-    ensures { IfOk result (λ marks. length marks.marks ≡ length arena.now.nodes) }
+    requires sites { map (λ unit. unit.site) units.now ≡ sites_of whole.now.graph whole.now.positions }
+    requires room { length whole.now.told ≤ sights.old.bound }
+    ensures { IfOk result (λ marks. length marks.marks ≡ length whole.now.told) }
 {
-    let units = UnitsAt::new(alloc, units)?;
-    let whole = Whole::new(
-        arena,
-        graph,
-        positions,
-        Rules::Wording2018,
-        root,
-        arena.sphere(),
-    );
-    let mut marks = Descriptors::reserve(alloc, arena.len())?;
-    descriptors_inside(alloc, &whole, &units, sights, &mut marks)?;
+    let count = whole.nodes().table().len();
+    let mut marks = Descriptors::reserve(alloc, count)?;
+    descriptors_inside(alloc, whole, units, sights, &mut marks)?;
     Ok(marks)
 }
 
-// The same in memory for this digraph alone.
+// The same by what the digraph is made of, in memory for it alone.
 fn marks_inside(
     alloc: Global,
     arena: &Arena,
@@ -93,8 +80,17 @@ fn marks_inside(
     requires few { length arena.now.nodes < 2 ^ 31 }
     ensures { IfOk result (λ marks. length marks.marks ≡ length arena.now.nodes) }
 {
+    let units = UnitsAt::new(alloc, units)?;
+    let whole = Whole::new(
+        arena,
+        graph,
+        positions,
+        Rules::Wording2018,
+        root,
+        arena.sphere(),
+    );
     let mut sights = Sights::reserve(alloc, arena.len())?;
-    let marks = mark(alloc, arena, graph, positions, units, root, &mut sights);
+    let marks = mark(alloc, &whole, &units, &mut sights);
     // given back by a call of its own: written out at the end of this function it takes minutes to prove
     drop(sights);
     marks

@@ -25,33 +25,39 @@ fn unit_at(alloc: Global, atom: u32) -> Unit {
     }
 }
 
+// A molecule, and what else its digraphs are settled by.
+#[derive(Drop)]
+struct Bonding<'a> {
+    graph: &'a Graph,
+    positions: &'a Positions,
+    units: &'a MarkedUnits<'a>,
+}
+
 // How the ligands of atom 0 are settled, and what the arena then holds.
 fn settled<L: Ledger>(
     alloc: Global,
     blank: Blank,
-    graph: &Graph,
-    positions: &Positions,
-    units: &MarkedUnits<'_>,
+    bonding: &Bonding<'_>,
     ligands: &[Ligand],
     bound: u32,
 ) -> Result<String, AllocError>
     requires name { blank.name ≡ L.name }
     requires parts { blank.parts ≡ L.parts }
     requires one { 0 < blank.parts }
-    requires root { 0 < length graph.now.vertices }
+    requires root { 0 < length bonding.now.graph.now.vertices }
     requires bound { 0 < bound }
 {
     let mut steps = Steps::<L>::open(blank);
     let arena = Arena::reserve(alloc, bound)?;
     let (mut arena, mut work) = both(arena, Work::reserve(alloc, bound))?;
-    arena.start(graph, 0);
+    arena.start(bonding.graph, 0);
     let _count = arena.len();
     let settled = settle(
         &mut arena,
         &mut work,
-        graph,
-        positions,
-        units,
+        bonding.graph,
+        bonding.positions,
+        bonding.units,
         ligands,
         Rules::Wording2013,
         &mut steps,
@@ -93,15 +99,12 @@ fn told(
         ligands.push(Ligand::Vertex(*vertex))?;
     }
     let marked = MarkedUnits::of(alloc, units.as_slice(), symbols.len() as u32)?;
-    settled::<Brand>(
-        alloc,
-        Blank::new(1),
-        &graph,
-        &positions,
-        &marked,
-        ligands.as_slice(),
-        bound,
-    )
+    let bonding = Bonding {
+        graph: &graph,
+        positions: &positions,
+        units: &marked,
+    };
+    settled::<Brand>(alloc, Blank::new(1), &bonding, ligands.as_slice(), bound)
 }
 
 #[test]

@@ -4,7 +4,7 @@ ghost use Rattle.gate_twice.specs.Tables.{HaveRoom};
 
 use crate::counts::Counts;
 use crate::molecules::Drawn;
-use crate::settled::compare_settled;
+use crate::settled::{COMPARED, compare_settled};
 use crate::tables::Tables;
 use crate::twice::{Difference, Extent, compare_sphere};
 use cip_arena::Grown;
@@ -15,8 +15,6 @@ use std::sync::ledger::Ledger;
 
 // The last sphere that is made.
 const SPHERES: u32 = 6;
-// The last sphere up to which branches are compared: boxes that tie take long.
-const COMPARED: u32 = 3;
 
 /// The first difference between the digraphs of a molecule: of which root, and up to which sphere.
 #[derive(Clone, Copy)]
@@ -98,7 +96,7 @@ fn compare_root<L: Ledger>(
     if grown.is_some() {
         return Ok(grown);
     }
-    let settled = compare_settled(alloc, drawn, tables, root, COMPARED, steps, counts)?;
+    let settled = compare_settled(alloc, drawn, tables, root, steps, counts)?;
     Ok(settled.map(|difference| Found {
         root,
         sphere: tables.arena.sphere(),

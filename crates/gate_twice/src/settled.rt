@@ -18,6 +18,9 @@ use cip_tree::{PlainTree, plain_tree};
 use std::alloc::{AllocError, Global};
 use std::sync::ledger::Ledger;
 
+/// The last sphere up to which branches are compared: boxes that tie take long.
+pub const COMPARED: u32 = 3;
+
 // The first four neighbours of a vertex.
 fn ligands_of(alloc: Global, graph: &Graph, vertex: u32) -> Ligands
     requires { vertex < length graph.now.vertices }
@@ -38,7 +41,6 @@ pub fn compare_settled<L: Ledger>(
     drawn: &Drawn,
     tables: &mut Tables,
     root: u32,
-    last: u32,
     steps: &mut Steps<L>,
     counts: &mut Counts,
 ) -> Result<Option<Difference>, AllocError>
@@ -62,7 +64,7 @@ pub fn compare_settled<L: Ledger>(
         steps,
     );
     let sphere = tables.arena.sphere();
-    if settled != Settled::Ordered || sphere > last {
+    if settled != Settled::Ordered || sphere > COMPARED {
         return Ok(None);
     }
     let tree = plain_tree(alloc, graph, &drawn.positions, root, sphere)?;
