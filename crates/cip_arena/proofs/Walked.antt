@@ -18,6 +18,7 @@ use Rattle.std.proofs.Common.{
   sym,
   ap,
   ◌∙◌,
+  subst,
   arith,
   inl,
   inr,
@@ -25,7 +26,15 @@ use Rattle.std.proofs.Common.{
 use Rattle.std.proofs.lemmas.Bool.{cases_Bool, cases_order, eqb-false, ne_eqb}
 use Rattle.cip_digraph.specs.declared.nodes.Told.{Told}
 use Rattle.cip_digraph.specs.digraph.NodeList.{told_at}
-use Rattle.cip_arena.specs.Walk.{walk_on, walk, is_above, IsEarlier}
+use Rattle.std.specs.declared.option.Option.{Option}
+use Rattle.cip_arena.specs.Walk.{walk_on, walk, is_above, vertex_above, comes_from, IsEarlier}
+
+some_node : (i : ℕ) → (i == 0) ≡ false → 0 < i
+some_node i z = elim (cases_order i 0) [
+  | inl e ↦ absurd (eqb-false i 0 z e)
+  | inr (inl below) ↦ absurd (omega arith)
+  | inr (inr more) ↦ more
+]
 
 module _ (all : List Told) (e : IsEarlier all) (vertex : ℕ) where
   enough_by : (i k m : ℕ) (b : Bool) → (i == 0) ≡ b → (0 < i → walk_on all k (told_at all i).parent vertex ≡ walk_on all
@@ -66,12 +75,7 @@ module _ (all : List Told) (e : IsEarlier all) (vertex : ℕ) where
   above_by i true c z h lt none = refl
   above_by i false false z h lt none = refl
   above_by i false true z h lt none =
-      let some : 0 < i = elim (cases_order i 0) [
-        | inl e ↦ absurd (eqb-false i 0 z e)
-        | inr (inl below) ↦ absurd
-            (omega arith)
-        | inr (inr more) ↦ more
-      ] in
+      let some = some_node i z in
       elim (cases_Bool ((told_at all i).vertex == vertex)) [
         | inl here ↦ let bad : Some i ≡ None = sym (found_here i here) ∙ none in cc
         | inr other ↦
@@ -83,3 +87,35 @@ module _ (all : List Told) (e : IsEarlier all) (vertex : ℕ) where
   -- what isn't found isn't the parent
   pub none_above : (i : ℕ) → i < length all → walk all i vertex ≡ None → is_above all i vertex ≡ false
   none_above i lt none = above_by i (i == 0) ((told_at all (told_at all i).parent).vertex == vertex) refl refl lt none
+
+  parent_by : (i own : ℕ) (b : Bool) → (i == 0) ≡ b → i < length all → (told_at all i).vertex ≡ own
+      → comes_from (cond b None (Some (told_at all (told_at all i).parent).vertex)) own vertex ≡ true
+      → (cond b false ((told_at all (told_at all i).parent).vertex == vertex) ≡ true)
+      × (walk all i vertex ≡ Some (told_at all i).parent)
+  parent_by i own true z lt at is = let bad : false ≡ true = is in cc
+  parent_by i own false z lt at is = apart (own == vertex) refl is
+    where
+      apart : (c : Bool) → (own == vertex) ≡ c → cond c false ((told_at all (told_at all i).parent).vertex == vertex) ≡ true
+          → (((told_at all (told_at all i).parent).vertex == vertex) ≡ true)
+          × (walk all i vertex ≡ Some (told_at all i).parent)
+      apart true same h = let bad : false ≡ true = h in cc
+      apart false other h = (
+        h,
+        step_up i (some_node i z) lt (ap (λ v. v == vertex) at ∙ other)
+            ∙ found_here (told_at all i).parent h,
+      )
+
+  -- a vertex that a node comes from is its parent's
+  parent_is : (i own : ℕ) (above : Option ℕ) → i < length all → (told_at all i).vertex ≡ own → above ≡ vertex_above all i
+      → comes_from above own vertex ≡ true
+      → (is_above all i vertex ≡ true) × (walk all i vertex ≡ Some (told_at all i).parent)
+  parent_is i own above lt at is come = parent_by i own (i == 0) refl lt at
+      (subst (λ a. comes_from a own vertex ≡ true) is come)
+
+  pub parent_above : (i own : ℕ) (above : Option ℕ) → i < length all → (told_at all i).vertex ≡ own
+      → above ≡ vertex_above all i → comes_from above own vertex ≡ true → is_above all i vertex ≡ true
+  parent_above i own above lt at is come = (parent_is i own above lt at is come).0
+
+  pub parent_found : (i own : ℕ) (above : Option ℕ) → i < length all → (told_at all i).vertex ≡ own
+      → above ≡ vertex_above all i → comes_from above own vertex ≡ true → walk all i vertex ≡ Some (told_at all i).parent
+  parent_found i own above lt at is come = (parent_is i own above lt at is come).1

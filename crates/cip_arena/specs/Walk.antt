@@ -40,6 +40,15 @@ pub record IsEarlier (all : List Told) : Type 0 where
 abbrev pub is_above : List Told → ℕ → ℕ → Bool
 is_above all node vertex = cond (node == 0) false ((told_at all (told_at all node).parent).vertex == vertex)
 
+-- the vertex of the parent of a node
+abbrev pub vertex_above : List Told → ℕ → Option ℕ
+vertex_above all node = cond (node == 0) None (Some (told_at all (told_at all node).parent).vertex)
+
+-- a vertex is that of the parent, and not the node's own
+abbrev pub comes_from : Option ℕ → ℕ → ℕ → Bool
+comes_from None own vertex = false
+comes_from (Some above) own vertex = cond (own == vertex) false (above == vertex)
+
 -- the later list has the nodes of the earlier one at their places
 pub record Keeps (old new : List Told) : Type 0 where
   pub longer : length old ≤ length new

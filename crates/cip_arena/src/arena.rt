@@ -6,12 +6,12 @@ ghost use Rattle.cip_digraph.specs.graph.Graph.{other_end as end_of};
 ghost use Rattle.cip_digraph.specs.digraph.Digraph.{children, digraph};
 ghost use Rattle.cip_digraph.specs.digraph.NodeList.{told_at, parents_of};
 ghost use Rattle.cip_digraph.specs.digraph.Telling.{node_at};
-ghost use Rattle.cip_arena.specs.Walk.{walk, is_above as stands_above, Keeps};
+ghost use Rattle.cip_arena.specs.Walk.{walk, is_above as stands_above, vertex_above as parent_vertex, Keeps};
 ghost use Rattle.cip_arena.specs.Making.{neighbours_told, with_neighbour, with_edge, with_children, with_sphere};
 ghost use Rattle.cip_arena.specs.Making.{edge_size as size_of_edge, node_size as size_of_node, size_upto};
 ghost use Rattle.cip_arena.specs.Growth.{Holds, GrownAs};
 
-use crate::finding::{find_above, is_above};
+use crate::finding::{find_above, is_above, vertex_above};
 use crate::presence::{clear_flags, mark_vertex};
 use crate::sizes::{copies, node_size, real_vertex, sphere_size};
 use crate::telling::{RealNode, mass_of, tell_closure, tell_duplicate, tell_real, z_of};
@@ -211,8 +211,14 @@ impl Arena {
         let Some(vertex) = real_vertex(&self.nodes[node as usize]) else {
             return;
         };
+        let above = vertex_above(&self.nodes, node);
+        let from = RealNode {
+            node,
+            vertex,
+            above,
+        };
         for edge in graph.edges_at(vertex) {
-            self.make_edge(graph, positions, RealNode { node, vertex }, edge, steps);
+            self.make_edge(graph, positions, from, edge, steps);
         }
     }
 
@@ -226,6 +232,8 @@ impl Arena {
         steps: &mut Steps<L>,
     )
         requires within { from.node < length self.old.nodes }
+        requires vertex { (told_at self.old.nodes from.node).vertex ≡ from.vertex }
+        requires above { from.above ≡ parent_vertex self.old.nodes from.node }
         requires room { length self.old.nodes + size_of_edge self.old.nodes from.node from.vertex edge.now
             ≤ self.old.bound }
         requires last { last_parent (parents_of self.old.nodes) ≤ from.node }
@@ -238,30 +246,40 @@ impl Arena {
             from.vertex edge.now }
         ensures cost { steps.new + length self.old.nodes ≡ steps.old + length self.new.nodes }
     {
-        let stands = self.make_neighbour(graph, from.node, edge.other_end(from.vertex), steps);
-        let told = tell_duplicate(graph, positions, &self.nodes, from, edge, stands);
-        self.add_copies(told, copies(edge), steps);
+        let stands = self.make_neighbour(graph, from, edge.other_end(from.vertex), steps);
+        // Few edges give duplicates, and telling of one costs more than this test.
+        if edge.counted {
+            let told = tell_duplicate(graph, positions, &self.nodes, from, edge, stands);
+            self.add_copies(told, copies(edge), steps);
+        }
     }
 
-    #[tactic(auto, using(crate::proofs::Walked::none_above, crate::proofs::Added::keeps_append))]
+    #[tactic(auto, using(crate::proofs::Walked::none_above, crate::proofs::Walked::parent_above, crate::proofs::Walked::parent_found, crate::proofs::Added::keeps_append))]
     fn make_neighbour<L: Ledger>(
         &mut self,
         graph: &Graph,
-        node: u32,
+        from: RealNode,
         other: u32,
         steps: &mut Steps<L>,
     ) -> u32
-        requires within { node < length self.old.nodes }
-        requires room { length self.old.nodes + cond (stands_above self.old.nodes node other) 0 1 ≤ self.old.bound }
-        requires last { last_parent (parents_of self.old.nodes) ≤ node }
-        ensures made { self.new ≡ record self.old { nodes = with_neighbour graph.now self.old.nodes node other } }
-        ensures stands { result ≡ unwrap_or (walk self.old.nodes node other) (length self.old.nodes) }
+        requires within { from.node < length self.old.nodes }
+        requires vertex { (told_at self.old.nodes from.node).vertex ≡ from.vertex }
+        requires above { from.above ≡ parent_vertex self.old.nodes from.node }
+        requires room { length self.old.nodes + cond (stands_above self.old.nodes from.node other) 0 1 ≤ self.old.bound }
+        requires last { last_parent (parents_of self.old.nodes) ≤ from.node }
+        ensures made { self.new ≡ record self.old { nodes = with_neighbour graph.now self.old.nodes from.node other } }
+        ensures stands { result ≡ unwrap_or (walk self.old.nodes from.node other) (length self.old.nodes) }
         ensures low { result < length self.new.nodes }
-        ensures last { last_parent (parents_of self.new.nodes) ≤ node }
-        ensures size { length self.new.nodes ≡ length self.old.nodes + cond (stands_above self.old.nodes node other) 0
+        ensures last { last_parent (parents_of self.new.nodes) ≤ from.node }
+        ensures size { length self.new.nodes ≡ length self.old.nodes + cond (stands_above self.old.nodes from.node other) 0
             1 }
         ensures cost { steps.new + length self.old.nodes ≡ steps.old + length self.new.nodes }
     {
+        let node = from.node;
+        // Nearly all neighbours on the way up are the parent: it is known without a climb.
+        if from.comes_from(other) {
+            return self.nodes[node as usize].parent;
+        }
         match find_above(&self.nodes, &self.present, node, other) {
             Some(at) => {
                 if !is_above(&self.nodes, node, other) {

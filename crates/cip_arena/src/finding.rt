@@ -1,6 +1,6 @@
 // The way from a node up to the root.
 ghost use Rattle.std.specs.Prelude.{◌≡◌, ◌<◌, ◌≤◌, ◌==◌, ℕ, suc, length, IfSome};
-ghost use Rattle.cip_arena.specs.Walk.{walk, is_above as stands_above, IsEarlier, IsMarked};
+ghost use Rattle.cip_arena.specs.Walk.{walk, is_above as stands_above, vertex_above as parent_vertex, IsEarlier, IsMarked};
 
 use crate::presence::may_stand;
 use cip_digraph::Told;
@@ -59,5 +59,18 @@ pub fn is_above(nodes: &[Told], node: u32, vertex: u32) -> bool
         false
     } else {
         has_vertex(&nodes[nodes[node as usize].parent as usize], vertex)
+    }
+}
+
+/// The vertex of the parent of a node. The root has none.
+pub fn vertex_above(nodes: &[Told], node: u32) -> Option<u32>
+    requires within { node < length nodes.now }
+    requires earlier { IsEarlier nodes.now }
+    ensures { result ≡ parent_vertex nodes.now node }
+{
+    if node == 0 {
+        None
+    } else {
+        Some(nodes[nodes[node as usize].parent as usize].vertex)
     }
 }

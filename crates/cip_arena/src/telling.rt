@@ -1,5 +1,6 @@
 // What is told of one node.
 ghost use Rattle.std.specs.Prelude.{◌≡◌, ◌<◌, ◌≤◌, ◌+◌, ◌-◌, ◌*◌, ◌/◌, ◌^◌, ℕ, length, sum, map};
+ghost use Rattle.cip_arena.specs.Walk.{comes_from};
 ghost use Rattle.cip_arena.specs.Making.{real_told, closure_told, duplicate_told};
 ghost use Rattle.cip_digraph.specs.graph.Graph.{vertex_at, other_end as end_of};
 ghost use Rattle.cip_digraph.specs.rules.Keys.{atom_mass};
@@ -8,11 +9,24 @@ ghost use Rattle.cip_digraph.specs.digraph.NodeList.{told_at};
 use cip_digraph::{Edge, Graph, NodeKind, Positions, Told};
 use cip_elem::natural_half;
 
-/// A real node, and the vertex that it stands for.
+/// A real node, the vertex that it stands for, and that of its parent: the root has none.
 #[derive(Clone, Copy)]
 pub struct RealNode {
     pub node: u32,
     pub vertex: u32,
+    pub above: Option<u32>,
+}
+
+impl RealNode {
+    /// Whether a vertex is that of the parent, and not the node's own.
+    pub fn comes_from(&self, other: u32) -> bool
+        ensures { result ≡ comes_from self.now.above self.now.vertex other }
+    {
+        match self.above {
+            Some(above) => above == other && self.vertex != other,
+            None => false,
+        }
+    }
 }
 
 /// The atomic number of a vertex, 0 at a number that is no vertex.
