@@ -21,10 +21,11 @@ fn find_on(nodes: &[Told], node: u32, vertex: u32) -> Option<u32>
 {
     let mut at = node;
     while at != 0 {
-        if has_vertex(&nodes[at as usize], vertex) {
+        let told = &nodes[at as usize];
+        if has_vertex(told, vertex) {
             return Some(at);
         }
-        at = nodes[at as usize].parent;
+        at = told.parent;
     }
     if has_vertex(&nodes[0], vertex) {
         Some(0)
