@@ -1,13 +1,13 @@
--- Branches below a root's children: the nodes at their places are nodes of the tree, and there is room for the next ones.
-use Rattle.std.proofs.Common.{◌≡◌, ◌<◌, ◌≤◌, ◌+◌, ◌-◌, ◌++◌, ◌∷◌, ℕ, zero, suc, ℤ, Bool, true, List, [], length, slice_index, refl, sym, ap, ◌∙◌, subst, arith}
-use Rattle.std.specs.List.{range_with_len}
-use Rattle.std.proofs.lemmas.Bool.{ne_eqb}
+-- Branches next to the node that a tree is seen from: the nodes at their places are nodes of the tree, and there is room
+-- for the next ones.
+use Rattle.std.proofs.Common.{◌≡◌, ◌<◌, ◌≤◌, ◌+◌, ◌-◌, ◌++◌, ◌∷◌, ℕ, ℤ, Bool, List, [], length, slice_index, sym, ap, ◌∙◌, subst, arith, refl}
+use Rattle.std.specs.List.{AllByRecursion, range_with_len}
 use Rattle.cip_rank.specs.Tree.{IsTree, children_of}
 use Rattle.cip_rank.proofs.Ranges.{range_more}
 use Rattle.cip_reroot.specs.View.{on_way, parent_list}
-use Rattle.cip_reroot.proofs.ChildrenSeen.{all_at}
+use Rattle.cip_reroot.proofs.ChildrenSeen.{all_at, off_below}
 use Rattle.cip_reroot.proofs.SeenRoot.{seen_root}
-use Rattle.cip_reroot.proofs.Times.{times, times_append, children_below}
+use Rattle.cip_reroot.proofs.Times.{times}
 use Rattle.cip_branches.specs.Around.{kids_around}
 use Rattle.cip_branches.specs.Deciding.{Branched, AreFollowed}
 use Rattle.cip_branches.specs.Following.{Begins, Follows}
@@ -18,50 +18,57 @@ use Rattle.cip_rows.specs.Keys.{AreKeyed}
 use Rattle.cip_branches.specs.Walking.{kids_left, wanted_kids}
 use Rattle.cip_branches.proofs.SeenNodes.{AreSeen, around_is, seen_first, few_seen, seen_next}
 
--- the root alone has a flag
-root_flag : (ps : List ℕ) (x : ℕ) → has_flag (true ∷ []) x ≡ on_way ps 0 x
-unfolding on_way
-root_flag ps zero = refl
-root_flag ps (suc x) = sym (ne_eqb 0 (suc x) (λ e. absurd (omega (arith, e))))
-
 pub range_one : (first child : ℕ) → first ≤ child → range_with_len first (child + 1 - first)
     ≡ range_with_len first (child - first) ++ child ∷ []
 range_one first child h =
     let one : child + 1 - first ≡ (child - first) + 1 = omega arith in
     ap (range_with_len first) one ∙ range_more first (child - first) child (omega arith)
 
+-- a node's children, and then its parent
+abbrev pub next_to : List ℕ → ℕ → List ℕ
+next_to ps n = children_of ps n ++ parent_list ps n
+
 -- places are followed, and nodes are seen once each
-pub record AreWalked (ps : List ℕ) (now : Branched) : Type 0 where
+pub record AreWalked (ps : List ℕ) (way : List Bool) (from : ℕ) (now : Branched) : Type 0 where
   pub followed : AreFollowed now
-  pub seen : AreSeen ps (true ∷ []) 0 now.first now.layers.kin.nodes
+  pub seen : AreSeen ps way from now.first now.layers.kin.nodes
 
-module _ (ps : List ℕ) (tree : IsTree ps) (some : 0 < length ps) where
-  flags : (x : ℕ) → x < length ps → has_flag (true ∷ []) x ≡ on_way ps 0 x
-  flags x h = root_flag ps x
+module _ (ps : List ℕ) (tree : IsTree ps) (from : ℕ) (inside : from < length ps) (way : List Bool)
+    (on : (x : ℕ) → x < length ps → has_flag way x ≡ on_way ps from x) where
+  abbrev around : ℕ → List ℕ
+  around = kids_around ps way
 
-  seen_tops : AreSeen ps (true ∷ []) 0 0 (children_of ps 0)
-  seen_tops = seen_first ps tree 0 some (true ∷ []) flags (children_of ps 0) (children_below ps 0) (λ x.
-      let is = ap (times x) (around_is ps tree 0 some (true ∷ []) flags 0 some ∙ seen_root ps tree 0 some) in
-      let both = times_append x (children_of ps 0) (parent_list ps 0) in
-      omega (arith, is, both))
+  abbrev tops : List ℕ
+  tops = next_to ps from
 
-  pub tops_few : length (children_of ps 0) < length ps
-  tops_few =
-      let few = few_seen ps tree 0 some (true ∷ []) flags 0 (children_of ps 0) (omega arith) seen_tops in
-      omega (arith, few)
+  -- all of them lead away
+  lead_away : around from ≡ tops
+  lead_away = around_is ps tree from inside way on from inside ∙ seen_root ps tree from inside
 
-  pub tops_below : (k : ℕ) → k < length (children_of ps 0) → slice_index (children_of ps 0) k < length ps
-  tops_below k lt = all_at (λ n. n < length ps) (children_of ps 0) k (children_below ps 0) lt
+  below : AllByRecursion (λ n. n < length ps) tops
+  below = subst (AllByRecursion (λ n. n < length ps)) lead_away (off_below (has_flag way) ps tree from inside)
 
-  pub walked_first : (tops : List ℕ) (keys : List ℤ) (now : Branched) → tops ≡ children_of ps 0
-      → Begins tops keys now.layers → AreFollowed now → now.first ≡ 0 → AreWalked ps now
-  walked_first tops keys now are begins followed first = record {
+  seen_tops : AreSeen ps way from 0 tops
+  seen_tops = seen_first ps tree from inside way on tops below (λ x.
+      let all = ap (times x) lead_away in omega (arith, all))
+
+  pub tops_few : (nodes : List ℕ) → nodes ≡ tops → length nodes < length ps
+  tops_few nodes are = subst (λ (ns : List ℕ). length ns < length ps) (sym are)
+      (let few = few_seen ps tree from inside way on 0 tops (omega arith) seen_tops in omega (arith, few))
+
+  pub tops_below : (nodes : List ℕ) → nodes ≡ tops → (k : ℕ) → k < length nodes → slice_index nodes k < length ps
+  tops_below nodes are k lt =
+      all_at (λ n. n < length ps) nodes k (subst (AllByRecursion (λ n. n < length ps)) (sym are) below) lt
+
+  pub walked_first : (nodes : List ℕ) (keys : List ℤ) (now : Branched) → nodes ≡ tops → Begins nodes keys now.layers
+      → AreFollowed now → now.first ≡ 0 → AreWalked ps way from now
+  walked_first nodes keys now are begins followed first = record {
     followed = followed;
-    seen = subst (λ (ns : List ℕ). AreSeen ps (true ∷ []) 0 now.first ns) (sym are ∙ sym begins.nodes)
-        (subst (λ n. AreSeen ps (true ∷ []) 0 n (children_of ps 0)) (sym first) seen_tops);
+    seen = subst (λ (ns : List ℕ). AreSeen ps way from now.first ns) (sym are ∙ sym begins.nodes)
+        (subst (λ n. AreSeen ps way from n tops) (sym first) seen_tops);
   }
 
-  module _ (old : Branched) (was : AreWalked ps old) where
+  module _ (old : Branched) (was : AreWalked ps way from old) where
     nodes_len : length old.layers.kin.nodes ≡ length old.layers.kin.ups
     nodes_len = was.followed.nodes_len
 
@@ -73,24 +80,22 @@ module _ (ps : List ℕ) (tree : IsTree ps) (some : 0 < length ps) where
       each = λ p lt. all_at (λ n. n < length ps) old.layers.kin.nodes p was.seen.below (omega (arith, lt, nodes_len));
     }
 
-    pub walked_room : length old.layers.kin.ups + kids_left (kids_around ps (true ∷ [])) old.layers.kin.nodes old.first
+    pub walked_room : length old.layers.kin.ups + kids_left around old.layers.kin.nodes old.first
         (length old.layers.kin.ups - old.first) < length ps
     walked_room =
-        subst (λ n. n + kids_left (kids_around ps (true ∷ [])) old.layers.kin.nodes old.first (n - old.first)
-        < length ps) nodes_len
-        (few_seen ps tree 0 some (true ∷ []) flags old.first old.layers.kin.nodes within was.seen)
+        subst (λ n. n + kids_left around old.layers.kin.nodes old.first (n - old.first) < length ps) nodes_len
+        (few_seen ps tree from inside way on old.first old.layers.kin.nodes within was.seen)
 
-    pub walked_next : (keys : List ℤ) (new : Branched) → Follows old.layers old.first old.last (length ps)
-        (kids_around ps (true ∷ [])) old.wanted keys new.layers
-        → AreFollowed new → new.first ≡ length old.layers.kin.ups → AreWalked ps new
+    pub walked_next : (keys : List ℤ) (new : Branched) → Follows old.layers old.first old.last (length ps) around
+        old.wanted keys new.layers → AreFollowed new → new.first ≡ length old.layers.kin.ups → AreWalked ps way from new
     walked_next keys new walks followed first =
         let w = walks.walked in
         let listed = ap (λ (k : Kin). k.nodes) (walks.kin ∙ ap (λ (l : Layers). l.kin) w.ended) ∙ w.walks.listed
-        ∙ ap (λ n. old.layers.kin.nodes ++ wanted_kids (kids_around ps (true ∷ [])) old.wanted old.layers.kin old.first
-        (n - old.first)) (sym nodes_len) in
+        ∙ ap (λ n. old.layers.kin.nodes ++ wanted_kids around old.wanted old.layers.kin old.first (n - old.first))
+        (sym nodes_len) in
         record {
           followed = followed;
-          seen = subst (λ n. AreSeen ps (true ∷ []) 0 n new.layers.kin.nodes) (nodes_len ∙ sym first)
-              (seen_next ps tree 0 some (true ∷ []) flags old.first old.layers.kin.nodes within was.seen old.wanted
+          seen = subst (λ n. AreSeen ps way from n new.layers.kin.nodes) (nodes_len ∙ sym first)
+              (seen_next ps tree from inside way on old.first old.layers.kin.nodes within was.seen old.wanted
               old.layers.kin refl new.layers.kin.nodes listed);
         }

@@ -2,4 +2,8 @@
 #![tactic(auto)]
 
 #[cfg(test)]
+mod plain;
+#[cfg(test)]
 mod ranking;
+#[cfg(test)]
+mod trees;

@@ -1,113 +1,47 @@
-ghost use Rattle.std.specs.Prelude.{◌≡◌, ◌<◌, ◌≤◌, pos, length, map, IfOk};
+// Branches of trees seen from any of their nodes, ranked as by hand and by a second body.
+ghost use Rattle.std.specs.Prelude.{◌≡◌, ◌<◌, ◌≤◌, ℕ, length, IfOk};
 ghost use Rattle.cip_branches.specs.Deciding.{AreFollowed};
+ghost use Rattle.cip_reroot.specs.View.{on_way};
 ghost use Rattle.cip_rows.specs.Keys.{AreKeyed};
-ghost use Rattle.cip_rank.specs.Tree.{children_of, last_parent};
+ghost use Rattle.cip_rows.specs.Parting.{has_flag};
 
+use crate::plain::ranked_plainly;
+use crate::trees::{
+    Case, DEEPEST, Keys, ROOM, case_of, digit_of, neighbours, random_case, random_node, table_of,
+    way_to,
+};
 use cip_branches::{Around, Branches};
-use cip_rank::{Keyed, Table};
 use rand_pcg::Pcg32;
-use rand_pcg::rand_core::utils::NextWord;
 use std::alloc::{AllocError, Global};
-use std::cmp::Ordering;
 use std::process::Abort;
 use std::test::Fail;
 
-const ROOM: u32 = 20;
-
-// No tree here has more spheres behind the root's children.
-const DEEPEST: u32 = 6;
-
-// A key of each node, by number.
-#[derive(Drop)]
-struct Keys<'a> {
-    list: &'a [u32],
-}
-
-impl Keyed for Keys<'_> {
-    ghost nodes = { λ keys. length keys.list.now };
-
-    ghost key = { λ keys. map pos keys.list.now };
-
-    fn compare(&self, a: u32, b: u32) -> Ordering {
-        self.list[a as usize].cmp(&self.list[b as usize])
-    }
-}
-
-// The parents of the nodes, of which the root's own entry is 0, the keys of a rule, and those of the next one.
-#[derive(Drop)]
-struct Case {
-    parents: Vec<u32>,
-    keys: Vec<u32>,
-    later: Vec<u32>,
-}
-
-fn table_of(rt: &impl Abort, alloc: Global, parents: &[u32]) -> Result<Table, AllocError> {
-    let mut table = Table::reserve(alloc, ROOM)?;
-    let mut last = 0;
-    for parent in parents {
-        push(rt, &mut table, last, *parent);
-        last = *parent;
-    }
-    Ok(table)
-}
-
-#[tactic(auto, using(cip_rank::proofs::Pushed::last_pushed))]
-fn push(rt: &impl Abort, table: &mut Table, last: u32, parent: u32)
-    requires bound { table.old.bound ≡ ROOM }
-    requires last { last_parent table.old.parents ≡ last }
-    ensures bound { table.new.bound ≡ ROOM }
-    ensures last { last_parent table.new.parents ≡ parent }
-{
-    let count = table.len();
-    assert!(rt; count < ROOM && last <= parent);
-    if count == 0 {
-        assert!(rt; parent == 0);
-        table.push(None);
-    } else {
-        assert!(rt; parent < count);
-        table.push(Some(parent));
-    }
-}
-
-fn children_of_root(alloc: Global, table: &Table) -> Result<Vec<u32>, AllocError>
-    requires { 0 < length table.now.parents }
-    ensures { IfOk result (λ tops. tops.items ≡ children_of table.now.parents 0) }
-{
-    let (first, past) = table.children(0);
-    let mut tops = Vec::new(alloc);
-    for child in first..past {
-        tops.push(child)?;
-    }
-    Ok(tops)
-}
-
-// Begins with a branch below each child of the root, and follows them so many spheres down.
+// Begins with a branch below each node next to the one that the tree is seen from, and follows them so many spheres.
 fn follow(
     rt: &impl Abort,
-    table: &Table,
+    alloc: Global,
+    around: &Around<'_>,
+    from: u32,
     keys: &Keys<'_>,
-    tops: &[u32],
     depth: u32,
-    branches: &mut Branches,
-)
-    requires some { 0 < length table.now.parents }
-    requires fits { length table.now.parents ≤ ROOM }
-    requires tops { tops.now ≡ children_of table.now.parents 0 }
-    requires keyed { length table.now.parents ≤ length keys.now.list.now }
-    requires room { branches.old.layers.kin.room ≡ ROOM }
-    ensures followed { AreFollowed branches.new }
-    ensures nodes { AreKeyed (length table.now.parents) branches.new.layers.kin }
+) -> Result<Branches, AllocError>
+    requires inside { from < length around.now.table.now.parents }
+    requires fits { length around.now.table.now.parents ≤ ROOM }
+    requires way { (x : ℕ) → x < length around.now.table.now.parents → has_flag around.now.way.now x
+        ≡ on_way around.now.table.now.parents from x }
+    requires keyed { length around.now.table.now.parents ≤ length keys.now.list.now }
+    ensures followed { IfOk result (λ branches. AreFollowed branches) }
+    ensures nodes { IfOk result (λ branches. AreKeyed (length around.now.table.now.parents) branches.layers.kin) }
 {
-    let _count = table.len();
-    let around = Around {
-        table,
-        way: &[true],
-    };
-    branches.begin(tops, keys);
+    let _count = around.table.len();
+    let tops = neighbours(alloc, around.table, from)?;
+    let mut branches = Branches::reserve(alloc, ROOM)?;
+    branches.begin(&tops, keys);
     for _ in 0..depth {
         assert!(rt; branches.last() + 2 <= ROOM);
-        branches.follow(&around, keys);
+        branches.follow(around, keys);
     }
+    Ok(branches)
 }
 
 // Takes the next rule over all spheres.
@@ -122,29 +56,39 @@ fn go_on(branches: &mut Branches, keys: &Keys<'_>)
     }
 }
 
-// The numbers of the root's children so many spheres down by the first rule, or over all spheres by both rules.
+// The branches of a case, followed so many spheres by the first rule.
+fn branches_of(
+    rt: &impl Abort,
+    alloc: Global,
+    case: &Case,
+    depth: u32,
+) -> Result<Branches, AllocError>
+    ensures followed { IfOk result (λ branches. AreFollowed branches) }
+    ensures nodes { IfOk result (λ branches. AreKeyed (length case.now.keys.items) branches.layers.kin) }
+{
+    let table = table_of(rt, alloc, &case.parents)?;
+    let count = table.len();
+    assert!(rt; case.from < count && count <= ROOM);
+    assert!(rt; case.keys.len() == count as usize);
+    let way = way_to(alloc, &table, case.from)?;
+    let around = Around {
+        table: &table,
+        way: &way,
+    };
+    let keys = Keys { list: &case.keys };
+    follow(rt, alloc, &around, case.from, &keys, depth)
+}
+
+// The numbers of the branches so many spheres down by the first rule, or over all spheres by both rules.
 fn ranked(
     rt: &impl Abort,
     alloc: Global,
     case: &Case,
     depth: Option<u32>,
 ) -> Result<Vec<u32>, AllocError> {
-    let table = table_of(rt, alloc, &case.parents)?;
-    let count = table.len();
-    assert!(rt; 0 < count && count <= ROOM);
-    assert!(rt; case.keys.len() == count as usize && case.later.len() == count as usize);
-    let keys = Keys { list: &case.keys };
-    let tops = children_of_root(alloc, &table)?;
-    let mut branches = Branches::reserve(alloc, ROOM)?;
-    follow(
-        rt,
-        &table,
-        &keys,
-        &tops,
-        depth.unwrap_or(DEEPEST),
-        &mut branches,
-    );
+    let mut branches = branches_of(rt, alloc, case, depth.unwrap_or(DEEPEST))?;
     if depth.is_none() {
+        assert!(rt; case.later.len() == case.keys.len());
         go_on(&mut branches, &Keys { list: &case.later });
     }
     numbers_of(alloc, &branches)
@@ -156,6 +100,24 @@ fn numbers_of(alloc: Global, branches: &Branches) -> Result<Vec<u32>, AllocError
         numbers.push(branches.number(branch))?;
     }
     Ok(numbers)
+}
+
+fn nodes_of(alloc: Global, branches: &Branches) -> Result<Vec<u32>, AllocError> {
+    let mut nodes = Vec::new(alloc);
+    for place in 0..branches.len() {
+        nodes.push(branches.node(place))?;
+    }
+    Ok(nodes)
+}
+
+fn wanted_of(alloc: Global, branches: &Branches) -> Result<Vec<u32>, AllocError> {
+    let mut wanted = Vec::new(alloc);
+    for branch in 0..branches.branch_count() {
+        if branches.is_wanted(branch) {
+            wanted.push(branch)?;
+        }
+    }
+    Ok(wanted)
 }
 
 // Whether numbers order the nodes as others do.
@@ -170,222 +132,108 @@ fn order_one_as<T: Ord>(numbers: &[u32], others: &[T], number: &u32, other: &T) 
     places.all(|(n, o)| n.cmp(number) == o.cmp(other))
 }
 
-// The digits of a text, 0 to 9 and then a to z.
-fn digits_of(alloc: Global, text: &[u8]) -> Result<Vec<u32>, AllocError> {
-    let mut digits = Vec::new(alloc);
-    for byte in text {
-        digits.push(char::from(*byte).to_digit(36).unwrap_or(0))?;
+// Whether the branches stand so at each depth.
+fn rank_as(rt: &impl Abort, alloc: Global, case: &Case, orders: &[u8]) -> Result<bool, Fail> {
+    for (depth, order) in orders.split(|byte| *byte == b'/').enumerate() {
+        let depth = Some(u32::try_from(depth)?);
+        if !order_as(&ranked(rt, alloc, case, depth)?, order) {
+            return Ok(false);
+        }
     }
-    Ok(digits)
+    Ok(true)
 }
 
-fn case_of(alloc: Global, worked: &[u8]) -> Result<Case, AllocError> {
-    let mut parts = worked.split(|byte| *byte == b' ');
-    Ok(Case {
-        parents: digits_of(alloc, parts.next().unwrap_or(b""))?,
-        keys: digits_of(alloc, parts.next().unwrap_or(b""))?,
-        later: digits_of(alloc, parts.next().unwrap_or(b""))?,
-    })
+fn are_digits(numbers: &[u32], text: &[u8]) -> bool {
+    let mut places = numbers.iter().zip(text);
+    numbers.len() == text.len() && places.all(|(number, byte)| *number == digit_of(*byte))
+}
+
+// Whether these nodes are walked in this order, and these branches are wanted still in the end.
+fn walk_as(
+    rt: &impl Abort,
+    alloc: Global,
+    case: &Case,
+    nodes: &[u8],
+    wanted: &[u8],
+) -> Result<bool, AllocError> {
+    let branches = branches_of(rt, alloc, case, DEEPEST)?;
+    let walked = nodes_of(alloc, &branches)?;
+    let tie = wanted_of(alloc, &branches)?;
+    let any = branches.any_wanted();
+    Ok(are_digits(&walked, nodes) && are_digits(&tie, wanted) && any != wanted.is_empty())
+}
+
+// How the branches stand at each depth, which nodes are walked, and which branches are wanted still in the end.
+fn assert_stands(rt: &impl Abort, alloc: Global, case: &Case, stands: &[u8]) -> Result<(), Fail> {
+    let mut parts = stands.split(|byte| *byte == b' ');
+    let orders = parts.next().unwrap_or(b"");
+    let nodes = parts.next().unwrap_or(b"");
+    let wanted = parts.next().unwrap_or(b"");
+    assert!(rt; rank_as(rt, alloc, case, orders)?);
+    assert!(rt; walk_as(rt, alloc, case, nodes, wanted)?);
+    Ok(())
 }
 
 #[test]
 fn branches_rank_as_worked_by_hand(rt: HostRuntime) -> Result<(), Fail> {
-    // the parents, the keys, and how the root's children stand at each depth
-    let cases: [(&[u8], &[u8]); 6] = [
+    // the parents, the keys and the node that the tree is seen from, and how the branches stand
+    let cases: [(&[u8], &[u8]); 16] = [
         // none, and one
         (b"0 5 0", b""),
-        (b"001 123 000", b"0/0/0"),
+        (b"001 123 0", b"0/0/0 1"),
         // glyceraldehyde: 1 is CHO, 2 is CH2OH
         (
-            b"00000111222358 66681881811161 00000000000000",
-            b"1120/4260/4260/4260",
+            b"00000111222358 66681881811161 0",
+            b"1120/4260/4260/4260 123456789a",
         ),
         // a sphere as a whole goes before the next: 1 is above 2, though 3 is below 5
-        (b"000112234569 66686861h119 000000000000", b"11/44/54/54"),
+        (b"000112234569 66686861h119 0", b"11/44/54/54 123456789a"),
         // sets of unlike length: {8}, {8, 1}, {9} and none
-        (b"000001223 666668819 000000000", b"1111/3451/3451"),
+        (b"000001223 666668819 0", b"1111/3451/3451 12345678"),
         // told apart in the outermost sphere alone
-        (b"0001234 6666618 0000000", b"00/00/01"),
+        (b"0001234 6666618 0", b"00/00/01 123456"),
+        // glyceraldehyde from 3, its CH2OH: oxygen, twice hydrogen, and the stereocentre's carbon
+        (b"000001112333 668618811811 3", b"3002/3002/3002 9ab0 12"),
+        // with equal keys: CHO, OH and hydrogen are next to the stereocentre
+        (b"000001112333 000000000000 3", b"0000/0003 9ab0124 012"),
+        // from a node next to the root, behind which all is as below the node
+        (b"000012446 000000000 1", b"00/00/00/00 40672385 01"),
+        (b"000012446 000100000 1", b"00/01/01 406723"),
+        (b"000012446 000001002 1", b"00/00/10 40672385"),
+        // from further out, by a way of two steps
+        (b"000113557 000000000 3", b"00/00/00/00 51674082 01"),
+        (b"000113557 001000000 3", b"00/00/01 51674082"),
+        // a chain, from inside and from its end
+        (b"0012 0000 1", b"00/10/10 203"),
+        (b"0012 0000 2", b"00/01/01 310"),
+        (b"0012 0000 3", b"0/0/0 2"),
     ];
-    for (worked, orders) in cases {
+    for (worked, stands) in cases {
         let case = case_of(rt.alloc(), worked)?;
-        for (depth, order) in orders.split(|byte| *byte == b'/').enumerate() {
-            let depth = Some(u32::try_from(depth)?);
-            assert!(rt; order_as(&ranked(&rt, rt.alloc(), &case, depth)?, order));
-        }
+        assert_stands(&rt, rt.alloc(), &case, stands)?;
     }
     Ok(())
 }
 
 #[test]
 fn a_later_rule_parts_what_ties(rt: HostRuntime) -> Result<(), Fail> {
-    // the parents, the keys of both rules, and how the root's children stand
-    let cases: [(&[u8], &[u8]); 4] = [
-        (b"000 011 021", b"10"),
-        (b"000 012 021", b"01"),
+    // the parents, the keys, the node that the tree is seen from, the later keys, and how the branches stand
+    let cases: [(&[u8], &[u8]); 6] = [
+        (b"000 011 0 021", b"10"),
+        (b"000 012 0 021", b"01"),
         // the earlier order goes before keys, that of children too
-        (b"0001122 0002121 0003981", b"01"),
+        (b"0001122 0002121 0 0003981", b"01"),
         // a node's own key goes before those of its children
-        (b"000012 000000 012981", b"120"),
+        (b"000012 000000 0 012981", b"120"),
+        // what lies behind the root, from one step and from two steps away
+        (b"000012446 000000000 1 000001002", b"10"),
+        (b"000113557 000000000 3 001000000", b"01"),
     ];
     for (worked, order) in cases {
         let case = case_of(rt.alloc(), worked)?;
         assert!(rt; order_as(&ranked(&rt, rt.alloc(), &case, None)?, order));
     }
     Ok(())
-}
-
-#[test]
-fn tables_tell_parents_spheres_and_children(rt: HostRuntime) -> Result<(), Fail> {
-    let mut table = table_of(&rt, rt.alloc(), &[0, 0, 0, 0, 2, 2, 5])?;
-    assert!(rt; table.len() == 7);
-    assert!(rt; table.parent(0).is_none() && table.parent(6) == Some(5));
-    assert!(rt; table.sphere(0) == 0 && table.sphere(6) == 3);
-    assert!(rt; table.children(0) == (1, 4) && table.children(2) == (4, 6));
-    let (first, past) = table.children(6);
-    assert!(rt; first == past);
-    table.clear();
-    assert!(rt; table.len() == 0);
-    Ok(())
-}
-
-// A second body, from numbers of the nodes alone: at each depth a node's number is how many nodes it is above.
-fn rank_plainly(
-    alloc: Global,
-    parents: &[u32],
-    alone: &[usize],
-    depth: usize,
-) -> Result<Vec<usize>, AllocError> {
-    if depth == 0 {
-        return alone.to_vec(alloc);
-    }
-    let before = rank_plainly(alloc, parents, alone, depth - 1)?;
-    refine(alloc, parents, &before)
-}
-
-fn refine(alloc: Global, parents: &[u32], before: &[usize]) -> Result<Vec<usize>, AllocError> {
-    let mut numbers = Vec::new(alloc);
-    for node in 0..parents.len() {
-        let number = count_below(alloc, parents, before, node)?;
-        numbers.push(number)?;
-    }
-    Ok(numbers)
-}
-
-fn count_below(
-    alloc: Global,
-    parents: &[u32],
-    before: &[usize],
-    node: usize,
-) -> Result<usize, AllocError> {
-    let entry = entry_of(alloc, parents, before, node)?;
-    let mut count: usize = 0;
-    for other in 0..parents.len() {
-        let other = entry_of(alloc, parents, before, other)?;
-        count = count.saturating_add(usize::from(other.as_slice() < entry.as_slice()));
-    }
-    Ok(count)
-}
-
-// A node's number, and behind it those of its children, the highest first.
-fn entry_of(
-    alloc: Global,
-    parents: &[u32],
-    before: &[usize],
-    node: usize,
-) -> Result<Vec<usize>, AllocError> {
-    let mut entry = set_of(alloc, parents, before, node)?;
-    entry.sort_unstable();
-    entry.push(number_at(before, node))?;
-    entry.reverse();
-    Ok(entry)
-}
-
-fn set_of(
-    alloc: Global,
-    parents: &[u32],
-    before: &[usize],
-    node: usize,
-) -> Result<Vec<usize>, AllocError> {
-    let mut set = Vec::new(alloc);
-    for (child, parent) in parents.iter().enumerate() {
-        if child > 0 && *parent as usize == node {
-            set.push(number_at(before, child))?;
-        }
-    }
-    Ok(set)
-}
-
-fn number_at(numbers: &[usize], place: usize) -> usize {
-    if place < numbers.len() {
-        numbers[place]
-    } else {
-        0
-    }
-}
-
-fn numbers_alone(alloc: Global, keys: &[u32]) -> Result<Vec<usize>, AllocError> {
-    let mut alone = Vec::new(alloc);
-    for key in keys {
-        alone.push(*key as usize)?;
-    }
-    Ok(alone)
-}
-
-// Keys, all of which are below 10, over numbers.
-fn numbers_over(alloc: Global, numbers: &[usize], keys: &[u32]) -> Result<Vec<usize>, AllocError> {
-    let mut over = Vec::new(alloc);
-    for (number, key) in numbers.iter().zip(keys) {
-        over.push(number.saturating_mul(10).saturating_add(*key as usize))?;
-    }
-    Ok(over)
-}
-
-fn ranked_plainly(
-    alloc: Global,
-    case: &Case,
-    depth: Option<u32>,
-) -> Result<Vec<usize>, AllocError> {
-    let enough = depth.unwrap_or(DEEPEST) as usize;
-    let alone = numbers_alone(alloc, &case.keys)?;
-    let numbers = rank_plainly(alloc, &case.parents, &alone, enough)?;
-    if depth.is_some() {
-        return Ok(numbers);
-    }
-    let over = numbers_over(alloc, &numbers, &case.later)?;
-    rank_plainly(alloc, &case.parents, &over, enough)
-}
-
-// At most 19 nodes, and keys with many ties.
-fn random_case(alloc: Global, random: &mut Pcg32) -> Result<Case, AllocError> {
-    let mut parents = vec![in alloc; 0]?;
-    for node in 0..6 {
-        if parents.len() > node as usize {
-            push_children(random, &mut parents, node)?;
-        }
-    }
-    let keys = random_keys(alloc, random, parents.len())?;
-    let later = random_keys(alloc, random, parents.len())?;
-    Ok(Case {
-        parents,
-        keys,
-        later,
-    })
-}
-
-fn push_children(random: &mut Pcg32, parents: &mut Vec<u32>, node: u32) -> Result<(), AllocError> {
-    for _ in 0..random.next_word() % 4 {
-        parents.push(node)?;
-    }
-    Ok(())
-}
-
-fn random_keys(alloc: Global, random: &mut Pcg32, count: usize) -> Result<Vec<u32>, AllocError> {
-    let mut keys = Vec::new(alloc);
-    for _ in 0..count {
-        keys.push(random.next_word() % 3)?;
-    }
-    Ok(keys)
 }
 
 fn agrees(
@@ -395,21 +243,28 @@ fn agrees(
     depth: Option<u32>,
 ) -> Result<bool, AllocError> {
     let numbers = ranked(rt, alloc, case, depth)?;
-    let plain = ranked_plainly(alloc, case, depth)?;
-    assert!(rt; numbers.len() < plain.len());
-    Ok(order_as(&numbers, &plain[1..numbers.len() + 1]))
+    Ok(order_as(&numbers, &ranked_plainly(alloc, case, depth)?))
+}
+
+// At some depths by the first rule, and by both rules.
+fn assert_agreed(rt: &impl Abort, alloc: Global, case: &Case) -> Result<(), AllocError> {
+    assert!(rt; agrees(rt, alloc, case, Some(0))?);
+    assert!(rt; agrees(rt, alloc, case, Some(2))?);
+    assert!(rt; agrees(rt, alloc, case, Some(DEEPEST))?);
+    assert!(rt; agrees(rt, alloc, case, None)?);
+    Ok(())
 }
 
 #[test]
 fn a_plain_ranking_agrees_on_random_trees(rt: HostRuntime) -> Result<(), Fail> {
     let alloc = rt.alloc();
     let mut random = Pcg32::new(2018, 92);
+    let mut nodes = Pcg32::new(2018, 93);
     for _ in 0..300 {
-        let case = random_case(alloc, &mut random)?;
-        assert!(rt; agrees(&rt, alloc, &case, Some(0))?);
-        assert!(rt; agrees(&rt, alloc, &case, Some(2))?);
-        assert!(rt; agrees(&rt, alloc, &case, Some(DEEPEST))?);
-        assert!(rt; agrees(&rt, alloc, &case, None)?);
+        let mut case = random_case(alloc, &mut random)?;
+        assert_agreed(&rt, alloc, &case)?;
+        case.from = random_node(&mut nodes, &case);
+        assert_agreed(&rt, alloc, &case)?;
     }
     Ok(())
 }

@@ -1,7 +1,7 @@
 use Rattle.std.proofs.Common.{◌≡◌}
-use Rattle.gate_ranks.specs.declared.ranking.TheConstants.{ROOM}
+use Rattle.gate_ranks.specs.declared.trees.TheConstants.{ROOM}
 use Rattle.cip_rank.specs.Tree.{last_parent}
-use Rattle.gate_ranks.proofs.ranking.table_of.Given as goal
+use Rattle.gate_ranks.proofs.trees.table_of.Given as goal
 
 abbrev pub invariant-loop-parent : goal.invariant-loop-parent
 invariant-loop-parent g l = record {

@@ -1,6 +1,6 @@
 use Rattle.std.proofs.Common.{◌++◌, ◌∷◌, [], arith, ap, sym, ◌∙◌}
 use Rattle.gate_ranks.proofs.SeenBranches.{range_one}
-use Rattle.gate_ranks.proofs.ranking.children_of_root.Goals as goal
+use Rattle.gate_ranks.proofs.trees.children.Goals as goal
 
 pub loop-child-preserved : goal.loop-child-preserved
 loop-child-preserved c = record {
