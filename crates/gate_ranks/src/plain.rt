@@ -10,7 +10,8 @@ fn parent_at(parents: &[u32], node: usize) -> u32 {
     }
 }
 
-// The parent of a node where another one is the root, which is its own parent: on the way up from there the node before.
+// The parent of a node in the tree turned round to another root, which is its own parent. On the way up from that root
+// it is the node before.
 fn turned_parent(parents: &[u32], root: u32, node: usize) -> u32 {
     let mut below = root;
     for _ in parents {
