@@ -7,6 +7,7 @@ use Rattle.cip_aux.specs.Neighbours.{first_where}
 use Rattle.cip_aux.specs.Sights.{Sight, path_at}
 use Rattle.cip_branches.specs.Deciding.{Branched, AreFollowed}
 use Rattle.cip_rows.specs.Keys.{AreKeyed}
+use Rattle.cip_rows.specs.Parting.{has_flag}
 use Rattle.cip_branches.specs.Standing.{node_in, WantedIn}
 use Rattle.cip_digraph.specs.digraph.Digraph.{Node, is_real}
 use Rattle.cip_digraph.specs.digraph.NodeList.{parents_of}
@@ -64,6 +65,13 @@ pub record HangBelow (parents : List ℕ) (node : ℕ) (tops : List ℕ) (now : 
       → slice_index parents (slice_index tops (slice_index now.layers.kin.branches place)) ≡ node
       → on_way parents (slice_index now.layers.kin.nodes place)
       (slice_index tops (slice_index now.layers.kin.branches place)) ≡ true
+
+-- a branch that is wanted, whose top isn't behind a node
+pub record LeadsElsewhere (wanted : List Bool) (tops : List ℕ) (node : ℕ) : Type 0 where
+  pub branch : ℕ
+  pub within : branch < length tops
+  pub flagged : has_flag wanted branch ≡ true
+  pub low : slice_index tops branch ≤ node
 
 -- Each place has a node of the digraph, the first ones those at the tops.
 pub record ArePlaced (sight : Sight) (node : ℕ) (tops : List ℕ) (now : Branched) : Type 0 where

@@ -1,7 +1,8 @@
 // Flags of the nodes of branches that are wanted.
-ghost use Rattle.std.specs.Prelude.{◌≡◌, ◌<◌, ◌≤◌, ◌^◌, ℕ, All, true, if◌then◌else◌, length, slice_index, slice_set};
+ghost use Rattle.std.specs.Prelude.{◌≡◌, ◌<◌, ◌≤◌, ◌^◌, ℕ, All, true, false, if◌then◌else◌, length, slice_index, slice_set};
 ghost use Rattle.cip_rows.specs.Parting.{has_flag};
 ghost use Rattle.cip_aux.specs.Marking.{AreWanted, flag_at};
+ghost use Rattle.cip_inside.specs.Near.{LeadsElsewhere};
 
 use cip_branches::Branches;
 use cip_rank::Table;
@@ -54,7 +55,9 @@ pub fn flag_below(table: &Table, flags: &mut [bool])
 
 // Whether a branch isn't wanted, or its top is behind a node.
 fn is_behind(branches: &Branches, branch: u32, top: u32, node: u32) -> bool
-    ensures { result ≡ true → has_flag branches.now.wanted branch ≡ true → node < top }
+    ensures behind { result ≡ true → has_flag branches.now.wanted branch ≡ true → node < top }
+    ensures wanted { result ≡ false → has_flag branches.now.wanted branch ≡ true }
+    ensures low { result ≡ false → top ≤ node }
 {
     !branches.is_wanted(branch) || node < top
 }
@@ -62,8 +65,9 @@ fn is_behind(branches: &Branches, branch: u32, top: u32, node: u32) -> bool
 /// Whether the tops of all branches that are wanted are behind a node.
 pub fn are_behind(branches: &Branches, tops: &[u32], node: u32) -> bool
     requires few { length tops.now < 2 ^ 32 }
-    ensures { result ≡ true → (branch : ℕ) → branch < length tops.now → has_flag branches.now.wanted branch ≡ true
-        → node < slice_index tops.now branch }
+    ensures behind { result ≡ true → (branch : ℕ) → branch < length tops.now
+        → has_flag branches.now.wanted branch ≡ true → node < slice_index tops.now branch }
+    ensures elsewhere { result ≡ false → LeadsElsewhere branches.now.wanted tops.now node }
 {
     for branch in 0..tops.len() as u32 {
         if !is_behind(branches, branch, tops[branch as usize], node) {

@@ -16,6 +16,7 @@ ghost use Rattle.cip_branches.specs.Standing.{WantedIn};
 ghost use Rattle.cip_ligands.specs.declared.asked.Asked.{Asked as AnyAsked};
 ghost use Rattle.cip_ligands.specs.Asking.{AreWithin, is_decided};
 ghost use Rattle.cip_inside.specs.Near.{AreConstituted, AreOrdered, AreTops, asked_tops, branch_of, marked_by};
+ghost use Rattle.cip_inside.specs.Near.{LeadsElsewhere};
 
 use crate::constituting::constitute;
 use crate::flagging::{are_behind, flag_below, flag_tops};
@@ -155,8 +156,9 @@ impl Near {
 
     /// Whether all branches that are wanted still lead to children of the node that they were followed from.
     pub fn leads_down(&self, node: u32) -> bool
-        ensures { result ≡ true → (branch : ℕ) → branch < length self.now.tops
+        ensures down { result ≡ true → (branch : ℕ) → branch < length self.now.tops
             → has_flag self.now.now.wanted branch ≡ true → node < slice_index self.now.tops branch }
+        ensures elsewhere { result ≡ false → LeadsElsewhere self.now.now.wanted self.now.tops node }
     {
         let _count = self.tops.len();
         are_behind(&self.branches, self.tops.as_slice(), node)
