@@ -1,9 +1,10 @@
 -- Descriptors by the numbers of nodes, as branches show them. Own.
-use Rattle.std.specs.Prelude.{◌≡◌, ◌<◌, ℕ, List, None, length, slice_index}
+use Rattle.std.specs.Prelude.{◌≡◌, ◌≢◌, ◌<◌, ℕ, true, List, None, length, slice_index}
 use Rattle.std.specs.List.{slice_index_or}
 use Rattle.std.specs.declared.option.Option.{Option}
 use Rattle.cip_mol.specs.declared.descriptor.Descriptor.{Descriptor}
 use Rattle.cip_branches.specs.Deciding.{Branched}
+use Rattle.cip_rows.specs.Parting.{has_flag}
 use Rattle.cip_branches.specs.Standing.{node_in, WantedIn}
 
 -- so many descriptors, by number, are those of the nodes at places of wanted branches
@@ -17,3 +18,10 @@ pub record AreMarksOf {N : Type 0} (named : ℕ → N) (mark : N → Option Desc
 pub record AreUnmarked (marks : List (Option Descriptor)) (now : Branched) : Type 0 where
   pub each : (t place : ℕ) → WantedIn now t place
       → slice_index_or marks (slice_index now.layers.kin.nodes place) None ≡ None
+
+-- one of them stands at a place of a wanted branch
+pub record IsSomeMarked (marks : List (Option Descriptor)) (now : Branched) : Type 0 where
+  pub place : ℕ
+  pub within : place < length now.layers.kin.ups
+  pub flagged : has_flag now.wanted (slice_index now.layers.kin.branches place) ≡ true
+  pub marked : slice_index_or marks (slice_index now.layers.kin.nodes place) None ≢ None

@@ -7,7 +7,7 @@ returns-then-are_unmarked-clause-decided g c seen named node count begin within 
     let marks = g.M.Marked.marks c.args.marks.now in
     let now = c.args.branches.now in
     let asked = c.args.asked.now in
-    let bare = c.are_unmarked.ensures c.if-are_unmarked.true in (
+    let bare = c.are_unmarked.ensures.none c.if-are_unmarked.true in (
       unmarked_order seen named node count begin within now asked before marks known bare true,
       c.copy_from_slice.ensures.after ∙ unmarked_order seen named node count begin within now asked before marks known
           bare false,
