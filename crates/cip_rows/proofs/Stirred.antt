@@ -5,7 +5,7 @@ use Rattle.std.proofs.lemmas.Bool.{cases_lt}
 use Rattle.cip_rank.proofs.Descending.{all_by}
 use Rattle.cip_rows.specs.Parting.{has_flag, is_shared}
 use Rattle.cip_rows.specs.Rows.{IsRow}
-use Rattle.cip_rows.specs.Stirring.{number_above, StirsAbove}
+use Rattle.cip_rows.specs.Stirring.{number_above, IsAbove, StirsAbove}
 use Rattle.cip_rows.proofs.Cases.{cases_same, not_both}
 
 set_here : (flags : List Bool) (n : ℕ) → n < length flags → has_flag (slice_set flags n true) n ≡ true
@@ -27,14 +27,30 @@ set_stays flags n m lt has = elim (cases_same n m) [
   | inr differ ↦ set_other flags n m differ ∙ has
 ]
 
+-- in more rows
+later_row : (ups rows before numbers : List ℕ) (from k number : ℕ) → IsAbove ups rows before numbers from k number
+    → IsAbove ups rows before numbers from (k + 1) number
+later_row ups rows before numbers from k number at = record {
+  row = at.row;
+  low = at.low;
+  high = let h = at.high in omega (arith, h);
+  here = at.here;
+  differs = at.differs;
+  shared = at.shared;
+}
+
 module _ (ups rows before numbers : List ℕ) (from k : ℕ) (start old new : List Bool)
     (done : StirsAbove ups rows before numbers from k start old) (low : from ≤ k)
     (within : number_above ups rows numbers k < length old) where
   abbrev above : ℕ
   above = number_above ups rows numbers k
 
-  pub set_on : new ≡ slice_set old above true → StirsAbove ups rows before numbers from (k + 1) start new
-  set_on is = record {
+  abbrev Differs : Type 0
+  Differs = slice_index numbers (slice_index rows k) ≢ slice_index before (slice_index rows k)
+
+  pub set_on : Differs → is_shared rows numbers above from ≡ true → new ≡ slice_set old above true
+      → StirsAbove ups rows before numbers from (k + 1) start new
+  set_on other many is = record {
     each = λ j l h differ shared. elim (cases_lt j k) [
       | inl earlier ↦ subst (λ fs. has_flag fs (number_above ups rows numbers j) ≡ true) (sym is)
           (set_stays old above (number_above ups rows numbers j) within (done.each j l earlier differ shared))
@@ -43,18 +59,22 @@ module _ (ups rows before numbers : List ℕ) (from k : ℕ) (start old new : Li
           (subst (λ fs. has_flag fs above ≡ true) (sym is) (set_here old above within))
     ];
     only = λ number has. elim (cases_same above number) [
-      | inl same ↦ inr (record { row = k; low = low; high = omega arith; here = same })
+      | inl same ↦ inr (record {
+        row = k;
+        low = low;
+        high = omega arith;
+        here = same;
+        differs = other;
+        shared = subst (λ n. is_shared rows numbers n from ≡ true) same many;
+      })
       | inr differ ↦ elim (done.only number (sym (set_other old above number differ) ∙ ap (λ fs. has_flag fs number)
           (sym is) ∙ has)) [
-            | inl before ↦ inl before
-            | inr other ↦ inr (record {
-              row = other.row;
-              low = other.low;
-              high = let h = other.high in omega (arith, h);
-              here = other.here;
-            })
+            | inl earlier ↦ inl earlier
+            | inr at ↦ inr (later_row ups rows before numbers from k number at)
           ]
     ];
+    stay = λ number has. subst (λ fs. has_flag fs number ≡ true) (sym is)
+        (set_stays old above number within (done.stay number has));
   }
 
   pub pass_on : (is_shared rows numbers above from ≡ true
@@ -69,23 +89,20 @@ module _ (ups rows before numbers : List ℕ) (from k : ℕ) (start old new : Li
           at (alike (subst (λ i. is_shared rows numbers (number_above ups rows numbers i) from ≡ true) (sym at) shared))))
     ];
     only = λ number has. elim (done.only number (ap (λ fs. has_flag fs number) (sym is) ∙ has)) [
-      | inl before ↦ inl before
-      | inr other ↦ inr (record {
-        row = other.row;
-        low = other.low;
-        high = let h = other.high in omega (arith, h);
-        here = other.here;
-      })
+      | inl earlier ↦ inl earlier
+      | inr at ↦ inr (later_row ups rows before numbers from k number at)
     ];
+    stay = λ number has. subst (λ fs. has_flag fs number ≡ true) (sym is) (done.stay number has);
   }
 
   pub either_on : (is_wanted : Bool)
       → (is_wanted ≡ false → is_shared rows numbers above from ≡ true
       → slice_index numbers (slice_index rows k) ≡ slice_index before (slice_index rows k))
+      → (is_wanted ≡ true → Differs) → (is_wanted ≡ true → is_shared rows numbers above from ≡ true)
       → new ≡ (if is_wanted then slice_set old above true else old)
       → StirsAbove ups rows before numbers from (k + 1) start new
-  either_on true alike is = set_on is
-  either_on false alike is = pass_on (alike refl) is
+  either_on true alike other many is = set_on (other refl) (many refl) is
+  either_on false alike other many is = pass_on (alike refl) is
 
 -- the same as the code finds the class above
 pub stirred_on : (ups rows before numbers : List ℕ) (from k place above : ℕ) (is_stirred : Bool)
@@ -93,16 +110,43 @@ pub stirred_on : (ups rows before numbers : List ℕ) (from k place above : ℕ)
     → place ≡ slice_index rows k → above ≡ slice_index numbers (slice_index ups place)
     → (is_stirred ≡ false → is_shared rows numbers above from ≡ true
     → slice_index numbers place ≡ slice_index before place)
+    → (is_stirred ≡ true → slice_index numbers place ≢ slice_index before place)
+    → (is_stirred ≡ true → is_shared rows numbers above from ≡ true)
     → new ≡ (if is_stirred then slice_set old above true else old)
     → StirsAbove ups rows before numbers from (k + 1) start new
 stirred_on ups rows before numbers from k place above is_stirred start old new done low within place_is above_is alike
-    is =
+    differs shared is =
     let here : above ≡ number_above ups rows numbers k = above_is
     ∙ ap (λ p. slice_index numbers (slice_index ups p)) place_is in
     either_on ups rows before numbers from k start old new done low (subst (λ n. n < length old) here within) is_stirred
-    (λ not shared. subst (λ p. slice_index numbers p ≡ slice_index before p) place_is
-    (alike not (subst (λ n. is_shared rows numbers n from ≡ true) (sym here) shared)))
+    (λ not many. subst (λ p. slice_index numbers p ≡ slice_index before p) place_is
+    (alike not (subst (λ n. is_shared rows numbers n from ≡ true) (sym here) many)))
+    (λ yes. subst (λ p. slice_index numbers p ≢ slice_index before p) place_is (differs yes))
+    (λ yes. subst (λ n. is_shared rows numbers n from ≡ true) here (shared yes))
     (is ∙ ap (λ n. if is_stirred then slice_set old n true else old) here)
+
+-- where a class was stirred, there is one
+pub some_on : (ups rows before numbers : List ℕ) (from k place : ℕ) (any is_stirred : Bool) → from ≤ k
+    → place ≡ slice_index rows k → (any ≡ true → (number : ℕ) × IsAbove ups rows before numbers from k number)
+    → (is_stirred ≡ true → slice_index numbers place ≢ slice_index before place)
+    → (is_stirred ≡ true → is_shared rows numbers (slice_index numbers (slice_index ups place)) from ≡ true)
+    → (any || is_stirred) ≡ true → (number : ℕ) × IsAbove ups rows before numbers from (k + 1) number
+some_on ups rows before numbers from k place true is_stirred low is earlier differs shared some =
+    let at = earlier refl in
+    (at.0, later_row ups rows before numbers from k at.0 at.1)
+some_on ups rows before numbers from k place false true low is earlier differs shared some = (
+  slice_index numbers (slice_index ups place),
+  record {
+    row = k;
+    low = low;
+    high = omega arith;
+    here = ap (λ p. slice_index numbers (slice_index ups p)) (sym is);
+    differs = subst (λ p. slice_index numbers p ≢ slice_index before p) is (differs refl);
+    shared = shared refl;
+  },
+)
+some_on ups rows before numbers from k place false false low is earlier differs shared some =
+    let bad : false ≡ true = some in cc
 
 -- where no class was stirred, no flag was set
 pub none_on : (any is_stirred : Bool) (number : ℕ) (start old new : List Bool) → (any ≡ false → old ≡ start)

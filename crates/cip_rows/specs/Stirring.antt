@@ -8,12 +8,15 @@ use Rattle.cip_rows.specs.Rows.{IsRow}
 abbrev pub number_above : List ℕ → List ℕ → List ℕ → ℕ → ℕ
 number_above ups rows numbers k = slice_index numbers (slice_index ups (slice_index rows k))
 
--- a row among these, and the class of its place's parent
-pub record IsAbove (ups rows numbers : List ℕ) (from to number : ℕ) : Type 0 where
+-- A place in one of these rows has another number than before, and the class of its parent, which begins at this number,
+-- has two places and more.
+pub record IsAbove (ups rows before numbers : List ℕ) (from to number : ℕ) : Type 0 where
   pub row : ℕ
   pub low : from ≤ row
   pub high : row < to
   pub here : number_above ups rows numbers row ≡ number
+  pub differs : slice_index numbers (slice_index rows row) ≢ slice_index before (slice_index rows row)
+  pub shared : is_shared rows numbers number from ≡ true
 
 -- Flags are set of the classes of two and more above each place that has another number than before, and of no others.
 -- Those stand in the rows before.
@@ -21,8 +24,9 @@ pub record StirsAbove (ups rows before numbers : List ℕ) (from to : ℕ) (old 
   pub each : (k : ℕ) → from ≤ k → k < to → slice_index numbers (slice_index rows k) ≢ slice_index before
       (slice_index rows k) → is_shared rows numbers (number_above ups rows numbers k) from ≡ true
       → has_flag new (number_above ups rows numbers k) ≡ true
-  pub only : (number : ℕ) → has_flag new number ≡ true → (has_flag old number ≡ true) ⊎ IsAbove ups rows numbers from to
-      number
+  pub only : (number : ℕ) → has_flag new number ≡ true → (has_flag old number ≡ true) ⊎ IsAbove ups rows before numbers
+      from to number
+  pub stay : (number : ℕ) → has_flag old number ≡ true → has_flag new number ≡ true
 
 pub record NoFlags (flags : List Bool) : Type 0 where
   pub none : (row : ℕ) → has_flag flags row ≡ false

@@ -1,8 +1,8 @@
 // Classes that are to be looked at again.
-ghost use Rattle.std.specs.Prelude.{◌≡◌, ◌<◌, ◌≤◌, ℕ, true, false, if◌then◌else◌, length, slice_index, slice_set};
+ghost use Rattle.std.specs.Prelude.{◌≡◌, ◌≢◌, ◌<◌, ◌≤◌, ℕ, true, false, if◌then◌else◌, length, slice_index, slice_set};
 ghost use Rattle.cip_rows.specs.Parting.{has_flag, is_shared};
 ghost use Rattle.cip_rows.specs.Rows.{IsRow};
-ghost use Rattle.cip_rows.specs.Stirring.{number_above, StirsAbove};
+ghost use Rattle.cip_rows.specs.Stirring.{number_above, IsAbove, StirsAbove};
 
 use crate::family::Family;
 use crate::order::Order;
@@ -37,6 +37,9 @@ fn stir_place(
     ensures none { result ≡ false → is_shared order.now.rows order.now.numbers
         (slice_index order.now.numbers (slice_index family.now.ups place)) from ≡ true
         → slice_index order.now.numbers place ≡ slice_index before.now place }
+    ensures differs { result ≡ true → slice_index order.now.numbers place ≢ slice_index before.now place }
+    ensures shared { result ≡ true → is_shared order.now.rows order.now.numbers
+        (slice_index order.now.numbers (slice_index family.now.ups place)) from ≡ true }
     ensures set { flags.new ≡ (if result then slice_set flags.old (slice_index order.now.numbers
         (slice_index family.now.ups place)) true else flags.old) }
 {
@@ -70,6 +73,8 @@ pub fn stir_above(
     requires flags { from ≤ length flags.old }
     ensures stirred { StirsAbove family.now.ups order.now.rows before.now order.now.numbers from to flags.old flags.new }
     ensures none { result ≡ false → flags.new ≡ flags.old }
+    ensures some { result ≡ true → (number : ℕ) × IsAbove family.now.ups order.now.rows before.now order.now.numbers from
+        to number }
 {
     let rows = order.rows();
     let mut any = false;
@@ -85,6 +90,8 @@ pub fn clear_flags(flags: &mut [bool], from: u32, to: u32)
     requires ordered { from ≤ to }
     requires within { to ≤ length flags.old }
     ensures cleared { (row : ℕ) → from ≤ row → row < to → has_flag flags.new row ≡ false }
+    ensures before { (row : ℕ) → row < from → has_flag flags.new row ≡ has_flag flags.old row }
+    ensures behind { (row : ℕ) → to ≤ row → has_flag flags.new row ≡ has_flag flags.old row }
     ensures fewer { (row : ℕ) → has_flag flags.new row ≡ true → has_flag flags.old row ≡ true }
 {
     for row in from..to {
