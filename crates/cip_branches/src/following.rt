@@ -1,6 +1,5 @@
 // Branches begun, and a rule taken with each sphere that is walked.
 ghost use Rattle.std.specs.Prelude.{◌≡◌, ◌<◌, ◌≤◌, ◌+◌, ◌^◌, suc, ℕ, Bool, List, length, slice_index};
-ghost use Rattle.cip_rank.specs.Ranking.{by_number};
 ghost use Rattle.cip_branches.specs.Around.{kids_around};
 ghost use Rattle.cip_branches.specs.Following.{AreRanked, Begins, Follows};
 ghost use Rattle.cip_branches.specs.Layers.{begun_with, cleared};
@@ -10,7 +9,6 @@ ghost use Rattle.cip_branches.specs.Walking.{LastPlaces, MayWalk};
 use crate::around::Around;
 use crate::spheres::Spheres;
 use cip_rank::Keyed;
-use std::cmp::Ordering;
 
 impl Spheres {
     // Lets go of all places, and of no memory.
@@ -80,16 +78,5 @@ impl Spheres {
     {
         self.walk_on(around, wanted, first, last);
         self.pass(keys, last, last + 1);
-    }
-
-    /// How the numbers of two places compare. Of the tops of wanted branches it is how a rule orders them, within the
-    /// spheres that were followed.
-    pub fn order(&self, a: u32, b: u32) -> Ordering
-        requires first { a < length self.now.kin.ups }
-        requires second { b < length self.now.kin.ups }
-        ensures { result ≡ by_number self.now.ranked.numbers a b }
-    {
-        let _places = self.family.len();
-        self.order.number(a).cmp(&self.order.number(b))
     }
 }

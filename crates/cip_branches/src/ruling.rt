@@ -80,11 +80,4 @@ impl Branches {
         let _count = self.spheres.starts.len();
         self.last
     }
-
-    /// Whether no branch has a place in the last sphere: those that are wanted end before it.
-    pub fn are_ended(&self) -> bool
-        ensures { result ≡ true → self.now.first ≡ length self.now.layers.kin.ups }
-    {
-        self.first == self.spheres.len()
-    }
 }

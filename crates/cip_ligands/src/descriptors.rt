@@ -1,6 +1,6 @@
 // The descriptors of nodes.
-ghost use Rattle.std.specs.Prelude.{◌≡◌, ◌<◌, ◌+◌, ◌^◌, ◌-◌, ℕ, [], ◌∷◌, ◌++◌, length, None, IfOk, is_none};
-ghost use Rattle.std.specs.List.{list_all, slice_index_or, slice_set};
+ghost use Rattle.std.specs.Prelude.{◌≡◌, ◌<◌, ◌+◌, ◌^◌, ◌-◌, ℕ, [], ◌∷◌, ◌++◌, length, None, IfOk};
+ghost use Rattle.std.specs.List.{slice_index_or, slice_set};
 
 use cip_mol::Descriptor;
 use std::alloc::{AllocError, Global};
@@ -56,13 +56,6 @@ impl Descriptors {
         ensures { result ≡ length self.now.marks }
     {
         self.marks.len() as u32
-    }
-
-    /// Whether no node has one.
-    pub fn are_none(&self) -> bool
-        ensures { result ≡ list_all is_none self.now.marks }
-    {
-        self.marks.iter().all(|mark| mark.is_none())
     }
 
     /// The descriptor of a node.
