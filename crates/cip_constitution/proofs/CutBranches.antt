@@ -40,49 +40,58 @@ module _ (g : Graph) (positions : List (List ℕ)) (a : Growth) (h : Holds g pos
   pub few : a.sphere ≤ a.bound
   few = let lt = few_spheres g positions a.root a.sphere end in let len = h.tells.len in omega (arith, lt, len, fits)
 
-  -- the root's children are one step from it
-  first_paths : AllByRecursion (IsPath Anywhere 1) (flat_map (children g positions) (real_node a.root [] ∷ []))
-  first_paths =
-      let passes = paths_pass g positions Anywhere (λ vertex _. leads_anywhere g vertex) a.root tt in
-      all_append (IsPath Anywhere 1) (children g positions (real_node a.root [])) []
-      (passes.step 0 (real_node a.root []) passes.at_root) tt
+  -- what the root's children have, the tops of branches have
+  pub first_has : (P : Node → Type 0) → AllByRecursion P (children g positions (real_node a.root [])) → (k : ℕ)
+      → suc k < length (digraph g positions a.root 1) → P (name (suc k))
+  first_has P all k lt =
+      subst P (sym (named_is g positions a.root a.bound 1 (suc k) (omega (arith, some, few)) lt))
+      (All-from_recursion P (flat_map (children g positions) (real_node a.root [] ∷ []))
+      (all_append P (children g positions (real_node a.root [])) [] all tt) k (real_at []) (omega (arith, lt)))
 
   pub first_path : (k : ℕ) → suc k < length (digraph g positions a.root 1) → IsPath Anywhere 1 (name (suc k))
-  first_path k lt =
-      subst (IsPath Anywhere 1) (sym (named_is g positions a.root a.bound 1 (suc k) (omega (arith, some, few)) lt))
-      (All-from_recursion (IsPath Anywhere 1) (flat_map (children g positions) (real_node a.root [] ∷ []))
-      first_paths k (real_at []) (omega (arith, lt)))
+  first_path =
+      let passes = paths_pass g positions Anywhere (λ vertex _. leads_anywhere g vertex) a.root tt in
+      first_has (IsPath Anywhere 1) (passes.step 0 (real_node a.root []) passes.at_root)
 
-  -- a node at a place of a sphere stands so far from the root
-  pub path_at : (t place : ℕ) → WantedIn branched t place → IsPath Anywhere (suc t) (node_in name branched place)
-  path_at zero place p =
+  -- and what goes from nodes to their children, the nodes at places of each sphere have
+  pub along : (P : ℕ → Node → Type 0) → AllByRecursion (P 1) (children g positions (real_node a.root []))
+      → ((number : ℕ) (node : Node) → P number node → AllByRecursion (P (suc number)) (children g positions node))
+      → (t place : ℕ) → WantedIn branched t place → P (suc t) (node_in name branched place)
+  along P first step zero place p =
       let lt = f.decided.only place p.at in
       let count = f.count in
-      subst (λ n. IsPath Anywhere 1 (name n)) (sym (f.top place lt)) (first_path place (omega (arith, lt, count)))
-  path_at (suc t) place p =
+      subst (λ n. P 1 (name n)) (sym (f.top place lt)) (first_has (P 1) first place (omega (arith, lt, count)))
+  along P first step (suc t) place p =
       let inner = f.decided.ruled.view.within (suc t) place p in
       let lt : t < branched.last = omega (arith, inner) in
       let above = f.decided.ruled.above t place lt p in
       let up = slice_index branched.layers.kin.ups place in
       let here = kids_of branched.layers.kin up in
-      let paths = below_paths g positions a.sphere (suc t) (node_in name branched up) (path_at t up above.up) in
-      let all = All-permutation (IsPath Anywhere (suc (suc t))) (children g positions (node_in name branched up))
+      let below = step (suc t) (node_in name branched up) (along P first step t up above.up) in
+      let all = All-permutation (P (suc (suc t))) (children g positions (node_in name branched up))
       (map (node_in name branched) here)
       (IsPermutation-sym (map (node_in name branched) here) (children g positions (node_in name branched up))
       (f.decided.ruled.view.told t up lt above.up))
-      (λ k d within. All-from_recursion (IsPath Anywhere (suc (suc t)))
-      (children g positions (node_in name branched up)) paths k d within) in
+      (λ k d within. All-from_recursion (P (suc (suc t))) (children g positions (node_in name branched up)) below k d
+      within) in
       let kid = above.kid in
       let is : slice_index_or (map (node_in name branched) here) kid.at (real_at [])
       ≡ node_in name branched place =
       get_or-map (node_in name branched) here kid.at 0 (real_at []) kid.within
       ∙ ap (node_in name branched) kid.here in
-      subst (IsPath Anywhere (suc (suc t))) is
+      subst (P (suc (suc t))) is
       (all kid.at (real_at []) (subst (λ n. kid.at < n) (sym (mapped_len (node_in name branched) here)) kid.within))
     where
       mapped_len : {X Y : Type 0} (f : X → Y) (xs : List X) → length (map f xs) ≡ length xs
       mapped_len f [] = refl
       mapped_len f (x ∷ xs) = ap (λ n. suc n) (mapped_len f xs)
+
+  -- a node at a place of a sphere stands so far from the root
+  pub path_at : (t place : ℕ) → WantedIn branched t place → IsPath Anywhere (suc t) (node_in name branched place)
+  path_at =
+      let passes = paths_pass g positions Anywhere (λ vertex _. leads_anywhere g vertex) a.root tt in
+      along (IsPath Anywhere) (passes.step 0 (real_node a.root []) passes.at_root)
+      (below_paths g positions a.sphere)
 
   near_at : (t place : ℕ) → t ≤ branched.last → WantedIn branched t place
       → IsNear g positions a.sphere (branched.last - t) (node_in name branched place)

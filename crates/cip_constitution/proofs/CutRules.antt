@@ -116,11 +116,11 @@ module _ (g : Graph) (positions : List (List ℕ)) (a : Growth) (h : Holds g pos
   distance_by Wording2013 n lt = (h.tells.each n lt).as_printed
   distance_by Wording2018 n lt = (h.tells.each n lt).as_corrected
 
-  keyed_2 : AreKeysOf nm k2 distances branched
+  pub keyed_2 : AreKeysOf nm k2 distances branched
   keyed_2 = keyed_by (λ (told : Told). lower_precedes (distance_told rules told)) k2
       (λ n lt. ap lower_precedes (distance_by rules n lt))
 
-  keyed_3 : AreKeysOf nm k3 masses branched
+  pub keyed_3 : AreKeysOf nm k3 masses branched
   keyed_3 = keyed_by (λ (told : Told). pos told.mass) k3 (λ n lt. ap (λ m. pos m) (h.tells.each n lt).mass)
 
   module _ (second third : Branched) (takes_2 : TakesWhole branched distances R1b second)

@@ -27,7 +27,7 @@ use Rattle.cip_digraph.specs.rules.Orders.{all_tie}
 use Rattle.cip_digraph.proofs.Numbered.{some_nodes}
 use Rattle.cip_arena.specs.Growth.{Growth, Holds, GrownAs}
 use Rattle.cip_arena.specs.declared.arena.Grown.{Grown as Answer}
-use Rattle.cip_arena.specs.declared.arena.Grown.TheVariants.{Grown}
+use Rattle.cip_arena.specs.declared.arena.Grown.TheVariants.{Grown, Whole}
 use Rattle.cip_constitution.specs.Following.{named, Follows, IsFollowed}
 use Rattle.cip_constitution.proofs.AllTie.{tie_total}
 use Rattle.cip_constitution.proofs.NamedNodes.{few_spheres, longer, long, ascending, far_kids, named_children, named_key}
@@ -342,3 +342,8 @@ module _ (g : Graph) (positions : List (List ℕ)) (old new : Growth) (before af
         (subst (λ n. Follows g positions old.root n old.sphere branched) (sym (ap (λ (a : Growth). a.bound) grown.0))
         follows));
   }
+
+-- where there is no further sphere nothing changes
+pub same_growth : (g : Graph) (positions : List (List ℕ)) (old new : Growth) (before after : ℕ) (r : Answer)
+    → GrownAs g positions old new before after r → r ≡ Whole → new ≡ old
+same_growth g positions old new before after r says is = (subst (GrownAs g positions old new before after) is says).0

@@ -13,6 +13,7 @@ pub mod EndedBranches
 pub mod Finished
 pub mod FirstStanding
 pub mod FollowedBranches
+pub mod FollowedEnds
 pub mod NamedNodes
 pub mod NodeKeys
 pub mod NotedPairs

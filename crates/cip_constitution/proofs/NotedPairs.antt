@@ -73,7 +73,7 @@ first_room f (one ∷ rest) done all d room some is few = room_left done (f one)
 
 module _ (g : Graph) (positions : List (List ℕ)) (root bound : ℕ) where
   -- pairs ask about branches that there are
-  asked_within : (branch : ℕ → ℕ) (count : ℕ) → ((vertex : ℕ) → branch vertex < count) → (pairs : List Pair)
+  pub asked_within : (branch : ℕ → ℕ) (count : ℕ) → ((vertex : ℕ) → branch vertex < count) → (pairs : List Pair)
       → AllByRecursion (AreWithin count) (map (asked_by branch) pairs)
   asked_within branch count low [] = tt
   asked_within branch count low (pair ∷ pairs) =

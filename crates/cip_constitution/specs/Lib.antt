@@ -1,6 +1,7 @@
 pub mod Alike
 pub mod Closing
 pub mod Ending
+pub mod FollowedOut
 pub mod Following
 pub mod Marking
 pub mod Noting

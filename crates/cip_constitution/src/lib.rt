@@ -8,6 +8,7 @@ mod differing;
 mod ending;
 mod following;
 mod keys;
+mod later;
 mod marking;
 mod noting;
 mod pairs;

@@ -1,6 +1,7 @@
 // A digraph grown until its ligands are settled.
 ghost use Rattle.std.specs.Prelude.{◌≡◌, ◌<◌, ◌≤◌, ◌+◌, ℕ, length};
 ghost use Rattle.cip_arena.specs.Growth.{Holds};
+ghost use Rattle.cip_constitution.specs.FollowedOut.{AreFollowedOut};
 ghost use Rattle.cip_constitution.specs.Noting.{Notes};
 ghost use Rattle.cip_constitution.specs.Settling.{setting_of, SettledAs, cost_of};
 
@@ -58,6 +59,9 @@ pub fn settle<L: Ledger>(
     ensures noted { result ≡ Settled.Ordered → Notes graph.now positions.now arena.new.root arena.new.bound
         arena.new.sphere work.new.pairs work.new.noted }
     ensures pairs { work.new.pairs ≡ work.old.pairs }
+    // what the rules behind Rule 1a go on from
+    ensures whole { result ≡ Settled.Whole → 0 < arena.new.sphere → AreFollowedOut graph.now positions.now arena.new
+        work.new }
 {
     let _vertices = graph.vertices();
     let setting = Setting {

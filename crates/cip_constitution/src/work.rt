@@ -32,12 +32,12 @@ const MOST_PAIRS: usize = 16;
 pub struct Work {
     bound: u32,
     // the branches of the root's children, by Rule 1a
-    branches: Branches,
+    pub(crate) branches: Branches,
     // the root's children
     tops: Column<u32>,
     // each two ligands of the root, and what is decided between their branches
     pairs: Vec<Pair>,
-    noted: Vec<Asked>,
+    pub(crate) noted: Vec<Asked>,
     // how they stood by Rule 1a
     saved: SavedRanks,
     // of each node, whether it stands below a ligand's

@@ -1,11 +1,12 @@
-use Rattle.std.proofs.Common.{rules, refl, ap, ◌≡◌, ◌<◌, ◌+◌, ◌-◌, sym, ◌∙◌, subst, length}
+use Rattle.std.proofs.Common.{rules, refl, ap, ◌≡◌, ◌<◌, ◌+◌, ◌-◌, sym, ◌∙◌, subst, length, arith}
+use Rattle.cip_arena.specs.Growth.{Growth}
 use Rattle.cip_arena.specs.declared.arena.Grown.TheVariants.{Grown, Whole, Over}
 use Rattle.cip_constitution.specs.declared.settling.Settled.TheVariants as settled
 use Rattle.cip_constitution.specs.Settling.{setting_of, Kept, one_if_grown}
-use Rattle.cip_constitution.specs.Following.{Trying, Follows}
-use Rattle.cip_constitution.specs.Noting.{Notes}
+use Rattle.cip_constitution.specs.Following.{Trying, Follows, IsFollowed}
+use Rattle.cip_constitution.specs.Noting.{Notes, IsNoted}
 use Rattle.cip_constitution.proofs.NotedPairs.{noted_first, noted_grown}
-use Rattle.cip_constitution.proofs.FollowedBranches.{grown_first, grown_next}
+use Rattle.cip_constitution.proofs.FollowedBranches.{grown_first, grown_next, same_growth}
 use Rattle.cip_constitution.proofs.Rounds.{
   none_before,
   first_keeps,
@@ -87,6 +88,24 @@ returns-else-eq-clause-settled g c =
     whole t c.vertices-vertices.ensures.sound c.args.arena.now c.loop-grown.arena c.args.steps.now c.loop-grown.steps
     c.requires.root kept
 
+pub returns-else-eq-clause-whole : goal.returns-else-eq-clause-whole
+returns-else-eq-clause-whole g c by_whole some =
+    let t = setting_of c.args.rules c.args.graph.now c.args.positions.now c.args.units.now c.args.ligands.now in
+    let is : c.loop-grown.grown ≡ Whole = search rules in
+    let kept = subst (Kept t c.args.arena.now c.loop-grown.arena c.args.steps.now c.loop-grown.steps) is
+    c.loop-grown.invariant.kept in
+    record {
+      holds = kept.holds;
+      sound = c.vertices-vertices.ensures.sound;
+      low = subst (λ root. root < length c.args.graph.now.vertices) (sym kept.root) c.requires.root;
+      some = some;
+      last = kept.some;
+      none = kept.head;
+      fits = kept.fits;
+      follows = (c.loop-grown.invariant.ended is).from_first some;
+      notes = (c.loop-grown.invariant.ended_noted is).from_first some;
+    }
+
 pub loop-grown-init : goal.loop-grown-init
 loop-grown-init g c =
     let t = setting_of c.args.rules c.args.graph.now c.args.positions.now c.args.units.now c.args.ligands.now in
@@ -103,6 +122,24 @@ loop-grown-init g c =
           next.new.steps next.result next.ensures.answer is c.args.work.now.pairs c.args.work.now.noted
           c.requires.started;
       pairs = refl;
+      ended = λ is.
+          let same = same_growth c.args.graph.now c.args.positions.now c.args.arena.now next.new.self c.args.steps.now
+          next.new.steps next.result next.ensures.answer is in
+          record {
+            from_first = λ low.
+                let sphere = ap (λ (a : Growth). a.sphere) same in
+                let none = c.requires.started in
+                absurd (omega (arith, low, sphere, none));
+          };
+      ended_noted = λ is.
+          let same = same_growth c.args.graph.now c.args.positions.now c.args.arena.now next.new.self c.args.steps.now
+          next.new.steps next.result next.ensures.answer is in
+          record {
+            from_first = λ low.
+                let sphere = ap (λ (a : Growth). a.sphere) same in
+                let none = c.requires.started in
+                absurd (omega (arith, low, sphere, none));
+          };
     }
 
 pub loop-grown-preserved : goal.loop-grown-preserved
@@ -112,6 +149,14 @@ loop-grown-preserved g c =
     let kept = subst (Kept t c.args.arena.now c.loop-grown.arena c.args.steps.now c.loop-grown.steps) is
     c.loop-grown.invariant.kept in
     let next = c.grow-grown-in-loop-grown in
+    let follows = subst (λ (w : Trying). Follows c.args.graph.now c.args.positions.now c.loop-grown.arena.root
+    c.loop-grown.arena.bound c.loop-grown.arena.sphere w.branched) (sym c.some_alike.ensures.kept)
+    c.follow.ensures.followed in
+    let notes = subst (λ (w : Trying). Notes c.args.graph.now c.args.positions.now c.loop-grown.arena.root
+    c.loop-grown.arena.bound c.loop-grown.arena.sphere w.pairs w.noted) (sym c.some_alike.ensures.kept)
+    c.follow.ensures.noted in
+    let same : next.result ≡ Whole → next.new.self ≡ c.loop-grown.arena = λ is. same_growth c.args.graph.now c.args.positions.now c.loop-grown.arena next.new.self
+    c.loop-grown.steps next.new.steps next.result next.ensures.answer is in
     record {
       kept = more_keeps t c.vertices-vertices.ensures.sound c.args.arena.now c.loop-grown.arena next.new.self
           c.args.steps.now c.loop-grown.steps next.new.steps next.result kept c.requires.root
@@ -119,20 +164,20 @@ loop-grown-preserved g c =
           (sym c.some_alike.ensures.result ∙ c.if-some_alike.false)
           next.ensures.holds next.ensures.fits next.ensures.answer;
       followed = λ grown. grown_next c.args.graph.now c.args.positions.now c.loop-grown.arena next.new.self
-          c.loop-grown.steps next.new.steps next.result next.ensures.answer grown c.some_alike.new.self.branched
-          (subst (λ (w : Trying). Follows c.args.graph.now c.args.positions.now c.loop-grown.arena.root
-          c.loop-grown.arena.bound c.loop-grown.arena.sphere w.branched) (sym c.some_alike.ensures.kept)
-          c.follow.ensures.followed);
+          c.loop-grown.steps next.new.steps next.result next.ensures.answer grown c.some_alike.new.self.branched follows;
       work = ap (λ (w : Trying). w.bound) c.some_alike.ensures.kept ∙ c.follow.ensures.bound
           ∙ c.loop-grown.invariant.work;
       noted = λ grown. noted_grown c.args.graph.now c.args.positions.now c.loop-grown.arena next.new.self
           c.loop-grown.steps next.new.steps next.result next.ensures.answer grown c.some_alike.new.self.pairs
-          c.some_alike.new.self.noted
-          (subst (λ (w : Trying). Notes c.args.graph.now c.args.positions.now c.loop-grown.arena.root
-          c.loop-grown.arena.bound c.loop-grown.arena.sphere w.pairs w.noted) (sym c.some_alike.ensures.kept)
-          c.follow.ensures.noted);
+          c.some_alike.new.self.noted notes;
       pairs = ap (λ (w : Trying). w.pairs) c.some_alike.ensures.kept ∙ c.follow.ensures.pairs
           ∙ c.loop-grown.invariant.pairs;
+      ended = λ is. subst (λ (a : Growth). IsFollowed c.args.graph.now c.args.positions.now a.root a.bound a.sphere
+          c.some_alike.new.self.branched) (sym (same is)) (record { from_first = λ low. follows });
+      ended_noted = λ is. subst (λ (a : Growth). IsNoted c.args.graph.now c.args.positions.now a.root a.bound a.sphere
+          c.some_alike.new.self.pairs c.some_alike.new.self.noted) (sym (same is)) (record {
+        from_first = λ low. notes;
+      });
     }
 
 pub some_alike-requires-clause-before : goal.some_alike-requires-clause-before

@@ -1,0 +1,68 @@
+-- Branches of a root's children that were followed to their ends with the whole digraph, and what the rules behind Rule 1a
+-- go on from. Own.
+use Rattle.std.specs.Prelude.{◌≡◌, ◌<◌, ◌≤◌, ℕ, zero, suc, Bool, true, if◌then◌else◌, List, [], ◌∷◌, length, map, slice_index, slice_set}
+use Rattle.std.specs.declared.option.Option.{Option}
+use Rattle.cip_arena.specs.Growth.{Growth, Holds}
+use Rattle.cip_branches.specs.Deciding.{Branched, AreFollowed}
+use Rattle.cip_branches.specs.Standing.{node_in}
+use Rattle.cip_rows.specs.Keys.{AreKeyed}
+use Rattle.cip_rows.specs.Parting.{has_flag}
+use Rattle.cip_rank.specs.declared.rules.Rules.{Rules}
+use Rattle.cip_mol.specs.declared.descriptor.Descriptor.{Descriptor}
+use Rattle.cip_mol.specs.declared.site.Ligand.TheVariants.{Vertex}
+use Rattle.cip_digraph.specs.digraph.Digraph.{Node, real_node, sphere}
+use Rattle.cip_digraph.specs.digraph.View.{seen_from, view_children}
+use Rattle.cip_digraph.specs.graph.Graph.{Graph}
+use Rattle.cip_digraph.specs.graph.SoundGraphs.{IsSound}
+use Rattle.cip_digraph.specs.rules.Auxiliary.{ligand_node}
+use Rattle.cip_digraph.specs.rules.Orders.{Seen}
+use Rattle.cip_ligands.specs.declared.asked.Asked.{Asked}
+use Rattle.cip_ligands.specs.Deciding.{AreOfConstitution}
+use Rattle.cip_constitution.specs.Following.{Trying, Follows, named}
+use Rattle.cip_constitution.specs.Noting.{Notes, asked_by}
+use Rattle.cip_constitution.specs.declared.pairs.Pair.{Pair}
+
+-- There is no sphere behind the last one, up to which branches were followed, and it is noted what Rule 1a decides.
+pub record AreFollowedOut (graph : Graph) (positions : List (List ℕ)) (growth : Growth) (trying : Trying) : Type 0 where
+  pub holds : Holds graph positions growth
+  pub sound : IsSound graph
+  pub low : growth.root < length graph.vertices
+  pub some : 0 < growth.sphere
+  pub last : 0 < length (sphere graph positions growth.root growth.sphere)
+  pub none : sphere graph positions growth.root (suc growth.sphere) ≡ []
+  pub fits : length growth.nodes ≤ growth.bound
+  pub follows : Follows graph positions growth.root growth.bound growth.sphere trying.branched
+  pub notes : Notes graph positions growth.root growth.bound growth.sphere trying.pairs trying.noted
+
+module _ (rules : Rules) (graph : Graph) (positions : List (List ℕ)) (growth : Growth) where
+  -- the digraph as its root sees it, with these descriptors
+  abbrev pub seen_with : (List ℕ → Option Descriptor) → Seen Node
+  seen_with = seen_from rules graph positions (growth.root ∷ [])
+
+  -- the node at a place
+  abbrev pub node_of : Branched → ℕ → Node
+  node_of = node_in (named graph positions growth.root growth.bound)
+
+  -- Each pair of vertices has the branches of the nodes that stand for them, and is decided by constitution, whichever
+  -- descriptors there are. Where one isn't, later rules go on from the numbers that stand.
+  pub record AreConstituted (pairs : List Pair) (now : Branched) (asked : List Asked) : Type 0 where
+    pub branch : ℕ → ℕ
+    pub count : ℕ
+    pub within : (vertex : ℕ) → branch vertex < count
+    pub stands : (vertex : ℕ) (node : Node)
+        → ligand_node (view_children graph positions (growth.root ∷ []) (real_node growth.root [])) (Vertex vertex)
+        ≡ node ∷ [] → node_of now (branch vertex) ≡ node
+    pub followed : AreFollowed now
+    pub keyed : AreKeyed (length growth.nodes) now.layers.kin
+    pub few : length now.layers.kin.ups < length growth.nodes
+    pub decided : (mark : List ℕ → Option Descriptor)
+        → AreOfConstitution (seen_with mark) (named graph positions growth.root growth.bound) (node_of now) count
+        (map (asked_by branch) pairs) now asked
+
+-- flags, with those of the nodes at so many places of branches that are wanted still
+abbrev pub with_flags : Branched → ℕ → List Bool → List Bool
+with_flags now zero flags = flags
+with_flags now (suc place) flags =
+    let before = with_flags now place flags in
+    if has_flag now.wanted (slice_index now.layers.kin.branches place)
+    then slice_set before (slice_index now.layers.kin.nodes place) true else before

@@ -1,0 +1,98 @@
+// The rules behind Rule 1a, over the branches that settling followed to their ends.
+ghost use Rattle.std.specs.Prelude.{◌≡◌, ◌<◌, ◌≤◌, ℕ, true, false, if◌then◌else◌, length, map, slice_index, slice_set, List};
+ghost use Rattle.std.specs.List.{AllByRecursion, list_all};
+ghost use Rattle.cip_branches.specs.Deciding.{AreFollowed};
+ghost use Rattle.cip_digraph.specs.digraph.Digraph.{Node};
+ghost use Rattle.cip_digraph.specs.rules.Decisions.{order};
+ghost use Rattle.cip_digraph.specs.rules.Orders.{Seen, rule_2};
+ghost use Rattle.cip_ligands.specs.Asking.{AreWithin, is_decided, with_found};
+ghost use Rattle.cip_ligands.specs.Deciding.{AreDecidedBy};
+ghost use Rattle.cip_ligands.specs.Marked.{AreMarksOf};
+ghost use Rattle.cip_ligands.specs.Orders.{rules_before};
+ghost use Rattle.cip_ligands.specs.declared.asked.Asked.{Asked as AnyAsked};
+ghost use Rattle.cip_mol.specs.declared.outcome.Rule.TheVariants.{R3};
+ghost use Rattle.cip_rows.specs.Keys.{AreKeyed};
+ghost use Rattle.cip_rows.specs.Parting.{has_flag};
+ghost use Rattle.cip_constitution.specs.FollowedOut.{AreConstituted, AreFollowedOut, with_flags};
+
+use crate::keys::{ByDistance, ByMass};
+use crate::work::Work;
+use cip_arena::Arena;
+use cip_branches::Branches;
+use cip_digraph::{Graph, Positions};
+use cip_ligands::{Asked, Marked, Readings, decide_configuration, decide_constitution};
+use cip_rank::Rules;
+
+// Flags the node at a place, where its branch is wanted still.
+fn flag_place(branches: &Branches, place: u32, flags: &mut [bool])
+    requires place { place < length branches.now.layers.kin.ups }
+    requires node { slice_index branches.now.layers.kin.nodes place < length flags.old }
+    ensures { flags.new ≡ (if has_flag branches.now.wanted (slice_index branches.now.layers.kin.branches place)
+        then slice_set flags.old (slice_index branches.now.layers.kin.nodes place) true else flags.old) }
+{
+    if branches.is_wanted(branches.branch(place)) {
+        flags[branches.node(place) as usize] = true;
+    }
+}
+
+impl Work {
+    /// Takes Rules 1b and 2 over the branches of a root whose digraph is whole, as long as a pair is undecided, and says
+    /// whether all are decided. No memory is taken.
+    pub fn constitute(
+        &mut self,
+        arena: &Arena,
+        graph: &Graph,
+        positions: &Positions,
+        rules: Rules,
+    ) -> bool
+        requires followed { AreFollowedOut graph.now positions.now arena.now self.old }
+        ensures constituted { AreConstituted rules graph.now positions.now arena.now self.new.pairs self.new.branched
+            self.new.noted }
+        ensures all { result ≡ list_all is_decided self.new.noted }
+        ensures pairs { self.new.pairs ≡ self.old.pairs }
+        ensures bound { self.new.bound ≡ self.old.bound }
+    {
+        let _graph = graph;
+        let _positions = positions;
+        let distances = ByDistance {
+            nodes: arena,
+            rules,
+        };
+        let masses = ByMass { nodes: arena };
+        let noted = self.noted.as_mut_slice();
+        decide_constitution(&mut self.branches, &distances, &masses, noted)
+    }
+
+    /// Flags the nodes in those branches that are wanted still: another one ties with them.
+    pub fn flag_wanted(&self, flags: &mut [bool])
+        requires keyed { AreKeyed (length flags.old) self.now.branched.layers.kin }
+        ensures flagged { flags.new ≡ with_flags self.now.branched (length self.now.branched.layers.kin.ups) flags.old }
+        ensures len { length flags.new ≡ length flags.old }
+    {
+        for place in 0..self.branches.len() {
+            flag_place(&self.branches, place, flags);
+        }
+    }
+
+    /// Takes Rules 3 to 5 in turn where constitution leaves a pair undecided, by the descriptors of nodes, and the last
+    /// one both ways: what is decided where kind S has precedence comes into `turned`. No memory is taken.
+    pub fn configure<M: Marked>(&mut self, readings: &mut Readings, marks: &M, turned: &mut [Asked])
+        requires followed { AreFollowed self.old.branched }
+        requires keyed { AreKeyed (length (M.marks marks.now)) self.old.branched.layers.kin }
+        requires room { length self.old.branched.layers.kin.ups ≤ readings.old.bound }
+        requires len { length turned.old ≡ length self.old.noted }
+        ensures decided { (seen : Seen Node) (named node : ℕ → Node) (count : ℕ) (begin : List AnyAsked)
+            → AllByRecursion (AreWithin count) begin
+            → AreDecidedBy seen true named node count begin (rules_before R3) (rule_2 seen seen.height)
+            self.old.branched self.old.noted
+            → AreMarksOf named seen.mark (M.marks marks.now) self.old.branched
+            → (self.new.noted ≡ map (with_found (λ a b. order seen true (node a) (node b))) begin)
+            × (turned.new ≡ map (with_found (λ a b. order seen false (node a) (node b))) begin) }
+        ensures pairs { self.new.pairs ≡ self.old.pairs }
+        ensures bound { self.new.bound ≡ self.old.bound }
+        ensures readings { readings.new.bound ≡ readings.old.bound }
+    {
+        let noted = self.noted.as_mut_slice();
+        decide_configuration(&mut self.branches, readings, marks, noted, turned);
+    }
+}
