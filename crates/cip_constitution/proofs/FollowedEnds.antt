@@ -5,7 +5,6 @@ use Rattle.std.specs.Prelude.{flat_map}
 use Rattle.std.specs.List.{AllByRecursion}
 use Rattle.std.specs.List.Sorted.{IsPermutation}
 use Rattle.std.specs.declared.option.Option.{Option}
-use Rattle.std.specs.declared.cmp.Ordering.{Ordering}
 use Rattle.std.proofs.lemmas.List.{get_or-append_right}
 use Rattle.std.proofs.lemmas.List.Elements.{All-from_recursion}
 use Rattle.cip_arena.specs.Growth.{Growth}
@@ -15,7 +14,7 @@ use Rattle.cip_branches.specs.Views.{IsEnded}
 use Rattle.cip_digraph.specs.declared.decision.Decision.{Decision}
 use Rattle.cip_digraph.specs.digraph.Digraph.{Node, children, digraph, real_node, sphere}
 use Rattle.cip_digraph.specs.digraph.Telling.{first_of, node_at}
-use Rattle.cip_digraph.specs.digraph.View.{real_at, seen_from, view_children}
+use Rattle.cip_digraph.specs.digraph.View.{real_at, view_children}
 use Rattle.cip_digraph.specs.graph.Graph.{Graph}
 use Rattle.cip_digraph.specs.rules.Decisions.{first_difference}
 use Rattle.cip_digraph.specs.rules.Keys.{atomic_key, lower_precedes}
@@ -30,18 +29,18 @@ use Rattle.cip_rows.specs.Keys.{AreKeyed}
 use Rattle.cip_rows.specs.Kids.{kids_of}
 use Rattle.cip_rows.specs.Kin.{Kin}
 use Rattle.cip_ligands.specs.declared.asked.Asked.{Asked}
-use Rattle.cip_ligands.specs.Asking.{AreWithin, decided, with_found}
+use Rattle.cip_ligands.specs.Asking.{AreWithin, decided}
 use Rattle.cip_ligands.specs.Deciding.{AreDecidedBy, AreOfConstitution}
 use Rattle.cip_ligands.specs.Orders.{found_below}
 use Rattle.cip_ligands.proofs.FoundWithin.{same_difference, same_found}
 use Rattle.cip_ligands.proofs.RulesGoOn.{first_decides}
 use Rattle.cip_mol.specs.declared.descriptor.Descriptor.{Descriptor}
 use Rattle.cip_mol.specs.declared.outcome.Rule.TheVariants.{R1a}
-use Rattle.cip_constitution.specs.FollowedOut.{AreConstituted, AreFollowedOut, node_of, seen_with}
+use Rattle.cip_constitution.specs.FollowedOut.{AreConstituted, AreFollowedOut, seen_with}
 use Rattle.cip_constitution.specs.Following.{Follows, Trying, named}
 use Rattle.cip_constitution.specs.Noting.{asked_by, by_atoms, top_of}
 use Rattle.cip_constitution.proofs.AllTie.{tie_total}
-use Rattle.cip_constitution.proofs.CutBranches.{along, few, first_has, first_path, path_at}
+use Rattle.cip_constitution.proofs.CutBranches.{along, few, first_path, path_at}
 use Rattle.cip_constitution.proofs.CutRules.{distances, keyed_2, keyed_3, masses}
 use Rattle.cip_constitution.proofs.DecidingSphere.{within_height}
 use Rattle.cip_constitution.proofs.NamedNodes.{named_is}
@@ -253,6 +252,9 @@ module _ (g : Graph) (positions : List (List ℕ)) (a : Growth) (trying : Trying
           (let len = out.holds.tells.len in subst (λ n. AreKeyed n branched.layers.kin) (sym len) f.keyed);
       few = subst (λ (k : Kin). length k.ups < length a.nodes) (sym kin)
           (let len = out.holds.tells.len in let few = f.few in omega (arith, len, few));
+      names = λ number lt. named_is g positions a.root a.bound a.sphere number
+          (few g positions a out.holds out.some out.fits out.last branched f)
+          (let len = out.holds.tells.len in omega (arith, lt, len));
       decided = λ mark.
           subst (λ (k : Kin). AreOfConstitution (seen mark) name (λ place. name (slice_index k.nodes place)) count begin
           now new) (sym kin) (decides mark (first_decided mark) (distances_are mark) (masses_are mark));

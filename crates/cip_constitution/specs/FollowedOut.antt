@@ -1,6 +1,7 @@
 -- Branches of a root's children that were followed to their ends with the whole digraph, and what the rules behind Rule 1a
 -- go on from. Own.
-use Rattle.std.specs.Prelude.{◌≡◌, ◌<◌, ◌≤◌, ℕ, zero, suc, Bool, true, if◌then◌else◌, List, [], ◌∷◌, length, map, slice_index, slice_set}
+use Rattle.std.specs.Prelude.{◌≡◌, ◌<◌, ◌≤◌, ℕ, zero, suc, Bool, true, false, if◌then◌else◌, List, [], ◌∷◌, length, map, slice_index, slice_set}
+use Rattle.std.specs.List.{AllByRecursion}
 use Rattle.std.specs.declared.option.Option.{Option}
 use Rattle.cip_arena.specs.Growth.{Growth, Holds}
 use Rattle.cip_branches.specs.Deciding.{Branched, AreFollowed}
@@ -9,15 +10,21 @@ use Rattle.cip_rows.specs.Keys.{AreKeyed}
 use Rattle.cip_rows.specs.Parting.{has_flag}
 use Rattle.cip_rank.specs.declared.rules.Rules.{Rules}
 use Rattle.cip_mol.specs.declared.descriptor.Descriptor.{Descriptor}
+use Rattle.cip_mol.specs.declared.outcome.Rule.TheVariants.{R3}
 use Rattle.cip_mol.specs.declared.site.Ligand.TheVariants.{Vertex}
-use Rattle.cip_digraph.specs.digraph.Digraph.{Node, real_node, sphere}
+use Rattle.cip_digraph.specs.digraph.Digraph.{Node, digraph, real_node, sphere}
+use Rattle.cip_digraph.specs.digraph.Telling.{node_at}
 use Rattle.cip_digraph.specs.digraph.View.{seen_from, view_children}
 use Rattle.cip_digraph.specs.graph.Graph.{Graph}
 use Rattle.cip_digraph.specs.graph.SoundGraphs.{IsSound}
 use Rattle.cip_digraph.specs.rules.Auxiliary.{ligand_node}
-use Rattle.cip_digraph.specs.rules.Orders.{Seen}
+use Rattle.cip_digraph.specs.rules.Decisions.{order}
+use Rattle.cip_digraph.specs.rules.Orders.{Seen, rule_2}
 use Rattle.cip_ligands.specs.declared.asked.Asked.{Asked}
-use Rattle.cip_ligands.specs.Deciding.{AreOfConstitution}
+use Rattle.cip_ligands.specs.Asking.{AreWithin, with_found}
+use Rattle.cip_ligands.specs.Deciding.{AreDecidedBy, AreOfConstitution}
+use Rattle.cip_ligands.specs.Marked.{AreMarksOf}
+use Rattle.cip_ligands.specs.Orders.{rules_before}
 use Rattle.cip_constitution.specs.Following.{Trying, Follows, named}
 use Rattle.cip_constitution.specs.Noting.{Notes, asked_by}
 use Rattle.cip_constitution.specs.declared.pairs.Pair.{Pair}
@@ -55,9 +62,22 @@ module _ (rules : Rules) (graph : Graph) (positions : List (List ℕ)) (growth :
     pub followed : AreFollowed now
     pub keyed : AreKeyed (length growth.nodes) now.layers.kin
     pub few : length now.layers.kin.ups < length growth.nodes
+    pub names : (number : ℕ) → number < length growth.nodes
+        → named graph positions growth.root growth.bound number
+        ≡ node_at (digraph graph positions growth.root growth.sphere) number
     pub decided : (mark : List ℕ → Option Descriptor)
         → AreOfConstitution (seen_with mark) (named graph positions growth.root growth.bound) (node_of now) count
         (map (asked_by branch) pairs) now asked
+
+-- By these descriptors of nodes, pairs that constitution left open are decided by all rules, with R and with S first in the
+-- last one.
+pub record AreOrdered (old : Trying) (marks : List (Option Descriptor)) (natural turned : List Asked) : Type 0 where
+  pub each : (seen : Seen Node) (named node : ℕ → Node) (count : ℕ) (begin : List Asked)
+      → AllByRecursion (AreWithin count) begin
+      → AreDecidedBy seen true named node count begin (rules_before R3) (rule_2 seen seen.height) old.branched old.noted
+      → AreMarksOf named seen.mark marks old.branched
+      → (natural ≡ map (with_found (λ a b. order seen true (node a) (node b))) begin)
+      × (turned ≡ map (with_found (λ a b. order seen false (node a) (node b))) begin)
 
 -- flags, with those of the nodes at so many places of branches that are wanted still
 abbrev pub with_flags : Branched → ℕ → List Bool → List Bool

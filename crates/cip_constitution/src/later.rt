@@ -1,19 +1,11 @@
 // The rules behind Rule 1a, over the branches that settling followed to their ends.
-ghost use Rattle.std.specs.Prelude.{◌≡◌, ◌<◌, ◌≤◌, ℕ, true, false, if◌then◌else◌, length, map, slice_index, slice_set, List};
-ghost use Rattle.std.specs.List.{AllByRecursion, list_all};
+ghost use Rattle.std.specs.Prelude.{◌≡◌, ◌<◌, ◌≤◌, true, if◌then◌else◌, length, slice_index, slice_set};
+ghost use Rattle.std.specs.List.{list_all};
 ghost use Rattle.cip_branches.specs.Deciding.{AreFollowed};
-ghost use Rattle.cip_digraph.specs.digraph.Digraph.{Node};
-ghost use Rattle.cip_digraph.specs.rules.Decisions.{order};
-ghost use Rattle.cip_digraph.specs.rules.Orders.{Seen, rule_2};
-ghost use Rattle.cip_ligands.specs.Asking.{AreWithin, is_decided, with_found};
-ghost use Rattle.cip_ligands.specs.Deciding.{AreDecidedBy};
-ghost use Rattle.cip_ligands.specs.Marked.{AreMarksOf};
-ghost use Rattle.cip_ligands.specs.Orders.{rules_before};
-ghost use Rattle.cip_ligands.specs.declared.asked.Asked.{Asked as AnyAsked};
-ghost use Rattle.cip_mol.specs.declared.outcome.Rule.TheVariants.{R3};
+ghost use Rattle.cip_ligands.specs.Asking.{is_decided};
 ghost use Rattle.cip_rows.specs.Keys.{AreKeyed};
 ghost use Rattle.cip_rows.specs.Parting.{has_flag};
-ghost use Rattle.cip_constitution.specs.FollowedOut.{AreConstituted, AreFollowedOut, with_flags};
+ghost use Rattle.cip_constitution.specs.FollowedOut.{AreConstituted, AreFollowedOut, AreOrdered, with_flags};
 
 use crate::keys::{ByDistance, ByMass};
 use crate::work::Work;
@@ -81,13 +73,7 @@ impl Work {
         requires keyed { AreKeyed (length (M.marks marks.now)) self.old.branched.layers.kin }
         requires room { length self.old.branched.layers.kin.ups ≤ readings.old.bound }
         requires len { length turned.old ≡ length self.old.noted }
-        ensures decided { (seen : Seen Node) (named node : ℕ → Node) (count : ℕ) (begin : List AnyAsked)
-            → AllByRecursion (AreWithin count) begin
-            → AreDecidedBy seen true named node count begin (rules_before R3) (rule_2 seen seen.height)
-            self.old.branched self.old.noted
-            → AreMarksOf named seen.mark (M.marks marks.now) self.old.branched
-            → (self.new.noted ≡ map (with_found (λ a b. order seen true (node a) (node b))) begin)
-            × (turned.new ≡ map (with_found (λ a b. order seen false (node a) (node b))) begin) }
+        ensures ordered { AreOrdered self.old (M.marks marks.now) self.new.noted turned.new }
         ensures pairs { self.new.pairs ≡ self.old.pairs }
         ensures bound { self.new.bound ≡ self.old.bound }
         ensures readings { readings.new.bound ≡ readings.old.bound }

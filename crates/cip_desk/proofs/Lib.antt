@@ -5,6 +5,5 @@ pub mod PairedStanding
 pub mod RootLow
 pub mod RootMarks
 pub mod RootNodes
-pub mod RootTops
 pub mod SettledRoots
 pub mod WholeStanding

@@ -1,61 +1,79 @@
 -- Descriptors that were found where they are wanted are those of the nodes in branches that are wanted.
-use Rattle.std.proofs.Common.{◌≡◌, ◌<◌, ◌≤◌, ℕ, zero, suc, Bool, true, List, [], ◌∷◌, cond, length, None, slice_index, refl, sym, ap, ◌∙◌, subst, arith, inl, inr}
-use Rattle.std.proofs.lemmas.Bool.{cases_lt}
-use Rattle.cip_branches.specs.Deciding.{AreFollowed}
-use Rattle.cip_rows.specs.Keys.{AreKeyed}
-use Rattle.cip_digraph.proofs.Numbered.{some_nodes}
+use Rattle.std.proofs.Common.{◌≡◌, ◌<◌, ◌≤◌, ℕ, zero, suc, Bool, true, List, cond, length, None, slice_index, refl, sym, ap, ◌∙◌, arith, inl, inr}
 use Rattle.std.specs.declared.option.Option.{Option}
-use Rattle.cip_mol.specs.declared.descriptor.Descriptor.{Descriptor}
-use Rattle.cip_digraph.specs.digraph.Telling.{node_at}
+use Rattle.std.proofs.lemmas.Bool.{cases_lt}
 use Rattle.cip_arena.specs.Growth.{Growth, Holds}
-use Rattle.cip_branches.specs.Standing.{WantedIn}
 use Rattle.cip_aux.specs.Marking.{AreMarked, flag_at, node_mark}
 use Rattle.cip_aux.specs.Sights.{Sight, sight_of}
-use Rattle.cip_inside.specs.Near.{Nearing, AreConstituted}
+use Rattle.cip_branches.specs.Deciding.{Branched, AreFollowed}
+use Rattle.cip_branches.specs.Standing.{WantedIn}
+use Rattle.cip_constitution.specs.FollowedOut.{AreConstituted, with_flags}
+use Rattle.cip_constitution.specs.declared.pairs.Pair.{Pair}
+use Rattle.cip_digraph.specs.digraph.Telling.{node_at}
+use Rattle.cip_inside.proofs.Constituted.{place_low}
+use Rattle.cip_inside.proofs.FlaggedNodes.{set_len, set_stays, set_there}
 use Rattle.cip_label.specs.Settings.{Setting}
 use Rattle.cip_ligands.specs.declared.asked.Asked.{Asked}
+use Rattle.cip_mol.specs.declared.descriptor.Descriptor.{Descriptor}
+use Rattle.cip_rows.specs.Keys.{AreKeyed}
+use Rattle.cip_rows.specs.Parting.{has_flag}
 use Rattle.cip_desk.specs.Rooting.{HaveMarks, whole_at}
 
-beyond : (xs : List ℕ) (i : ℕ) → length xs ≤ i → slice_index xs i ≡ 0
-beyond [] i out = refl
-beyond (x ∷ xs) zero out = absurd (omega (arith, out))
-beyond (x ∷ xs) (suc i) out = beyond xs i (omega (arith, out))
+module _ (now : Branched) (flags : List Bool) (keyed : AreKeyed (length flags) now.layers.kin) where
+  abbrev node : ℕ → ℕ
+  node place = slice_index now.layers.kin.nodes place
 
-module _ (setting : Setting) (a : Growth) (h : Holds setting.graph setting.positions a) (near : Nearing) where
+  abbrev is_set : ℕ → Bool
+  is_set place = has_flag now.wanted (slice_index now.layers.kin.branches place)
+
+  flags_len : (count : ℕ) → length (with_flags now count flags) ≡ length flags
+  flags_len zero = refl
+  flags_len (suc place) = set_len (with_flags now place flags) (node place) (is_set place) ∙ flags_len place
+
+  -- nodes in branches that are wanted have flags
+  flags_set : (count place : ℕ) → count ≤ length now.layers.kin.ups → place < count → is_set place ≡ true
+      → flag_at (with_flags now count flags) (node place) ≡ true
+  flags_set zero place few lt is = absurd (omega (arith, lt))
+  flags_set (suc last) place few lt is =
+      let before = with_flags now last flags in
+      let low : node last < length before =
+      let lt_last = keyed.each last (omega (arith, few)) in omega (arith, lt_last, flags_len last) in
+      elim (cases_lt place last) [
+        | inl inner ↦ set_stays before (node last) (node place) (is_set last) low
+            (flags_set last place (omega (arith, few)) inner is)
+        | inr out ↦
+            let same : place ≡ last = omega (arith, lt, out) in
+            ap (λ n. flag_at (with_flags now (suc last) flags) (node n)) same
+            ∙ set_there before (node last) (is_set last) low (ap is_set (sym same) ∙ is)
+      ]
+
+  pub wanted_set : AreFollowed now → (t place : ℕ) → WantedIn now t place
+      → flag_at (with_flags now (length now.layers.kin.ups) flags) (node place) ≡ true
+  wanted_set followed t place p =
+      flags_set (length now.layers.kin.ups) place (omega arith) (place_low now followed t place p.at) p.chosen
+
+module _ (setting : Setting) (a : Growth) (h : Holds setting.graph setting.positions a) (pairs : List Pair)
+    (now : Branched) (asked : List Asked)
+    (are : AreConstituted setting.rules setting.graph setting.positions a pairs now asked) where
   abbrev sight : Sight
   sight = sight_of (whole_at setting a)
 
-  -- each place has a node, and what isn't a place has the root
-  node_low : AreFollowed near.now → AreKeyed (length a.nodes) near.now.layers.kin → (place : ℕ)
-      → slice_index near.now.layers.kin.nodes place < length sight.nodes
-  node_low followed keyed place =
-      let told = h.tells.len in
-      elim (cases_lt place (length near.now.layers.kin.ups)) [
-        | inl lt ↦ let low = keyed.each place lt in omega (arith, low, told)
-        | inr out ↦
-            let same = followed.nodes_len in
-            let none = beyond near.now.layers.kin.nodes place (omega (arith, out, same)) in
-            let some = some_nodes setting.graph setting.positions a.root a.sphere in
-            omega (arith, none, some)
-      ]
-
   pub have_marks : (wanted : List Bool) (marks : List (Option Descriptor))
-      → ((begin asked : List Asked) → AreConstituted sight 0 near.tops near.now begin asked
-      → (t place : ℕ) → WantedIn near.now t place
-      → flag_at wanted (slice_index near.now.layers.kin.nodes place) ≡ true)
-      → AreMarked sight setting.units wanted 0 marks → HaveMarks setting a near marks
-  have_marks wanted marks flagged are = record {
-    len = let len = are.len in let told = h.tells.len in omega (arith, len, told);
-    each = λ begin asked constituted.
-        let placed = constituted.placed in
-        let low : (place : ℕ) → slice_index near.now.layers.kin.nodes place < length sight.nodes =
-        node_low placed.followed placed.keyed in
-        record {
-          within = λ t place p. let lt = low place in let len = are.len in omega (arith, lt, len);
+      → ((t place : ℕ) → WantedIn now t place → flag_at wanted (slice_index now.layers.kin.nodes place) ≡ true)
+      → AreMarked sight setting.units wanted 0 marks → HaveMarks setting a now marks
+  have_marks wanted marks flagged marked =
+      let len : length marks ≡ length a.nodes =
+      let len = marked.len in let told = h.tells.len in omega (arith, len, told) in
+      let low : (t place : ℕ) → WantedIn now t place → slice_index now.layers.kin.nodes place < length a.nodes =
+      λ t place p. are.keyed.each place (place_low now are.followed t place p.at) in
+      record {
+        len = len;
+        each = record {
+          within = λ t place p. let lt = low t place p in omega (arith, lt, len);
           each = λ t place p.
-              let n = slice_index near.now.layers.kin.nodes place in
-              are.each n (omega arith) (low place)
-              ∙ ap (λ b. cond b (node_mark sight setting.units (node_at sight.nodes n)) None)
-              (flagged begin asked constituted t place p);
+              let n = slice_index now.layers.kin.nodes place in
+              marked.each n (omega arith) (let lt = low t place p in let told = h.tells.len in omega (arith, lt, told))
+              ∙ ap (λ b. cond b (node_mark sight setting.units (node_at sight.nodes n)) None) (flagged t place p)
+              ∙ ap (node_mark sight setting.units) (sym (are.names n (low t place p)));
         };
-  }
+      }

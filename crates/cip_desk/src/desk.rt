@@ -1,5 +1,6 @@
 // The digraphs of roots, grown and ranked one after the other at one desk.
 ghost use Rattle.std.specs.Prelude.{◌≡◌, ◌≤◌, ◌<◌, ◌^◌, ◌∷◌, [], length, IfOk, OnOk};
+ghost use Rattle.cip_constitution.specs.FollowedOut.{AreFollowedOut};
 ghost use Rattle.cip_constitution.specs.Noting.{Notes};
 ghost use Rattle.cip_constitution.specs.Pairs.{pairs_of};
 ghost use Rattle.cip_constitution.specs.Settling.{SettledAs};
@@ -95,8 +96,13 @@ impl Digraphs for Desk {
                 Ok(Ranking::Known)
             }
             Settled::Whole => {
-                self.branches.ask(self.work.pairs())?;
-                rank_whole(alloc, &rooted, &mut self.tables, &mut self.branches)?;
+                rank_whole(
+                    alloc,
+                    &rooted,
+                    &mut self.work,
+                    &mut self.tables,
+                    &mut self.branches,
+                )?;
                 Ok(Ranking::Known)
             }
         }
@@ -127,6 +133,8 @@ fn settle_root<L: Ledger>(
     ensures pairs { work.new.pairs ≡ pairs_of ligands.now }
     ensures noted { result ≡ Settled.Ordered → Notes setting.now.graph setting.now.positions arena.new.root
         arena.new.bound arena.new.sphere work.new.pairs work.new.noted }
+    ensures followed { result ≡ Settled.Whole → AreFollowedOut setting.now.graph setting.now.positions arena.new
+        work.new }
     ensures proper { IsProper setting.now }
 {
     let graph = setting.graph();

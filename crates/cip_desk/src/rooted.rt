@@ -1,16 +1,14 @@
 // A root whose digraph was grown.
-ghost use Rattle.std.specs.Prelude.{◌≡◌, ◌<◌, length, map, IfOk};
+ghost use Rattle.std.specs.Prelude.{◌≡◌};
 ghost use Rattle.cip_constitution.specs.Settling.{SettledAs};
-ghost use Rattle.cip_constitution.specs.Standing.{ligand_number};
 ghost use Rattle.cip_desk.specs.Desks.{settled_by};
 ghost use Rattle.cip_desk.specs.Rooting.{IsRooted, whole_at};
 
 use cip_arena::Arena;
 use cip_aux::Whole;
-use cip_constitution::{Settled, number_of};
+use cip_constitution::Settled;
 use cip_label::Setting;
-use cip_mol::{Ligand, Ligands};
-use std::alloc::{AllocError, Global};
+use cip_mol::Ligands;
 
 /// A root with its ligands, and its digraph as far as it was grown.
 #[derive(Drop)]
@@ -38,22 +36,4 @@ pub fn whole_of<'a>(rooted: &Rooted<'a, '_>) -> Whole<'a, Arena>
         rooted.root,
         rooted.arena.sphere(),
     )
-}
-
-/// The nodes of ligands by number, none of a lone pair.
-pub fn numbers_of(
-    alloc: Global,
-    arena: &Arena,
-    ligands: &[Ligand],
-) -> Result<Vec<Option<u32>>, AllocError>
-    requires { 0 < length arena.now.nodes }
-    ensures { IfOk result (λ numbers. numbers.items ≡ map (ligand_number arena.now.nodes) ligands.now) }
-{
-    let mut numbers = Vec::with_capacity(alloc, ligands.len())?;
-    let mut rest = ligands;
-    while let [ligand, others @ ..] = rest {
-        numbers.push(number_of(arena, ligand))?;
-        rest = others;
-    }
-    Ok(numbers)
 }

@@ -18,19 +18,6 @@ fn set_if(is_wanted: bool, flags: &mut [bool], node: u32)
     }
 }
 
-/// Flags the tops of branches that are wanted.
-pub fn flag_tops(branches: &Branches, tops: &[u32], flags: &mut [bool])
-    requires few { length tops.now < 2 ^ 32 }
-    requires within { All (λ top. top < length flags.old) tops.now }
-    ensures flagged { (branch : ℕ) → branch < length tops.now → has_flag branches.now.wanted branch ≡ true
-        → flag_at flags.new (slice_index tops.now branch) ≡ true }
-    ensures len { length flags.new ≡ length flags.old }
-{
-    for branch in 0..tops.len() as u32 {
-        set_if(branches.is_wanted(branch), flags, tops[branch as usize]);
-    }
-}
-
 // Whether the parent of a node has a flag.
 fn is_below_flagged(table: &Table, flags: &[bool], node: u32) -> bool
     requires node { node < length table.now.parents }

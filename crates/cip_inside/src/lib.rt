@@ -14,6 +14,7 @@ mod sights;
 mod tops;
 
 pub use distances::Distances;
+pub use flagging::flag_below;
 pub use inside::{descriptors_inside, descriptors_where};
 pub use marks_inside::MarksInside;
 pub use masses::Masses;

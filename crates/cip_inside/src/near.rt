@@ -19,7 +19,7 @@ ghost use Rattle.cip_inside.specs.Near.{AreConstituted, AreOrdered, AreTops, ask
 ghost use Rattle.cip_inside.specs.Near.{LeadsElsewhere};
 
 use crate::constituting::constitute;
-use crate::flagging::{are_behind, flag_below, flag_tops};
+use crate::flagging::are_behind;
 use crate::tops::{branch_of, fill_tops};
 use cip_aux::Whole;
 use cip_branches::Branches;
@@ -69,13 +69,6 @@ impl Near {
             tops,
             way,
         })
-    }
-
-    /// For how many nodes there is room.
-    pub fn bound(&self) -> u32
-        ensures { result ≡ self.now.bound }
-    {
-        self.bound
     }
 
     /// Takes those ligands of a node that are next to it as branches.
@@ -134,24 +127,6 @@ impl Near {
         );
         take_off(table, node, &mut self.way);
         done
-    }
-
-    /// Flags the nodes of those branches of a root that are wanted still, since another one ties with them.
-    pub fn flag_wanted<N: Nodes>(&self, whole: &Whole<'_, N>, flags: &mut [bool])
-        requires len { length flags.old ≡ length whole.now.told }
-        requires tops { AreTops (parents_of whole.now.told) 0 self.now.tops }
-        ensures wanted { AreWanted (parents_of whole.now.told) flags.new }
-        ensures flagged { (begin asked : List AnyAsked)
-            → AreConstituted (sight_of whole.now) 0 self.now.tops self.now.now begin asked
-            → (t place : ℕ) → WantedIn self.now.now t place
-            → flag_at flags.new (slice_index self.now.now.layers.kin.nodes place) ≡ true }
-        ensures len { length flags.new ≡ length flags.old }
-    {
-        let table = whole.nodes().table();
-        let _count = self.tops.len();
-        flags.fill(false);
-        flag_tops(&self.branches, self.tops.as_slice(), flags);
-        flag_below(table, flags);
     }
 
     /// Whether all branches that are wanted still lead to children of the node that they were followed from.

@@ -167,31 +167,6 @@ impl Sights {
         )?;
         Ok(Sights { near, readings })
     }
-
-    /// Takes Rules 3 to 5 over the branches of others, in this memory.
-    pub fn configure<M: Marked>(
-        &mut self,
-        near: &mut Near,
-        marks: &M,
-        asked: &mut [Asked],
-        turned: &mut [Asked],
-    )
-        requires followed { AreFollowed near.old.now }
-        requires keyed { AreKeyed (length (M.marks marks.now)) near.old.now.layers.kin }
-        requires room { length near.old.now.layers.kin.ups ≤ self.old.bound }
-        requires len { length turned.old ≡ length asked.old }
-        ensures decided { (sight : Sight) (node : ℕ) (begin : List AnyAsked) (mark : List ℕ → Option AnyDescriptor)
-            → AllByRecursion (AreWithin (length near.old.tops)) begin
-            → AreConstituted sight node near.old.tops near.old.now begin asked.old
-            → list_all is_decided asked.old ≡ false
-            → AreMarksOf (node_at sight.nodes) (marked_by mark) (M.marks marks.now) near.old.now
-            → AreOrdered sight node mark near.old.tops begin asked.new turned.new }
-        ensures tops { near.new.tops ≡ near.old.tops }
-        ensures near { near.new.bound ≡ near.old.bound }
-        ensures bound { self.new.bound ≡ self.old.bound }
-    {
-        near.configuration(&mut self.readings, marks, asked, turned);
-    }
 }
 
 impl Viewer for Sights {

@@ -176,8 +176,8 @@ loop-grown-preserved g c =
           c.some_alike.new.self.branched) (sym (same is)) (record { from_first = λ low. follows });
       ended_noted = λ is. subst (λ (a : Growth). IsNoted c.args.graph.now c.args.positions.now a.root a.bound a.sphere
           c.some_alike.new.self.pairs c.some_alike.new.self.noted) (sym (same is)) (record {
-        from_first = λ low. notes;
-      });
+            from_first = λ low. notes;
+          });
     }
 
 pub some_alike-requires-clause-before : goal.some_alike-requires-clause-before

@@ -1,7 +1,11 @@
-use Rattle.std.proofs.Common.{rules, ◌<◌, ◌≤◌, ◌+◌, ◌∙◌, ℕ, sym, subst, length, arith}
+use Rattle.std.proofs.Common.{rules, ◌≡◌, List, ◌<◌, ◌≤◌, ◌+◌, ◌∙◌, ℕ, sym, subst, length, arith}
 use Rattle.cip_arena.specs.Growth.{Holds}
+use Rattle.cip_constitution.specs.FollowedOut.{AreFollowedOut}
 use Rattle.cip_constitution.specs.Settling.{Setting, SettledAs, cost_of}
 use Rattle.cip_digraph.specs.graph.Graph.{Graph}
+use Rattle.cip_label.specs.Fitting.{IsFit}
+use Rattle.cip_desk.specs.Desks.{settled_by}
+use Rattle.cip_desk.proofs.KnownRoots.{some_spheres}
 use Rattle.cip_desk.proofs.RootLow.{root_low}
 use Rattle.cip_desk.proofs.SettledRoots.{same_setting, started_one, rises}
 use Rattle.cip_desk.proofs.desk.settle_root.Goals as goal
@@ -44,3 +48,18 @@ returns-clause-cost g c =
     (same_setting c.rules.result setting.rules c.graph-graph.result.now setting.graph c.positions.result.now
     setting.positions c.units.result.now setting.units c.as_slice.result.now c.args.ligands.now c.rules.ensures c.graph-graph.ensures.value
     c.positions.ensures c.units.ensures.value c.as_slice.ensures.value) c.settle.ensures.lazy)
+
+pub returns-clause-followed : goal.returns-clause-followed
+returns-clause-followed g c is =
+    let setting = c.args.setting.now in
+    let arena = c.settle.new.arena in
+    let at : arena.root ≡ c.args.root = c.settle.ensures.root ∙ c.start.ensures.root in
+    let settled = subst (SettledAs (settled_by setting c.args.ligands.now) arena) is (returns-clause-settled g c) in
+    let fit = subst (λ (root : ℕ). IsFit setting.graph root c.args.ligands.now) (sym at) c.requires.fit in
+    let holds : Holds setting.graph setting.positions arena = search rules in
+    let some = some_spheres setting c.args.ligands.now arena holds c.graph-graph.ensures.proper.sound fit
+    c.settle.ensures.fits settled in
+    let work = c.settle.new.work in
+    subst (λ (positions : List (List ℕ)). AreFollowedOut setting.graph positions arena work) c.positions.ensures
+    (subst (λ (graph : Graph). AreFollowedOut graph c.positions.result.now arena work) c.graph-graph.ensures.value
+    (c.settle.ensures.whole is some))

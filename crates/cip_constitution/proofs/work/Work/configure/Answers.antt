@@ -10,16 +10,19 @@ use Rattle.cip_mol.specs.declared.outcome.Rule.TheVariants.{R3}
 use Rattle.std.specs.Prelude.{true}
 use Rattle.cip_constitution.proofs.work.Work.configure.Goals as goal
 
-pub returns-clause-decided : goal.returns-clause-decided
-returns-clause-decided g c seen named node count begin within decided marks =
+pub returns-clause-ordered : goal.returns-clause-ordered
+returns-clause-ordered g c =
     let new = c.decide_configuration.new.asked in
     let rest = drop (length new) c.self.inside.noted.items in
     let len : c.self.inside.noted.len ≡ length new = search rules in
-    let both = c.decide_configuration.ensures.decided seen named node count begin within
-    (subst (λ (asked : List Asked). AreDecidedBy seen true named node count begin (rules_before R3)
-    (rule_2 seen seen.height) c.self.inside.branches asked) (sym c.as_mut_slice-noted.ensures.value)
-    (subst (λ (t : Trying). AreDecidedBy seen true named node count begin (rules_before R3) (rule_2 seen seen.height)
-    t.branched t.noted) (sym c.self.view_is) decided))
-    (subst (λ (t : Trying). AreMarksOf named seen.mark (g.M.Marked.marks c.args.marks.now) t.branched)
-    (sym c.self.view_is) marks) in
-    (ap (λ n. take n (new ++ rest)) len ∙ take-append_seam new rest ∙ both.0, both.1)
+    record {
+      each = λ seen named node count begin within decided marks.
+          let both = c.decide_configuration.ensures.decided seen named node count begin within
+          (subst (λ (asked : List Asked). AreDecidedBy seen true named node count begin (rules_before R3)
+          (rule_2 seen seen.height) c.self.inside.branches asked) (sym c.as_mut_slice-noted.ensures.value)
+          (subst (λ (t : Trying). AreDecidedBy seen true named node count begin (rules_before R3)
+          (rule_2 seen seen.height) t.branched t.noted) (sym c.self.view_is) decided))
+          (subst (λ (t : Trying). AreMarksOf named seen.mark (g.M.Marked.marks c.args.marks.now) t.branched)
+          (sym c.self.view_is) marks) in
+          (ap (λ n. take n (new ++ rest)) len ∙ take-append_seam new rest ∙ both.0, both.1);
+    }

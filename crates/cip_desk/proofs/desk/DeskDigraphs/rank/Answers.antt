@@ -18,13 +18,6 @@ returns-in_err-rank_whole-in-Whole-clause-cost g c =
     c.args.self.now.bound c.args.ligands.now c.args.ligands.now bound refl
     c.settle_root-settled.ensures.cost
 
-pub returns-in_err-ask-in-Whole-clause-cost : goal.returns-in_err-ask-in-Whole-clause-cost
-returns-in_err-ask-in-Whole-clause-cost g c =
-    let bound = c.self.invariant.arena ∙ ap (λ held. held.bound) c.self.view_is in
-    moved_rises c.args.setting.now c.args.root c.args.steps.now c.settle_root-settled.new.steps c.self.inside.arena.bound
-    c.args.self.now.bound c.args.ligands.now c.args.ligands.now bound refl
-    c.settle_root-settled.ensures.cost
-
 pub returns-in-Over-clause-cost : goal.returns-in-Over-clause-cost
 returns-in-Over-clause-cost g c =
     let bound = c.self.invariant.arena ∙ ap (λ held. held.bound) c.self.view_is in
