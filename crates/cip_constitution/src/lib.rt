@@ -20,8 +20,6 @@ mod work;
 
 pub use keys::{ByAtom, ByDistance, ByMass};
 pub use marking::MarkedUnits;
-pub use noting::number_at;
 pub use pairs::Pair;
 pub use settling::{Settled, settle};
-pub use standing::number_of;
 pub use work::Work;

@@ -1,5 +1,5 @@
 // Flags of the nodes of branches that are wanted.
-ghost use Rattle.std.specs.Prelude.{◌≡◌, ◌<◌, ◌≤◌, ◌^◌, ℕ, All, true, false, if◌then◌else◌, length, slice_index, slice_set};
+ghost use Rattle.std.specs.Prelude.{◌≡◌, ◌<◌, ◌≤◌, ◌^◌, ◌⊎◌, ℕ, All, true, false, if◌then◌else◌, length, slice_index, slice_set};
 ghost use Rattle.cip_rows.specs.Parting.{has_flag};
 ghost use Rattle.cip_aux.specs.Marking.{AreWanted, flag_at};
 ghost use Rattle.cip_inside.specs.Near.{LeadsElsewhere};
@@ -22,7 +22,8 @@ fn set_if(is_wanted: bool, flags: &mut [bool], node: u32)
 fn is_below_flagged(table: &Table, flags: &[bool], node: u32) -> bool
     requires node { node < length table.now.parents }
     requires len { length flags.now ≡ length table.now.parents }
-    ensures { 0 < node → result ≡ flag_at flags.now (slice_index table.now.parents node) }
+    ensures below { 0 < node → result ≡ flag_at flags.now (slice_index table.now.parents node) }
+    ensures root { result ≡ true → 0 < node }
 {
     let _count = table.len();
     node > 0 && flags[parent_of(table, node) as usize]
@@ -33,6 +34,8 @@ pub fn flag_below(table: &Table, flags: &mut [bool])
     requires len { length flags.old ≡ length table.now.parents }
     ensures below { AreWanted table.now.parents flags.new }
     ensures kept { (node : ℕ) → flag_at flags.old node ≡ true → flag_at flags.new node ≡ true }
+    ensures only { (node : ℕ) → flag_at flags.new node ≡ true → (flag_at flags.old node ≡ true)
+        ⊎ ((0 < node) × (flag_at flags.new (slice_index table.now.parents node) ≡ true)) }
     ensures len { length flags.new ≡ length flags.old }
 {
     for node in 0..table.len() {
