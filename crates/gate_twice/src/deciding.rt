@@ -68,19 +68,6 @@ pub fn decide_plain(
     plain_order(alloc, tree, rules, first, second)
 }
 
-/// Without what another rule than Rule 1a decided.
-pub fn by_rule_1a(decision: Option<Decision>) -> Option<Decision> {
-    match decision {
-        Some(
-            Decision {
-                rule: Rule::R1a,
-                ..
-            },
-        ) => decision,
-        _ => None,
-    }
-}
-
 /// Whether it is the same rule that decides in the same sphere in the same way.
 pub fn is_same(one: Option<Decision>, other: Option<Decision>) -> bool {
     match (one, other) {

@@ -1,10 +1,10 @@
-// What settling notes of a root's ligands, against boxes.
+// What is noted of a root's ligands while it is settled and behind that, against boxes.
 ghost use Rattle.std.specs.Prelude.{◌≡◌, ◌<◌, ◌≤◌, ◌^◌, length};
 ghost use Rattle.cip_tree.specs.Branches.{node_count};
 ghost use Rattle.gate_twice.specs.Tables.{HaveRoom};
 
 use crate::counts::Counts;
-use crate::deciding::{by_rule_1a, decide_plain, is_same};
+use crate::deciding::{decide_plain, is_same};
 use crate::molecules::Drawn;
 use crate::tables::Tables;
 use crate::twice::Difference;
@@ -34,8 +34,8 @@ fn ligands_of(alloc: Global, graph: &Graph, vertex: u32) -> Ligands
     ligands
 }
 
-/// Settles a root by its first four neighbours. Where all of these differ by Rule 1a up to a sphere, not behind the last
-/// one that is compared, compares what was noted of each two.
+/// Settles a root by its first four neighbours, and where its digraph is whole takes Rules 1b and 2 too. Compares what was
+/// noted of each two, but where they are alike or settled behind the last sphere that is compared.
 pub fn compare_settled<L: Ledger>(
     alloc: Global,
     drawn: &Drawn,
@@ -64,8 +64,13 @@ pub fn compare_settled<L: Ledger>(
         steps,
     );
     let sphere = tables.arena.sphere();
-    if settled != Settled::Ordered || sphere > COMPARED {
+    if settled == Settled::Tied || settled == Settled::Over || sphere == 0 || sphere > COMPARED {
         return Ok(None);
+    }
+    if settled == Settled::Whole {
+        tables
+            .work
+            .constitute(&tables.arena, graph, &drawn.positions, Rules::Wording2018);
     }
     let tree = plain_tree(alloc, graph, &drawn.positions, root, sphere)?;
     compare_noted(alloc, &tree, tables.work.noted(), counts)
@@ -83,7 +88,7 @@ fn compare_noted(
     }
     for one in noted {
         let plain = decide_plain(alloc, tree, Rules::Wording2018, one.first, one.second)?;
-        if !is_same(one.decision, by_rule_1a(plain)) {
+        if !is_same(one.decision, plain) {
             return Ok(Some(Difference::Branches(one.first, one.second)));
         }
         counts.pairs = counts.pairs.saturating_add(1);
