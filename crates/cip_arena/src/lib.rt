@@ -8,3 +8,5 @@ mod sizes;
 mod telling;
 
 pub use arena::{Arena, Grown};
+pub use sizes::copies;
+pub use telling::{mean_of, z_of};
