@@ -76,6 +76,80 @@ entry f [] i ligand e = let bad : None ≡ Some ligand = e in cc
 entry f (one ∷ ligands) zero ligand e = let same : Some one ≡ Some ligand = e in let is : one ≡ ligand = cc in ap f is
 entry f (one ∷ ligands) (suc i) ligand e = entry f ligands i ligand e
 
+-- what Rule 1a tells within a sphere of the nodes that stand for vertices, seen from the root
+module _ (rules : Rules) (g : Graph) (positions : List (List ℕ)) (all : List units.Unit) (root sphere : ℕ)
+    (some : 0 < sphere) (sound : IsSound g) (ligands : List Ligand)
+    (beside : (i vertex : ℕ) → slice_get ligands i ≡ Some (Vertex vertex) → is_in vertex (neighbours g root) ≡ true)
+    (low : sphere ≤ (seen_at rules g positions all root).height + 1)
+    (differ : differ_within rules g positions all (end_at root ligands) sphere ≡ true) (top : ℕ → Node) (branch : ℕ → ℕ)
+    (further : (v : ℕ) → is_in v (neighbours g root) ≡ true → IsFurther g positions root (real_node v (root ∷ [])))
+    (stands : (v : ℕ) → is_in v (neighbours g root) ≡ true → top (branch v) ≡ real_node v (root ∷ [])) where
+  abbrev seen : Seen Node
+  seen = seen_at rules g positions all root
+
+  abbrev find : ℕ → ℕ → Option Decision
+  find = found_below R1a (by_atoms g positions root 0) top sphere
+
+  each_short : (some : List Ligand) → AllByRecursion (λ nodes. length nodes ≤ 1)
+      (map (ligand_node (view_children g positions (root ∷ []) (real_node root []))) some)
+  each_short [] = tt
+  each_short (ligand ∷ others) = (one_at_most g positions sound root ligand, each_short others)
+
+  -- what is found of two branches is what Rule 1a finds of their vertices
+  found_first : (v w : ℕ) → is_in v (neighbours g root) ≡ true → is_in w (neighbours g root) ≡ true
+      → find (branch v) (branch w) ≡ order_within seen sphere (real_node v (root ∷ [])) (real_node w (root ∷ []))
+  found_first v w by_v by_w =
+      let x = real_node v (root ∷ []) in
+      let y = real_node w (root ∷ []) in
+      let between : Node → Node → Option Decision = λ n m.
+      decided R1a (first_difference (λ d. by_atoms g positions root 0 d n m) 0 sphere) in
+      ap (λ n. between n (top (branch w))) (stands v by_v)
+      ∙ ap (between x) (stands w by_w)
+      ∙ ap (decided R1a)
+      (same_difference (λ d. by_atoms g positions root 0 d x y) (λ d. rule_1a seen d x y)
+      (λ d. sym (seen_1a g positions root rules (auxiliary rules g positions all) d x y (further v by_v)
+      (further w by_w))) 0 sphere)
+      ∙ decided_first (first_difference (λ d. rule_1a seen d x y) 0 sphere)
+
+  -- and it is the order by all rules
+  told_first : (r_first : Bool) (i j v w : ℕ) → slice_get ligands i ≡ Some (Vertex v)
+      → slice_get ligands j ≡ Some (Vertex w)
+      → order_within seen sphere (real_node v (root ∷ [])) (real_node w (root ∷ []))
+      ≡ order seen r_first (real_node v (root ∷ [])) (real_node w (root ∷ []))
+  told_first r_first i j v w at_v at_w =
+      let around = view_children g positions (root ∷ []) (real_node root []) in
+      let branches = map (ligand_node around) ligands in
+      let of_v : slice_index_or branches i [] ≡ real_node v (root ∷ []) ∷ [] =
+      entry (ligand_node around) ligands i (Vertex v) at_v ∙ one_node g sound root positions v (beside i v at_v) in
+      let of_w : slice_index_or branches j [] ≡ real_node w (root ∷ []) ∷ [] =
+      entry (ligand_node around) ligands j (Vertex w) at_w ∙ one_node g sound root positions w (beside j w at_w) in
+      let told = places_told seen (real_node root []) branches (is_in_unit rules g positions all) sphere
+      (omega (arith, some)) low (each_short ligands) differ r_first i j in
+      sym (ap (λ x. ligand_order (order_within seen sphere) x (slice_index_or branches j [])) of_v
+      ∙ ap (ligand_order (order_within seen sphere) (real_node v (root ∷ []) ∷ [])) of_w)
+      ∙ sym told
+      ∙ ap (λ x. ligand_order (order seen r_first) x (slice_index_or branches j [])) of_v
+      ∙ ap (ligand_order (order seen r_first) (real_node v (root ∷ []) ∷ [])) of_w
+
+  module _ (noted : List Asked)
+      (notes : noted ≡ map (with_found (found_below R1a (by_atoms g positions root 0) top sphere))
+      (map (asked_by branch) (pairs_of ligands))) where
+    asked_is : (standing : Standing) → standing.natural ≡ noted → standing.turned ≡ noted → (r_first : Bool)
+        → asked_in standing r_first ≡ map (with_found find) (map (asked_by branch) (pairs_of ligands))
+    asked_is standing natural turned true = natural ∙ notes
+    asked_is standing natural turned false = turned ∙ notes
+
+    pub stands_first : (standing : Standing) → standing.pairs ≡ pairs_of ligands → standing.natural ≡ noted
+        → standing.turned ≡ noted → (r_first : Bool) (i j v w : ℕ) → slice_get ligands i ≡ Some (Vertex v)
+        → slice_get ligands j ≡ Some (Vertex w)
+        → standing_of standing r_first v w
+        ≡ order (seen_at rules g positions all root) r_first (real_node v (root ∷ [])) (real_node w (root ∷ []))
+    stands_first standing pairs natural turned =
+        stands_paired seen root ligands branch (λ r_first. find)
+        (λ r_first i j v w at_v at_w. found_first v w (beside i v at_v) (beside j w at_w)
+        ∙ told_first r_first i j v w at_v at_w) standing pairs (asked_is standing natural turned)
+
+-- noted while its digraph was grown
 module _ (rules : Rules) (g : Graph) (positions : List (List ℕ)) (all : List units.Unit) (a : Growth)
     (h : Holds g positions a) (some : 0 < a.sphere) (sound : IsSound g) (ligands : List Ligand)
     (beside : (i vertex : ℕ) → slice_get ligands i ≡ Some (Vertex vertex)
@@ -83,76 +157,20 @@ module _ (rules : Rules) (g : Graph) (positions : List (List ℕ)) (all : List u
     (low : a.sphere ≤ (seen_at rules g positions all a.root).height + 1)
     (differ : differ_within rules g positions all (end_at a.root ligands) a.sphere ≡ true) (noted : List Asked)
     (notes : Notes g positions a.root a.bound a.sphere (pairs_of ligands) noted) where
-  abbrev seen : Seen Node
-  seen = seen_at rules g positions all a.root
-
-  abbrev top : ℕ → Node
-  top = top_of g positions a.root a.bound
-
-  abbrev find : ℕ → ℕ → Option Decision
-  find = found_below R1a (by_atoms g positions a.root a.bound) top a.sphere
-
-  each_short : (some : List Ligand) → AllByRecursion (λ nodes. length nodes ≤ 1)
-      (map (ligand_node (view_children g positions (a.root ∷ []) (real_node a.root []))) some)
-  each_short [] = tt
-  each_short (ligand ∷ others) = (one_at_most g positions sound a.root ligand, each_short others)
-
   further : (v : ℕ) → is_in v (neighbours g a.root) ≡ true → IsFurther g positions a.root (real_node v (a.root ∷ []))
   further v by_v =
       let of_v = number_is g positions a h some sound v by_v in
       subst (IsFurther g positions a.root) of_v.node of_v.first.further
 
-  stands : (v : ℕ) → is_in v (neighbours g a.root) ≡ true → top (notes.branch v) ≡ real_node v (a.root ∷ [])
+  stands : (v : ℕ) → is_in v (neighbours g a.root) ≡ true
+      → top_of g positions a.root a.bound (notes.branch v) ≡ real_node v (a.root ∷ [])
   stands v by_v = notes.stands v (real_node v (a.root ∷ [])) (one_node g sound a.root positions v by_v)
-
-  -- what is found of two branches is what Rule 1a finds of their vertices
-  found_first : (v w : ℕ) → is_in v (neighbours g a.root) ≡ true → is_in w (neighbours g a.root) ≡ true
-      → find (notes.branch v) (notes.branch w)
-      ≡ order_within seen a.sphere (real_node v (a.root ∷ [])) (real_node w (a.root ∷ []))
-  found_first v w by_v by_w =
-      let x = real_node v (a.root ∷ []) in
-      let y = real_node w (a.root ∷ []) in
-      let between : Node → Node → Option Decision = λ n m.
-      decided R1a (first_difference (λ d. by_atoms g positions a.root a.bound d n m) 0 a.sphere) in
-      ap (λ n. between n (top (notes.branch w))) (stands v by_v)
-      ∙ ap (between x) (stands w by_w)
-      ∙ ap (decided R1a)
-      (same_difference (λ d. by_atoms g positions a.root a.bound d x y) (λ d. rule_1a seen d x y)
-      (λ d. sym (seen_1a g positions a.root rules (auxiliary rules g positions all) d x y (further v by_v)
-      (further w by_w))) 0 a.sphere)
-      ∙ decided_first (first_difference (λ d. rule_1a seen d x y) 0 a.sphere)
-
-  -- and it is the order by all rules
-  told_first : (r_first : Bool) (i j v w : ℕ) → slice_get ligands i ≡ Some (Vertex v)
-      → slice_get ligands j ≡ Some (Vertex w)
-      → order_within seen a.sphere (real_node v (a.root ∷ [])) (real_node w (a.root ∷ []))
-      ≡ order seen r_first (real_node v (a.root ∷ [])) (real_node w (a.root ∷ []))
-  told_first r_first i j v w at_v at_w =
-      let around = view_children g positions (a.root ∷ []) (real_node a.root []) in
-      let branches = map (ligand_node around) ligands in
-      let of_v : slice_index_or branches i [] ≡ real_node v (a.root ∷ []) ∷ [] =
-      entry (ligand_node around) ligands i (Vertex v) at_v ∙ one_node g sound a.root positions v (beside i v at_v) in
-      let of_w : slice_index_or branches j [] ≡ real_node w (a.root ∷ []) ∷ [] =
-      entry (ligand_node around) ligands j (Vertex w) at_w ∙ one_node g sound a.root positions w (beside j w at_w) in
-      let told = places_told seen (real_node a.root []) branches (is_in_unit rules g positions all) a.sphere
-      (omega (arith, some)) low (each_short ligands) differ r_first i j in
-      sym (ap (λ x. ligand_order (order_within seen a.sphere) x (slice_index_or branches j [])) of_v
-      ∙ ap (ligand_order (order_within seen a.sphere) (real_node v (a.root ∷ []) ∷ [])) of_w)
-      ∙ sym told
-      ∙ ap (λ x. ligand_order (order seen r_first) x (slice_index_or branches j [])) of_v
-      ∙ ap (ligand_order (order seen r_first) (real_node v (a.root ∷ []) ∷ [])) of_w
-
-  asked_is : (standing : Standing) → standing.natural ≡ noted → standing.turned ≡ noted → (r_first : Bool)
-      → asked_in standing r_first ≡ map (with_found find) (map (asked_by notes.branch) (pairs_of ligands))
-  asked_is standing natural turned true = natural ∙ notes.noted
-  asked_is standing natural turned false = turned ∙ notes.noted
 
   pub stands_early : (standing : Standing) → standing.pairs ≡ pairs_of ligands → standing.natural ≡ noted
       → standing.turned ≡ noted → (r_first : Bool) (i j v w : ℕ) → slice_get ligands i ≡ Some (Vertex v)
       → slice_get ligands j ≡ Some (Vertex w)
       → standing_of standing r_first v w
-      ≡ order seen r_first (real_node v (a.root ∷ [])) (real_node w (a.root ∷ []))
-  stands_early standing pairs natural turned =
-      stands_paired seen a.root ligands notes.branch (λ r_first. find)
-      (λ r_first i j v w at_v at_w. found_first v w (beside i v at_v) (beside j w at_w)
-      ∙ told_first r_first i j v w at_v at_w) standing pairs (asked_is standing natural turned)
+      ≡ order (seen_at rules g positions all a.root) r_first (real_node v (a.root ∷ [])) (real_node w (a.root ∷ []))
+  stands_early =
+      stands_first rules g positions all a.root a.sphere some sound ligands beside low differ
+      (top_of g positions a.root a.bound) notes.branch further stands noted notes.noted

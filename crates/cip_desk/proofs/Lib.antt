@@ -1,3 +1,4 @@
+pub mod EarlyRoots
 pub mod EarlyStanding
 pub mod FoundPairs
 pub mod KnownRoots

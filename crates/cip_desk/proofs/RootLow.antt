@@ -101,7 +101,7 @@ module _ (graph : Graph) (root : ℕ) (ligands : List Ligand) (sound : IsSound g
         (beside found.place found.vertex found.at)
 
     module _ (positions : List (List ℕ)) (rules : Rules) (all : List units.Unit) where
-      has_child : view_children graph positions (root ∷ []) (real_node root []) ≢ []
+      pub has_child : view_children graph positions (root ∷ []) (real_node root []) ≢ []
       has_child none =
           let here = one_node graph sound root positions found.vertex (beside found.place found.vertex found.at) in
           let bad : [] ≡ real_node found.vertex (root ∷ []) ∷ [] = sym (ap (filter (stands_for found.vertex)) none)

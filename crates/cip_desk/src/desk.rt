@@ -14,11 +14,13 @@ ghost use Rattle.cip_desk.specs.Rooting.{IsRooted};
 ghost use Rattle.cip_desk.specs.Standing.{standing_of};
 
 use crate::branches::Branches;
+use crate::early::rank_early;
 use crate::rooted::Rooted;
 use crate::whole::{Tables, rank_whole};
 use cip_arena::Arena;
 use cip_constitution::{Settled, Work, settle};
 use cip_digraph::Decision;
+use cip_early::{Early, RootedLigands};
 use cip_label::{Digraphs, Ranking, Setting};
 use cip_mol::Ligands;
 use cip_rank::both;
@@ -31,6 +33,7 @@ use std::sync::ledger::Ledger;
 #[derive(Drop)]
 pub struct Desk {
     bound: u32,
+    early: Early,
     arena: Arena,
     work: Work,
     tables: Tables,
@@ -55,10 +58,15 @@ impl Digraphs for Desk {
     ghost standing = { λ desk. standing_of desk.standing };
 
     fn reserve(alloc: Global, nodes: u32) -> Result<Desk, AllocError> {
-        let growing = both(Branches::reserve(alloc)?, reserve_growing(alloc, nodes))?;
-        let ((branches, (arena, work)), tables) = both(growing, Tables::reserve(alloc, nodes))?;
+        let telling = both(Branches::reserve(alloc)?, Early::reserve(alloc))?;
+        let growing = both(telling, reserve_growing(alloc, nodes))?;
+        let (((branches, early), (arena, work)), tables) = both(
+            growing,
+            Tables::reserve(alloc, nodes),
+        )?;
         Ok(Desk {
             bound: nodes,
+            early,
             arena,
             work,
             tables,
@@ -74,6 +82,22 @@ impl Digraphs for Desk {
         ligands: &Ligands,
         steps: &mut Steps<L>,
     ) -> Result<Ranking, AllocError> {
+        self.work.ask(ligands);
+        let told = RootedLigands {
+            setting,
+            root,
+            ligands,
+            bound: self.bound,
+        };
+        if rank_early(
+            alloc,
+            &told,
+            &mut self.early,
+            &self.work,
+            &mut self.branches,
+        )? {
+            return Ok(Ranking::Known);
+        }
         let settled = settle_root(
             &mut self.arena,
             &mut self.work,
@@ -125,6 +149,7 @@ fn settle_root<L: Ledger>(
     requires fit { IsFit setting.now.graph root ligands.now }
     requires some { 1 ≤ arena.old.bound }
     requires room { arena.old.bound ≤ work.old.bound }
+    requires pairs { work.old.pairs ≡ pairs_of ligands.now }
     ensures settled { SettledAs (settled_by setting.now ligands.now) arena.new result }
     ensures rooted { IsRooted setting.now root ligands.now arena.new }
     ensures bound { arena.new.bound ≡ arena.old.bound }
@@ -139,7 +164,6 @@ fn settle_root<L: Ledger>(
 {
     let graph = setting.graph();
     arena.start(graph, root);
-    work.ask(ligands);
     settle(
         arena,
         work,

@@ -3,6 +3,7 @@
 
 mod branches;
 mod desk;
+mod early;
 mod rooted;
 mod whole;
 

@@ -1,0 +1,120 @@
+-- Roots whose ligands two spheres tell apart are settled by them, and ranked by what was noted.
+use Rattle.std.proofs.Common.{◌≡◌, ◌≢◌, ◌==◌, ◌≤◌, ◌+◌, ◌*◌, ℕ, zero, suc, Bool, true, false, List, [], ◌∷◌, flat_map, length, nat_le, refl, sym, ap, ◌∙◌, subst, arith}
+use Rattle.std.proofs.lemmas.Bool.{and_parts, eqb-false, eqb-true, or_left}
+use Rattle.std.proofs.lemmas.List.{append-nil}
+use Rattle.std.proofs.lemmas.Bool.Decides.{nat_tests}
+use Rattle.cip_mol.specs.declared.site.Ligand.{Ligand}
+use Rattle.cip_digraph.specs.digraph.Digraph.{Node, digraph, real_node}
+use Rattle.cip_digraph.specs.digraph.View.{height_below, view_children}
+use Rattle.cip_digraph.specs.graph.SoundGraphs.{IsSound}
+use Rattle.cip_digraph.specs.outcome.Deciding.{is_settled, least_from}
+use Rattle.cip_digraph.specs.outcome.Outcomes.{end_root, is_in_unit, settled_in}
+use Rattle.cip_digraph.specs.rules.EarlyOrder.{differ_within, seen_at}
+use Rattle.cip_digraph.specs.units.Ends.{end_at}
+use Rattle.cip_digraph.proofs.Cut.{size_le}
+use Rattle.cip_digraph.proofs.Numbered.{count_is}
+use Rattle.cip_label.specs.Fitting.{IsFit}
+use Rattle.cip_label.specs.Settings.{Setting, cost_in}
+use Rattle.cip_label.specs.Standing.{RankedAs}
+use Rattle.cip_label.specs.declared.digraphs.Ranking.TheVariants.{Known}
+use Rattle.cip_constitution.specs.Pairs.{pairs_of}
+use Rattle.cip_early.specs.ToldEarly.{is_told_early, noted_early}
+use Rattle.cip_early.proofs.NeighbourNodes.{neighbour_further}
+use Rattle.cip_desk.specs.Standing.{Standing, standing_of}
+use Rattle.cip_desk.proofs.EarlyStanding.{stands_first}
+use Rattle.cip_desk.proofs.RootLow.{beside, has_child}
+
+-- the least number that passes is not above one that does
+least_passes : (test : ℕ → Bool) (number count passes : ℕ) → number ≤ passes → test passes ≡ true
+    → least_from test number count ≤ passes
+least_passes test number zero passes low e = low
+least_passes test number (suc more) passes low e =
+    by (λ lower. least_passes test (number + 1) more passes lower e) (test number) refl
+  where
+    by : (number + 1 ≤ passes → least_from test (number + 1) more ≤ passes) → (here : Bool) → test number ≡ here
+        → elim here as (λ _. ℕ) [ true ↦ number | false ↦ least_from test (number + 1) more ] ≤ passes
+    by later true is = low
+    by later false is = later (further (number == passes) refl)
+      where
+        further : (same : Bool) → (number == passes) ≡ same → number + 1 ≤ passes
+        further true at =
+            let bad : true ≡ false = sym (ap test (eqb-true number passes at) ∙ e) ∙ is in
+            cc
+        further false at = let apart = eqb-false number passes at in grind (arith, nat_tests)
+
+high_by : (below : List Node) (further : ℕ) → below ≢ []
+    → 1 ≤ elim below as (λ _. ℕ) [ [] ↦ 0 | node ∷ others ↦ further + 1 ]
+high_by [] further some = absurd (some refl)
+high_by (node ∷ others) further some = omega arith
+
+soon_by : (least most : ℕ) → least ≤ most → (nodes : List Node)
+    → elim nodes as (λ _. ℕ) [ [] ↦ 0 | node ∷ nodes ↦ least ] ≤ most
+soon_by least most le [] = omega arith
+soon_by least most le (node ∷ nodes) = le
+
+nat_le_true : (m n : ℕ) → nat_le m n ≡ true → m ≤ n
+nat_le_true m n e = grind (arith, nat_tests)
+
+module _ (setting : Setting) (root : ℕ) (ligands : List Ligand) (sound : IsSound setting.graph)
+    (fit : IsFit setting.graph root ligands) where
+  abbrev below : Node → List Node
+  below = view_children setting.graph setting.positions (root ∷ [])
+
+  abbrev height : ℕ
+  height = (seen_at setting.rules setting.graph setting.positions setting.units root).height
+
+  -- there is a second sphere to look for
+  high : 1 ≤ height
+  high =
+      let more = 2 * length setting.graph.vertices + 1 in
+      let nodes = flat_map below (real_node root [] ∷ []) in
+      let sum : 2 * length setting.graph.vertices + 2 ≡ suc more = omega arith in
+      subst (λ count. 1 ≤ height_below below count (real_node root [] ∷ [])) (sym sum)
+      (high_by nodes (height_below below more nodes)
+      (λ none. has_child setting.graph root ligands sound fit setting.positions setting.rules setting.units
+      (sym (append-nil (below (real_node root []))) ∙ none)))
+
+  module _ (differ : differ_within setting.rules setting.graph setting.positions setting.units (end_at root ligands) 2
+      ≡ true) where
+    abbrev settles : ℕ → Bool
+    settles =
+        is_settled (seen_at setting.rules setting.graph setting.positions setting.units root) (real_node root [])
+        (end_root setting.rules setting.graph setting.positions setting.units (end_at root ligands)).ligands
+        (is_in_unit setting.rules setting.graph setting.positions setting.units)
+
+    settled_soon : settled_in setting.rules setting.graph setting.positions setting.units (end_at root ligands) ≤ 2
+    settled_soon =
+        soon_by (least_from settles 1 height) 2
+        (least_passes settles 1 height 2 (omega arith) (or_left _ _ (or_left _ _ differ)))
+        (below (real_node root []))
+
+    cost_few : cost_in setting (end_at root ligands) ≤ length (digraph setting.graph setting.positions root 2)
+    cost_few =
+        let graph = setting.graph in
+        let positions = setting.positions in
+        let settled = settled_in setting.rules graph positions setting.units (end_at root ligands) in
+        let le = size_le graph positions root settled 2 settled_soon in
+        let here = count_is graph positions root settled in
+        let most = count_is graph positions root 2 in
+        omega (arith, le, here, most)
+
+  pub told_ranked : (bound : ℕ) → is_told_early setting root ligands bound ≡ true → (standing : Standing)
+      → standing.pairs ≡ pairs_of ligands → standing.natural ≡ noted_early setting root ligands
+      → standing.turned ≡ noted_early setting root ligands
+      → RankedAs setting bound root ligands (standing_of standing) Known
+  told_ranked bound told standing pairs natural turned =
+      let graph = setting.graph in
+      let positions = setting.positions in
+      let parts = and_parts (nat_le (length (digraph graph positions root 2)) bound)
+      (differ_within setting.rules graph positions setting.units (end_at root ligands) 2) told in
+      let few = nat_le_true (length (digraph graph positions root 2)) bound parts.0 in
+      let cost = cost_few parts.1 in (
+        omega (arith, few, cost),
+        record {
+          each = stands_first setting.rules graph positions setting.units root 2 (omega arith) sound ligands
+              (beside graph root ligands sound fit) (let some = high in omega (arith, some)) parts.1
+              (λ vertex. real_node vertex (root ∷ [])) (λ vertex. vertex)
+              (neighbour_further graph positions root sound) (λ vertex by. refl)
+              (noted_early setting root ligands) refl standing pairs natural turned;
+        },
+      )
