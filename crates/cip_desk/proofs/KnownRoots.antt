@@ -6,6 +6,7 @@ use Rattle.std.specs.declared.option.Option.{Option}
 use Rattle.std.specs.declared.result.Result.{Result}
 use Rattle.std.specs.declared.result.Result.TheVariants.{Ok, Err}
 use Rattle.cip_arena.specs.Growth.{Growth, Holds}
+use Rattle.cip_constitution.proofs.DecidingSphere.{settled_low}
 use Rattle.cip_constitution.specs.FollowedOut.{AreConstituted, AreOrdered, node_of}
 use Rattle.cip_constitution.specs.Following.{Trying}
 use Rattle.cip_constitution.specs.Noting.{asked_by, Notes}
@@ -18,6 +19,7 @@ use Rattle.cip_digraph.specs.graph.SoundGraphs.{IsSound}
 use Rattle.cip_digraph.specs.rings.Alternating.{is_in}
 use Rattle.cip_digraph.specs.rules.Decisions.{order}
 use Rattle.cip_digraph.specs.rules.EarlyOrder.{seen_at}
+use Rattle.cip_digraph.specs.units.Ends.{end_at}
 use Rattle.cip_label.specs.Fitting.{IsFit}
 use Rattle.cip_label.specs.Settings as records
 use Rattle.cip_label.specs.Standing.{RankedAs}
@@ -32,7 +34,7 @@ use Rattle.cip_desk.specs.Desks.{settled_by}
 use Rattle.cip_desk.specs.Rooting.{HaveMarks}
 use Rattle.cip_desk.specs.Standing.{Standing, asked_in, standing_of}
 use Rattle.cip_desk.proofs.EarlyStanding.{stands_early}
-use Rattle.cip_desk.proofs.RootLow.{beside, settled_further, settled_low}
+use Rattle.cip_desk.proofs.RootLow.{beside, root_low, settled_further}
 use Rattle.cip_desk.proofs.SettledRoots.{cost_within}
 use Rattle.cip_desk.proofs.WholeStanding.{found_early, found_late, stands_whole}
 
@@ -72,7 +74,8 @@ module _ (setting : records.Setting) (ligands : List Ligand) (a : Growth)
     record {
       each = stands_early setting.rules setting.graph setting.positions setting.units a h settled.0 sound ligands
           (beside setting.graph a.root ligands sound fit)
-          (let low = settled_low setting.graph a.root ligands sound fit setting.positions setting.rules setting.units in
+          (let low = settled_low setting.rules setting.graph setting.positions setting.units (end_at a.root ligands) sound
+          (root_low setting.graph a.root ligands sound fit) in
           let is = settled.1 in omega (arith, low, is))
           settled.2 noted
           (subst (λ (ps : List Pair). Notes setting.graph setting.positions a.root a.bound a.sphere ps noted) are notes)

@@ -46,15 +46,6 @@ least_behind test number (suc more) = by (least_behind test (number + 1) more) (
     by later true = omega arith
     by later false = omega (arith, later)
 
-least_low : (test : ℕ → Bool) (number count : ℕ) → least_from test number count ≤ number + count
-least_low test number zero = omega arith
-least_low test number (suc more) = by (least_low test (number + 1) more) (test number)
-  where
-    by : least_from test (number + 1) more ≤ number + 1 + more → (b : Bool)
-        → elim b as (λ _. ℕ) [ true ↦ number | false ↦ least_from test (number + 1) more ] ≤ number + suc more
-    by later true = omega arith
-    by later false = omega (arith, later)
-
 -- the edges at a vertex touch it
 touch_each : (root : ℕ) (edges : List Edge)
     → AllByRecursion (λ edge. touches root edge ≡ true) (filter (touches root) edges)
@@ -118,21 +109,8 @@ module _ (graph : Graph) (root : ℕ) (ligands : List Ligand) (sound : IsSound g
       some_by least from [] some = absurd (some refl)
       some_by least from (node ∷ nodes) some = from
 
-      low_of : (least high : ℕ) → least ≤ high → (nodes : List Node)
-          → elim nodes as (λ _. ℕ) [ [] ↦ 0 | node ∷ nodes ↦ least ] ≤ high
-      low_of least high le [] = omega arith
-      low_of least high le (node ∷ nodes) = le
-
       pub settled_further : 1 ≤ settled_in rules graph positions all (end_at root ligands)
       settled_further =
           let height = (seen_at rules graph positions all root).height in
           some_by (least_from settles 1 height) (least_behind settles 1 height)
           (view_children graph positions (root ∷ []) (real_node root [])) has_child
-
-      pub settled_low : settled_in rules graph positions all (end_at root ligands)
-          ≤ (seen_at rules graph positions all root).height + 1
-      settled_low =
-          let height = (seen_at rules graph positions all root).height in
-          low_of (least_from settles 1 height) (height + 1)
-          (let low = least_low settles 1 height in omega (arith, low))
-          (view_children graph positions (root ∷ []) (real_node root []))

@@ -18,7 +18,6 @@ use Rattle.cip_label.specs.Settings as records
 use Rattle.cip_label.specs.Fitting.{IsFit}
 use Rattle.cip_label.specs.Standing.{Stands, RankedAs}
 use Rattle.cip_label.specs.Steps.{Rises}
-use Rattle.cip_label.specs.declared.digraphs.Ranking.{Ranking}
 use Rattle.cip_label.specs.declared.digraphs.Ranking.TheVariants as rankings
 use Rattle.cip_desk.specs.Desks.{settled_by}
 use Rattle.cip_desk.proofs.RootLow.{root_low}
@@ -29,21 +28,6 @@ pub same_setting : (rules rules2 : Rules) (graph graph2 : Graph) (positions posi
     → setting_of rules graph positions all ligands ≡ setting_of rules2 graph2 positions2 all2 ligands2
 same_setting rules rules2 graph graph2 positions positions2 all all2 ligands ligands2 r g p u l =
     λ k. setting_of (r k) (g k) (p k) (u k) (l k)
-
--- by equal bounds and ligands
-pub moved_rises : (setting : records.Setting) (root before after bound bound2 : ℕ) (ligands ligands2 : List Ligand)
-    → bound ≡ bound2 → ligands ≡ ligands2 → Rises setting bound (end_at root ligands ∷ []) before after
-    → Rises setting bound2 (end_at root ligands2 ∷ []) before after
-moved_rises setting root before after bound bound2 ligands ligands2 b l rises =
-    subst (λ (x : ℕ). Rises setting x (end_at root ligands2 ∷ []) before after) b
-    (subst (λ (xs : List Ligand). Rises setting bound (end_at root xs ∷ []) before after) l rises)
-
-pub moved_ranked : (setting : records.Setting) (root : ℕ) (standing : Stands) (ranking : Ranking) (bound bound2 : ℕ)
-    (ligands ligands2 : List Ligand) → bound ≡ bound2 → ligands ≡ ligands2
-    → RankedAs setting bound root ligands standing ranking → RankedAs setting bound2 root ligands2 standing ranking
-moved_ranked setting root standing ranking bound bound2 ligands ligands2 b l ranked =
-    subst (λ (x : ℕ). RankedAs setting x root ligands2 standing ranking) b
-    (subst (λ (xs : List Ligand). RankedAs setting bound root xs standing ranking) l ranked)
 
 few_by : (before after cost bound : ℕ) → after + 1 ≤ before + cost → after + 1 ≤ before + bound
     → after ≤ before + (0 + (min cost bound - 1))

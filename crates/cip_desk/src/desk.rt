@@ -10,7 +10,7 @@ ghost use Rattle.cip_label.specs.Settings.{IsProper};
 ghost use Rattle.cip_label.specs.Standing.{RankedAs};
 ghost use Rattle.cip_label.specs.Steps.{Rises};
 ghost use Rattle.cip_desk.specs.Desks.{settled_by};
-ghost use Rattle.cip_desk.specs.Rooting.{IsRooted};
+ghost use Rattle.cip_desk.specs.Rooting.{HasRoom, IsRooted};
 ghost use Rattle.cip_desk.specs.Standing.{standing_of};
 
 use crate::branches::Branches;
@@ -112,24 +112,14 @@ impl Digraphs for Desk {
             root,
             ligands,
         };
-        match settled {
-            Settled::Over => Ok(Ranking::Over),
-            Settled::Tied => Ok(Ranking::Tied),
-            Settled::Ordered => {
-                rank_ordered(&rooted, &self.work, &mut self.branches)?;
-                Ok(Ranking::Known)
-            }
-            Settled::Whole => {
-                rank_whole(
-                    alloc,
-                    &rooted,
-                    &mut self.work,
-                    &mut self.tables,
-                    &mut self.branches,
-                )?;
-                Ok(Ranking::Known)
-            }
-        }
+        rank_settled(
+            alloc,
+            settled,
+            &rooted,
+            &mut self.work,
+            &mut self.tables,
+            &mut self.branches,
+        )
     }
 
     fn decide(&self, a: u32, b: u32, r_first: bool) -> Option<Decision> {
@@ -174,6 +164,43 @@ fn settle_root<L: Ledger>(
         setting.rules(),
         steps,
     )
+}
+
+// Ranks the ligands of a root by how they were settled.
+fn rank_settled(
+    alloc: Global,
+    settled: Settled,
+    rooted: &Rooted<'_, '_>,
+    work: &mut Work,
+    tables: &mut Tables,
+    branches: &mut Branches,
+) -> Result<Ranking, AllocError>
+    requires rooted { IsRooted rooted.now.setting.now rooted.now.root rooted.now.ligands.now rooted.now.arena.now }
+    requires proper { IsProper rooted.now.setting.now }
+    requires settled { SettledAs (settled_by rooted.now.setting.now rooted.now.ligands.now) rooted.now.arena.now settled }
+    requires pairs { work.old.pairs ≡ pairs_of rooted.now.ligands.now }
+    requires noted { settled ≡ Settled.Ordered → Notes rooted.now.setting.now.graph rooted.now.setting.now.positions
+        rooted.now.arena.now.root rooted.now.arena.now.bound rooted.now.arena.now.sphere work.old.pairs work.old.noted }
+    requires followed { settled ≡ Settled.Whole → AreFollowedOut rooted.now.setting.now.graph
+        rooted.now.setting.now.positions rooted.now.arena.now work.old }
+    requires room { HasRoom rooted.now.arena.now.bound tables.old }
+    ensures ranking { IfOk result (RankedAs rooted.now.setting.now rooted.now.arena.now.bound rooted.now.root
+        rooted.now.ligands.now (standing_of branches.new)) }
+    ensures work { work.new.bound ≡ work.old.bound }
+    ensures room { HasRoom rooted.now.arena.now.bound tables.new }
+{
+    match settled {
+        Settled::Over => Ok(Ranking::Over),
+        Settled::Tied => Ok(Ranking::Tied),
+        Settled::Ordered => {
+            rank_ordered(rooted, work, branches)?;
+            Ok(Ranking::Known)
+        }
+        Settled::Whole => {
+            rank_whole(alloc, rooted, work, tables, branches)?;
+            Ok(Ranking::Known)
+        }
+    }
 }
 
 // Ranks the ligands of a root that all differ by Rule 1a: what it decides was noted while they were settled.
