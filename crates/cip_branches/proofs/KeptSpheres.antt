@@ -98,7 +98,7 @@ module _ (kids : ℕ → List ℕ) (ups rows starts : List ℕ) (last : ℕ) (nu
       len = kept.kept.len;
     }
 
-    other_number : (u k : ℕ) → u ≢ s → slice_index starts u ≤ k → k < slice_index starts (suc u)
+    pub other_number : (u k : ℕ) → u ≢ s → slice_index starts u ≤ k → k < slice_index starts (suc u)
         → number_in new_rows new k ≡ number_in rows numbers k
     other_number u k differ low high =
         ap (slice_index new) (other_row u k differ low high)

@@ -19,6 +19,7 @@ pub mod SavedAside
 pub mod SeenNodes
 pub mod Steady
 pub mod SteadyBefore
+pub mod StirredSpheres
 pub mod TakenAmong
 pub mod TakenRules
 pub mod TakenSpheres

@@ -1,5 +1,5 @@
 -- A rule taken one sphere further: what the spheres further in are refined by, and what the pass leaves.
-use Rattle.std.proofs.Common.{◌≡◌, ◌≢◌, ◌<◌, ◌≤◌, ℕ, ℤ, suc, List, length, slice_index, sym, ◌∙◌, arith, inl, inr}
+use Rattle.std.proofs.Common.{◌≡◌, ◌≢◌, ◌<◌, ◌≤◌, ℕ, ℤ, suc, List, length, slice_index, sym, ◌∙◌, subst, arith, inl, inr}
 use Rattle.std.specs.List.{AllByRecursion}
 use Rattle.std.specs.Ordering.{int_cmp, then_cmp, on}
 use Rattle.std.proofs.lemmas.Bool.{cases_lt}
@@ -8,11 +8,12 @@ use Rattle.cip_rank.proofs.Descending.{all_by}
 use Rattle.cip_rows.specs.Parting.{KeepsSphere}
 use Rattle.cip_branches.specs.Passing.{AreNotedBut, AreSteadyButNew, Passes}
 use Rattle.cip_branches.specs.Refining.{Refines}
-use Rattle.cip_rows.specs.Rows.{IsRow, OrdersPlaces}
-use Rattle.cip_branches.specs.Turning.{in_sphere, AreSpheres, AreSteadyBefore, SamePlaces, Stands, StandBut}
+use Rattle.cip_rows.specs.Rows.{IsRow, number_in, OrdersPlaces}
+use Rattle.cip_branches.specs.Turning.{in_sphere, AreSpheres, AreSteadyBefore, IsInnermost, IsStirred, SamePlaces, Stands, StandBut}
 use Rattle.cip_rows.proofs.Cases.{both, cases_same}
-use Rattle.cip_rows.proofs.ClassInSphere.{place_high}
-use Rattle.cip_branches.proofs.KeptSpheres.{other_place, places_kept, rises_to, spheres_kept}
+use Rattle.cip_rows.proofs.ClassInSphere.{place_high, place_low}
+use Rattle.cip_branches.proofs.KeptSpheres.{other_number, other_place, places_kept, rises_to, spheres_kept}
+use Rattle.cip_branches.proofs.StirredSpheres.{stirred_moves}
 
 -- the same children in other rows
 module _ (kids : ℕ → List ℕ) (ups rows starts : List ℕ) (last far room : ℕ) (far_in : far < last)
@@ -93,6 +94,41 @@ module _ (kids : ℕ → List ℕ) (ups rows starts : List ℕ) (last far room :
       inside = λ t place lt p. refines.inside t place lt (places.here t place p);
       outside = λ t place lt p. refines.outside t place lt (places.here t place p);
     };
+  }
+
+  -- what has to be looked at further in, by the numbers of old as by those of the sphere that is split
+  module _ (now : List ℕ) (u : ℕ) (le : u ≤ far) where
+    same : (row : ℕ) → slice_index starts u ≤ row → row < slice_index starts (suc u)
+        → number_in new_rows start row ≡ number_in rows old row
+    same row low high = other_number kids ups rows starts last old are (suc far) (omega (arith, far_in)) new_rows start
+        kept u row (λ e. absurd (omega (arith, e, le))) low high
+
+    above : (kid : ℕ) → in_sphere rows starts (suc u) kid
+        → (slice_index starts u ≤ slice_index old (slice_index ups kid))
+        × (slice_index start (slice_index ups kid) ≡ slice_index old (slice_index ups kid))
+    above kid at =
+        let up = are.up u kid (omega (arith, le, far_in)) at in (
+          place_low rows old (slice_index starts u) (slice_index starts (suc u))
+              (are.classed u (omega (arith, le, far_in))) (slice_index ups kid) up,
+          other u (slice_index ups kid) (λ e. absurd (omega (arith, e, le))) up,
+        )
+
+    stirred_old : IsStirred ups new_rows starts before start now u → IsStirred ups rows starts before old now u
+    stirred_old = stirred_moves ups starts before now u new_rows start rows old same (places.there (suc u))
+        (λ kid at. above kid (places.there (suc u) kid at))
+
+    stirred_new : IsStirred ups rows starts before old now u → IsStirred ups new_rows starts before start now u
+    stirred_new = stirred_moves ups starts before now u rows old new_rows start
+        (λ row low high. sym (same row low high)) (places.here (suc u))
+        (λ kid at. let up = above kid at in (subst (λ n. slice_index starts u ≤ n) (sym up.1) up.0, sym up.1))
+
+  pub innermost : (inner : ℕ) (now : List ℕ) → IsInnermost ups new_rows starts inner far before start now
+      → IsInnermost ups rows starts inner far before old now
+  innermost inner now was = record {
+    high = was.high;
+    stirred = record { each = λ u low le. stirred_old now u le (was.stirred.each u low le) };
+    stands = λ u at stirred.
+        let high = was.high in was.stands u at (stirred_new now u (omega (arith, at, high)) stirred);
   }
 
   -- what was turned from a sphere on

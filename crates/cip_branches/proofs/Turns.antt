@@ -10,11 +10,12 @@ use Rattle.cip_branches.specs.Layers.{Layers}
 use Rattle.cip_rows.specs.Parting.{KeepsSphere}
 use Rattle.cip_branches.specs.Refining.{AreNext}
 use Rattle.cip_rows.specs.Rows.{IsRow, AreClassed, OrdersPlaces}
-use Rattle.cip_rows.specs.Stirring.{KnowParents, TieUnlessStirred}
-use Rattle.cip_branches.specs.Turning.{in_sphere, AreSpheres, AreSteadyBefore, Turns}
+use Rattle.cip_rows.specs.Stirring.{IsAbove, KnowParents, TieUnlessStirred}
+use Rattle.cip_branches.specs.Turning.{in_sphere, AreSpheres, AreSteadyBefore, AreStirred, IsStirred, Turns}
 use Rattle.cip_rows.proofs.Cases.{both}
 use Rattle.cip_branches.proofs.InwardSpheres.{refines_none, refines_step}
 use Rattle.cip_branches.proofs.KeptSpheres.{same_itself, same_after, other_place, places_kept, spheres_kept}
+use Rattle.cip_branches.proofs.StirredSpheres.{above_is, stirred_is, stirred_on}
 use Rattle.cip_branches.proofs.KidSets.{still_ordered}
 
 module _ (kids : ℕ → List ℕ) (ups rows starts : List ℕ) (last : ℕ) (start : List ℕ)
@@ -33,6 +34,7 @@ module _ (kids : ℕ → List ℕ) (ups rows starts : List ℕ) (last : ℕ) (st
     places = same_itself rows starts;
     spheres = are;
     stand = record { each = λ place none. refl };
+    still = λ row lt. refl;
   }
 
   module _ (s : ℕ) (le : s ≤ far) (mid_rows mid : List ℕ)
@@ -88,6 +90,8 @@ module _ (kids : ℕ → List ℕ) (ups rows starts : List ℕ) (last : ℕ) (st
             each = λ place none. kept.others place (λ p. none s (omega arith) le (was_at place p))
                 ∙ turns.stand.each place (λ u low high. none u (omega (arith, low)) high);
           };
+          still = λ row lt. kept.kept.before row lt
+              ∙ turns.still row (let rise = are.rise s in_last in omega (arith, lt, rise));
         }
 
     pub keeps_itself : KeepsSphere (slice_index starts s) (slice_index starts (suc s)) mid_rows mid_rows mid mid
@@ -126,7 +130,7 @@ read_at starts read t row same at = ap (slice_index starts) (sym at)
     ∙ ap (λ (ns : List ℕ). slice_index ns t) (sym same)
 
 -- what a turn asks for
-pub record Given (now : Layers) (from to past : ℕ) : Type 0 where
+pub record Asks (now : Layers) (from to past : ℕ) : Type 0 where
   pub ordered : from ≤ to
   pub behind : to ≤ past
   pub within : past ≤ length now.ranked.rows
@@ -134,7 +138,29 @@ pub record Given (now : Layers) (from to past : ℕ) : Type 0 where
   pub parents : KnowParents (kids_of now.kin) now.kin.ups now.ranked.rows from to past
   pub tie : TieUnlessStirred (kids_of now.kin) now.before now.ranked.rows now.ranked.numbers from to
 
--- the same as the code finds the spheres: at t - 1, where those from t on are refined
+-- The same as the code finds the spheres, at t - 1, where those from t on are refined; and what the turn leaves, of a
+-- sphere that was looked at and of one that stands.
+pub record Given (first now : Layers) (last far t from to past : ℕ) : Type 0 where
+  pub asks : Asks now from to past
+  pub turned : (new_rows new : List ℕ)
+      → OrdersPlaces (IsRow now.ranked.rows from to) (by_kids (kids_of now.kin) now.ranked.numbers) new
+      → KeepsSphere from to now.ranked.rows new_rows now.ranked.numbers new
+      → Turns (kids_of first.kin) first.kin.ups first.ranked.rows first.starts far last first.ranked.numbers (t - 1)
+      new_rows new
+  pub stopped : OrdersPlaces (IsRow now.ranked.rows from to) (by_kids (kids_of now.kin) now.ranked.numbers)
+      now.ranked.numbers
+      → Turns (kids_of first.kin) first.kin.ups first.ranked.rows first.starts far last first.ranked.numbers 0
+      now.ranked.rows now.ranked.numbers
+  pub stirred : (new_rows new : List ℕ) → KeepsSphere from to now.ranked.rows new_rows now.ranked.numbers new
+      → (number : ℕ) × IsAbove now.kin.ups now.ranked.rows now.before now.ranked.numbers to past number
+      → AreStirred first.kin.ups first.ranked.rows first.starts t far first.before first.ranked.numbers
+      now.ranked.numbers
+      → AreStirred first.kin.ups first.ranked.rows first.starts (t - 1) far first.before first.ranked.numbers new
+  pub stands : ((number : ℕ) × IsAbove now.kin.ups now.ranked.rows now.before now.ranked.numbers to past number → ⊥)
+      → (u : ℕ) → t ≡ suc u
+      → IsStirred first.kin.ups first.ranked.rows first.starts first.before first.ranked.numbers now.ranked.numbers u
+      → ⊥
+
 module _ (first now : Layers) (others : now ≡ record first { ranked = now.ranked }) (last far t from to past : ℕ)
     (are : AreSpheres (kids_of first.kin) first.kin.ups first.ranked.rows first.starts last first.ranked.numbers)
     (far_in : far < last) (some : 0 < t) (high : t ≤ far + 1)
@@ -175,8 +201,8 @@ module _ (first now : Layers) (others : now ≡ record first { ranked = now.rank
     at_starts P p = subst (λ n. P n to past) from_is (subst (λ n. P (slice_index first.starts (t - 1)) n past) to_is
         (subst (P (slice_index first.starts (t - 1)) (slice_index first.starts (suc (t - 1)))) past_is p))
 
-    pub given : Given now from to past
-    given = at_starts (Given now) (subst (λ (s : Layers). Given s (slice_index first.starts (t - 1)) (slice_index
+    asks : Asks now from to past
+    asks = at_starts (Asks now) (subst (λ (s : Layers). Asks s (slice_index first.starts (t - 1)) (slice_index
         first.starts (suc (t - 1))) (slice_index first.starts (suc (suc (t - 1))))) (sym others) (record {
           ordered = are.rise (t - 1) (omega (arith, le, far_in));
           behind = are.rise (suc (t - 1)) (omega (arith, le, far_in));
@@ -196,20 +222,26 @@ module _ (first now : Layers) (others : now ≡ record first { ranked = now.rank
     family_is new ordered = subst (λ (s : Layers). OrdersPlaces (IsRow mid_rows from to) (by_kids (kids_of s.kin) mid)
         new) others ordered
 
-    pub turned_at : (new_rows new : List ℕ)
+    kept_at : (new_rows new : List ℕ) → KeepsSphere from to mid_rows new_rows mid new
+        → KeepsSphere (slice_index first.starts (t - 1)) (slice_index first.starts (suc (t - 1))) mid_rows new_rows mid
+        new
+    kept_at new_rows new kept =
+        subst (λ n. KeepsSphere n (slice_index first.starts (suc (t - 1))) mid_rows new_rows mid new) (sym from_is)
+        (subst (λ n. KeepsSphere from n mid_rows new_rows mid new) (sym to_is) kept)
+
+    turned_at : (new_rows new : List ℕ)
         → OrdersPlaces (IsRow mid_rows from to) (by_kids (kids_of now.kin) mid) new
         → KeepsSphere from to mid_rows new_rows mid new
         → Turns kids ups rows first.starts far last start (t - 1) new_rows new
     turned_at new_rows new ordered kept =
         turned kids ups rows first.starts last start are far far_in (t - 1) le mid_rows mid done new_rows new
-        (subst (λ n. KeepsSphere n (slice_index first.starts (suc (t - 1))) mid_rows new_rows mid new) (sym from_is)
-        (subst (λ n. KeepsSphere from n mid_rows new_rows mid new) (sym to_is) kept))
+        (kept_at new_rows new kept)
         (subst (λ n. OrdersPlaces (IsRow mid_rows n (slice_index first.starts (suc (t - 1)))) (by_kids kids mid) new)
         (sym from_is) (subst (λ n. OrdersPlaces (IsRow mid_rows from n) (by_kids kids mid) new) (sym to_is)
         (family_is new ordered)))
 
     -- where the sphere stood, so do all further in
-    pub stopped_at : OrdersPlaces (IsRow mid_rows from to) (by_kids (kids_of now.kin) mid) mid
+    stopped_at : OrdersPlaces (IsRow mid_rows from to) (by_kids (kids_of now.kin) mid) mid
         → Turns kids ups rows first.starts far last start 0 mid_rows mid
     stopped_at ordered =
         stood kids ups rows first.starts last start are far far_in first.before mid_rows mid steady (t - 1) le
@@ -217,3 +249,40 @@ module _ (first now : Layers) (others : now ≡ record first { ranked = now.rank
         (subst (λ n. KeepsSphere (slice_index first.starts (t - 1)) n mid_rows mid_rows mid mid) to_is
         (keeps_itself kids ups rows first.starts last start are far far_in (t - 1) le mid_rows mid done))))
         (λ place p. done.refines.inside (t - 1) place (omega arith) p)
+
+    -- some class above a place that has another number than before
+    abbrev Found : Layers → ℕ → ℕ → Type 0
+    Found holder behind beyond = (number : ℕ) × IsAbove holder.kin.ups mid_rows holder.before mid behind beyond number
+
+    abbrev Stirred : ℕ → List ℕ → Type 0
+    Stirred = λ n new. AreStirred ups rows first.starts n far first.before start new
+
+    found_at : Found now to past → IsStirred ups rows first.starts first.before start mid (t - 1)
+    found_at = at_starts (λ low behind beyond. Found now behind beyond → IsStirred ups rows first.starts first.before
+        start mid (t - 1))
+        (λ found. stirred_is kids ups rows first.starts last start are far far_in first.before (t - 1) le mid_rows mid
+        done (subst (λ (s : Layers). Found s (slice_index first.starts (suc (t - 1)))
+        (slice_index first.starts (suc (suc (t - 1))))) others found))
+
+    found_back : IsStirred ups rows first.starts first.before start mid (t - 1) → Found now to past
+    found_back stirred = at_starts (λ low behind beyond. Found now behind beyond) (subst (λ (s : Layers). Found s
+        (slice_index first.starts (suc (t - 1))) (slice_index first.starts (suc (suc (t - 1))))) (sym others)
+        (above_is kids ups rows first.starts last start are far far_in first.before (t - 1) le mid_rows mid done
+        stirred))
+
+    stirred_at : (new_rows new : List ℕ) → KeepsSphere from to mid_rows new_rows mid new → Found now to past
+        → Stirred t mid → Stirred (t - 1) new
+    stirred_at new_rows new kept found all =
+        stirred_on kids ups rows first.starts last start are far far_in first.before (t - 1) le mid_rows mid done
+        new_rows new (kept_at new_rows new kept) (found_at found)
+        (let back : t ≡ suc (t - 1) = omega (arith, some) in subst (λ n. Stirred n mid) back all)
+
+    pub given : Given first now last far t from to past
+    given = record {
+      asks = asks;
+      turned = turned_at;
+      stopped = stopped_at;
+      stirred = stirred_at;
+      stands = λ none u at stirred. none (found_back (let below : u ≡ t - 1 = omega (arith, at) in
+          subst (IsStirred ups rows first.starts first.before start mid) below stirred));
+    }

@@ -1,7 +1,8 @@
 -- Spheres of rows, refined one after another from the outside inwards. Own.
-use Rattle.std.specs.Prelude.{◌≡◌, ◌<◌, ◌≤◌, ℕ, suc, List, length, slice_index}
+use Rattle.std.specs.Prelude.{◌≡◌, ◌≢◌, ◌<◌, ◌≤◌, ℕ, suc, true, List, length, slice_index}
 use Rattle.std.specs.List.{AllByRecursion}
 use Rattle.cip_rows.specs.Kids.{kid_set}
+use Rattle.cip_rows.specs.Parting.{is_shared}
 use Rattle.cip_branches.specs.Refining.{Refines}
 use Rattle.cip_rows.specs.Rows.{IsRow, AreClassed}
 
@@ -47,10 +48,28 @@ pub record StandBut (rows starts : List ℕ) (t far : ℕ) (before now : List �
   pub each : (place : ℕ) → ((u : ℕ) → t ≤ u → u ≤ far → in_sphere rows starts u place → ⊥)
       → slice_index now place ≡ slice_index before place
 
--- the spheres from t on are refined
+-- A sphere has to be looked at: a place of a class of two and more has a child with another number than before.
+pub record IsStirred (ups rows starts : List ℕ) (before start now : List ℕ) (t : ℕ) : Type 0 where
+  pub kid : ℕ
+  pub at : in_sphere rows starts (suc t) kid
+  pub differs : slice_index now kid ≢ slice_index before kid
+  pub shared : is_shared rows start (slice_index start (slice_index ups kid)) (slice_index starts (suc t)) ≡ true
+
+-- all spheres from t to `far` have to be looked at
+pub record AreStirred (ups rows starts : List ℕ) (t far : ℕ) (before start now : List ℕ) : Type 0 where
+  pub each : (u : ℕ) → t ≤ u → u ≤ far → IsStirred ups rows starts before start now u
+
+-- of the spheres up to `far`, all from t on have to be looked at, and the one before t does not
+pub record IsInnermost (ups rows starts : List ℕ) (t far : ℕ) (before start now : List ℕ) : Type 0 where
+  pub high : t ≤ suc far
+  pub stirred : AreStirred ups rows starts t far before start now
+  pub stands : (u : ℕ) → t ≡ suc u → IsStirred ups rows starts before start now u → ⊥
+
+-- the spheres from t on are refined, and the rows of all before stand
 pub record Turns (kids : ℕ → List ℕ) (ups rows starts : List ℕ) (far last : ℕ) (start : List ℕ) (t : ℕ)
     (new_rows numbers : List ℕ) : Type 0 where
   pub refines : Refines kids (in_sphere rows starts) far t start numbers
   pub places : SamePlaces rows new_rows starts
   pub spheres : AreSpheres kids ups new_rows starts last numbers
   pub stand : StandBut rows starts t far start numbers
+  pub still : (row : ℕ) → row < slice_index starts t → slice_index new_rows row ≡ slice_index rows row

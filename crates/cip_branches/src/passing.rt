@@ -3,7 +3,7 @@ ghost use Rattle.std.specs.Prelude.{◌≡◌, ◌<◌, ◌≤◌, ◌+◌, ◌^
 ghost use Rattle.cip_rows.specs.Kids.{kids_of};
 ghost use Rattle.cip_branches.specs.Passing.{AreNotedBut, AreSteadyButNew, Passes};
 ghost use Rattle.cip_rows.specs.Keys.{AreKeyed, key_of};
-ghost use Rattle.cip_branches.specs.Turning.{in_sphere, AreSpheres, SamePlaces, Stands};
+ghost use Rattle.cip_branches.specs.Turning.{in_sphere, AreSpheres, IsInnermost, SamePlaces, Stands};
 
 use crate::spheres::Spheres;
 use cip_rank::Keyed;
@@ -52,6 +52,8 @@ impl Spheres {
             self.new.ranked.numbers }
         ensures places { SamePlaces self.old.ranked.rows self.new.ranked.rows self.old.starts }
         ensures before { self.new.before ≡ self.new.ranked.numbers }
+        ensures inner { IsInnermost self.old.kin.ups self.old.ranked.rows self.old.starts result far self.old.before
+            self.old.ranked.numbers self.new.ranked.numbers }
         ensures tops { 0 < result → Stands self.old.ranked.rows self.old.starts 0 self.old.ranked.numbers
             self.new.ranked.numbers }
         ensures others { self.new ≡ record self.old { ranked = self.new.ranked; before = self.new.before } }

@@ -1,10 +1,10 @@
 // A later rule, over the places that stand.
-ghost use Rattle.std.specs.Prelude.{◌≡◌, ◌<◌, ◌+◌, ◌^◌, true, false, length};
+ghost use Rattle.std.specs.Prelude.{◌≡◌, ◌<◌, ◌+◌, ◌^◌, ◌↔◌, true, false, length};
 ghost use Rattle.cip_branches.specs.Deciding.{AreFollowed, FlagsOpen};
 ghost use Rattle.cip_branches.specs.Following.{AreRanked};
 ghost use Rattle.cip_rows.specs.Keys.{AreKeyed};
 ghost use Rattle.cip_branches.specs.Taking.{SplitsFirst, Deepens};
-ghost use Rattle.cip_branches.specs.Turning.{Stands};
+ghost use Rattle.cip_branches.specs.Turning.{AreStirred, Stands};
 
 use crate::deciding::Branches;
 use crate::spheres::Spheres;
@@ -32,6 +32,8 @@ impl Spheres {
         requires keyed { AreKeyed (K.nodes keys.now) self.old.kin }
         ensures deeper { Deepens self.old far (K.key keys.now) self.new }
         ensures ranked { AreRanked self.new last }
+        ensures reached { result ≡ true ↔ AreStirred self.old.kin.ups self.old.ranked.rows self.old.starts 0 far
+            self.old.ranked.numbers self.old.ranked.numbers self.new.ranked.numbers }
         ensures tops { result ≡ false → Stands self.old.ranked.rows self.old.starts 0 self.old.ranked.numbers
             self.new.ranked.numbers }
     {

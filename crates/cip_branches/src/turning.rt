@@ -1,18 +1,18 @@
 // Spheres refined from the outside inwards.
-ghost use Rattle.std.specs.Prelude.{◌≡◌, ◌<◌, ◌≤◌, ◌+◌, ◌^◌, false, length};
+ghost use Rattle.std.specs.Prelude.{◌≡◌, ◌<◌, ◌≤◌, ◌+◌, ◌^◌, ◌↔◌, ℕ, true, false, length};
 ghost use Rattle.cip_rows.specs.Kids.{kids_of, by_kids};
 ghost use Rattle.cip_rows.specs.Parting.{KeepsSphere};
 ghost use Rattle.cip_branches.specs.Refining.{Refines};
 ghost use Rattle.cip_rows.specs.Rows.{IsRow, AreClassed, OrdersPlaces};
-ghost use Rattle.cip_rows.specs.Stirring.{KnowParents, TieUnlessStirred};
-ghost use Rattle.cip_branches.specs.Turning.{in_sphere, AreSpheres, AreSteadyBefore, SamePlaces, StandBut};
+ghost use Rattle.cip_rows.specs.Stirring.{IsAbove, KnowParents, TieUnlessStirred};
+ghost use Rattle.cip_branches.specs.Turning.{in_sphere, AreSpheres, AreSteadyBefore, IsInnermost, SamePlaces, StandBut};
 
 use crate::spheres::Spheres;
 use cip_rows::{clear_flags, refine_sphere, stir_above};
 
 impl Spheres {
-    // Refines the sphere in the rows `from` to `to` by the one in those from `to` to `past`. Only classes are looked at
-    // of which a member's child has another number than before. Says whether there is any.
+    // Refines the sphere in the rows `from` to `to` by the one in those from `to` to `past`. It looks only at classes
+    // of two and more of which a member's child has another number than before. Says whether there is any.
     fn turn_inwards(&mut self, from: u32, to: u32, past: u32) -> bool
         requires ordered { from ≤ to }
         requires behind { to ≤ past }
@@ -25,6 +25,8 @@ impl Spheres {
             self.old.ranked.numbers) self.new.ranked.numbers }
         ensures kept { KeepsSphere from to self.old.ranked.rows self.new.ranked.rows self.old.ranked.numbers
             self.new.ranked.numbers }
+        ensures looked { result ≡ true ↔ ((number : ℕ) × IsAbove self.old.kin.ups self.old.ranked.rows self.old.before
+            self.old.ranked.numbers to past number) }
         ensures still { result ≡ false → self.new ≡ self.old }
         ensures others { self.new ≡ record self.old { ranked = self.new.ranked } }
         ensures room { self.new.ranked.room ≡ self.old.ranked.room }
@@ -68,7 +70,8 @@ impl Spheres {
         ensures spheres { AreSpheres (kids_of self.old.kin) self.old.kin.ups self.new.ranked.rows self.old.starts last
             self.new.ranked.numbers }
         ensures places { SamePlaces self.old.ranked.rows self.new.ranked.rows self.old.starts }
-        ensures inner { result ≤ far + 1 }
+        ensures inner { IsInnermost self.old.kin.ups self.old.ranked.rows self.old.starts result far self.old.before
+            self.old.ranked.numbers self.new.ranked.numbers }
         ensures stand { StandBut self.old.ranked.rows self.old.starts result far self.old.ranked.numbers
             self.new.ranked.numbers }
         ensures others { self.new ≡ record self.old { ranked = self.new.ranked } }

@@ -8,9 +8,9 @@ use Rattle.cip_branches.specs.Passing.{AreNotedBut, Passes}
 use Rattle.cip_rows.specs.Keys.{key_of}
 use Rattle.cip_branches.specs.Refining.{Refines}
 use Rattle.cip_rows.specs.Rows.{IsRow, OrdersPlaces}
-use Rattle.cip_branches.specs.Turning.{in_sphere, AreSpheres, AreSteadyBefore, SamePlaces, Stands, StandBut}
+use Rattle.cip_branches.specs.Turning.{in_sphere, AreSpheres, AreSteadyBefore, IsInnermost, SamePlaces, Stands, StandBut}
 use Rattle.cip_branches.proofs.KeptSpheres.{same_after}
-use Rattle.cip_branches.proofs.Passed.{noted_after, places, passed, split_spheres, split_steady, tops_stand}
+use Rattle.cip_branches.proofs.Passed.{innermost, noted_after, places, passed, split_spheres, split_steady, tops_stand}
 use Rattle.cip_branches.proofs.Turns.{read_at}
 use Rattle.cip_branches.proofs.spheres.Spheres.pass.Goals as goal
 use Rattle.cip_branches.proofs.spheres.Spheres.pass.Goals.{After-split_sphere}
@@ -94,7 +94,7 @@ note_rows-requires-clause-noted g c =
     let noted = noted_after (kids_of first.kin) first.kin.ups first.ranked.rows first.starts c.args.last c.args.far
     first.kin.room c.requires.far first.ranked.numbers first.before c.requires.spheres (fits g at) c.requires.noted
     c.requires.steady new.rows new.numbers (kept g at) inner
-    (let high = c.refine_inwards-inner.ensures.inner in omega (arith, high)) last.ranked.numbers stand last.ranked.rows
+    c.refine_inwards-inner.ensures.inner.high last.ranked.numbers stand last.ranked.rows
     places in
     let inner_is = read_at first.starts c.as_slice-3.result.now inner inner
     (c.as_slice-3.ensures ∙ ap (λ (s : Layers). s.starts) (c.self-2.view_is ∙ others)) refl in
@@ -119,7 +119,7 @@ returns-clause-tops g c = λ some.
     (sym c.note_rows.ensures) (tops_stand (kids_of first.kin) first.kin.ups first.ranked.rows first.starts c.args.last
     c.args.far first.kin.room c.requires.far first.ranked.numbers first.before c.requires.spheres (fits g at)
     c.requires.noted c.requires.steady new.rows new.numbers (kept g at) inner
-    (let high = c.refine_inwards-inner.ensures.inner in omega (arith, high)) last.ranked.numbers stand some)
+    c.refine_inwards-inner.ensures.inner.high last.ranked.numbers stand some)
 
 pub returns-clause-passed : goal.returns-clause-passed
 returns-clause-passed g c =
@@ -149,3 +149,18 @@ returns-clause-places g c =
     (places (kids_of first.kin) first.kin.ups first.ranked.rows first.starts c.args.last c.args.far first.kin.room
     c.requires.far first.ranked.numbers first.before c.requires.spheres (fits g at) c.requires.noted c.requires.steady
     new.rows new.numbers (kept g at)) refined)
+
+pub returns-clause-inner : goal.returns-clause-inner
+returns-clause-inner g c =
+    let at = (goal.at.returns-clause-inner g c).After-split_sphere in
+    let first = c.args.self.now in
+    let new = c.split_sphere.new.self.ranked in
+    let last = c.refine_inwards-inner.new.self in
+    let inner = c.refine_inwards-inner.result in
+    let found = subst (λ (s : Layers). IsInnermost s.kin.ups new.rows s.starts inner c.args.far s.before new.numbers
+    last.ranked.numbers) c.split_sphere.ensures.others c.refine_inwards-inner.ensures.inner in
+    subst (λ (s : Layers). IsInnermost first.kin.ups first.ranked.rows first.starts inner c.args.far first.before
+    first.ranked.numbers s.ranked.numbers) (sym c.note_rows.ensures)
+    (innermost (kids_of first.kin) first.kin.ups first.ranked.rows first.starts c.args.last c.args.far first.kin.room
+    c.requires.far first.ranked.numbers first.before c.requires.spheres (fits g at) c.requires.noted c.requires.steady
+    new.rows new.numbers (kept g at) inner last.ranked.numbers found)
