@@ -15,7 +15,7 @@ use Rattle.cip_rows.specs.Rows.{IsRow, number_in, AreClassed, OrdersPlaces}
 use Rattle.cip_branches.specs.Turning.{in_sphere, AreSpheres, SamePlaces}
 use Rattle.cip_branches.specs.Walking.{Grows, LastPlaces}
 use Rattle.cip_branches.proofs.Followed.{last_after}
-use Rattle.cip_branches.proofs.GrownPlaces.{one_more, was_there, is_last, pushed}
+use Rattle.cip_branches.proofs.GrownPlaces.{grows_none, one_more, was_there, is_last, pushed}
 use Rattle.cip_branches.proofs.KeptSpheres.{places_kept, spheres_kept}
 
 -- one more top behind the others
@@ -89,24 +89,14 @@ module _ (old : Layers) where
       (pushed none n branch 0 0 now grows refl)
 
   begins : Grows none none
-  begins = record {
-    kin_room = refl;
-    ranked_room = refl;
-    starts = refl;
-    entries = record { nodes = refl; branches = refl; firsts = refl; counts = refl; numbers = refl; before = refl };
-    more = omega arith;
-    rows_len = refl;
-    node = λ p lt. refl;
-    branch = λ p lt. refl;
-    up = λ p lt. refl;
-    number = λ p lt. refl;
-    before = λ p lt. refl;
-    row = λ k lt. refl;
-    new_row = λ p low high. absurd (omega (arith, high));
-    new_number = λ p low high. absurd (omega (arith, high));
-    new_before = λ p low high. absurd (omega (arith, high));
-    new_count = λ p low high. absurd (omega (arith, high));
-  }
+  begins = grows_none none (record {
+    nodes = refl;
+    branches = refl;
+    firsts = refl;
+    counts = refl;
+    numbers = refl;
+    before = refl;
+  })
 
   module _ (tops : List ℕ) where
     abbrev now : Layers

@@ -32,6 +32,27 @@ entries_on node branch up number now entries =
     }
 
 module _ (begin : Layers) where
+  -- as it begins all stands, and no place is new
+  pub grows_none : HaveEntries begin → Grows begin begin
+  grows_none entries = record {
+    kin_room = refl;
+    ranked_room = refl;
+    starts = refl;
+    entries = entries;
+    more = omega arith;
+    rows_len = omega arith;
+    node = λ p lt. refl;
+    branch = λ p lt. refl;
+    up = λ p lt. refl;
+    number = λ p lt. refl;
+    before = λ p lt. refl;
+    row = λ k lt. refl;
+    new_row = λ p low high. absurd (omega (arith, low, high));
+    new_number = λ p low high. absurd (omega (arith, low, high));
+    new_before = λ p low high. absurd (omega (arith, low, high));
+    new_count = λ p low high. absurd (omega (arith, low, high));
+  }
+
   module _ (node branch up number : ℕ) (now : Layers) (grows : Grows begin now)
       (is_row : number ≡ length begin.ranked.rows) where
     abbrev new : Layers

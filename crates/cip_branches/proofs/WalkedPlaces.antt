@@ -10,7 +10,7 @@ use Rattle.cip_branches.specs.Layers.{Layers, with_nodes, with_kids}
 use Rattle.cip_rows.specs.Parting.{has_flag}
 use Rattle.cip_branches.specs.Walking.{HaveEntries, Grows, Walks, kids_left, wanted_kids}
 use Rattle.cip_rows.proofs.Cases.{cases_flag, not_both, among_range}
-use Rattle.cip_branches.proofs.GrownPlaces.{pushed_all, Extends, extended, nodes_told, new_nodes}
+use Rattle.cip_branches.proofs.GrownPlaces.{grows_none, pushed_all, Extends, extended, nodes_told, new_nodes}
 use Rattle.cip_branches.proofs.PushedNodes.{places_more, nodes_behind}
 
 pub by_range : (P : ℕ → Type 0) (first count : ℕ) → ((k : ℕ) → first ≤ k → k < first + count → P k)
@@ -25,24 +25,7 @@ module _ (begin : Layers) (first size : ℕ) (kids_at : ℕ → List ℕ) (wante
     (bare : (p : ℕ) → first ≤ p → p < length begin.kin.ups → slice_index begin.kin.counts p ≡ 0) where
   pub none_walked : HaveEntries begin → Walks begin first size kids_at wanted first begin
   none_walked entries = record {
-    grows = record {
-      kin_room = refl;
-      ranked_room = refl;
-      starts = refl;
-      entries = entries;
-      more = omega arith;
-      rows_len = omega arith;
-      node = λ p lt. refl;
-      branch = λ p lt. refl;
-      up = λ p lt. refl;
-      number = λ p lt. refl;
-      before = λ p lt. refl;
-      row = λ k lt. refl;
-      new_row = λ p low high. absurd (omega (arith, low, high));
-      new_number = λ p low high. absurd (omega (arith, low, high));
-      new_before = λ p low high. absurd (omega (arith, low, high));
-      new_count = λ p low high. absurd (omega (arith, low, high));
-    };
+    grows = grows_none begin entries;
     listed =
         let none : 0 ≡ first - first = omega arith in
         sym (append-nil begin.kin.nodes)
