@@ -1,47 +1,33 @@
-use Rattle.std.proofs.Common.{refl, ◌∙◌, sym, ap, subst}
+use Rattle.std.proofs.Common.{◌≡◌, false, refl, sym, subst}
 use Rattle.cip_branches.specs.Deciding.{Branched, AreFollowed, FlagsOpen}
-use Rattle.cip_branches.specs.Following.{AreRanked}
-use Rattle.cip_branches.specs.Taking.{KeepsPlaces}
-use Rattle.cip_branches.specs.Turning.{Stands}
 use Rattle.cip_branches.proofs.OpenBranches.{open_still}
 use Rattle.cip_branches.proofs.TakenSpheres.{followed_kept}
 use Rattle.cip_branches.proofs.deciding.Branches.deepen.Goals as goal
+use Rattle.cip_branches.proofs.deciding.Branches.deepen.Goals.{After-deepen}
+
+-- where the first sphere stands, so do the branches that are wanted
+open_after : (g : _) (c : After-deepen g) → c.deepen.result ≡ false
+    → FlagsOpen c.deepen.new.self.ranked.numbers c.self.inside.wanted.items c.self.inside.wanted.items
+open_after g c not =
+    let was = subst AreFollowed (sym c.self.view_is) c.requires.followed in
+    let stand = c.deepen.ensures.tops not in
+    open_still c.self.inside.spheres.ranked.numbers c.deepen.new.self.ranked.numbers c.self.inside.wanted.items
+    (λ branch has. stand.each branch (was.chosen.top branch has)) was.chosen.tie
 
 pub returns-then-deepen-clause-followed : goal.returns-then-deepen-clause-followed
 returns-then-deepen-clause-followed g c =
-    let old = c.args.self.now in
-    let mid = c.deepen.new.self in
-    let others = c.let_go.ensures.others in
-    let kept = subst (λ (b : Branched). KeepsPlaces b.layers mid) c.self.view_is c.deepen.ensures.deeper.kept in
-    let ranked = subst (λ (b : Branched). AreRanked mid b.last) c.self.view_is c.deepen.ensures.ranked in
-    followed_kept old c.let_go.new.self c.requires.followed
-    (subst (λ (b : Branched). KeepsPlaces old.layers b.layers) (sym others) kept)
-    (subst (λ (b : Branched). AreRanked b.layers old.last) (sym others) ranked)
-    (ap (λ (b : Branched). b.first) others ∙ ap (λ (b : Branched). b.first) c.self.view_is)
-    (ap (λ (b : Branched). b.last) others ∙ ap (λ (b : Branched). b.last) c.self.view_is)
-    (subst (λ (b : Branched). FlagsOpen b.layers.ranked.numbers old.wanted c.let_go.new.self.wanted) (sym others)
-    (subst (λ (b : Branched). FlagsOpen mid.ranked.numbers b.wanted c.let_go.new.self.wanted) c.self.view_is
-    c.let_go.ensures.chosen))
+    let was = subst AreFollowed (sym c.self.view_is) c.requires.followed in
+    subst AreFollowed (sym c.let_go.ensures.others)
+    (followed_kept _ _ was c.deepen.ensures.deeper.kept c.deepen.ensures.ranked refl refl c.let_go.ensures.chosen)
 
 pub returns-else-deepen-clause-chosen : goal.returns-else-deepen-clause-chosen
 returns-else-deepen-clause-chosen g c =
-    let old = c.args.self.now in
-    let mid = c.deepen.new.self in
-    let stand = subst (λ (b : Branched). Stands b.layers.ranked.rows b.layers.starts 0 b.layers.ranked.numbers
-    mid.ranked.numbers) c.self.view_is (c.deepen.ensures.tops c.if-deepen.false) in
-    subst (λ (b : Branched). FlagsOpen mid.ranked.numbers old.wanted b.wanted) (sym c.self.view_is)
-    (open_still old.layers.ranked.numbers mid.ranked.numbers old.wanted
-    (λ branch has. stand.each branch (c.requires.followed.chosen.top branch has)) c.requires.followed.chosen.tie)
+    subst (λ (b : Branched). FlagsOpen c.deepen.new.self.ranked.numbers b.wanted c.self.inside.wanted.items)
+    c.self.view_is
+    (open_after g (goal.at.returns-else-deepen-clause-chosen g c).After-deepen c.if-deepen.false)
 
 pub returns-else-deepen-clause-followed : goal.returns-else-deepen-clause-followed
 returns-else-deepen-clause-followed g c =
-    let old = c.args.self.now in
-    let mid = c.deepen.new.self in
-    let kept = subst (λ (b : Branched). KeepsPlaces b.layers mid) c.self.view_is c.deepen.ensures.deeper.kept in
-    let ranked = subst (λ (b : Branched). AreRanked mid b.last) c.self.view_is c.deepen.ensures.ranked in
-    let stand = subst (λ (b : Branched). Stands b.layers.ranked.rows b.layers.starts 0 b.layers.ranked.numbers
-    mid.ranked.numbers) c.self.view_is (c.deepen.ensures.tops c.if-deepen.false) in
-    subst AreFollowed (ap (λ (b : Branched). record b { layers = mid }) (sym c.self.view_is))
-    (followed_kept old (record old { layers = mid }) c.requires.followed kept ranked refl refl
-    (open_still old.layers.ranked.numbers mid.ranked.numbers old.wanted
-    (λ branch has. stand.each branch (c.requires.followed.chosen.top branch has)) c.requires.followed.chosen.tie))
+    let was = subst AreFollowed (sym c.self.view_is) c.requires.followed in
+    followed_kept _ _ was c.deepen.ensures.deeper.kept c.deepen.ensures.ranked refl refl
+    (open_after g (goal.at.returns-else-deepen-clause-followed g c).After-deepen c.if-deepen.false)
