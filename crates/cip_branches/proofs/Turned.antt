@@ -20,6 +20,15 @@ wider rows from to past le place p = record {
   here = p.here;
 }
 
+-- what flags tell of the rows of a sphere, once they are set above the places behind it that changed
+pub record Flagged (kids : ℕ → List ℕ) (ups rows numbers : List ℕ) (from to : ℕ) (old new : List Bool) : Type 0 where
+  pub known : KnowTheirKids kids ups rows from to
+  pub heads : FlagHeads rows numbers from to new
+  pub calm : AreCalm kids (IsRow rows from to) (λ number. has_flag new number ≡ false) numbers
+  pub cleared : (cleared : List Bool) → ((row : ℕ) → from ≤ row → row < to → has_flag cleared row ≡ false)
+      → ((row : ℕ) → has_flag cleared row ≡ true → has_flag new row ≡ true) → NoFlags cleared
+  pub stands : new ≡ old → OrdersPlaces (IsRow rows from to) (by_kids kids numbers) numbers
+
 module _ (kids : ℕ → List ℕ) (ups rows before numbers : List ℕ) (from to past : ℕ)
     (classed : AreClassed rows numbers from to) (parents : KnowParents kids ups rows from to past) where
   pub above_within : (k : ℕ) → to ≤ k → k < past → number_above ups rows numbers k < to
@@ -27,7 +36,7 @@ module _ (kids : ℕ → List ℕ) (ups rows before numbers : List ℕ) (from to
       low high)
 
   module _ (old new : List Bool) (stirs : StirsAbove ups rows before numbers to past old new) where
-    pub heads_after : NoFlags old → FlagHeads rows numbers from to new
+    heads_after : NoFlags old → FlagHeads rows numbers from to new
     heads_after none = record {
       each = λ row low high has. elim (stirs.only row has) [
         | inl was ↦ absurd (not_both (has_flag old row) was (none.none row))
@@ -47,7 +56,7 @@ module _ (kids : ℕ → List ℕ) (ups rows before numbers : List ℕ) (from to
       )
     ]
 
-    pub none_after : NoFlags old → (cleared : List Bool)
+    none_after : NoFlags old → (cleared : List Bool)
         → ((row : ℕ) → from ≤ row → row < to → has_flag cleared row ≡ false)
         → ((row : ℕ) → has_flag cleared row ≡ true → has_flag new row ≡ true) → NoFlags cleared
     none_after none cleared unset fewer = record {
@@ -57,7 +66,7 @@ module _ (kids : ℕ → List ℕ) (ups rows before numbers : List ℕ) (from to
       ];
     }
 
-    pub calm_after : TieUnlessStirred kids before rows numbers from to
+    calm_after : TieUnlessStirred kids before rows numbers from to
         → AreCalm kids (IsRow rows from to) (λ number. has_flag new number ≡ false) numbers
     calm_after ties = record {
       same = λ a b p q tie calm. elim (cases_flag (is_shared rows numbers (slice_index numbers a) to)) [
@@ -70,11 +79,21 @@ module _ (kids : ℕ → List ℕ) (ups rows before numbers : List ℕ) (from to
     }
 
   -- where no class has a flag, the sphere stands
-  pub stands : (flags : List Bool) → StirsAbove ups rows before numbers to past flags flags → NoFlags flags
+  stands : (flags : List Bool) → StirsAbove ups rows before numbers to past flags flags → NoFlags flags
       → TieUnlessStirred kids before rows numbers from to
       → OrdersPlaces (IsRow rows from to) (by_kids kids numbers) numbers
   stands flags stirs none ties = still_ordered kids (IsRow rows from to) (λ number. has_flag flags number ≡ false)
       numbers (calm_after flags flags stirs ties) (λ place p. none.none (slice_index numbers place))
 
-  pub knows : KnowTheirKids kids ups rows from to
+  knows : KnowTheirKids kids ups rows from to
   knows = record { each = λ place p. all_by (λ kid is. is.1) (kids place) (parents.told place p) }
+
+  pub flagged : (old new : List Bool) → StirsAbove ups rows before numbers to past old new → NoFlags old
+      → TieUnlessStirred kids before rows numbers from to → Flagged kids ups rows numbers from to old new
+  flagged old new stirs none ties = record {
+    known = knows;
+    heads = heads_after old new stirs none;
+    calm = calm_after old new stirs ties;
+    cleared = none_after old new stirs none;
+    stands = λ same. stands old (subst (StirsAbove ups rows before numbers to past old) same stirs) none ties;
+  }

@@ -6,32 +6,39 @@ use Rattle.cip_branches.specs.Layers.{Layers}
 use Rattle.cip_rows.specs.Parting.{FlagHeads, has_flag}
 use Rattle.cip_rows.specs.Reserved.{Reserved}
 use Rattle.cip_rows.specs.Rows.{IsRow, AreClassed, OrdersPlaces}
-use Rattle.cip_rows.specs.Stirring.{KnowParents, StirsAbove, TieUnlessStirred, NoFlags}
-use Rattle.cip_branches.proofs.Turned.{above_within, heads_after, calm_after, none_after, stands, knows, wider}
+use Rattle.cip_rows.specs.Stirring.{KnowParents, TieUnlessStirred, NoFlags}
+use Rattle.cip_branches.proofs.Turned.{Flagged, above_within, flagged, wider}
 use Rattle.cip_branches.proofs.spheres.Spheres.turn_inwards.Goals as goal
-use Rattle.cip_branches.proofs.spheres.Spheres.turn_inwards.Goals.{After-self, After-stir_above, After-deref}
+use Rattle.cip_branches.proofs.spheres.Spheres.turn_inwards.Goals.{After-stir_above, After-deref}
 
--- the rows of the sphere and of the next one, as they stand inside
-classed : (c : After-self) → AreClassed c.self.inside.order.rows c.self.inside.order.numbers c.args.from c.args.to
-classed c = subst (λ (s : Layers). AreClassed s.ranked.rows s.ranked.numbers c.args.from c.args.to) (sym c.self.view_is)
-    c.requires.classed
+-- the rows of the sphere and of the next one, as they are seen inside
+classed : {seen now : Layers} {from to : ℕ} → seen ≡ now
+    → AreClassed now.ranked.rows now.ranked.numbers from to → AreClassed seen.ranked.rows seen.ranked.numbers from to
+classed {from = from} {to = to} view was =
+    subst (λ (s : Layers). AreClassed s.ranked.rows s.ranked.numbers from to) (sym view) was
 
-parents : (c : After-self) → KnowParents (kids_of c.self.inside.family) c.self.inside.family.ups
-    c.self.inside.order.rows c.args.from c.args.to c.args.past
-parents c = subst (λ (s : Layers). KnowParents (kids_of s.kin) s.kin.ups s.ranked.rows c.args.from c.args.to c.args.past)
-    (sym c.self.view_is) c.requires.parents
+parents : {seen now : Layers} {from to past : ℕ} → seen ≡ now
+    → KnowParents (kids_of now.kin) now.kin.ups now.ranked.rows from to past
+    → KnowParents (kids_of seen.kin) seen.kin.ups seen.ranked.rows from to past
+parents {from = from} {to = to} {past = past} view was =
+    subst (λ (s : Layers). KnowParents (kids_of s.kin) s.kin.ups s.ranked.rows from to past) (sym view) was
 
-tie : (c : After-stir_above) → TieUnlessStirred (kids_of c.self.inside.family) c.as_slice.result.now
-    c.self.inside.order.rows c.self.inside.order.numbers c.args.from c.args.to
-tie c = subst (λ (b : List ℕ). TieUnlessStirred (kids_of c.self.inside.family) b c.self.inside.order.rows
-    c.self.inside.order.numbers c.args.from c.args.to) (sym c.as_slice.ensures)
+-- the flags that were set, where none stood as it began
+flagged_here : (c : After-stir_above) → Flagged (kids_of c.self.inside.family) c.self.inside.family.ups
+    c.self.inside.order.rows c.self.inside.order.numbers c.args.from c.args.to c.deref_mut.result.now
+    c.stir_above.new.flags
+flagged_here c =
+    let kids = kids_of c.self.inside.family in
+    let rows = c.self.inside.order.rows in
+    let numbers = c.self.inside.order.numbers in
+    let none = subst NoFlags (sym (c.deref_mut.ensures.value ∙ ap (λ (column : Reserved Bool). column.items)
+    c.flags.view_is)) c.self.invariant.none in
+    let tie = subst (λ (b : List ℕ). TieUnlessStirred kids b rows numbers c.args.from c.args.to) (sym c.as_slice.ensures)
     (subst (λ (s : Layers). TieUnlessStirred (kids_of s.kin) s.before s.ranked.rows s.ranked.numbers c.args.from
-    c.args.to) (sym c.self.view_is) c.requires.tie)
-
--- no flag stands as it begins
-none : (c : After-stir_above) → NoFlags c.deref_mut.result.now
-none c = subst NoFlags (sym (c.deref_mut.ensures.value ∙ ap (λ (column : Reserved Bool). column.items) c.flags.view_is))
-    c.self.invariant.none
+    c.args.to) (sym c.self.view_is) c.requires.tie) in
+    flagged kids c.self.inside.family.ups rows c.as_slice.result.now numbers c.args.from c.args.to c.args.past
+    (classed c.self.view_is c.requires.classed) (parents c.self.view_is c.requires.parents) c.deref_mut.result.now
+    c.stir_above.new.flags c.stir_above.ensures.stirred none tie
 
 -- the flags that are read are those that were set
 read : (c : After-deref) → c.deref.result.now ≡ c.stir_above.new.flags
@@ -42,20 +49,16 @@ pub stir_above-requires-clause-parents : goal.stir_above-requires-clause-parents
 stir_above-requires-clause-parents c =
     let ups = c.self.inside.family.ups in
     let rows = c.self.inside.order.rows in
-    let back = sym c.self.view_is in
-    let within = subst (λ (s : Layers). c.args.past ≤ length s.ranked.rows) back c.requires.within in
+    let within = subst (λ (s : Layers). c.args.past ≤ length s.ranked.rows) (sym c.self.view_is) c.requires.within in
     λ k low high. wider rows c.args.from c.args.to (length rows)
     (let behind = c.requires.behind in omega (arith, behind, within)) (slice_index ups (slice_index rows k))
-    ((parents (goal.at.stir_above-requires-clause-parents c).After-self).up k low high)
+    ((parents c.self.view_is c.requires.parents).up k low high)
 
 pub stir_above-requires-clause-above : goal.stir_above-requires-clause-above
 stir_above-requires-clause-above c =
-    let kids = kids_of c.self.inside.family in
-    let ups = c.self.inside.family.ups in
-    let rows = c.self.inside.order.rows in
-    let numbers = c.self.inside.order.numbers in
-    let before = c.as_slice.result.now in
-    above_within kids ups rows before numbers c.args.from c.args.to c.args.past (classed (goal.at.stir_above-requires-clause-above c).After-self) (parents (goal.at.stir_above-requires-clause-above c).After-self)
+    above_within (kids_of c.self.inside.family) c.self.inside.family.ups c.self.inside.order.rows
+    c.as_slice.result.now c.self.inside.order.numbers c.args.from c.args.to c.args.past
+    (classed c.self.view_is c.requires.classed) (parents c.self.view_is c.requires.parents)
 
 pub stir_above-requires-clause-flags : goal.stir_above-requires-clause-flags
 stir_above-requires-clause-flags c =
@@ -69,59 +72,30 @@ stir_above-requires-clause-flags c =
 
 pub returns-then-not-stir_above-clause-ordered : goal.returns-then-not-stir_above-clause-ordered
 returns-then-not-stir_above-clause-ordered c =
-    let kids = kids_of c.self.inside.family in
-    let ups = c.self.inside.family.ups in
-    let rows = c.self.inside.order.rows in
-    let numbers = c.self.inside.order.numbers in
-    let before = c.as_slice.result.now in
-    let flags = c.deref_mut.result.now in
-    let still = c.stir_above.ensures.none c.if-not-stir_above.true in
-    let stirred = subst (λ (fs : List Bool). StirsAbove ups rows before numbers c.args.to c.args.past flags fs) still
-    c.stir_above.ensures.stirred in
+    let at = (goal.at.returns-then-not-stir_above-clause-ordered c).After-stir_above in
     subst (λ (s : Layers). OrdersPlaces (IsRow s.ranked.rows c.args.from c.args.to) (by_kids (kids_of s.kin)
-    s.ranked.numbers) numbers) c.self.view_is
-    (stands kids ups rows before numbers c.args.from c.args.to c.args.past (classed (goal.at.returns-then-not-stir_above-clause-ordered c).After-self) (parents (goal.at.returns-then-not-stir_above-clause-ordered c).After-self) flags stirred (none (goal.at.returns-then-not-stir_above-clause-ordered c).After-stir_above) (tie (goal.at.returns-then-not-stir_above-clause-ordered c).After-stir_above))
+    s.ranked.numbers) c.self.inside.order.numbers) c.self.view_is
+    ((flagged_here at).stands (c.stir_above.ensures.none c.if-not-stir_above.true))
 
 pub refine_sphere-requires-clause-known : goal.refine_sphere-requires-clause-known
 refine_sphere-requires-clause-known c =
-    let kids = kids_of c.self.inside.family in
-    let ups = c.self.inside.family.ups in
-    let rows = c.self.inside.order.rows in
-    let numbers = c.self.inside.order.numbers in
-    let before = c.as_slice.result.now in
-    knows kids ups rows before numbers c.args.from c.args.to c.args.past (classed (goal.at.refine_sphere-requires-clause-known c).After-self) (parents (goal.at.refine_sphere-requires-clause-known c).After-self)
+    (flagged_here (goal.at.refine_sphere-requires-clause-known c).After-stir_above).known
 
 pub refine_sphere-requires-clause-heads : goal.refine_sphere-requires-clause-heads
 refine_sphere-requires-clause-heads c =
-    let kids = kids_of c.self.inside.family in
-    let ups = c.self.inside.family.ups in
-    let rows = c.self.inside.order.rows in
-    let numbers = c.self.inside.order.numbers in
-    let before = c.as_slice.result.now in
-    let flags = c.deref_mut.result.now in
-    subst (FlagHeads rows numbers c.args.from c.args.to) (sym (read (goal.at.refine_sphere-requires-clause-heads c).After-deref))
-    (heads_after kids ups rows before numbers c.args.from c.args.to c.args.past (classed (goal.at.refine_sphere-requires-clause-heads c).After-self) (parents (goal.at.refine_sphere-requires-clause-heads c).After-self) flags c.stir_above.new.flags c.stir_above.ensures.stirred (none (goal.at.refine_sphere-requires-clause-heads c).After-stir_above))
+    let at = goal.at.refine_sphere-requires-clause-heads c in
+    subst (FlagHeads c.self.inside.order.rows c.self.inside.order.numbers c.args.from c.args.to)
+    (sym (read at.After-deref)) (flagged_here at.After-stir_above).heads
 
 pub refine_sphere-requires-clause-calm : goal.refine_sphere-requires-clause-calm
 refine_sphere-requires-clause-calm c =
-    let kids = kids_of c.self.inside.family in
-    let ups = c.self.inside.family.ups in
-    let rows = c.self.inside.order.rows in
-    let numbers = c.self.inside.order.numbers in
-    let before = c.as_slice.result.now in
-    let flags = c.deref_mut.result.now in
-    subst (λ (fs : List Bool). AreCalm kids (IsRow rows c.args.from c.args.to) (λ number. has_flag fs number ≡ false)
-    numbers) (sym (read (goal.at.refine_sphere-requires-clause-calm c).After-deref))
-    (calm_after kids ups rows before numbers c.args.from c.args.to c.args.past (classed (goal.at.refine_sphere-requires-clause-calm c).After-self) (parents (goal.at.refine_sphere-requires-clause-calm c).After-self) flags c.stir_above.new.flags c.stir_above.ensures.stirred (tie (goal.at.refine_sphere-requires-clause-calm c).After-stir_above))
+    let at = goal.at.refine_sphere-requires-clause-calm c in
+    subst (λ (fs : List Bool). AreCalm (kids_of c.self.inside.family)
+    (IsRow c.self.inside.order.rows c.args.from c.args.to) (λ number. has_flag fs number ≡ false)
+    c.self.inside.order.numbers) (sym (read at.After-deref)) (flagged_here at.After-stir_above).calm
 
 pub invariant_of-self-2 : goal.invariant_of-self-2
 invariant_of-self-2 c =
-    let kids = kids_of c.self.inside.family in
-    let ups = c.self.inside.family.ups in
-    let rows = c.self.inside.order.rows in
-    let numbers = c.self.inside.order.numbers in
-    let before = c.as_slice.result.now in
-    let flags = c.deref_mut.result.now in
     let was = c.self.invariant in
     let kept = c.refine_sphere.ensures.kept in
     let read : c.deref_mut-3.result.now ≡ c.stir_above.new.flags = c.deref_mut-3.ensures.value ∙ with_items_is c.flags.inside.items
@@ -147,7 +121,7 @@ invariant_of-self-2 c =
       sets_len = ap (λ (ns : List ℕ). length ns) sets ∙ c.refine_sphere.auto.sets ∙ ap (λ (ns : List ℕ). length ns)
           c.deref_mut-2.ensures.value ∙ ap (λ (column : Reserved ℕ). length column.items) c.sets.view_is
           ∙ was.sets_len;
-      none = subst NoFlags (sym left) (none_after kids ups rows before numbers c.args.from c.args.to c.args.past (classed (goal.at.invariant_of-self-2 c).After-self) (parents (goal.at.invariant_of-self-2 c).After-self) flags c.stir_above.new.flags c.stir_above.ensures.stirred (none (goal.at.invariant_of-self-2 c).After-stir_above)
+      none = subst NoFlags (sym left) ((flagged_here (goal.at.invariant_of-self-2 c).After-stir_above).cleared
           c.clear_flags.new.flags c.clear_flags.ensures.cleared
           (λ row has. subst (λ (fs : List Bool). has_flag fs row ≡ true) read (c.clear_flags.ensures.fewer row has)));
     }
