@@ -1,6 +1,7 @@
 pub mod Beginning
 pub mod Begun
 pub mod DecidedBranches
+pub mod Doubled
 pub mod Ending
 pub mod FewKids
 pub mod Filled

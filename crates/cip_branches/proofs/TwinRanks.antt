@@ -10,11 +10,12 @@ use Rattle.cip_rank.proofs.Descending.{all_by}
 use Rattle.cip_rank.proofs.NumberedNodes.{less_is, greater_is}
 use Rattle.cip_branches.specs.Deciding.{Branched, AreFollowed}
 use Rattle.cip_branches.specs.Following.{AreRanked}
-use Rattle.cip_rows.specs.Kids.{kids_of, kid_set}
+use Rattle.cip_rows.specs.Kids.{kid_set}
 use Rattle.cip_rows.specs.Rows.{AreClassed}
 use Rattle.cip_branches.specs.Turning.{in_sphere, AreSpheres}
-use Rattle.cip_branches.specs.Twins.{twins_of, kept_spheres, MayDouble}
+use Rattle.cip_branches.specs.Twins.{MayDouble}
 use Rattle.cip_rows.proofs.TwinLists.{halves_length, pairs_length}
+use Rattle.cip_branches.proofs.Doubled.{doubled}
 use Rattle.cip_branches.proofs.TwinFlags.{is_flagged, twins_tie}
 use Rattle.cip_branches.proofs.TwinSpheres.{IsTwinIn, kept_at_most, none_behind, start_at, start_past, starts_len, none_at, place_below, number_first, number_second, first_in, second_in, is_twin_in, kids_first, kids_second, up_first, up_second, no_kids, all_moved, classed}
 
@@ -58,38 +59,10 @@ pub half_same : (a b : ℕ) → a + a ≡ b + b → a ≡ b
 half_same a b e = omega (arith, e)
 
 module _ (room : ℕ) (from : Branched) (followed : AreFollowed from) (may : MayDouble from) where
-  abbrev count : ℕ
-  count = length from.layers.kin.ups
-
-  abbrev rows : List ℕ
-  rows = from.layers.ranked.rows
-
-  abbrev numbers : List ℕ
-  numbers = from.layers.ranked.numbers
-
-  abbrev starts : List ℕ
-  starts = from.layers.starts
-
-  abbrev At : ℕ → ℕ → Type 0
-  At = in_sphere rows starts
-
-  abbrev kept : ℕ
-  kept = kept_spheres from.last count
-
-  abbrev twins : Branched
-  twins = twins_of room from
-
-  abbrev new_numbers : List ℕ
-  new_numbers = twins.layers.ranked.numbers
+  open doubled room from use {count, rows, numbers, starts, At, kids, kept, twins, new_numbers, new_kids}
 
   abbrev In : ℕ → ℕ → Type 0
   In = in_sphere twins.layers.ranked.rows twins.layers.starts
-
-  abbrev kids : ℕ → List ℕ
-  kids = kids_of from.layers.kin
-
-  abbrev new_kids : ℕ → List ℕ
-  new_kids = kids_of twins.layers.kin
 
   abbrev spheres : AreSpheres kids from.layers.kin.ups rows starts from.last numbers
   spheres = followed.ranked.spheres

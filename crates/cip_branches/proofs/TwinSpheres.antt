@@ -4,14 +4,14 @@ use Rattle.std.specs.List.{AllByRecursion, range_with_len}
 use Rattle.std.proofs.lemmas.Bool.{cases_lt}
 use Rattle.std.proofs.lemmas.List.{length-append, length-map, length-take-le, get_or-map, get_or_append_left, get_or-append-add, get_or-take, get_or_past}
 use Rattle.cip_branches.specs.Deciding.{Branched, AreFollowed}
-use Rattle.cip_rows.specs.Kids.{kids_of}
 use Rattle.cip_rows.specs.Rows.{number_in, AreClassed}
 use Rattle.cip_branches.specs.Turning.{in_sphere}
-use Rattle.cip_branches.specs.Twins.{kept_spheres, twins_of, MayDouble}
+use Rattle.cip_branches.specs.Twins.{kept_spheres, MayDouble}
 use Rattle.cip_rows.specs.Twins.{moved_on, halves, twice}
 use Rattle.cip_rows.proofs.ClassInSphere.{place_high}
 use Rattle.cip_rows.proofs.TwinLists.{IsOfPair, in_first, in_second, in_front, in_back, moved_low, twice_is, of_pair, pair_first, pair_second}
 use Rattle.cip_rows.proofs.TwinPlaces.{half_low, half_high}
+use Rattle.cip_branches.proofs.Doubled.{doubled}
 
 range_moved : (by first count : ℕ) → range_with_len (by + first) count ≡ map (λ k. by + k) (range_with_len first count)
 range_moved by first zero = refl
@@ -29,41 +29,8 @@ pub record IsTwinIn (from : Branched) (t x : ℕ) : Type 0 where
   pub which : (x ≡ place) ⊎ (x ≡ length from.layers.kin.ups + place)
 
 module _ (room : ℕ) (from : Branched) (followed : AreFollowed from) (may : MayDouble from) where
-  abbrev count : ℕ
-  count = length from.layers.kin.ups
-
-  abbrev rows : List ℕ
-  rows = from.layers.ranked.rows
-
-  abbrev numbers : List ℕ
-  numbers = from.layers.ranked.numbers
-
-  abbrev starts : List ℕ
-  starts = from.layers.starts
-
-  abbrev At : ℕ → ℕ → Type 0
-  At = in_sphere rows starts
-
-  abbrev kept : ℕ
-  kept = kept_spheres from.last count
-
-  abbrev twins : Branched
-  twins = twins_of room from
-
-  abbrev new_starts : List ℕ
-  new_starts = twins.layers.starts
-
-  abbrev new_numbers : List ℕ
-  new_numbers = twins.layers.ranked.numbers
-
-  abbrev new_rows : List ℕ
-  new_rows = twins.layers.ranked.rows
-
-  abbrev kids : ℕ → List ℕ
-  kids = kids_of from.layers.kin
-
-  abbrev new_kids : ℕ → List ℕ
-  new_kids = kids_of twins.layers.kin
+  open doubled room from use {count, rows, numbers, starts, At, kids, kept}
+  open doubled room from use {twins, new_rows, new_numbers, new_starts, new_kids}
 
   -- where a sphere has no place, none further out has any
   level : (more t : ℕ) → t + more ≡ suc from.last → ((place : ℕ) → At t place → ⊥) → slice_index starts t ≡ length rows

@@ -16,10 +16,11 @@ use Rattle.cip_rows.specs.Kids.{kids_of}
 use Rattle.cip_rows.specs.Parting.{has_flag}
 use Rattle.cip_branches.specs.Standing.{node_in, WantedIn, StandsBy}
 use Rattle.cip_branches.specs.Turning.{in_sphere}
-use Rattle.cip_branches.specs.Twins.{twins_of, kept_spheres, MayDouble}
+use Rattle.cip_branches.specs.Twins.{MayDouble}
 use Rattle.cip_rows.specs.Twins.{moved_on}
 use Rattle.cip_branches.specs.Views.{IsView, IsEnded}
 use Rattle.cip_rows.proofs.Cases.{both, cases_same}
+use Rattle.cip_branches.proofs.Doubled.{doubled}
 use Rattle.cip_branches.proofs.RuledSpheres.{map_same}
 use Rattle.cip_rows.proofs.TwinLists.{moved_low, moved_high}
 use Rattle.cip_rows.proofs.TwinPlaces.{half_low, half_high}
@@ -57,14 +58,7 @@ named_high named nodes count one other x =
     high k le = grind (arith, nat_tests)
 
 module _ (room : ℕ) (from : Branched) (followed : AreFollowed from) (may : MayDouble from) where
-  abbrev count : ℕ
-  count = length from.layers.kin.ups
-
-  abbrev twins : Branched
-  twins = twins_of room from
-
-  abbrev kept : ℕ
-  kept = kept_spheres from.last count
+  open doubled room from use {count, kids, kept, twins, new_kids}
 
   chosen_first : (p : ℕ) → p < count
       → has_flag twins.wanted (slice_index twins.layers.kin.branches p)
@@ -160,12 +154,6 @@ module _ (room : ℕ) (from : Branched) (followed : AreFollowed from) (may : May
 
     module _ (view : IsView children node (kids_of from.layers.kin) (WantedIn from) from.last)
         (ends : IsEnded children node (WantedIn from) from.last) where
-      abbrev kids : ℕ → List ℕ
-      kids = kids_of from.layers.kin
-
-      abbrev new_kids : ℕ → List ℕ
-      new_kids = kids_of twins.layers.kin
-
       next_first : (t p : ℕ) → t < from.last → WantedIn from t p → AllByRecursion (WantedIn twins (suc t)) (new_kids p)
       next_first t p lt w = subst (AllByRecursion (WantedIn twins (suc t)))
           (sym (kids_first room from followed may p (place_below room from followed may t p w.at)))
