@@ -262,14 +262,18 @@ module _ (room : ℕ) (from : Branched) (followed : AreFollowed from) (may : May
         let begin = start_at t (omega (arith, inner)) in
         let past = start_at (suc t) (omega (arith, inner)) in
         let within = followed.ranked.spheres.within t (omega (arith, inner, most)) in
+        let first : pair.row + pair.row ≤ p.row =
+        elim pair.which [ inl e ↦ omega (arith, e) | inr e ↦ omega (arith, e) ] in
+        let second : p.row ≤ pair.row + pair.row + 1 =
+        elim pair.which [ inl e ↦ omega (arith, e) | inr e ↦ omega (arith, e) ] in
+        let at : At t (slice_index rows pair.row) = record {
+          row = pair.row;
+          low = omega (arith, low, begin, second);
+          high = omega (arith, high, past, first);
+          here = refl;
+        } in
         elim pair.which [
           | inl e ↦
-              let at : At t (slice_index rows pair.row) = record {
-                row = pair.row;
-                low = omega (arith, low, begin, e);
-                high = omega (arith, high, past, e);
-                here = refl;
-              } in
               record {
                 place = slice_index rows pair.row;
                 at = at;
@@ -278,12 +282,6 @@ module _ (room : ℕ) (from : Branched) (followed : AreFollowed from) (may : May
                 which = inl (sym p.here ∙ ap (slice_index new_rows) e ∙ pair_first count rows pair.row);
               }
           | inr e ↦
-              let at : At t (slice_index rows pair.row) = record {
-                row = pair.row;
-                low = omega (arith, low, begin, e);
-                high = omega (arith, high, past, e);
-                here = refl;
-              } in
               let row_high = at.high in
               record {
                 place = slice_index rows pair.row;

@@ -1,10 +1,23 @@
-use Rattle.std.proofs.Common.{◌≡◌, ◌++◌, ℕ, cond, List, length, arith, ◌∙◌, sym, ap, length-append}
+use Rattle.std.proofs.Common.{◌≡◌, ◌++◌, ℕ, true, cond, List, length, arith, ◌∙◌, sym, ap, length-append}
 use Rattle.cip_rank.specs.Tree.{children_of}
 use Rattle.cip_reroot.specs.View.{parent_list}
 use Rattle.cip_branches.specs.Around.{kept_off, kids_around}
 use Rattle.cip_branches.specs.Layers.{Layers, with_nodes}
 use Rattle.cip_branches.proofs.PushedNodes.{nodes_both, places_more, room_stays}
 use Rattle.cip_branches.proofs.spheres.Spheres.push_around.Goals as goal
+use Rattle.cip_branches.proofs.spheres.Spheres.push_around.Goals.{After-is_set}
+
+-- a node on the way has its children that are off it, and its parent
+around_is : (c : After-is_set) → c.is_set.result ≡ true →
+    let way = c.args.around.now.way.now in
+    let parents = c.args.around.now.table.now.parents in
+    kids_around parents way c.args.node
+    ≡ kept_off way (children_of parents c.args.node) ++ parent_list parents c.args.node
+around_is c on =
+    let way = c.args.around.now.way.now in
+    let parents = c.args.around.now.table.now.parents in
+    ap (λ b. cond b (kept_off way (children_of parents c.args.node) ++ parent_list parents c.args.node)
+    (children_of parents c.args.node)) (sym c.is_set.ensures ∙ on)
 
 pub push_parent-requires-clause-room : goal.push_parent-requires-clause-room
 push_parent-requires-clause-room c =
@@ -12,8 +25,7 @@ push_parent-requires-clause-room c =
     let parents = c.args.around.now.table.now.parents in
     let off = kept_off way (children_of parents c.args.node) in
     let up = parent_list parents c.args.node in
-    let kids : kids_around parents way c.args.node ≡ off ++ up =
-    ap (λ b. cond b (off ++ up) (children_of parents c.args.node)) (sym c.is_set.ensures ∙ c.if-is_set.true) in
+    let kids = around_is (goal.at.push_parent-requires-clause-room c).After-is_set c.if-is_set.true in
     let many = ap (λ (ns : List ℕ). length ns) kids ∙ length-append off up in
     let places = ap (λ (s : Layers). length s.kin.ups) c.push_off.ensures
     ∙ places_more off c.args.branch c.args.up c.args.number c.args.self.now in
@@ -28,8 +40,7 @@ returns-then-is_set c =
     let parents = c.args.around.now.table.now.parents in
     let off = kept_off way (children_of parents c.args.node) in
     let up = parent_list parents c.args.node in
-    let kids : kids_around parents way c.args.node ≡ off ++ up =
-    ap (λ b. cond b (off ++ up) (children_of parents c.args.node)) (sym c.is_set.ensures ∙ c.if-is_set.true) in
+    let kids = around_is (goal.at.returns-then-is_set c).After-is_set c.if-is_set.true in
     let push = λ (ns : List ℕ) (s : Layers). with_nodes ns c.args.branch c.args.up c.args.number s in
     c.push_parent.ensures ∙ ap (push up) c.push_off.ensures
     ∙ sym (nodes_both off up c.args.branch c.args.up c.args.number c.args.self.now)

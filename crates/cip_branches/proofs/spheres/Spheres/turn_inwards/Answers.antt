@@ -34,8 +34,8 @@ flagged_here c =
     let none = subst NoFlags (sym (c.deref_mut.ensures.value ∙ ap (λ (column : Reserved Bool). column.items)
     c.flags.view_is)) c.self.invariant.none in
     let tie = subst (λ (b : List ℕ). TieUnlessStirred kids b rows numbers c.args.from c.args.to)
-    (sym c.as_slice.ensures) (subst (λ (s : Layers). TieUnlessStirred (kids_of s.kin) s.before s.ranked.rows s.ranked.numbers c.args.from
-    c.args.to) (sym c.self.view_is) c.requires.tie) in
+    (sym c.as_slice.ensures) (subst (λ (s : Layers). TieUnlessStirred (kids_of s.kin) s.before s.ranked.rows
+    s.ranked.numbers c.args.from c.args.to) (sym c.self.view_is) c.requires.tie) in
     flagged kids c.self.inside.family.ups rows c.as_slice.result.now numbers c.args.from c.args.to c.args.past
     (classed c.self.view_is c.requires.classed) (parents c.self.view_is c.requires.parents) c.deref_mut.result.now
     c.stir_above.new.flags c.stir_above.ensures.stirred none tie
