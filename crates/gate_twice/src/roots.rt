@@ -59,7 +59,8 @@ pub fn compare_roots<L: Ledger>(
     found
 }
 
-// The same, over tables that are lent.
+// The same over tables that are lent: of each root node by node and where its digraph is whole, and what settling notes
+// of it.
 fn compare_each<L: Ledger>(
     alloc: Global,
     drawn: &Drawn,
@@ -70,38 +71,20 @@ fn compare_each<L: Ledger>(
     requires room { HaveRoom tables.old }
 {
     for root in 0..drawn.graph.vertices().len() as u32 {
-        let found = compare_root(alloc, drawn, tables, root, steps, counts)?;
-        if found.is_some() {
-            return Ok(found);
+        let grown = compare_grown(alloc, drawn, tables, root, steps, counts)?;
+        if grown.is_some() {
+            return Ok(grown);
+        }
+        if let Some(difference) = compare_settled(alloc, drawn, tables, root, steps, counts)? {
+            return Ok(Some(Found {
+                root,
+                sphere: tables.arena.sphere(),
+                difference,
+            }));
         }
         counts.roots = counts.roots.saturating_add(1);
     }
     Ok(None)
-}
-
-// Compares the digraphs of a root, node by node and where it is whole, and what settling notes of it.
-fn compare_root<L: Ledger>(
-    alloc: Global,
-    drawn: &Drawn,
-    tables: &mut Tables,
-    root: u32,
-    steps: &mut Steps<L>,
-    counts: &mut Counts,
-) -> Result<Option<Found>, AllocError>
-    requires room { HaveRoom tables.old }
-    requires root { root < length drawn.now.graph.vertices }
-    ensures room { HaveRoom tables.new }
-{
-    let grown = compare_grown(alloc, drawn, tables, root, steps, counts)?;
-    if grown.is_some() {
-        return Ok(grown);
-    }
-    let settled = compare_settled(alloc, drawn, tables, root, steps, counts)?;
-    Ok(settled.map(|difference| Found {
-        root,
-        sphere: tables.arena.sphere(),
-        difference,
-    }))
 }
 
 // Compares the digraphs of a root, as far as there is room.
