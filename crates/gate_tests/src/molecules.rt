@@ -48,14 +48,16 @@ pub const PYRIDINE: [(u32, u32, u8); 6] = [
     (0, 5, 1),
 ];
 
-// An atom by its symbol; - is an oxygen with a negative charge.
+// An atom by its symbol, chlorine by L; - is an oxygen with a negative charge.
 fn atom(symbol: u8) -> Atom
     ensures { IsAtom result }
 {
     Atom {
         z: match symbol {
-            b'O' | b'-' => 8,
             b'N' => 7,
+            b'O' | b'-' => 8,
+            b'S' => 16,
+            b'L' => 17,
             _ => 6,
         },
         isotope: 0,
@@ -66,7 +68,8 @@ fn atom(symbol: u8) -> Atom
     }
 }
 
-fn bond(a: u32, b: u32, order: u8) -> Bond
+/// A bond of order 2, or else a single one.
+pub fn bond(a: u32, b: u32, order: u8) -> Bond
     ensures { IsBond result }
 {
     Bond {
@@ -77,7 +80,8 @@ fn bond(a: u32, b: u32, order: u8) -> Bond
     }
 }
 
-fn atoms_of(alloc: Global, symbols: &[u8]) -> Result<Vec<Atom>, AllocError>
+/// Atoms by their symbols.
+pub fn atoms_of(alloc: Global, symbols: &[u8]) -> Result<Vec<Atom>, AllocError>
     requires { length symbols.now ≤ 16384 }
     ensures few { IfOk result (λ atoms. length atoms.items ≤ 16384) }
     ensures each { IfOk result (λ atoms. All IsAtom atoms.items) }

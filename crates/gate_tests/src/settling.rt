@@ -107,63 +107,26 @@ fn told(
     settled::<Brand>(alloc, Blank::new(1), &bonding, ligands.as_slice(), bound)
 }
 
+// A molecule, and the ligands of its first atom.
+type Drawn<'a> = (&'a [u8], Ends<'a>, &'a [u32]);
+
 #[test]
 fn digraphs_are_grown_as_far_as_needed(rt: HostRuntime) -> Result<(), Fail> {
     let alloc = rt.alloc();
-    let ring = [1, 2, 3, 4];
-    let around = [1, 2, 4, 6];
-    let cases: [(&[u8], Ends<'_>, &[u32], Option<u32>, u32, &str); 7] = [
-        (
-            b"CCOOCO",
-            &GLYCERALDEHYDE,
-            &[1, 3, 4, 6],
-            None,
-            100_000,
-            "Ordered, sphere 2, 12 nodes",
-        ),
-        (
-            b"CCCC",
-            &METHYLCYCLOPROPANE,
-            &ring,
-            None,
-            20,
-            "Tied, sphere 3, 20 nodes",
-        ),
-        (
-            b"CCCC",
-            &METHYLCYCLOPROPANE,
-            &ring,
-            None,
-            19,
-            "Over, sphere 2, 14 nodes",
-        ),
-        (
-            b"CCCC",
-            &METHYLCYCLOPROPANE,
-            &ring,
-            Some(1),
-            20,
-            "Whole, sphere 3, 20 nodes",
-        ),
-        (
-            b"COC-CO",
-            &OXIRANE,
-            &around,
-            Some(2),
-            17,
-            "Whole, sphere 3, 17 nodes",
-        ),
-        (
-            b"COC-CO",
-            &OXIRANE,
-            &around,
-            Some(2),
-            16,
-            "Over, sphere 2, 12 nodes",
-        ),
-        (b"C", &[], &[1, 2, 3, 4], None, 5, "Tied, sphere 1, 5 nodes"),
+    let chain: Drawn<'_> = (b"CCOOCO", &GLYCERALDEHYDE, &[1, 3, 4, 6]);
+    let ring: Drawn<'_> = (b"CCCC", &METHYLCYCLOPROPANE, &[1, 2, 3, 4]);
+    let anion: Drawn<'_> = (b"COC-CO", &OXIRANE, &[1, 2, 4, 6]);
+    let lone: Drawn<'_> = (b"C", &[], &[1, 2, 3, 4]);
+    let cases: [(Drawn<'_>, Option<u32>, u32, &str); 7] = [
+        (chain, None, 100_000, "Ordered, sphere 2, 12 nodes"),
+        (ring, None, 20, "Tied, sphere 3, 20 nodes"),
+        (ring, None, 19, "Over, sphere 2, 14 nodes"),
+        (ring, Some(1), 20, "Whole, sphere 3, 20 nodes"),
+        (anion, Some(2), 17, "Whole, sphere 3, 17 nodes"),
+        (anion, Some(2), 16, "Over, sphere 2, 12 nodes"),
+        (lone, None, 5, "Tied, sphere 1, 5 nodes"),
     ];
-    for (symbols, ends, ligands, unit, bound, want) in cases {
+    for ((symbols, ends, ligands), unit, bound, want) in cases {
         let answer = told(alloc, symbols, ends, ligands, unit, bound)?;
         assert_eq!(rt; answer.as_str(), want, "{want}");
     }

@@ -1,38 +1,18 @@
 ghost use Rattle.std.specs.Prelude.{◌≡◌, ◌≤◌, All, IfOk, length};
-ghost use Rattle.cip_mol.specs.Ranges.{IsAtom, IsBond};
+ghost use Rattle.cip_mol.specs.Ranges.{IsBond};
 
+use crate::molecules::{atoms_of, bond};
 use cip_digraph::{Graph, Positions, Units};
 use cip_hydro::graph_of;
 use cip_mancude::positions;
-use cip_mol::{Atom, Bond, Ligand, Ligands, Mark, Molecule, Site, Unit};
-use cip_num::Vec3;
+use cip_mol::{Bond, Ligand, Ligands, Molecule, Site, Unit};
 use cip_ring::smallest_ring;
 use cip_unit::units;
 use std::alloc::{AllocError, Global};
 use std::test::Fail;
 
-// An atom by its symbol, chlorine by L.
-fn atom(symbol: u8) -> Atom
-    ensures { IsAtom result }
-{
-    Atom {
-        z: match symbol {
-            b'N' => 7,
-            b'O' => 8,
-            b'S' => 16,
-            b'L' => 17,
-            _ => 6,
-        },
-        isotope: 0,
-        charge: 0,
-        radical: 0,
-        valence_mark: 0,
-        at: Vec3 { x: 0, y: 0, z: 0 },
-    }
-}
-
 // The bond of a word as `0-1`, which is single, or `0=1`, which is double.
-fn bond(word: &str) -> Bond
+fn bond_of(word: &str) -> Bond
     ensures { IsBond result }
 {
     let (ends, order) = match word.split_once('=') {
@@ -40,20 +20,7 @@ fn bond(word: &str) -> Bond
         None => (word.split_once('-'), 1),
     };
     let (a, b) = ends.unwrap_or(("", ""));
-    Bond {
-        a: a.parse().unwrap_or(0),
-        b: b.parse().unwrap_or(0),
-        order,
-        mark: Mark::Plain,
-    }
-}
-
-fn atoms_of(alloc: Global, symbols: &[u8]) -> Result<Vec<Atom>, AllocError>
-    requires { length symbols.now ≤ 16384 }
-    ensures few { IfOk result (λ atoms. length atoms.items ≤ 16384) }
-    ensures each { IfOk result (λ atoms. All IsAtom atoms.items) }
-{
-    symbols.iter().map(|symbol| atom(*symbol)).collect(alloc)
+    bond(a.parse().unwrap_or(0), b.parse().unwrap_or(0), order)
 }
 
 fn bonds_of(alloc: Global, words: &[&str]) -> Result<Vec<Bond>, AllocError>
@@ -61,7 +28,7 @@ fn bonds_of(alloc: Global, words: &[&str]) -> Result<Vec<Bond>, AllocError>
     ensures few { IfOk result (λ bonds. length bonds.items ≤ 32768) }
     ensures each { IfOk result (λ bonds. All IsBond bonds.items) }
 {
-    words.iter().map(|word| bond(word)).collect(alloc)
+    words.iter().map(|word| bond_of(word)).collect(alloc)
 }
 
 // How many vertices and edges a molecule's graph has, the positions of an atom, how many atoms the smallest ring
