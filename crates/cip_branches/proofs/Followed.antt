@@ -10,29 +10,53 @@ use Rattle.cip_rank.proofs.SortedDown.{numbers_equal}
 use Rattle.cip_branches.specs.Following.{AreRanked, Follows}
 use Rattle.cip_rows.specs.Kids.{kid_set, kids_of}
 use Rattle.cip_branches.specs.Layers.{Layers, with_sphere}
-use Rattle.cip_branches.specs.Passing.{Passes}
+use Rattle.cip_branches.specs.Passing.{AreNotedBut, AreSteadyButNew, Passes}
+use Rattle.cip_rows.specs.Keys.{AreKeyed}
 use Rattle.cip_rows.specs.Ranked.{Ranked}
 use Rattle.cip_branches.specs.Turning.{in_sphere, AreSpheres, SamePlaces}
 use Rattle.cip_branches.specs.Walking.{IsWalked, LastPlaces, MayWalk}
 use Rattle.cip_branches.proofs.GrownPlaces.{one_more, is_last, was_there}
+use Rattle.cip_branches.proofs.WalkedSpheres.{noted_walked, steady_walked, nodes_walked}
 
--- where a sphere was walked, there is one start more, behind all rows
+-- what a sphere that was walked gives the pass that ranks it: there is one start more, behind all rows
+pub record Ready (begin mid : Layers) (last size : ℕ) : Type 0 where
+  pub count : length mid.starts ≡ last + 3
+  pub ends : slice_index mid.starts (suc (suc last)) ≡ length mid.ranked.rows
+  pub noted : AreNotedBut mid.ranked.rows (slice_index mid.starts (suc last)) (slice_index mid.starts (suc (suc last)))
+      mid.before mid.ranked.numbers
+  pub steady : AreSteadyButNew (kids_of mid.kin) (in_sphere mid.ranked.rows mid.starts) last mid.kin.room mid.before
+  pub keyed : (count : ℕ) → size ≤ count → AreKeyed count begin.kin → AreKeyed count mid.kin
+
 module _ (begin : Layers) (first last size : ℕ) (kids_at : ℕ → List ℕ) (wanted : List Bool)
-    (may : MayWalk size kids_at wanted first last begin) (mid : Layers) (walked : IsWalked begin first size kids_at wanted mid)
-  where
-    before_it : length walked.walked.starts ≡ last + 2
-    before_it = ap (λ (ns : List ℕ). length ns) walked.walks.grows.starts ∙ may.count
+    (may : MayWalk size kids_at wanted first last begin) (mid : Layers)
+    (walked : IsWalked begin first size kids_at wanted mid) where
+  before_it : length walked.walked.starts ≡ last + 2
+  before_it = ap (λ (ns : List ℕ). length ns) walked.walks.grows.starts ∙ may.count
 
-    pub starts_more : length mid.starts ≡ last + 3
-    starts_more =
-        let one = one_more walked.walked.starts (length walked.walked.ranked.rows) in
-        let is = ap (λ (s : Layers). length s.starts) walked.ended in
-        omega (arith, before_it, one, is)
+  starts_more : length mid.starts ≡ last + 3
+  starts_more =
+      let one = one_more walked.walked.starts (length walked.walked.ranked.rows) in
+      let is = ap (λ (s : Layers). length s.starts) walked.ended in
+      omega (arith, before_it, one, is)
 
-    pub ends_behind : slice_index mid.starts (suc (suc last)) ≡ length mid.ranked.rows
-    ends_behind = ap (λ (s : Layers). slice_index s.starts (suc (suc last))) walked.ended
-        ∙ is_last walked.walked.starts (length walked.walked.ranked.rows) (suc (suc last)) (omega (arith, before_it))
-        ∙ ap (λ (s : Layers). length s.ranked.rows) (sym walked.ended)
+  ends_behind : slice_index mid.starts (suc (suc last)) ≡ length mid.ranked.rows
+  ends_behind = ap (λ (s : Layers). slice_index s.starts (suc (suc last))) walked.ended
+      ∙ is_last walked.walked.starts (length walked.walked.ranked.rows) (suc (suc last)) (omega (arith, before_it))
+      ∙ ap (λ (s : Layers). length s.ranked.rows) (sym walked.ended)
+
+  pub ready : AreRanked begin last → Ready begin mid last size
+  ready ranked = record {
+    count = starts_more;
+    ends = ends_behind;
+    noted = subst (λ (s : Layers). AreNotedBut s.ranked.rows (slice_index s.starts (suc last))
+        (slice_index s.starts (suc (suc last))) s.before s.ranked.numbers) (sym walked.ended)
+        (noted_walked begin first last size kids_at wanted may walked.below walked.walked walked.walks ranked.before);
+    steady = subst (λ (s : Layers). AreSteadyButNew (kids_of s.kin) (in_sphere s.ranked.rows s.starts) last s.kin.room
+        s.before) (sym walked.ended) (steady_walked begin first last size kids_at wanted may walked.below walked.walked
+        walked.walks ranked.before ranked.steady);
+    keyed = λ count le keyed. subst (λ (s : Layers). AreKeyed count s.kin) (sym walked.ended)
+        (nodes_walked begin first last size kids_at wanted may walked.below walked.walked walked.walks count le keyed);
+  }
 
 module _ (mid : Layers) (ranked : Ranked) (before : List ℕ)
     (places : SamePlaces mid.ranked.rows ranked.rows mid.starts) where
