@@ -32,5 +32,6 @@ module _ {N : Type 0} (children : N → List N) (earlier : N → N → Ordering)
       → AreAhead children earlier key node At far before → AreAhead children earlier key node At (suc far) now
   still_ahead start now begins outside ahead = record {
     each = λ t lt. moved (At t) (on node earlier) before now
-        (λ place p. outside t place (omega (arith, lt)) p ∙ begins.ahead t place lt p) (ahead.each t (omega (arith, lt)));
+        (λ place p. outside t place (omega (arith, lt)) p ∙ begins.ahead t place lt p)
+        (ahead.each t (omega (arith, lt)));
   }

@@ -103,7 +103,8 @@ module _ {N : Type 0} (children : N → List N) (earlier : N → N → Ordering)
     }
 
   -- one sphere more
-  module _ (old : Branched) (decided : AreDecided children earlier key named old) (size : ℕ) (kids_at : ℕ → List ℕ) (keys : List ℤ)
+  module _ (old : Branched) (decided : AreDecided children earlier key named old) (size : ℕ) (kids_at : ℕ → List ℕ)
+      (keys : List ℤ)
       (may : MayWalk size kids_at old.wanted old.first old.last old.layers)
       (names : Names children earlier key named old.layers old.wanted old.last size kids_at keys)
       (keyed : AreKeyed size old.layers.kin) where
@@ -213,7 +214,8 @@ module _ {N : Type 0} (children : N → List N) (earlier : N → N → Ordering)
                   (places.here 0 k (at_mid k (omega (arith, lt, count))));
               only = λ place at.
                   let was = subst (λ (s : Layers). in_sphere s.ranked.rows s.starts 0 place) is at in
-                  let lt = decided.only place (at_old begin old.first last size kids_at old.wanted may below walked walks 0
+                  let lt = decided.only place
+                  (at_old begin old.first last size kids_at old.wanted may below walked walks 0
                   place (omega arith) (places.there 0 place was)) in
                   omega (arith, lt, count);
               branch = λ k lt. subst (λ (s : Layers). slice_index s.kin.branches k ≡ k) back

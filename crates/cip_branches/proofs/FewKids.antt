@@ -58,7 +58,8 @@ module _ (parents nodes : List ℕ) (asc : IsAscending parents) where
       → AllByRecursion (IsBelow low) (kids_list (children_of parents) nodes place more)
   kids_below low place zero rises = tt
   kids_below low place (suc more) rises =
-      all_append (IsBelow low) (children_of parents (slice_index nodes place)) (kids_list (children_of parents) nodes (place + 1) more)
+      all_append (IsBelow low) (children_of parents (slice_index nodes place))
+      (kids_list (children_of parents) nodes (place + 1) more)
       (all_by (λ c is. record {
         behind = is.behind;
         within = is.below;

@@ -114,7 +114,8 @@ module _ (begin : Layers) where
           ];
         }
 
-  pub pushed_all : (nodes : List ℕ) (branch up number : ℕ) (now : Layers) → Grows begin now → number ≡ length begin.ranked.rows
+  pub pushed_all : (nodes : List ℕ) (branch up number : ℕ) (now : Layers) → Grows begin now
+      → number ≡ length begin.ranked.rows
       → Grows begin (with_nodes nodes branch up number now)
   pushed_all [] branch up number now grows is_row = grows
   pushed_all (n ∷ nodes) branch up number now grows is_row =

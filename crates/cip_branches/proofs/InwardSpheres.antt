@@ -90,7 +90,8 @@ module _ {N : Type 0} (children : N → List N) (node : ℕ → N) (kids : ℕ �
       was in
       record {
         each = λ a b p q. (refines.ordered t (omega arith) le).each a b p q
-            ∙ ap (λ r. ordering_then r (slice_cmp nat_cmp (kid_set kids now a) (kid_set kids now b))) (began.each a b p q)
+            ∙ ap (λ r. ordering_then r (slice_cmp nat_cmp (kid_set kids now a) (kid_set kids now b)))
+            (began.each a b p q)
             ∙ ap (ordering_then (rule back (node a) (node b)))
             (sets_are children node kids At last view (rule back) (comparison_total children key o back) now t a b
             (omega (arith, le, within)) inner p q);

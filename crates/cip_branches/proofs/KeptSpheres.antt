@@ -34,7 +34,8 @@ module _ (kids : ℕ → List ℕ) (ups rows starts : List ℕ) (last : ℕ) (nu
     (are : AreSpheres kids ups rows starts last numbers) where
   rise_by : (t more : ℕ) → t + more ≤ suc last → slice_index starts t ≤ slice_index starts (t + more)
   rise_by t zero le =
-      let none : t + 0 ≡ t = omega arith in subst (λ u. slice_index starts t ≤ slice_index starts u) (sym none) (omega arith)
+      let none : t + 0 ≡ t = omega arith in
+      subst (λ u. slice_index starts t ≤ slice_index starts u) (sym none) (omega arith)
   rise_by t (suc more) le =
       let next : t + suc more ≡ suc (t + more) = omega arith in
       let before = rise_by t more (omega (arith, le)) in

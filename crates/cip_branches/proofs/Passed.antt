@@ -21,7 +21,8 @@ module _ (kids : ℕ → List ℕ) (ups rows starts : List ℕ) (last far room :
     (noted : AreNotedBut rows (slice_index starts (suc far)) (slice_index starts (suc (suc far))) before old)
     (steady : AreSteadyButNew kids (in_sphere rows starts) far room before)
     (new_rows start : List ℕ)
-    (kept : KeepsSphere (slice_index starts (suc far)) (slice_index starts (suc (suc far))) rows new_rows old start) where
+    (kept : KeepsSphere (slice_index starts (suc far)) (slice_index starts (suc (suc far))) rows new_rows old
+    start) where
   pub places : SamePlaces rows new_rows starts
   places = places_kept kids ups rows starts last old are (suc far) (omega (arith, far_in)) new_rows start kept
 
@@ -41,8 +42,8 @@ module _ (kids : ℕ → List ℕ) (ups rows starts : List ℕ) (last far room :
   -- a number at the start is a row
   is_row : (t place : ℕ) → t ≤ last → in_sphere new_rows starts t place → slice_index start place ≢ room
   is_row t place le p e =
-      let high = place_high new_rows start (slice_index starts t) (slice_index starts (suc t)) (split_spheres.classed t le)
-      place p in
+      let high = place_high new_rows start (slice_index starts t) (slice_index starts (suc t))
+      (split_spheres.classed t le) place p in
       let within = split_spheres.within t le in
       let len = places.len in
       absurd (omega (arith, high, within, len, fits, e))
@@ -68,8 +69,8 @@ module _ (kids : ℕ → List ℕ) (ups rows starts : List ℕ) (last far room :
           → AllByRecursion (λ kid. slice_index start kid ≡ slice_index before kid) (kids place)
       kids_still t place le p outer = elim (cases_same t far) [
         | inl same ↦ outer same
-        | inr differ ↦ all_by (λ kid h. still (suc t) kid (inner t le differ) (places.there (suc t) kid h.0)) (kids place)
-            (split_spheres.told t place (omega (arith, le, far_in)) p)
+        | inr differ ↦ all_by (λ kid h. still (suc t) kid (inner t le differ) (places.there (suc t) kid h.0))
+            (kids place) (split_spheres.told t place (omega (arith, le, far_in)) p)
       ]
         where
           inner : (t : ℕ) → t ≤ far → t ≢ far → suc t ≤ far

@@ -62,7 +62,8 @@ module _ {N : Type 0} (children : N → List N) (earlier : N → N → Ordering)
       let at = at_old begin first last size kids_at wanted may below walked walks t place le p.at in
       record {
         at = at;
-        chosen = ap (has_flag wanted) (sym (walks.grows.branch place (is_known begin first last size kids_at wanted may below
+        chosen = ap (has_flag wanted)
+            (sym (walks.grows.branch place (is_known begin first last size kids_at wanted may below
             walked walks t place le at))) ∙ p.chosen;
       }
 
@@ -86,7 +87,8 @@ module _ {N : Type 0} (children : N → List N) (earlier : N → N → Ordering)
 
   kid_known : (t place : ℕ) → t < last → At t place → AllByRecursion (λ kid. kid < length begin.kin.ups)
       (kids_of begin.kin place)
-  kid_known t place lt p = all_by (λ kid h. is_known begin first last size kids_at wanted may below walked walks (suc t) kid
+  kid_known t place lt p =
+      all_by (λ kid h. is_known begin first last size kids_at wanted may below walked walks (suc t) kid
       (omega (arith, lt)) h.at) (kids_of begin.kin place) (ruled.view.next t place lt
       (was_at t place (omega (arith, lt)) p))
 
@@ -200,11 +202,12 @@ module _ {N : Type 0} (children : N → List N) (earlier : N → N → Ordering)
   }
 
   is_new : (t place : ℕ) → last < t → At t place → (length begin.kin.ups ≤ place) × (place < length mid.kin.ups)
-  is_new t place lt p = elim (which begin first last size kids_at wanted may below walked walks t p.at.row p.at.low p.at.high) [
-    | inl inner ↦ absurd (omega (arith, lt, inner))
-    | inr at ↦ at_new begin first last size kids_at wanted may below walked walks place (subst (λ u. in_sphere
-        mid.ranked.rows mid.starts u place) at p.at)
-  ]
+  is_new t place lt p =
+      elim (which begin first last size kids_at wanted may below walked walks t p.at.row p.at.low p.at.high) [
+        | inl inner ↦ absurd (omega (arith, lt, inner))
+        | inr at ↦ at_new begin first last size kids_at wanted may below walked walks place (subst (λ u. in_sphere
+            mid.ranked.rows mid.starts u place) at p.at)
+      ]
 
   ahead : AreAhead children earlier key node At last mid.ranked.numbers
   ahead = record {

@@ -23,14 +23,14 @@ pub put_back : (was now : Branched) (room : ℕ) → AreFollowed was → KeepsPl
     → now.first ≡ was.first → now.last ≡ was.last → restored (saved_of room was) now ≡ was
 put_back was now room followed kept first last =
     let saved = saved_of room was in
-    ap (λ (k : Kin). made k now.layers.ranked.room now.layers.starts saved.numbers saved.wanted now.first now.last saved)
-    kept.kin
+    ap (λ (k : Kin). made k now.layers.ranked.room now.layers.starts saved.numbers saved.wanted now.first now.last
+    saved) kept.kin
     ∙ ap (λ n. made was.layers.kin n now.layers.starts saved.numbers saved.wanted now.first now.last saved) kept.room
     ∙ ap (λ ns. made was.layers.kin was.layers.ranked.room ns saved.numbers saved.wanted now.first now.last saved)
     kept.starts
     ∙ ap (λ n. made was.layers.kin was.layers.ranked.room was.layers.starts saved.numbers saved.wanted n now.last saved)
     first
-    ∙ ap (λ n. made was.layers.kin was.layers.ranked.room was.layers.starts saved.numbers saved.wanted was.first n saved)
-    last
+    ∙ ap (λ n. made was.layers.kin was.layers.ranked.room was.layers.starts saved.numbers saved.wanted was.first n
+    saved) last
     ∙ ap (λ ns. made was.layers.kin was.layers.ranked.room was.layers.starts ns was.wanted was.first was.last saved)
     (sym followed.ranked.before)

@@ -252,7 +252,8 @@ module _ (Among : ℕ → Type 0) {N : Type 0} (children : N → List N) (named 
               shown = shown_now children named old new splits.kept chosen last Among stands.shown;
               tops = tops_now children named old new splits.kept chosen last Among stands.shown.inside earlier (rule 0)
                   stands.tops
-                  (told_now Among named old numbers earlier (rule 0) stands.tops total first_finer first_side first_inner)
+                  (told_now Among named old numbers earlier (rule 0) stands.tops total first_finer first_side
+                  first_inner)
                   (tied_before Among named old numbers earlier (rule 0) stands.tops total first_finer first_side
                   first_inner);
               reaches = reaches_now children named old new splits.kept chosen last earlier key 0 (record {

@@ -67,7 +67,8 @@ module _ {N : Type 0} (children : N → List N) (named : ℕ → N) where
     pub rule_stands : (now : Branched) → IsEnded children (node_in named now) (WantedIn now) now.last
         → IsTaken children named earlier key now.last now → (depth : ℕ) → now.last ≤ depth
         → StandsBy children named (comparison children earlier key depth) now
-    rule_stands now ends taken depth le = stand_back (comparison children earlier key depth) now (length now.wanted) refl
+    rule_stands now ends taken depth le = stand_back (comparison children earlier key depth) now
+        (length now.wanted) refl
         (stands_among (AllOf (length now.wanted)) children named earlier o key now ends
         (taken_all now.last now taken) depth le)
 

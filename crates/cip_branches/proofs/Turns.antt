@@ -80,8 +80,8 @@ module _ (kids : ℕ → List ℕ) (ups rows starts : List ℕ) (last : ℕ) (st
         let in_last : s ≤ last = omega (arith, le, far_in) in
         record {
           refines = refines_step kids At far are_next start mid new s le turns.refines
-              (λ u place differ p. other_place kids ups mid_rows starts last mid turns.spheres s in_last new_rows new kept
-              u place differ (turns.places.here u place p))
+              (λ u place differ p. other_place kids ups mid_rows starts last mid turns.spheres s in_last new_rows new
+              kept u place differ (turns.places.here u place p))
               (record { each = λ a b p q. ordered.each a b (turns.places.here s a p) (turns.places.here s b q) });
           places = same_after rows mid_rows new_rows starts turns.places (places_kept kids ups mid_rows starts last mid
               turns.spheres s in_last new_rows new kept);
@@ -164,8 +164,8 @@ pub record Given (first now : Layers) (last far t from to past : ℕ) : Type 0 w
 module _ (first now : Layers) (others : now ≡ record first { ranked = now.ranked }) (last far t from to past : ℕ)
     (are : AreSpheres (kids_of first.kin) first.kin.ups first.ranked.rows first.starts last first.ranked.numbers)
     (far_in : far < last) (some : 0 < t) (high : t ≤ far + 1)
-    (turns : Turns (kids_of first.kin) first.kin.ups first.ranked.rows first.starts far last first.ranked.numbers t now.ranked.rows
-    now.ranked.numbers)
+    (turns : Turns (kids_of first.kin) first.kin.ups first.ranked.rows first.starts far last first.ranked.numbers t
+    now.ranked.rows now.ranked.numbers)
     (from_is : slice_index first.starts (t - 1) ≡ from) (to_is : slice_index first.starts (suc (t - 1)) ≡ to)
     (past_is : slice_index first.starts (suc (suc (t - 1))) ≡ past)
     (steady : AreSteadyBefore (kids_of first.kin) first.ranked.rows first.starts far first.before first.ranked.numbers)

@@ -62,7 +62,8 @@ module _ (count : ℕ) (wanted : List Bool) (tops : length wanted ≤ count) whe
 
   module _ (numbers : List ℕ) (same : (branch : ℕ) → has_flag wanted branch ≡ true
       → slice_index numbers branch ≡ slice_index numbers (count + branch)) where
-    flagged_first : (k : ℕ) → k < length wanted → has_flag wanted k ≡ true → has_flag (twin_wanted count wanted) k ≡ true
+    flagged_first : (k : ℕ) → k < length wanted → has_flag wanted k ≡ true
+        → has_flag (twin_wanted count wanted) k ≡ true
     flagged_first k lt flag = flag_first k (omega (arith, lt, tops)) ∙ flag
 
     open_one : (x : ℕ) → IsFlagged x → IsOpen numbers (twin_wanted count wanted) x

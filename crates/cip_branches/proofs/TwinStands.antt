@@ -70,7 +70,8 @@ module _ (room : ℕ) (from : Branched) (followed : AreFollowed from) (may : May
         | inl low ↦
             let same : moved_on 0 count b ≡ b = moved_low 0 count b low ∙ omega arith in
             ap (has_flag twins.wanted) (here ∙ same) ∙ flag_first count from.wanted may.tops b low
-        | inr high ↦ ap (has_flag twins.wanted) (here ∙ moved_high 0 count b high) ∙ flag_second count from.wanted may.tops count
+        | inr high ↦ ap (has_flag twins.wanted) (here ∙ moved_high 0 count b high)
+            ∙ flag_second count from.wanted may.tops count
             ∙ no_flag count from.wanted may.tops count (omega arith) ∙ sym (no_flag count from.wanted may.tops b high)
       ]
 
@@ -81,8 +82,10 @@ module _ (room : ℕ) (from : Branched) (followed : AreFollowed from) (may : May
       let b = slice_index from.layers.kin.branches p in
       let here = half_high from.layers.kin may.family from.layers.kin.branches may.family.branches_len p lt in
       elim (cases_lt b count) [
-        | inl low ↦ ap (has_flag twins.wanted) (here ∙ moved_low count count b low) ∙ flag_second count from.wanted may.tops b
-        | inr high ↦ ap (has_flag twins.wanted) (here ∙ moved_high count count b high) ∙ flag_second count from.wanted may.tops count
+        | inl low ↦ ap (has_flag twins.wanted) (here ∙ moved_low count count b low)
+            ∙ flag_second count from.wanted may.tops b
+        | inr high ↦ ap (has_flag twins.wanted) (here ∙ moved_high count count b high)
+            ∙ flag_second count from.wanted may.tops count
             ∙ no_flag count from.wanted may.tops count (omega arith) ∙ sym (no_flag count from.wanted may.tops b high)
       ]
 
@@ -409,7 +412,8 @@ module _ (room : ℕ) (from : Branched) (followed : AreFollowed from) (may : May
           let lt = reading.low in
           let tops = may.tops in
           elim reading.which [
-            | inl e ↦ ap (has_flag twins.wanted) e ∙ flag_first count from.wanted may.tops reading.branch (omega (arith, lt, tops)) ∙ flag
+            | inl e ↦ ap (has_flag twins.wanted) e
+                ∙ flag_first count from.wanted may.tops reading.branch (omega (arith, lt, tops)) ∙ flag
             | inr e ↦ ap (has_flag twins.wanted) e.0 ∙ flag_second count from.wanted may.tops reading.branch ∙ flag
           ]
 

@@ -73,7 +73,8 @@ module _ (parents : List ℕ) (asc : IsAscending parents) (wanted : List Bool) (
 
       pub walked_within : AllByRecursion (λ c. c < length parents) (walked (length kin.nodes - first))
       walked_within = all_walked (λ c. c < length parents) (children_of parents) wanted kin first
-          (length kin.nodes - first) (λ p low high. all_by (λ c is. is.below) (children_of parents (node p)) (children_are parents (node p)))
+          (length kin.nodes - first)
+          (λ p low high. all_by (λ c is. is.below) (children_of parents (node p)) (children_are parents (node p)))
 
       pub few_walked : count + length (walked (length kin.nodes - first)) ≤ length parents
       few_walked = rises_few count (length parents) (walked (length kin.nodes - first)) enough
@@ -85,8 +86,10 @@ module _ (parents : List ℕ) (asc : IsAscending parents) (wanted : List Bool) (
           let few = rises_few count (length parents) (kids_list (children_of parents) kin.nodes first more) enough
           (kids_rise parents kin.nodes asc first more (λ p q low lt high. rise p q low lt
           (omega (arith, high, within))))
-          (list_all (λ c. count ≤ c) (children_of parents) kin.nodes first more (λ p low high. far p low (omega (arith, high, within))))
-          (list_all (λ c. c < length parents) (children_of parents) kin.nodes first more (λ p low high. all_by (λ c is. is.below)
+          (list_all (λ c. count ≤ c) (children_of parents) kin.nodes first more
+          (λ p low high. far p low (omega (arith, high, within))))
+          (list_all (λ c. c < length parents) (children_of parents) kin.nodes first more
+          (λ p low high. all_by (λ c is. is.below)
           (children_of parents (node p)) (children_are parents (node p)))) in
           let same = kids_count (children_of parents) kin.nodes first more in
           omega (arith, few, same)

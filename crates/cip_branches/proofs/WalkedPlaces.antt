@@ -239,7 +239,8 @@ module _ (begin : Layers) (first size : ℕ) (kids_at : ℕ → List ℕ) (wante
               (subst (λ (ns : List ℕ). IsAmong ns p) (sym (others q (omega (arith, lt, high, more))
               (λ e. absurd (omega (arith, e, lt))))) (walks.new_kid p l before))
           | inr behind ↦ subst (λ u. IsAmong (kids_of new.kin u) p) (sym (extends.below p behind h))
-              (subst (λ (ns : List ℕ). IsAmong ns p) (sym here) (among_range (length now.kin.ups) (length nodes) p behind
+              (subst (λ (ns : List ℕ). IsAmong ns p) (sym here)
+              (among_range (length now.kin.ups) (length nodes) p behind
               (omega (arith, h, count))))
         ];
         new_low = λ p l h. elim (which_new p h) [

@@ -58,7 +58,8 @@ module _ (begin : Layers) (first last size : ℕ) (kids_at : ℕ → List ℕ) (
   old_row : (t row : ℕ) → t ≤ last → row < slice_index begin.starts (suc t) → row < first_row
   old_row t row le high = let within = are.within t le in omega (arith, high, within)
 
-  pub old_at : (t place : ℕ) → t ≤ last → in_sphere begin.ranked.rows begin.starts t place → in_sphere rows starts t place
+  pub old_at : (t place : ℕ) → t ≤ last → in_sphere begin.ranked.rows begin.starts t place
+      → in_sphere rows starts t place
   old_at t place le p = record {
     row = p.row;
     low = subst (λ n. n ≤ p.row) (sym (start_old t (omega (arith, le)))) p.low;
@@ -66,7 +67,8 @@ module _ (begin : Layers) (first last size : ℕ) (kids_at : ℕ → List ℕ) (
     here = walks.grows.row p.row (old_row t p.row le p.high) ∙ p.here;
   }
 
-  pub at_old : (t place : ℕ) → t ≤ last → in_sphere rows starts t place → in_sphere begin.ranked.rows begin.starts t place
+  pub at_old : (t place : ℕ) → t ≤ last → in_sphere rows starts t place
+      → in_sphere begin.ranked.rows begin.starts t place
   at_old t place le p =
       let high = subst (λ n. p.row < n) (start_old (suc t) (omega (arith, le))) p.high in
       record {
@@ -292,7 +294,8 @@ module _ (begin : Layers) (first last size : ℕ) (kids_at : ℕ → List ℕ) (
           | inr outer ↦
               let at : t ≡ last = omega (arith, le, outer) in
               ap (λ (ns : List ℕ). sorted_down nat_cmp (map (slice_index now.before) ns))
-              (none_new (kids_of now.kin a) known_a (all_new a (subst (λ u. in_sphere begin.ranked.rows begin.starts u a)
+              (none_new (kids_of now.kin a) known_a
+              (all_new a (subst (λ u. in_sphere begin.ranked.rows begin.starts u a)
               at at_a)) ∙ sym (none_new (kids_of now.kin b) known_b (all_new b
               (subst (λ u. in_sphere begin.ranked.rows begin.starts u b) at at_b))))
         ];

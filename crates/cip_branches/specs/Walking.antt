@@ -90,7 +90,8 @@ kids_left kids_at nodes place (suc more) =
     length (kids_at (slice_index nodes place)) + kids_left kids_at nodes (place + 1) more
 
 -- all places of the last sphere are walked, and a sphere ends behind them
-pub record IsWalked (begin : Layers) (first size : ℕ) (kids_at : ℕ → List ℕ) (wanted : List Bool) (now : Layers) : Type 0
+pub record IsWalked (begin : Layers) (first size : ℕ) (kids_at : ℕ → List ℕ) (wanted : List Bool)
+    (now : Layers) : Type 0
   where
     pub walked : Layers
     pub below : (k : ℕ) → k < length begin.ranked.rows → slice_index begin.ranked.rows k < length begin.kin.ups

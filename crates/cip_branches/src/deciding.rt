@@ -18,8 +18,8 @@ use std::alloc::{AllocError, Global};
 use std::cmp::Ordering;
 use std::marker::Model;
 
-/// Branches of a tree seen from its root or from another node, followed sphere by sphere by one rule. A branch is let go
-/// once its top is told apart from all others: what is told stays so.
+/// Branches of a tree seen from its root or from another node, followed sphere by sphere by one rule. A branch is let
+/// go once its top is told apart from all others: what is told stays so.
 #[derive(Drop)]
 pub struct Branches {
     pub(crate) spheres: Spheres,

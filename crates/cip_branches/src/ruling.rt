@@ -57,8 +57,8 @@ impl Branches {
         self.let_go();
     }
 
-    /// Takes a rule that was taken as far as a sphere to the one behind, and lets go of the branches that are told apart
-    /// now.
+    /// Takes a rule that was taken as far as a sphere to the one behind, and lets go of the branches that are told
+    /// apart now.
     pub fn deepen<K: Keyed>(&mut self, keys: &K, far: u32)
         requires followed { AreFollowed self.old }
         requires far { far < self.old.last }

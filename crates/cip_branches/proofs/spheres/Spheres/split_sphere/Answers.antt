@@ -22,7 +22,8 @@ returns-clause-split g c =
     let flagged = subst (λ (fs : List Bool). FlagClasses rows numbers c.args.from c.args.to c.args.to fs) (sym read)
     c.flag_classes.ensures in
     subst (λ (s : Layers). OrdersPlaces (IsRow s.ranked.rows c.args.from c.args.to) (then_cmp
-    (by_number s.ranked.numbers) (on (key_of (g.K.Keyed.key c.args.keys.now) s.kin) int_cmp)) c.part_sphere.new.order.numbers) c.self.view_is
+    (by_number s.ranked.numbers) (on (key_of (g.K.Keyed.key c.args.keys.now) s.kin) int_cmp))
+    c.part_sphere.new.order.numbers) c.self.view_is
     (sphere_split (on key int_cmp) c.args.from c.args.to c.deref.result.now rows numbers classed
     (on_total key int_cmp_total) (have_flags rows numbers c.args.from c.args.to c.deref.result.now flagged)
     c.part_sphere.new.order.rows c.part_sphere.new.order.numbers c.part_sphere.ensures.parted)

@@ -98,13 +98,15 @@ pub invariant_of-self-2 : goal.invariant_of-self-2
 invariant_of-self-2 c =
     let was = c.self.invariant in
     let kept = c.refine_sphere.ensures.kept in
-    let read : c.deref_mut-3.result.now ≡ c.stir_above.new.flags = c.deref_mut-3.ensures.value ∙ with_items_is c.flags.inside.items
+    let read : c.deref_mut-3.result.now ≡ c.stir_above.new.flags = c.deref_mut-3.ensures.value
+    ∙ with_items_is c.flags.inside.items
     c.stir_above.new.flags (c.stir_above.auto.flags ∙ c.deref_mut.ensures.len) in
     let left : (with_items (with_items c.flags.inside.items c.stir_above.new.flags) c.clear_flags.new.flags).items
     ≡ c.clear_flags.new.flags = with_items_is (with_items c.flags.inside.items c.stir_above.new.flags)
     c.clear_flags.new.flags (c.clear_flags.auto.flags ∙ c.deref_mut-3.ensures.len) in
     let sets : (with_items c.sets.inside.items c.refine_sphere.new.sets).items ≡ c.refine_sphere.new.sets =
-    with_items_is c.sets.inside.items c.refine_sphere.new.sets (c.refine_sphere.auto.sets ∙ c.deref_mut-2.ensures.len) in
+    with_items_is c.sets.inside.items c.refine_sphere.new.sets
+    (c.refine_sphere.auto.sets ∙ c.deref_mut-2.ensures.len) in
     record {
       fits = was.fits;
       ranked_room = c.refine_sphere.ensures.room ∙ was.ranked_room;
@@ -115,7 +117,8 @@ invariant_of-self-2 c =
       rows_len = let len = kept.kept.len in let le = was.rows_len in omega (arith, len, le);
       numbers_len = kept.len ∙ was.numbers_len;
       before_len = was.before_len;
-      flags_len = ap (λ (fs : List Bool). length fs) left ∙ c.clear_flags.auto.flags ∙ ap (λ (fs : List Bool). length fs)
+      flags_len = ap (λ (fs : List Bool). length fs) left ∙ c.clear_flags.auto.flags
+          ∙ ap (λ (fs : List Bool). length fs)
           read ∙ c.stir_above.auto.flags ∙ ap (λ (fs : List Bool). length fs) c.deref_mut.ensures.value
           ∙ ap (λ (column : Reserved Bool). length column.items) c.flags.view_is ∙ was.flags_len;
       sets_len = ap (λ (ns : List ℕ). length ns) sets ∙ c.refine_sphere.auto.sets ∙ ap (λ (ns : List ℕ). length ns)

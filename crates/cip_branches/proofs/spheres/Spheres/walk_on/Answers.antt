@@ -15,6 +15,9 @@ use Rattle.cip_branches.proofs.spheres.Spheres.walk_on.Goals.{After-len-past, Af
 past_is : (c : After-len-past) → c.len-past.result ≡ length c.args.self.now.kin.ups
 past_is c = c.len-past.ensures.count ∙ ap (λ (s : Layers). length s.kin.ups) c.self.view_is
 
+is_known : (c : After-len-past) (place : ℕ) → place < c.len-past.result → place < length c.args.self.now.kin.ups
+is_known c place lt = let past = past_is c in omega (arith, lt, past)
+
 -- the walk has come to the last one
 walks : (c : After-end_sphere) → Walks c.args.self.now c.args.first (length c.args.around.now.table.now.parents)
     (kids_around c.args.around.now.table.now.parents c.args.around.now.way.now) c.args.wanted.now
@@ -63,9 +66,7 @@ pub loop-place-preserved : goal.loop-place-preserved
 loop-place-preserved c =
     let size = length c.args.around.now.table.now.parents in
     let kids_at = kids_around c.args.around.now.table.now.parents c.args.around.now.way.now in
-    let past = past_is (goal.at.loop-place-preserved c).After-len-past in
-    let high : c.loop-place.place < length c.args.self.now.kin.ups = let lt = c.loop-place-test.true in
-    omega (arith, lt, past) in
+    let high = is_known (goal.at.loop-place-preserved c).After-len-past c.loop-place.place c.loop-place-test.true in
     let left = left_at kids_at c.args.self.now.kin.nodes c.loop-place.place c.len-past.result
     c.loop-place-test.true in
     let room = c.loop-place.invariant.room in
@@ -91,27 +92,24 @@ loop-place-preserved c =
 
 pub walk_place_if-requires-clause-place : goal.walk_place_if-requires-clause-place
 walk_place_if-requires-clause-place c =
-    let past = past_is (goal.at.walk_place_if-requires-clause-place c).After-len-past in
-    let high : c.loop-place.place < length c.args.self.now.kin.ups = let lt = c.loop-place-test.true in
-    omega (arith, lt, past) in
+    let high = is_known (goal.at.walk_place_if-requires-clause-place c).After-len-past c.loop-place.place
+    c.loop-place-test.true in
     let more = c.loop-place.invariant.walks.grows.more in
     omega (arith, high, more)
 
 pub walk_place_if-requires-clause-node : goal.walk_place_if-requires-clause-node
 walk_place_if-requires-clause-node c =
     let size = length c.args.around.now.table.now.parents in
-    let past = past_is (goal.at.walk_place_if-requires-clause-node c).After-len-past in
-    let high : c.loop-place.place < length c.args.self.now.kin.ups = let lt = c.loop-place-test.true in
-    omega (arith, lt, past) in
+    let high = is_known (goal.at.walk_place_if-requires-clause-node c).After-len-past c.loop-place.place
+    c.loop-place-test.true in
     subst (λ n. n < size) (sym (c.loop-place.invariant.walks.grows.node c.loop-place.place high))
     (c.requires.nodes c.loop-place.place c.loop-place.auto.place high)
 
 pub walk_place_if-requires-clause-room : goal.walk_place_if-requires-clause-room
 walk_place_if-requires-clause-room c =
     let kids_at = kids_around c.args.around.now.table.now.parents c.args.around.now.way.now in
-    let past = past_is (goal.at.walk_place_if-requires-clause-room c).After-len-past in
-    let high : c.loop-place.place < length c.args.self.now.kin.ups = let lt = c.loop-place-test.true in
-    omega (arith, lt, past) in
+    let high = is_known (goal.at.walk_place_if-requires-clause-room c).After-len-past c.loop-place.place
+    c.loop-place-test.true in
     let left = left_at kids_at c.args.self.now.kin.nodes c.loop-place.place c.len-past.result
     c.loop-place-test.true in
     let room = c.loop-place.invariant.room in
