@@ -59,8 +59,8 @@ pub fn compare_roots<L: Ledger>(
     found
 }
 
-// The same over tables that are lent: of each root node by node and where its digraph is whole, and what settling notes
-// of it.
+// The same over tables that are lent: of each root its digraphs, node by node and where they are whole, and what
+// settling notes of it.
 fn compare_each<L: Ledger>(
     alloc: Global,
     drawn: &Drawn,
