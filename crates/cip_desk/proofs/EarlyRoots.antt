@@ -1,6 +1,6 @@
 -- Roots whose ligands two spheres tell apart are settled by them, and ranked by what was noted.
-use Rattle.std.proofs.Common.{◌≡◌, ◌≢◌, ◌==◌, ◌≤◌, ◌+◌, ◌*◌, ℕ, zero, suc, Bool, true, false, List, [], ◌∷◌, flat_map, length, nat_le, refl, sym, ap, ◌∙◌, subst, arith}
-use Rattle.std.proofs.lemmas.Bool.{and_parts, eqb-false, eqb-true, or_left}
+use Rattle.std.proofs.Common.{◌≡◌, ◌≢◌, ◌≤◌, ◌+◌, ◌*◌, ℕ, zero, suc, Bool, true, false, List, [], ◌∷◌, flat_map, length, nat_le, refl, sym, ap, ◌∙◌, subst, arith, inl, inr}
+use Rattle.std.proofs.lemmas.Bool.{and_parts, cases_order, or_left}
 use Rattle.std.proofs.lemmas.List.{append-nil}
 use Rattle.std.proofs.lemmas.Bool.Decides.{nat_tests}
 use Rattle.cip_mol.specs.declared.site.Ligand.{Ligand}
@@ -12,6 +12,7 @@ use Rattle.cip_digraph.specs.outcome.Outcomes.{end_root, is_in_unit, settled_in}
 use Rattle.cip_digraph.specs.rules.EarlyOrder.{differ_within, seen_at}
 use Rattle.cip_digraph.specs.units.Ends.{end_at}
 use Rattle.cip_digraph.proofs.Cut.{size_le}
+use Rattle.cip_digraph.proofs.LeastSphere.{here_or, if_any}
 use Rattle.cip_digraph.proofs.Numbered.{count_is}
 use Rattle.cip_label.specs.Fitting.{IsFit}
 use Rattle.cip_label.specs.Settings.{Setting, cost_in}
@@ -24,33 +25,22 @@ use Rattle.cip_desk.specs.Standing.{Standing, standing_of}
 use Rattle.cip_desk.proofs.EarlyStanding.{stands_first}
 use Rattle.cip_desk.proofs.RootLow.{beside, has_child}
 
+pick : (b : Bool) (number later most : ℕ) → number ≤ most → later ≤ most → here_or number later b ≤ most
+pick true number later most here further = here
+pick false number later most here further = further
+
 -- the least number that passes is not above one that does
 least_passes : (test : ℕ → Bool) (number count passes : ℕ) → number ≤ passes → test passes ≡ true
     → least_from test number count ≤ passes
 least_passes test number zero passes low e = low
 least_passes test number (suc more) passes low e =
-    by (λ lower. least_passes test (number + 1) more passes lower e) (test number) refl
-  where
-    by : (number + 1 ≤ passes → least_from test (number + 1) more ≤ passes) → (here : Bool) → test number ≡ here
-        → elim here as (λ _. ℕ) [ true ↦ number | false ↦ least_from test (number + 1) more ] ≤ passes
-    by later true is = low
-    by later false is = later (further (number == passes) refl)
-      where
-        further : (same : Bool) → (number == passes) ≡ same → number + 1 ≤ passes
-        further true at =
-            let bad : true ≡ false = sym (ap test (eqb-true number passes at) ∙ e) ∙ is in
-            cc
-        further false at = let apart = eqb-false number passes at in grind (arith, nat_tests)
-
-high_by : (below : List Node) (further : ℕ) → below ≢ []
-    → 1 ≤ elim below as (λ _. ℕ) [ [] ↦ 0 | node ∷ others ↦ further + 1 ]
-high_by [] further some = absurd (some refl)
-high_by (node ∷ others) further some = omega arith
-
-soon_by : (least most : ℕ) → least ≤ most → (nodes : List Node)
-    → elim nodes as (λ _. ℕ) [ [] ↦ 0 | node ∷ nodes ↦ least ] ≤ most
-soon_by least most le [] = omega arith
-soon_by least most le (node ∷ nodes) = le
+    let later = least_from test (number + 1) more in
+    elim (cases_order number passes) [
+      | inl same ↦ subst (λ b. here_or number later b ≤ passes) (sym (ap test same ∙ e)) low
+      | inr (inl below) ↦
+          pick (test number) number later passes low (least_passes test (number + 1) more passes (omega arith) e)
+      | inr (inr above) ↦ absurd (omega arith)
+    ]
 
 nat_le_true : (m n : ℕ) → nat_le m n ≡ true → m ≤ n
 nat_le_true m n e = grind (arith, nat_tests)
@@ -63,6 +53,9 @@ module _ (setting : Setting) (root : ℕ) (ligands : List Ligand) (sound : IsSou
   abbrev height : ℕ
   height = (seen_at setting.rules setting.graph setting.positions setting.units root).height
 
+  some : below (real_node root []) ≢ []
+  some = has_child setting.graph root ligands sound fit setting.positions setting.rules setting.units
+
   -- there is a second sphere to look for
   high : 1 ≤ height
   high =
@@ -70,9 +63,9 @@ module _ (setting : Setting) (root : ℕ) (ligands : List Ligand) (sound : IsSou
       let nodes = flat_map below (real_node root [] ∷ []) in
       let sum : 2 * length setting.graph.vertices + 2 ≡ suc more = omega arith in
       subst (λ count. 1 ≤ height_below below count (real_node root [] ∷ [])) (sym sum)
-      (high_by nodes (height_below below more nodes)
-      (λ none. has_child setting.graph root ligands sound fit setting.positions setting.rules setting.units
-      (sym (append-nil (below (real_node root []))) ∙ none)))
+      (let height = if_any nodes (height_below below more nodes + 1)
+      (λ none. some (sym (append-nil (below (real_node root []))) ∙ none)) in
+      omega (arith, height))
 
   module _ (differ : differ_within setting.rules setting.graph setting.positions setting.units (end_at root ligands) 2
       ≡ true) where
@@ -84,9 +77,9 @@ module _ (setting : Setting) (root : ℕ) (ligands : List Ligand) (sound : IsSou
 
     settled_soon : settled_in setting.rules setting.graph setting.positions setting.units (end_at root ligands) ≤ 2
     settled_soon =
-        soon_by (least_from settles 1 height) 2
-        (least_passes settles 1 height 2 (omega arith) (or_left _ _ (or_left _ _ differ)))
-        (below (real_node root []))
+        let least = least_passes settles 1 height 2 (omega arith) (or_left _ _ (or_left _ _ differ)) in
+        let is = if_any (below (real_node root [])) (least_from settles 1 height) some in
+        omega (arith, least, is)
 
     cost_few : cost_in setting (end_at root ligands) ≤ length (digraph setting.graph setting.positions root 2)
     cost_few =
@@ -112,7 +105,7 @@ module _ (setting : Setting) (root : ℕ) (ligands : List Ligand) (sound : IsSou
         omega (arith, few, cost),
         record {
           each = stands_first setting.rules graph positions setting.units root 2 (omega arith) sound ligands
-              (beside graph root ligands sound fit) (let some = high in omega (arith, some)) parts.1
+              (beside graph root ligands sound fit) (let further = high in omega (arith, further)) parts.1
               (λ vertex. real_node vertex (root ∷ [])) (λ vertex. vertex)
               (neighbour_further graph positions root sound) (λ vertex by. refl)
               (noted_early setting root ligands) refl standing pairs natural turned;
