@@ -117,7 +117,7 @@ module _ (g : Graph) (positions : List (List ℕ)) (a : Growth) (h : Holds g pos
   name_is n lt = named_is g positions a.root a.bound a.sphere n few lt
 
   -- the place of the root's child
-  branch_in : (n : ℕ) → First n → n - 1 < length branched.wanted
+  pub branch_in : (n : ℕ) → First n → n - 1 < length branched.wanted
   branch_in n p =
       let count = f.count in
       let low = p.low in
@@ -132,7 +132,7 @@ module _ (g : Graph) (positions : List (List ℕ)) (a : Growth) (h : Holds g pos
       ap name (f.top (n - 1) (branch_in n p) ∙ sym (back n p))
       ∙ name_is n (let lt = p.within in let len = h.tells.len in omega (arith, lt, len))
 
-  number_is : (n : ℕ) → First n
+  pub number_is : (n : ℕ) → First n
       → slice_index (numbers_of branched) n ≡ slice_index branched.layers.ranked.numbers (n - 1)
   number_is n p = ap (slice_index (numbers_of branched)) (back n p)
 

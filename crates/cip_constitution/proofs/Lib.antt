@@ -14,6 +14,7 @@ pub mod Finished
 pub mod FirstStanding
 pub mod FollowedBranches
 pub mod FollowedEnds
+pub mod GoingOn
 pub mod NamedNodes
 pub mod NodeKeys
 pub mod NotedPairs

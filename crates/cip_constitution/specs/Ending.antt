@@ -1,12 +1,13 @@
 -- Branches that have their last nodes in another sphere than the last one, and ligands that are not alike within the
 -- last sphere unless they were before. Own.
-use Rattle.std.specs.Prelude.{◌≡◌, ◌≢◌, ◌<◌, ◌≤◌, ◌-◌, ◌⊎◌, ℕ, true, false, List, [], ◌∷◌, length, None, Some, slice_index}
+use Rattle.std.specs.Prelude.{◌≡◌, ◌≢◌, ◌<◌, ◌≤◌, ◌-◌, ◌⊎◌, ◌==◌, ℕ, Bool, true, false, not, List, [], ◌∷◌, length, None, Some, slice_index}
 use Rattle.std.specs.List.{AllByRecursion}
 use Rattle.std.specs.declared.option.Option.{Option}
 use Rattle.cip_branches.specs.Deciding.{Branched}
 use Rattle.cip_rows.specs.Parting.{has_flag}
 use Rattle.cip_rank.specs.declared.rules.Rules.{Rules}
 use Rattle.cip_mol.specs.declared.site.Ligand.{Ligand}
+use Rattle.cip_mol.specs.declared.site.Ligand.TheVariants.{LonePair, Vertex}
 use Rattle.cip_mol.specs.declared.site.Unit as units
 use Rattle.cip_digraph.specs.outcome.Deciding.{is_empty}
 use Rattle.cip_digraph.specs.digraph.Digraph.{children, digraph}
@@ -60,3 +61,9 @@ NotAnew rules graph positions all growth branched a b =
 abbrev pub EachPair : {X : Type 0} → (X → X → Type 0) → List X → Type 0
 EachPair R [] = Unit {0}
 EachPair R (x ∷ xs) = AllByRecursion (R x) xs × EachPair R xs
+
+-- two ligands aren't of the same vertex
+abbrev pub are_unlike : Ligand → Ligand → Bool
+are_unlike LonePair b = true
+are_unlike (Vertex v) LonePair = true
+are_unlike (Vertex v) (Vertex w) = not (v == w)

@@ -2,11 +2,11 @@
 ghost use Rattle.std.specs.Prelude.{◌≡◌, ◌≤◌, false, length, vec_capacity};
 ghost use Rattle.std.specs.List.{AllByRecursion};
 ghost use Rattle.cip_constitution.specs.Ending.{EachPair};
-ghost use Rattle.cip_constitution.specs.Trials.{told, IsGrown, HasKeys, AreNotAnew};
+ghost use Rattle.cip_constitution.specs.Trials.{told, FollowsTo, IsGrown, HasKeys, AreNotAnew};
 
 use crate::alike::is_closed_at;
-use crate::differing::part;
-use crate::ending::{Trial, one_may_end};
+use crate::differing::{part, unlike_each};
+use crate::ending::{Trial, all_go_on, one_may_end};
 use cip_mol::Ligand;
 
 // Whether the branches of two have not parted, one of them may end here, and both are closed.
@@ -51,15 +51,22 @@ fn has_candidate_from(
     false
 }
 
-/// Whether some two may be alike within the last sphere, and were not before, by Rule 1a alone.
+/// Whether some two may be alike within the last sphere, and were not before, by Rule 1a alone. Where all branches that
+/// tie go on, ligands of different vertices aren't looked at one by one.
 pub(crate) fn has_candidates(trial: &Trial<'_, '_>, under: &mut Vec<bool>) -> bool
     requires grown { IsGrown (told trial.now.setting) trial.now.arena.now }
+    requires followed { FollowsTo (told trial.now.setting) trial.now.arena.now trial.now.arena.now.sphere
+        trial.now.branches.now }
     requires keyed { HasKeys trial.now }
     requires room { length trial.now.arena.now.nodes ≤ vec_capacity under.old }
     ensures anew { result ≡ false → EachPair (AreNotAnew trial.now) trial.now.setting.ligands.now }
     ensures room { vec_capacity under.old ≤ vec_capacity under.new }
 {
-    let mut rest = trial.setting.ligands;
+    let ligands = trial.setting.ligands;
+    if trial.arena.sphere() > 1 && all_go_on(trial) && unlike_each(ligands) {
+        return false;
+    }
+    let mut rest = ligands;
     while let [ligand, others @ ..] = rest {
         if has_candidate_from(trial, under, ligand, others) {
             return true;

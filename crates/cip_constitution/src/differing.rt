@@ -2,6 +2,7 @@
 ghost use Rattle.std.specs.Prelude.{◌≡◌, ◌<◌, ◌∷◌, ℕ, length, slice_index};
 ghost use Rattle.std.specs.List.{list_all};
 ghost use Rattle.cip_digraph.specs.units.Ranked.{every_pair};
+ghost use Rattle.cip_constitution.specs.Ending.{are_unlike};
 ghost use Rattle.cip_constitution.specs.Following.{numbers_of};
 ghost use Rattle.cip_constitution.specs.Standing.{have_other_ranks, differ_told};
 
@@ -60,4 +61,33 @@ fn number_at(branches: &Branches, node: u32) -> u32
     } else {
         branches.number(node - 1)
     }
+}
+
+fn are_unlike(a: &Ligand, b: &Ligand) -> bool
+    ensures { result ≡ are_unlike a.now b.now }
+{
+    match (a, b) {
+        (Ligand::Vertex(a), Ligand::Vertex(b)) => *a != *b,
+        _ => true,
+    }
+}
+
+fn unlike_from(ligand: &Ligand, others: &[Ligand]) -> bool
+    ensures { result ≡ list_all (are_unlike ligand.now) others.now }
+{
+    others.iter().all(|other| are_unlike(ligand, other))
+}
+
+/// Whether no two ligands are of the same vertex.
+pub fn unlike_each(ligands: &[Ligand]) -> bool
+    ensures { result ≡ every_pair are_unlike ligands.now }
+{
+    let mut rest = ligands;
+    while let [ligand, others @ ..] = rest {
+        if !unlike_from(ligand, others) {
+            return false;
+        }
+        rest = others;
+    }
+    true
 }

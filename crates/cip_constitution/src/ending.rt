@@ -1,5 +1,6 @@
 // Branches that have their last nodes in the last sphere.
 ghost use Rattle.std.specs.Prelude.{◌≡◌, ◌<◌, ◌↔◌, ℕ, true, false, length, slice_index};
+ghost use Rattle.cip_rows.specs.Parting.{has_flag};
 ghost use Rattle.cip_digraph.specs.outcome.Deciding.{is_empty};
 ghost use Rattle.cip_digraph.specs.digraph.Digraph.{children, digraph};
 ghost use Rattle.cip_digraph.specs.digraph.Telling.{node_at};
@@ -76,4 +77,19 @@ pub(crate) fn one_may_end(trial: &Trial<'_, '_>, a: &Ligand, b: &Ligand) -> bool
     ensures second { result ≡ false → IsLigandElsewhere trial.now b.now }
 {
     trial.arena.sphere() == 1 || ligand_may_end(trial, a) || ligand_may_end(trial, b)
+}
+
+/// Whether no branch that is wanted still may have its last nodes in the last sphere.
+pub(crate) fn all_go_on(trial: &Trial<'_, '_>) -> bool
+    requires grown { IsGrown (told trial.now.setting) trial.now.arena.now }
+    requires keyed { HasKeys trial.now }
+    ensures elsewhere { result ≡ true → (branch : ℕ) → branch < length trial.now.branches.now.wanted
+        → has_flag trial.now.branches.now.wanted branch ≡ true → IsElsewhere trial.now branch }
+{
+    for branch in 0..trial.branches.branch_count() {
+        if trial.branches.is_wanted(branch) && may_end_here(trial, branch) {
+            return false;
+        }
+    }
+    true
 }
