@@ -7,7 +7,11 @@
  *     int64_t length = cip_annotate(&labeller, record, record_length, text, room);
  *     cip_release(&labeller);
  *
- * The three calls that label answer how many bytes the whole text has, and write it, or its first `room` bytes where it
+ * A record is one molfile, or one record of an SDfile with its line `$$$$` or without. Of a text of several records the
+ * first one alone is labelled, and the others are handed back as they are: cut a file behind each line that holds `$$$$`
+ * and spaces at most.
+ *
+ * The calls that write a text answer how many bytes the whole text has, and write it, or its first `room` bytes where it
  * has more: whoever gets a count above `room` calls again with as much room. A text isn't ended by a zero byte. A
  * negative answer says why nothing is written; then the memory at `text` is as it was.
  *
@@ -23,7 +27,7 @@
  *   - no call in a signal handler, nor in the forked child of a process that has threads;
  *   - malloc, realloc and free are of one allocator, and align as the C library's do.
  *
- * The labels are those of the program `cip`: the same bytes. Link with -lcip (pkg-config cip tells the flags).
+ * The labels are those of the program `cip`: the same bytes, as tests show. Link with -lcip (pkg-config cip tells the flags).
  */
 #ifndef CIP_H
 #define CIP_H
@@ -34,6 +38,9 @@
 #ifdef __cplusplus
 extern "C" {
 #endif
+
+/* The version of the program, the header and the library; cip_version tells that of the library. */
+#define CIP_VERSION 12
 
 /* A place for a labeller, in the caller's memory. What stands in it is the library's own. */
 typedef struct cip_labeller {
@@ -51,6 +58,9 @@ typedef struct cip_labeller {
 #define CIP_BOUND_OUTSIDE (-4)   /* `nodes` isn't 1 to 1,000,000 */
 #define CIP_WORDING_UNKNOWN (-5) /* `year` is neither 2013 nor 2018 */
 #define CIP_RECORD_TOO_LONG (-6) /* the record has 2^31 bytes or more */
+
+/* The version of the library. It takes nothing, and a program that was compiled with an older header may ask too. */
+uint32_t cip_version(void);
 
 /* How many bytes a cip_labeller has to have: sizeof (cip_labeller). */
 size_t cip_labeller_size(void);
@@ -74,6 +84,12 @@ int64_t cip_values(cip_labeller *labeller, const uint8_t *record, size_t length,
 /* Writes what `cip explain` does of the record of this number: a line `record NUMBER`, then a line for every unit. */
 int64_t cip_explain(cip_labeller *labeller, uint64_t number, const uint8_t *record, size_t length, uint8_t *text,
                     size_t room);
+
+/* Writes the undefined units alone, of which the drawing shows no sense, for want of a mark or by one that says either: a
+ * line `UNIT open RULE SPHERE order LIGANDS` where the ligands all differ, so that it has a label once its sense is
+ * drawn; else `UNIT dependent`, where two ligands tie that other undefined units might tell apart, `UNIT tie`, or `UNIT
+ * over`. There is no byte where there is no such unit. A record that isn't read is `refused LINE CAUSE`. */
+int64_t cip_undefined(cip_labeller *labeller, const uint8_t *record, size_t length, uint8_t *text, size_t room);
 
 #ifdef __cplusplus
 }

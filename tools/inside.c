@@ -1,7 +1,7 @@
-/* What tools/inside runs of the library: `inside annotate|values|explain < FILE` writes the texts of all records and
- * tells how many there were in which time; `inside conditions` tries what a caller has not kept, and `inside memory`
- * refuses each request for memory in turn; these two end with the number of the first try that went wrong, or 0. It is
- * linked with --wrap=malloc,--wrap=realloc, by which the library's requests come here first. */
+/* What tools/inside runs of the library: `inside annotate|values|undefined|explain < FILE` writes the texts of all
+ * records and tells how many there were in which time; `inside conditions` tries what a caller has not kept, and
+ * `inside memory` refuses each request for memory in turn; these two end with the number of the first try that went
+ * wrong, or 0. It is linked with --wrap=malloc,--wrap=realloc, by which the library's requests come here first. */
 #include <cip.h>
 #include <stdio.h>
 #include <stdlib.h>
@@ -42,6 +42,7 @@ void *__wrap_realloc(void *old, size_t size) { return ++met == refused ? NULL : 
 static int64_t call(int which, cip_labeller *labeller, const uint8_t *given, size_t length, uint8_t *to, size_t room) {
     if (which == 0) return cip_annotate(labeller, given, length, to, room);
     if (which == 1) return cip_values(labeller, given, length, to, room);
+    if (which == 2) return cip_undefined(labeller, given, length, to, room);
     return cip_explain(labeller, 1, given, length, to, room);
 }
 
@@ -74,7 +75,7 @@ static int conditions(void) {
         TRY(13, ((char *)&around[0])[place] == '#' && ((char *)&around[2])[place] == '#');
     /* pointers that are null, whatever the lengths are */
     memset(text, '#', ROOM);
-    for (int which = 0; which < 3; which++) {
+    for (int which = 0; which < 4; which++) {
         TRY(14, call(which, NULL, bytes, length, text, ROOM) == CIP_NULL_POINTER && is_written("", 0));
         TRY(15, call(which, &around[1], NULL, length, text, ROOM) == CIP_NULL_POINTER && is_written("", 0));
         TRY(16, call(which, &around[1], NULL, 0, text, ROOM) == CIP_NULL_POINTER && is_written("", 0));
@@ -84,7 +85,7 @@ static int conditions(void) {
     }
     /* a record that is too long, where there is as much memory */
     uint8_t *large = calloc((size_t)1 << 31, 1);
-    for (int which = 0; large && which < 3; which++)
+    for (int which = 0; large && which < 4; which++)
         TRY(20, call(which, &around[1], large, (size_t)1 << 31, text, ROOM) == CIP_RECORD_TOO_LONG);
     free(large);
     /* too little room: the front, and the count of the whole */
@@ -115,10 +116,10 @@ static int memory(void) {
             TRY(25, told == CIP_NO_MEMORY && cip_values(&labeller, bytes, length, text, ROOM) == CIP_NOT_MADE);
             TRY(26, cip_release(&labeller) == 0 && cip_make(&labeller, CIP_NODES, CIP_WORDING) == 0);
         }
-        for (int which = 0; which < 3; which++) {
+        for (int which = 0; which < 4; which++) {
             memset(text, '#', ROOM);
             told = call(which, &labeller, bytes, length, text, ROOM);
-            TRY(27, told > 0 || (told == CIP_NO_MEMORY && is_written("", 0)));
+            TRY(27, told >= 0 || (told == CIP_NO_MEMORY && is_written("", 0)));
         }
         int is_met = met >= number;
         refused = 0;
@@ -165,7 +166,7 @@ static int texts(int which) {
         number++;
         for (;;) {
             clock_t began = clock();
-            int64_t whole = which == 2 ? cip_explain(&labeller, number, all + place, end - place, to, room)
+            int64_t whole = which == 3 ? cip_explain(&labeller, number, all + place, end - place, to, room)
                                        : call(which, &labeller, all + place, end - place, to, room);
             spent += clock() - began;
             if (whole < 0) return 1;
@@ -186,10 +187,10 @@ static int texts(int which) {
 }
 
 int main(int count, char **words) {
-    static const char *const names[] = {"annotate", "values", "explain"};
+    static const char *const names[] = {"annotate", "values", "undefined", "explain"};
     if (count == 2 && strcmp(words[1], "conditions") == 0) return conditions();
     if (count == 2 && strcmp(words[1], "memory") == 0) return memory();
-    for (int which = 0; count == 2 && which < 3; which++)
+    for (int which = 0; count == 2 && which < 4; which++)
         if (strcmp(words[1], names[which]) == 0) return texts(which);
     return 2;
 }

@@ -1,18 +1,29 @@
-# Sourced by ./cip and tools/install, which set `top`: where the proved program and library stand, and whether they do.
+# Sourced with `top` set: where the proved program and library stand, and whether they were made from these sources.
 program=$top/crates/cip/out/cip
 library=$top/crates/cip_c/out/libcip_c.a
 
-# A program or a library is old that isn't newer than each source that is proved: src, specs and proofs of the crates,
-# and their table.
+# What was made is noted beside it: the sum of all that is proved (src, specs and proofs of the crates, and their table),
+# and that of the file itself. Times of files don't count, so a build may be copied.
 is_old() {
-    [ ! -x "$program" ] || [ -n "$(newer_source "$program")" ]
+    [ ! -r "$1" ] || [ "$(cat "$1.made-of" 2> /dev/null)" != "$(made_of "$1")" ]
 }
 
-is_old_library() {
-    [ ! -r "$library" ] || [ -n "$(newer_source "$library")" ]
+# Notes of a file that it was made from sources of this sum.
+note_made() {
+    if [ "$2" = "$(sources)" ]; then
+        made_of "$1" > "$1.made-of"
+    fi
 }
 
-newer_source() {
-    find "$top"/crates/*/src "$top"/crates/*/specs "$top"/crates/*/proofs "$top/crates.txt" \
-        -type f -newer "$1" -print -quit 2> /dev/null
+made_of() {
+    echo "$(sources) $(sum_of "$1")"
+}
+
+sources() {
+    (cd "$top" && find crates/*/src crates/*/specs crates/*/proofs crates.txt -type f -print0 | LC_ALL=C sort -z |
+        xargs -0 sha256sum | sum_of -)
+}
+
+sum_of() {
+    sha256sum "$1" | cut -c 1-64
 }

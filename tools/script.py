@@ -5,10 +5,12 @@ input or a program can't be used, 4 where its output can't be written.
 """
 import argparse
 import contextlib
+import importlib.util
 import lzma
 import os
 import shutil
 import signal
+import stat
 import subprocess
 import sys
 import tempfile
@@ -28,7 +30,9 @@ class Parser(argparse.ArgumentParser):
 
     def __init__(self, doc):
         path = os.path.relpath(os.path.abspath(sys.argv[0]), TOP)
-        super().__init__(prog=path, description=doc, formatter_class=argparse.RawDescriptionHelpFormatter)
+        # an installed one is called by its name alone
+        name = os.path.basename(path) if path.startswith(os.pardir) else path
+        super().__init__(prog=name, description=doc, formatter_class=argparse.RawDescriptionHelpFormatter)
 
     def error(self, message):
         print(f"{self.prog}: {message} (see {self.prog} --help)", file=sys.stderr)
@@ -56,19 +60,114 @@ def run(main):
 
 
 def told(name, why, status):
+    Bar.clear()
     print(f"{name}: {why}", file=sys.stderr)
     return status
 
 
+def say(line):
+    """Prints a line where a bar may stand."""
+    Bar.clear()
+    print(line, flush=True)
+
+
+class Bar:
+    """How far a reading of a file is: a line on a terminal that standard error is, and nothing where it's none."""
+
+    WIDTH, EVERY = 30, 0.1
+    is_drawn = False
+
+    def __init__(self, file):
+        status = os.fstat(file.fileno())
+        self.size = status.st_size if stat.S_ISREG(status.st_mode) else 0
+        self.is_wanted, self.due = sys.stderr.isatty(), 0.0
+
+    def show(self, done):
+        if self.is_wanted and time.monotonic() >= self.due:
+            self.due = time.monotonic() + self.EVERY
+            sys.stderr.write("\r\033[K" + self.text(done))
+            sys.stderr.flush()
+            Bar.is_drawn = True
+
+    def text(self, done):
+        """A bar with bytes read and all; of a stream, whose end isn't known, the bytes read."""
+        if not self.size:
+            return f"{done / 1e6:.1f} MB"
+        part = min(1.0, done / self.size)
+        filled = round(part * self.WIDTH)
+        bar = "#" * filled + "." * (self.WIDTH - filled)
+        return f"[{bar}] {part:4.0%} of {self.size / 1e6:.1f} MB"
+
+    @staticmethod
+    def clear():
+        if Bar.is_drawn:
+            sys.stderr.write("\r\033[K")
+            sys.stderr.flush()
+            Bar.is_drawn = False
+
+
+class Watched:
+    """A file that shows a bar while it's read."""
+
+    def __init__(self, file):
+        self.file, self.bar, self.done = file, Bar(file), 0
+
+    def read(self, size):
+        piece = self.file.read(size)
+        self.done += len(piece)
+        if piece:
+            self.bar.show(self.done)
+        else:
+            Bar.clear()
+        return piece
+
+
+def waited(child, file):
+    """The status of a run that reads a file of the system, with a bar while it goes on."""
+    bar = Bar(file)
+    while True:
+        try:
+            status = child.wait(Bar.EVERY if bar.is_wanted else None)
+        except subprocess.TimeoutExpired:
+            # the place in the file is that of the child, which has the same open file
+            bar.show(os.lseek(file.fileno(), 0, os.SEEK_CUR))
+        else:
+            Bar.clear()
+            return status
+
+
 def with_rdkit():
-    """Goes on under Debian's Python where this one hasn't RDKit, which Debian packs for its own alone."""
-    try:
-        from rdkit import RDLogger
-    except ImportError:
-        if os.path.realpath(sys.executable) != os.path.realpath(DEBIAN_PYTHON) and os.path.exists(DEBIAN_PYTHON):
-            os.execv(DEBIAN_PYTHON, [DEBIAN_PYTHON, *sys.argv])
-        raise sdf.Fault("RDKit isn't installed (Debian: python3-rdkit)") from None
+    """Goes on with RDKit, which says nothing of what it reads."""
+    with_package("rdkit", "RDKit", "python3-rdkit")
+    from rdkit import RDLogger
     RDLogger.DisableLog("rdApp.*")
+
+
+def with_package(module_name, name, package):
+    """Goes on under Debian's Python where this one hasn't a module, which Debian packs for its own alone."""
+    if importlib.util.find_spec(module_name):
+        return
+    if os.path.realpath(sys.executable) != os.path.realpath(DEBIAN_PYTHON) and os.path.exists(DEBIAN_PYTHON):
+        os.execv(DEBIAN_PYTHON, [DEBIAN_PYTHON, *sys.argv])
+    raise sdf.Fault(f"{name} isn't installed (Debian: {package})")
+
+
+def module():
+    """The module for Python: that of this tree, or else as it is installed."""
+    sys.path.insert(0, os.path.join(TOP, "python"))
+    try:
+        import cip
+    except ImportError:
+        raise sdf.Fault("the module for Python isn't installed (tools/install)") from None
+    return cip
+
+
+def labeller(cip, nodes, rule_1b):
+    """A labeller of the module; a fault where its library isn't there."""
+    try:
+        return cip.Labeller(nodes=nodes, rule_1b=rule_1b)
+    except cip.Error as fault:
+        raise sdf.Fault(str(fault)) from None
 
 
 def program(path):
@@ -101,6 +200,25 @@ def plain(path):
         yield file
 
 
+@contextlib.contextmanager
+def kept(stream):
+    """A stream as a file of the system."""
+    with tempfile.TemporaryFile() as copy:
+        shutil.copyfileobj(stream, copy, sdf.PIECE)
+        copy.seek(0)
+        yield copy
+
+
+def output_of(path, file, *words):
+    """What a program writes of a file, as a file of the system; it goes away with the last that has it open."""
+    file.seek(0)
+    out = tempfile.TemporaryFile()
+    child = subprocess.Popen([path, *words], stdin=file, stdout=out)
+    checked(path, waited(child, file))
+    out.seek(0)
+    return out
+
+
 def add_words(parser):
     """The words that go behind `annotate`: all that follow."""
     parser.add_argument("words", metavar="WORD", nargs=argparse.REMAINDER, default=[]).required = False
@@ -110,10 +228,11 @@ def annotated(path, file, *words):
     """The records of a file as a program annotates them, each with what its item says."""
     file.seek(0)
     child = subprocess.Popen([path, "annotate", *words], stdin=file, stdout=subprocess.PIPE)
-    count = 0
+    count, bar = 0, Bar(file)
     try:
         for count, record in enumerate(sdf.records(child.stdout), 1):
-            answer = sdf.answer(record)
+            bar.show(os.lseek(file.fileno(), 0, os.SEEK_CUR))
+            answer = sdf.answer(record, count)
             if answer is None:
                 raise sdf.Fault(f"{path} wrote a record {count} without an item CIP_LABELS")
             yield record, answer
@@ -123,6 +242,7 @@ def annotated(path, file, *words):
     finally:
         child.stdout.close()
         status = child.wait()
+        Bar.clear()
     checked(path, status)
     if not count:
         raise sdf.Fault("no record came back")

@@ -12,6 +12,9 @@ FARTHEST = 50_000
 LABEL_ITEM = b"CIP_LABELS"
 LETTERS = ("R", "S", "r", "s", "Z", "E", "seqCis", "seqTrans", "M", "P", "m", "p")
 RULES = ("1a", "1b", "2", "3", "4a", "4b", "4c", "5")
+KINDS = {"a": "centre", "b": "double bond", "x": "allene", "c": "cumulene", "t": "biaryl axis"}
+REFERENCE_MASSES = {"H": 1, "Li": 7, "B": 11, "C": 12, "N": 14, "O": 16, "F": 19, "Si": 28, "P": 31, "S": 32, "Cl": 35,
+                    "Se": 79, "Br": 80, "I": 127}
 V2000_CHARGES = (0, 3, 2, 1, 0, -1, -2, -3)
 V2000_MARKS = {(1, 1): "up", (1, 4): "either", (1, 6): "down", (2, 3): "either"}
 V3000_MARKS = {(1, 1): "up", (1, 2): "either", (1, 3): "down", (2, 2): "either"}
@@ -19,6 +22,7 @@ V3000_MARKS = {(1, 1): "up", (1, 2): "either", (1, 3): "down", (2, 2): "either"}
 TERMINATOR = re.compile(rb"\$\$\$\$ *\r?\n")
 MOLECULE_END = re.compile(rb"(?:^|\n)M  END *\r?(?:\n|$)")
 ITEM_HEAD = re.compile(rb">.*?<(.*?)>")
+SETTING = re.compile(r"cip 2 rule1b (2013|2018) nodes [1-9]\d*")
 UNIT = re.compile(r"[a-z](\d+)(?:-(\d+))?")
 WORD = re.compile(r'(?:\([^)]*\)?|"[^"]*"?|[^ ])+')
 
@@ -54,11 +58,14 @@ class Answer(NamedTuple):
 
 
 class Atom(NamedTuple):
+    """An atom as it is drawn. Its valence mark is 0 where there is none, and 15 where it states the valence 0."""
+
     symbol: str
     place: tuple
     charge: int
     isotope: int
     radical: int
+    valence: int
 
 
 class Bond(NamedTuple):
@@ -151,30 +158,59 @@ def items(record):
     return found
 
 
-def answer(record):
-    """What the label item of a record says, or None where it has no such item."""
+def answer(record, number=None):
+    """What the label item of a record says, or None where it has no such item.
+
+    A fault, which names the record where its number is given, where `cip annotate` of this version didn't write it.
+    """
     if LABEL_ITEM not in record:
         return None
     for item in items(record):
         if item.name == LABEL_ITEM:
-            return answer_of([text(line) for line in item.values])
+            try:
+                return answer_of([text(line) for line in item.values])
+            except Fault as fault:
+                raise Fault(f"record {number}: {fault}") if number else fault
     return None
 
 
 def answer_of(lines):
-    found = Answer(lines[0] if lines else "", [], [], None)
+    """What the value lines of a label item say."""
+    if not lines or not SETTING.fullmatch(lines[0]):
+        raise foreign(lines[0] if lines else "")
+    found = Answer(lines[0], [], [], None)
     for line in lines[1:]:
         words = line.split()
-        if words[0] == "refused" and len(words) == 3:
+        if words[0] == "refused" and len(words) == 3 and words[1].isdigit():
             found = found._replace(refused=(int(words[1]), words[2]))
         elif UNIT.fullmatch(words[0]) and words[1:] == ["over"]:
             found.over.append(words[0])
-        elif UNIT.fullmatch(words[0]) and len(words) > 3 and words[1] in LETTERS and words[3].isdigit():
-            order = [end.split() for end in " ".join(words[5:]).split("|")]
-            found.labels.append(Label(words[0], words[1], words[2], int(words[3]), order))
+        elif is_label(words):
+            found.labels.append(label_of(words))
         elif words != ["none"]:
-            raise Fault(f"an item CIP_LABELS that `cip annotate` didn't write: {line!r}")
+            raise foreign(line)
     return found
+
+
+def is_label(words):
+    """Whether the words of a value line are those of a label."""
+    return (len(words) > 5 and bool(UNIT.fullmatch(words[0])) and words[1] in LETTERS and words[2] in RULES
+            and words[3].isdigit() and words[4] == "order")
+
+
+def label_of(words):
+    """The label that the words of a value line tell."""
+    return Label(words[0], words[1], words[2], int(words[3]), order_of(words[5:]))
+
+
+def order_of(words):
+    """The ligands of each end of a unit, highest first."""
+    return [end.split() for end in " ".join(words).split("|")]
+
+
+def foreign(line):
+    return Fault(f"an item CIP_LABELS that `cip annotate` of this version didn't write: {line!r}; "
+                 "annotate the file again")
 
 
 def atoms_of(unit):
@@ -182,13 +218,24 @@ def atoms_of(unit):
     return [int(number) for number in UNIT.fullmatch(unit).groups() if number]
 
 
+def order_text(order):
+    """The ligands of each end as a label item has them."""
+    return " | ".join(" ".join(ligands) for ligands in order)
+
+
 def drawing(record):
     """The molecule of a record as it is drawn, of either version, or None where it can't be."""
     try:
         lines = [line.decode("latin-1") for line in contents(record)]
-        return drawing_v3000(lines) if lines[3][33:39].strip() == "V3000" else drawing_v2000(lines)
+        return drawing_v3000(lines) if is_v3000(record) else drawing_v2000(lines)
     except (ValueError, IndexError, KeyError):
         return None
+
+
+def is_v3000(record):
+    """Whether the counts line of a record says so."""
+    lines = contents(record)
+    return len(lines) > 3 and lines[3][33:39].strip() == b"V3000"
 
 
 def drawing_v2000(lines):
@@ -198,7 +245,9 @@ def drawing_v2000(lines):
         place = tuple(coordinate(line[begin:begin + 10]) for begin in (0, 10, 20))
         code = int(line[36:39].strip() or 0)
         charge = V2000_CHARGES[code] if 0 <= code < 8 else 0
-        atoms.append(Atom(line[31:34].strip(), place, charge, 0, 2 if code == 4 else 0))
+        symbol, valence = line[31:34].strip(), int(line[48:51].strip() or 0)
+        isotope = isotope_of(symbol, int(line[34:36].strip() or 0))
+        atoms.append(Atom(symbol, place, charge, isotope, 2 if code == 4 else 0, valence))
     if len(atoms) < count:
         raise ValueError("an atom line is missing")
     for line in lines[4 + count:4 + count + bond_count]:
@@ -209,12 +258,19 @@ def drawing_v2000(lines):
     properties = [line for line in lines[4 + count + bond_count:] if line[:6] in stated]
     if any(line[:6] != "M  ISO" for line in properties):
         atoms = [atom._replace(charge=0, radical=0) for atom in atoms]
+    if any(line[:6] == "M  ISO" for line in properties):
+        atoms = [atom._replace(isotope=0) for atom in atoms]
     for line in properties:
         words = line[6:].split()
         for number, value in zip(words[1::2], words[2::2]):
             at = int(number) - 1
             atoms[at] = atoms[at]._replace(**{stated[line[:6]]: int(value)})
     return Drawing(atoms, bonds)
+
+
+def isotope_of(symbol, difference):
+    """The mass number that a mass difference states, 0 where it states none."""
+    return max(0, REFERENCE_MASSES[symbol] + difference) if difference and symbol in REFERENCE_MASSES else 0
 
 
 def drawing_v3000(lines):
@@ -229,7 +285,8 @@ def drawing_v3000(lines):
             place = tuple(coordinate(word) for word in words[2:5])
             if len(place) < 3:
                 raise ValueError("a coordinate is missing")
-            atoms.append(Atom(words[1], place, *(int(keys.get(key, 0)) for key in ("CHG", "MASS", "RAD"))))
+            values = [int(keys.get(key, 0)) for key in ("CHG", "MASS", "RAD", "VAL")]
+            atoms.append(Atom(words[1], place, *values[:3], 15 if values[3] == -1 else values[3]))
         elif block == "BOND":
             keys = dict(word.split("=", 1) for word in words[4:] if "=" in word)
             mark = V3000_MARKS.get((int(words[1]), int(keys.get("CFG", 0))), "")

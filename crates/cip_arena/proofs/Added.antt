@@ -83,3 +83,9 @@ replicate_end (suc n) t = ap (λ xs. t ∷ xs) (replicate_end n t)
 pub copies_more : (ts : List Told) (n : ℕ) (t : Told) → (ts ++ replicate n t) ++ t ∷ [] ≡ ts ++ replicate (n + 1) t
 copies_more ts n t = append_assoc ts (replicate n t) (t ∷ []) ∙ ap (λ xs. ts ++ xs) (replicate_end n t
     ∙ ap (λ k. replicate k t) (sym (add-one n)))
+
+pub keeps_more : (ts us ns : List Told) → us ≡ ts ++ ns → Keeps ts us
+keeps_more ts us ns e = rw e (keeps_append ts ns)
+
+pub keeps_twice : (ts us vs ns more : List Told) → us ≡ ts ++ ns → vs ≡ us ++ more → Keeps ts vs
+keeps_twice ts us vs ns more first next = keeps_then ts us vs (keeps_more ts us ns first) (keeps_more us vs more next)

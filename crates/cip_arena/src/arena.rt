@@ -222,7 +222,7 @@ impl Arena {
         }
     }
 
-    #[tactic(auto, using(crate::proofs::Added::keeps_append, crate::proofs::Added::keeps_then))]
+    #[tactic(auto)]
     fn make_edge<L: Ledger>(
         &mut self,
         graph: &Graph,

@@ -88,7 +88,7 @@ pub record IsBiarylCore (graph : Graph) (a : ℕ) (w : Way) : Type 0 where
       ≡ true
   pub free : is_in_ring graph a w.to ≡ false
 
-three_of : (graph : Graph) (unit : List ℕ) (v : ℕ) → is_axis_end graph unit v ≡ true
+pub three_of : (graph : Graph) (unit : List ℕ) (v : ℕ) → is_axis_end graph unit v ≡ true
     → (length (edges_at graph v) == 3) ≡ true
 three_of graph unit v e =
     (and_parts _ _ (and_parts _ _ (and_parts _ _ e).0).0).1

@@ -5,21 +5,20 @@ ghost use Rattle.cip_axis.specs.FurtherOutcomes.{AreFurtherFit};
 ghost use Rattle.cip_axis_text.specs.FurtherAnswers.{
   further_answer,
   further_name,
+  further_of_drawn,
   further_of_lines,
   further_of_molecule,
 };
 
 use cip_axis::{FurtherSite, FurtherUnit, further, label_further, like};
-use cip_hydro::graph_of;
 use cip_label::Setting;
-use cip_mancude::positions;
 use cip_mol::{Molecule, ReadRefusal};
 use cip_molfile::read_molecule;
 use cip_print::{Answer, UnitAnswer, UnitAnswers, UnitName};
 use cip_rank::Rules;
 use cip_record::RecordLabeller;
 use cip_steps::Steps;
-use cip_unit::units;
+use cip_unit::Drawn;
 use std::alloc::{AllocError, Global};
 use std::marker::Brand;
 use std::sync::ledger::{Blank, Ledger};
@@ -43,6 +42,7 @@ pub fn further_of_lines(
     }
 }
 
+#[tactic(auto, unfolding(crate::specs::FurtherAnswers::further_of_molecule))]
 fn answer_molecule(
     alloc: Global,
     labeller: &mut RecordLabeller,
@@ -54,13 +54,28 @@ fn answer_molecule(
 {
     // Reading the atoms tells that there are few.
     let _atoms = molecule.atoms();
-    let graph = graph_of(alloc, molecule)?;
-    let positions = positions(alloc, &graph)?;
-    let units = units(alloc, molecule, &graph, &positions)?;
-    let further = further(alloc, molecule, &graph, &positions)?;
-    let setting = Setting::new(alloc, &graph, &positions, units.list(), rules)?;
-    let answers = label_all(alloc, labeller, &setting, further.list())?;
-    Ok(Answer::Labelled(answers))
+    let drawn = Drawn::of(alloc, molecule)?;
+    let further = further(alloc, molecule, drawn.graph(), drawn.positions())?;
+    answer_drawn(alloc, labeller, &drawn, further.list(), rules)
+}
+
+// What is drawn stays with the caller, so that no end of this function gives it back.
+fn answer_drawn(
+    alloc: Global,
+    labeller: &mut RecordLabeller,
+    drawn: &Drawn,
+    further: &[FurtherUnit],
+    rules: Rules,
+) -> Result<Answer, AllocError>
+    requires fit { AreFurtherFit drawn.now.graph further.now }
+    requires few { length further.now < 2 ^ 32 }
+    ensures answer { IfOk result (λ answer. answer
+        ≡ further_of_drawn rules labeller.old drawn.now further.now) }
+    ensures kept { labeller.new ≡ labeller.old }
+{
+    let units = drawn.units().list();
+    let setting = Setting::new(alloc, drawn.graph(), drawn.positions(), units, rules)?;
+    Ok(Answer::Labelled(label_all(alloc, labeller, &setting, further)?))
 }
 
 // Further units, each with its outcome.

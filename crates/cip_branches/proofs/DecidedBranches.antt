@@ -3,7 +3,7 @@ use Rattle.std.proofs.Common.{◌≡◌, ◌≢◌, ◌<◌, ◌+◌, ℕ, ℤ, 
 use Rattle.std.specs.declared.cmp.Ordering.{Ordering}
 use Rattle.std.specs.declared.cmp.Ordering.TheVariants.{Less, Equal, Greater}
 use Rattle.std.specs.Cmp.{IsTotalOrder}
-use Rattle.std.specs.Ordering.{nat_cmp, ordering_then}
+use Rattle.std.specs.Ordering.{nat_cmp, ordering_reverse, ordering_then}
 use Rattle.std.specs.Cmp.Lexicographic.{slice_cmp}
 use Rattle.std.proofs.lemmas.Cmp.{tied_itself, nat_cmp_total}
 use Rattle.std.proofs.lemmas.List.{length-replicate}
@@ -38,6 +38,14 @@ pub same_number : (numbers : List ℕ) (a b : ℕ) → slice_index numbers a ≡
     → by_number numbers a b ≡ Equal
 same_number numbers a b tie = ap (λ n. nat_cmp n (slice_index numbers b)) tie
     ∙ tied_itself nat_cmp_total (slice_index numbers b)
+
+-- an order in which all tie is a total order
+pub ties_total : {N : Type 0} (compare : N → N → Ordering) → ((a b : N) → compare a b ≡ Equal) → IsTotalOrder compare
+ties_total compare ties = record {
+  antisymm = λ a b. ties a b ∙ sym (ap ordering_reverse (ties b a));
+  trans = λ a b c below further. let bad : Less ≡ Equal = sym below ∙ ties a b in cc;
+  congr = λ a b c tie. ties a c ∙ sym (ties b c);
+}
 
 module _ {N : Type 0} (children : N → List N) (earlier : N → N → Ordering) (o : IsTotalOrder earlier)
     (ties : (a b : N) → earlier a b ≡ Equal) (key : N → ℤ) (named : ℕ → N) where

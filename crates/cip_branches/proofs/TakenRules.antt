@@ -1,13 +1,14 @@
 -- Rules taken one after another over the places of branches.
-use Rattle.std.proofs.Common.{◌≡◌, ◌<◌, ◌≤◌, ℕ, ℤ, List, length, refl, arith}
+use Rattle.std.proofs.Common.{◌≡◌, ◌<◌, ◌≤◌, ℕ, ℤ, suc, List, length, refl, arith}
 use Rattle.std.specs.declared.cmp.Ordering.{Ordering}
 use Rattle.std.specs.Cmp.{IsTotalOrder}
 use Rattle.cip_rank.specs.Comparison.{comparison}
 use Rattle.cip_branches.specs.Among.{AreShownAmong, StandsAmong, IsTakenAmong}
-use Rattle.cip_branches.specs.Deciding.{Branched, AreFollowed, AreDecided}
-use Rattle.cip_branches.specs.Standing.{node_in, WantedIn, AreShown, StandsBy, IsTaken}
+use Rattle.cip_branches.specs.Deciding.{Branched, AreFollowed, AreDecided, FlagsOpen}
+use Rattle.cip_branches.specs.Standing.{node_in, WantedIn, AreKeysOf, AreShown, StandsBy, IsTaken}
+use Rattle.cip_branches.specs.Taking.{SplitsFirst, Deepens}
 use Rattle.cip_branches.specs.Views.{IsEnded}
-use Rattle.cip_branches.proofs.TakenAmong.{rule_stands as stands_among}
+use Rattle.cip_branches.proofs.TakenAmong.{rule_begun, rule_deeper, rule_stands as stands_among}
 
 -- all branches
 abbrev pub AllOf : ℕ → ℕ → Type 0
@@ -62,6 +63,33 @@ module _ {N : Type 0} (children : N → List N) (named : ℕ → N) where
       reaches = taken.reaches;
       ahead = taken.ahead;
     }
+
+    pub taken_back : (far : ℕ) (now : Branched) (count : ℕ) → length now.wanted ≡ count
+        → IsTakenAmong (AllOf count) children named earlier key far now → IsTaken children named earlier key far now
+    taken_back far now count len taken = record {
+      shown = shown_back now count len taken.shown;
+      tops = record {
+        told = λ a b la lb. taken.tops.told a b (omega (arith, la, len)) (omega (arith, lb, len));
+        tie = λ a b la lb. taken.tops.tie a b (omega (arith, la, len)) (omega (arith, lb, len));
+      };
+      reaches = taken.reaches;
+      ahead = taken.ahead;
+    }
+
+    -- a rule begins over numbers that stand, and is taken one sphere further
+    module _ (old new : Branched) (keys : List ℤ) (same : AreKeysOf named key keys old)
+        (chosen : FlagsOpen new.layers.ranked.numbers old.wanted new.wanted) (last : new.last ≡ old.last) where
+      pub begun_taken : StandsBy children named earlier old → SplitsFirst old.layers keys new.layers
+          → IsTaken children named earlier key 0 new
+      begun_taken stands splits = taken_back 0 new (length old.wanted) chosen.len
+          (rule_begun (AllOf (length old.wanted)) children named earlier o key old new keys same chosen last
+          (stand_all earlier old stands) splits)
+
+      pub deeper_taken : (far : ℕ) → far < old.last → IsTaken children named earlier key far old
+          → Deepens old.layers far keys new.layers → IsTaken children named earlier key (suc far) new
+      deeper_taken far within taken deeper = taken_back (suc far) new (length old.wanted) chosen.len
+          (rule_deeper (AllOf (length old.wanted)) children named earlier o key old new keys same chosen last far within
+          (taken_all far old taken) deeper)
 
     -- a rule that was taken to the end stands, at each depth that reaches it
     pub rule_stands : (now : Branched) → IsEnded children (node_in named now) (WantedIn now) now.last

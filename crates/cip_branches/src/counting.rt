@@ -1,7 +1,9 @@
 // How many places branches have.
-ghost use Rattle.std.specs.Prelude.{◌≡◌, ◌<◌, ℕ, length, slice_index};
+ghost use Rattle.std.specs.Prelude.{◌≡◌, ◌<◌, ◌≤◌, ℕ, length, slice_index};
 ghost use Rattle.cip_branches.specs.Deciding.{AreFollowed};
 ghost use Rattle.cip_branches.specs.Turning.{in_sphere};
+ghost use Rattle.cip_branches.specs.Twins.{MayDouble};
+ghost use Rattle.cip_rows.specs.Kin.{IsFamily};
 
 use crate::deciding::Branches;
 use crate::spheres::Spheres;
@@ -11,19 +13,23 @@ impl Spheres {
     fn count(&self) -> u32
         ensures count { result ≡ length self.now.kin.ups }
         ensures below { (k : ℕ) → k < length self.now.ranked.rows → slice_index self.now.ranked.rows k < result }
+        ensures family { IsFamily self.now.kin }
+        ensures rows_len { length self.now.ranked.rows ≤ length self.now.kin.ups }
+        ensures numbers_len { length self.now.ranked.numbers ≡ length self.now.kin.ups }
     {
         let _rows = self.order.row_count();
-        self.len()
+        self.family.len()
     }
 }
 
 impl Branches {
-    /// How many places there are; those of all spheres are among them.
+    /// How many places there are; those of all spheres are among them. Branches can be doubled.
     pub fn count(&self) -> u32
         requires followed { AreFollowed self.now }
         ensures count { result ≡ length self.now.layers.kin.ups }
         ensures below { (t place : ℕ) → in_sphere self.now.layers.ranked.rows self.now.layers.starts t place
             → place < result }
+        ensures may { MayDouble self.now }
     {
         self.spheres.count()
     }

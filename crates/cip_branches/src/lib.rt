@@ -2,6 +2,7 @@
 #![tactic(auto)]
 
 mod around;
+mod by_rule;
 mod closing;
 mod counting;
 mod deciding;
@@ -16,6 +17,7 @@ mod twins;
 mod walking;
 
 pub use around::Around;
+pub use by_rule::NodeKeys;
 pub use deciding::Branches;
 pub use saving::SavedRanks;
 pub use spheres::Spheres;

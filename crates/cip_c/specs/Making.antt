@@ -2,9 +2,8 @@
 use Rattle.std.specs.Prelude.{◌==◌, ◌||◌, ◌≡◌, ◌⊎◌, ℕ, ℤ, pos, negsuc, if◌then◌else◌, nat_lt}
 use Rattle.std.specs.Prelude.{Option, None, Some, Result, Ok, Err}
 use Rattle.cip_rank.specs.declared.rules.Rules.TheVariants.{Wording2013, Wording2018}
-use Rattle.cip_c.specs.declared.codes.TheConstants.{BOUND_OUTSIDE, NO_MEMORY, WORDING_UNKNOWN}
+use Rattle.cip_c.specs.Answers.{BOUND_OUTSIDE, NO_MEMORY, WORDING_UNKNOWN, MOST_NODES}
 use Rattle.cip_c.specs.declared.settings.Settings.{Settings}
-use Rattle.cip_c.specs.declared.settings.TheConstants.{MOST_NODES}
 
 abbrev pub settings_by : ℕ → ℕ → Result Settings ℤ
 settings_by nodes year =

@@ -6,7 +6,7 @@ use denote.Array.{Array}
 use denote.Builtin.{u8}
 use denote.RattleType.{RattleType}
 use denote.RawPtr.{Ptr, block_ptr, lies_at, null_ptr, room_at}
-use Rattle.cip_c.specs.declared.codes.TheConstants.{NULL_POINTER}
+use Rattle.cip_c.specs.Answers.{NULL_POINTER}
 
 -- what is passed to a call: the labeller that is held, the bytes of the record, and what stands where the text goes
 pub record Passed (X : Type 0) : Type 0 where

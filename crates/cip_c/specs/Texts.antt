@@ -6,6 +6,8 @@ use Rattle.cip_item.specs.Putting.{with_item}
 use Rattle.cip_print.specs.Explaining.{explained}
 use Rattle.cip_print.specs.Values.{values_of}
 use Rattle.cip_record.specs.Answers.{answer_by}
+use Rattle.cip_undefined.specs.Answers.{undefined_by}
+use Rattle.cip_undefined.specs.Texts.{undefined_text}
 use Rattle.cip_c.specs.declared.settings.Settings.{Settings}
 
 -- the value lines of a record's item
@@ -27,3 +29,7 @@ values_text settings bytes = flat_map ended_line (item_values settings bytes)
 -- what is found of the record of this number
 abbrev pub explained_text : ℕ → Settings → List ℕ → List ℕ
 explained_text number settings bytes = explained number (answer_by settings.rules settings.nodes bytes)
+
+-- what is told of the undefined units of a record
+abbrev pub undefined_told : Settings → List ℕ → List ℕ
+undefined_told settings bytes = undefined_text (undefined_by settings.rules settings.nodes bytes)

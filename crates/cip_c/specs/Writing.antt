@@ -1,8 +1,7 @@
 -- What is written of a text that is due. Own.
 use Rattle.std.specs.Prelude.{◌≡◌, ◌⊎◌, ◌++◌, ℕ, ℤ, pos, negsuc, List, drop, length, take, if◌then◌else◌, nat_lt}
 use Rattle.std.specs.Prelude.{Option, None, Some, Result, Ok, Err}
-use Rattle.cip_c.specs.declared.codes.TheConstants.{NO_MEMORY, NOT_MADE, RECORD_TOO_LONG}
-use Rattle.cip_c.specs.declared.labeller.TheConstants.{LONGEST}
+use Rattle.cip_c.specs.Answers.{NO_MEMORY, NOT_MADE, RECORD_TOO_LONG, LONGEST}
 use Rattle.cip_c.specs.declared.settings.Settings.{Settings}
 
 -- the text that is due for a record, or why there is none

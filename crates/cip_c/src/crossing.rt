@@ -4,20 +4,32 @@ ghost use types.Logic.{sem};
 ghost use Rattle.cip_c.specs.declared.settings.Settings.{Settings};
 ghost use Rattle.cip_c.specs.Making.{IsMade, made, settings_of};
 ghost use Rattle.cip_c.specs.Pointers.{Passed, given, given_bytes, given_room, unless_null};
-ghost use Rattle.cip_c.specs.Texts.{annotated, explained_text, values_text};
+ghost use Rattle.cip_c.specs.Texts.{annotated, explained_text, undefined_told, values_text};
 ghost use Rattle.cip_c.specs.Writing.{IsTold, due, written};
 ghost use Rattle.cip_c.specs.contracts.slot.Slot.{the_row};
 
 use crate::codes::NULL_POINTER;
 use crate::slot::{Slot, make, release};
-use crate::writing::{annotate, explain, write_values};
+use crate::writing::{annotate, explain, write_undefined, write_values};
 use std::alloc::Global;
 use std::slice::{from_raw_parts, from_raw_parts_mut};
 
+const SLOT_SIZE: usize = std::mem::size_of::<Slot>();
+
 /// How many bytes C sets aside for a labeller.
 #[unsafe(no_mangle)]
-pub extern "C" fn cip_labeller_size() -> usize {
-    std::mem::size_of::<Slot>()
+pub extern "C" fn cip_labeller_size() -> usize
+    ensures { result ≡ 16 }
+{
+    SLOT_SIZE
+}
+
+/// The version of the library.
+#[unsafe(no_mangle)]
+pub extern "C" fn cip_version() -> u32
+    ensures { result ≡ 12 }
+{
+    12
 }
 
 /// Makes a labeller at a pointer, behind which is room for it.
@@ -146,6 +158,39 @@ pub unsafe extern "C" fn cip_explain(
     explain(
         &mut *(labeller as *mut Slot),
         number,
+        from_raw_parts(bytes, length),
+        from_raw_parts_mut(text, room),
+    )
+}
+
+/// `cip_annotate` for the undefined units alone.
+#[unsafe(no_mangle)]
+pub unsafe extern "C" fn cip_undefined(
+    labeller: *mut u8,
+    bytes: *const u8,
+    length: usize,
+    text: *mut u8,
+    room: usize,
+) -> i64
+    ghost passed: { Passed (Option Settings) }
+    requires* { sem 𝓛 (given the_row labeller passed.labeller) ∗ sem 𝓛 (given_bytes length bytes passed.bytes)
+        ∗ sem 𝓛 (given_bytes room text passed.text) }
+    ensures* { sem 𝓛 (given the_row labeller passed.labeller) ∗ sem 𝓛 (given_bytes length bytes passed.bytes)
+        ∗ sem 𝓛 (given_bytes room text (written result (due undefined_told passed.labeller passed.bytes) passed.text))
+        ∗ ⌜ unless_null labeller (unless_null bytes (unless_null text
+        (IsTold (due undefined_told passed.labeller passed.bytes) result) result) result) result ⌝ }
+{
+    if labeller.is_null() {
+        return NULL_POINTER;
+    }
+    if bytes.is_null() {
+        return NULL_POINTER;
+    }
+    if text.is_null() {
+        return NULL_POINTER;
+    }
+    write_undefined(
+        &mut *(labeller as *mut Slot),
         from_raw_parts(bytes, length),
         from_raw_parts_mut(text, room),
     )

@@ -3,13 +3,14 @@ ghost use Rattle.std.specs.Prelude.{◌≡◌, ◌≤◌, ◌<◌, ◌-◌, ◌^
 ghost use Rattle.std.specs.List.{flat_map};
 ghost use Rattle.cip_print.specs.Values.{values_of, HasRoom};
 ghost use Rattle.cip_record.specs.Answers.{answer_without_items};
-ghost use Rattle.cip_c.specs.Texts.{annotated, ended_line, explained_text, values_text};
+ghost use Rattle.cip_c.specs.Texts.{annotated, ended_line, explained_text, undefined_told, values_text};
 
 use crate::settings::Settings;
 use cip_item::{Texts, lines_with_item, without_label_items};
 use cip_print::{Answer, explain_text, item_values};
 use cip_record::{RecordLabeller, label_within};
 use cip_text::RecordLines;
+use cip_undefined::{undefined_text, undefined_within};
 use std::alloc::{AllocError, Global};
 use std::marker::Model;
 
@@ -84,6 +85,18 @@ impl Labeller {
         let lines = RecordLines::new(self.alloc, &bare)?;
         let answer = self.answer(&lines)?;
         explain_text(self.alloc, &answer, number)
+    }
+
+    /// What is told of the undefined units of a record.
+    pub(crate) fn undefined_told(&mut self, bytes: &[u8]) -> Result<Vec<u8>, AllocError>
+        requires few { length bytes.now ≤ LONGEST }
+        ensures text { IfOk result (λ text. text.items ≡ undefined_told self.old bytes.now) }
+        ensures kept { self.new ≡ self.old }
+    {
+        let bare = without_label_items(self.alloc, bytes)?;
+        let lines = RecordLines::new(self.alloc, &bare)?;
+        let answer = undefined_within(self.alloc, &mut self.memory, &lines, self.settings.rules)?;
+        undefined_text(self.alloc, &answer)
     }
 
     // The value lines of a record without label items.

@@ -1,6 +1,6 @@
 use crate::codes::{BOUND_OUTSIDE, NOT_MADE, WORDING_UNKNOWN};
 use crate::slot::{Slot, make, release};
-use crate::writing::{annotate, explain, write_values};
+use crate::writing::{annotate, explain, write_undefined, write_values};
 use std::test::Fail;
 
 const RECORD: &[u8] = b"bromochlorofluoromethane
@@ -64,6 +64,9 @@ fn a_text_or_its_front_is_written(rt: HostRuntime) -> Result<(), Fail> {
     assert!(rt; text.starts_with(RECORD));
     assert_eq!(rt; explain(&mut slot, 7, RECORD, &mut text), 33);
     assert!(rt; text.starts_with(b"record 7\na1 S 1a 1 order 4 3 2 5\n"));
+    // its one centre has a label
+    assert_eq!(rt; write_undefined(&mut slot, RECORD, &mut text), 0);
+    assert!(rt; text.starts_with(b"record 7\n"));
     Ok(())
 }
 
@@ -75,6 +78,9 @@ fn nothing_is_written_without_a_labeller(rt: HostRuntime) -> Result<(), Fail> {
     // a record of no byte
     assert_eq!(rt; write_values(&mut slot, b"", &mut text), 47);
     assert!(rt; text.starts_with(b"cip 2 rule1b 2018 nodes 100000\nrefused 1 Short\n#"));
+    let mut lines = [b'#'; 17];
+    assert_eq!(rt; write_undefined(&mut slot, b"", &mut lines), 16);
+    assert!(rt; lines.starts_with(b"refused 1 Short\n#"));
     release(&mut slot);
     assert_eq!(rt; annotate(&mut slot, RECORD, &mut text), NOT_MADE);
     assert!(rt; text.starts_with(b"cip 2 rule1b 2018 nodes 100000\nrefused 1 Short\n#"));

@@ -23,4 +23,3 @@ pub mod SeenDistances
 pub mod SeenRules
 pub mod TakenBoth
 pub mod Under
-pub mod UnitAtoms

@@ -3,7 +3,6 @@ pub mod Closing
 pub mod Ending
 pub mod FollowedOut
 pub mod Following
-pub mod Marking
 pub mod Noting
 pub mod Pairs
 pub mod Settling

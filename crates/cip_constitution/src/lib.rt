@@ -9,7 +9,6 @@ mod ending;
 mod following;
 mod keys;
 mod later;
-mod marking;
 mod noting;
 mod pairs;
 mod setting;
@@ -19,7 +18,6 @@ mod taking;
 mod work;
 
 pub use keys::{ByAtom, ByDistance, ByMass};
-pub use marking::MarkedUnits;
 pub use pairs::Pair;
 pub use settling::{Settled, settle};
 pub use work::Work;

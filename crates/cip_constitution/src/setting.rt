@@ -1,6 +1,6 @@
 // What the ligands of a root are asked about.
-use crate::marking::MarkedUnits;
 use cip_digraph::{Graph, Positions};
+use cip_letters::MarkedUnits;
 use cip_mol::Ligand;
 use cip_rank::Rules;
 

@@ -5,11 +5,11 @@ ghost use Rattle.cip_constitution.specs.FollowedOut.{AreFollowedOut};
 ghost use Rattle.cip_constitution.specs.Noting.{Notes};
 ghost use Rattle.cip_constitution.specs.Settling.{setting_of, SettledAs, cost_of};
 
-use crate::marking::MarkedUnits;
 use crate::setting::Setting;
 use crate::work::Work;
 use cip_arena::{Arena, Grown};
 use cip_digraph::{Graph, Positions};
+use cip_letters::MarkedUnits;
 use cip_mol::Ligand;
 use cip_rank::Rules;
 use cip_steps::Steps;

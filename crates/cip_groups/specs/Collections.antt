@@ -24,14 +24,19 @@ use Rattle.cip_groups.specs.Reading.{told_at}
 abbrev pub nothing : Found
 nothing = record { inside = false; taken = []; groups = [] }
 
+-- these atoms of a group line put to those of its group
+abbrev pub with_atoms : ℕ → Found → GroupKind → List ℕ → Result Found GroupFault
+with_atoms number found kind atoms = do
+  taken ← told_at number (all_taken found.taken atoms)
+  Ok (record { inside = found.inside; taken = taken; groups = with_line kind number atoms found.groups })
+
 -- the words behind the name of a group
 abbrev pub with_kind : List ℕ → ℕ → Found → List (List ℕ) → Option GroupKind → Result Found GroupFault
 with_kind indices number found words None = Ok found
 with_kind indices number found words (Some kind) = do
   names ← told_at number (names_of words)
   atoms ← told_at number (atoms_of indices names)
-  taken ← told_at number (all_taken found.taken atoms)
-  Ok (record { inside = found.inside; taken = taken; groups = with_line kind number atoms found.groups })
+  with_atoms number found kind atoms
 
 -- the words of a line in a collection
 abbrev pub with_words : List ℕ → ℕ → Found → List (List ℕ) → Result Found GroupFault

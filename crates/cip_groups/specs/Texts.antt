@@ -5,18 +5,14 @@ use Rattle.std.specs.List.{list_any}
 use Rattle.cip_text.specs.Bodies.{body_contents}
 use Rattle.cip_rank.specs.declared.rules.Rules.{Rules}
 use Rattle.cip_mol.specs.Drawing.{Drawing}
-use Rattle.cip_mol.specs.Geometry.{geometry_of}
 use Rattle.cip_mol.specs.Letters.{letter_text}
 use Rattle.cip_mol.specs.declared.outcome.Outcome.{Outcome}
 use Rattle.cip_mol.specs.declared.outcome.Outcome.TheVariants as outcomes
 use Rattle.cip_mol.specs.declared.refusal.ReadFault.{ReadFault}
 use Rattle.cip_item.specs.Parts.{without_label_items}
-use Rattle.cip_digraph.specs.graph.DrawnGraph.{graph_of}
-use Rattle.cip_digraph.specs.graph.Graph.{Graph}
-use Rattle.cip_digraph.specs.rings.Positions.{positions_of}
-use Rattle.cip_digraph.specs.units.Units.{units_of}
 use Rattle.cip_label.specs.Settings.{setting_of}
 use Rattle.cip_print.specs.Refusals.{refusal_line}
+use Rattle.cip_unit.specs.Drawings.{Drawn, drawn_of}
 use Rattle.cip_v2000.specs.Grammar as v2000
 use Rattle.cip_v2000.specs.Version.{is_v3000}
 use Rattle.cip_v3000.specs.Tables.{Table, table_of}
@@ -73,13 +69,12 @@ of_molecule (Ok drawing) = record { text = []; flagged = false }
 of_molecule (Err fault) = refused fault
 
 module _ (rules : Rules) (nodes : ℕ) where
-  abbrev pub of_units : Drawing → Graph → List (List ℕ) → List Group → GroupText
-  of_units drawing graph positions groups =
-      of_lines (all_lines nodes
-      (setting_of rules graph positions (units_of (geometry_of drawing) graph positions)) groups)
+  abbrev pub of_drawn : Drawn → List Group → GroupText
+  of_drawn drawn groups =
+      of_lines (all_lines nodes (setting_of rules drawn.graph drawn.positions drawn.units) groups)
 
   abbrev pub of_groups : Drawing → Result (List Group) GroupFault → GroupText
-  of_groups drawing (Ok groups) = of_units drawing (graph_of drawing) (positions_of (graph_of drawing)) groups
+  of_groups drawing (Ok groups) = of_drawn (drawn_of drawing) groups
   of_groups drawing (Err fault) = record { text = fault_line fault; flagged = true }
 
   abbrev pub of_table : Result Table ReadFault → GroupText

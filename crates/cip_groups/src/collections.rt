@@ -5,7 +5,7 @@ ghost use Rattle.cip_text.specs.Slices.{texts};
 ghost use Rattle.cip_v3000.specs.Grammar.{molecule_of};
 ghost use Rattle.cip_v3000.specs.Joining.{seen};
 ghost use Rattle.cip_v3000.specs.Tables.{seen_table};
-ghost use Rattle.cip_groups.specs.Collections.{nothing, with_kind, with_words, with_joined, ended, groups_from, groups_of, answer_by, IsAnswer};
+ghost use Rattle.cip_groups.specs.Collections.{nothing, with_atoms, with_kind, with_words, with_joined, ended, groups_from, groups_of, answer_by, IsAnswer};
 ghost use Rattle.cip_groups.specs.Reading.{Gives};
 
 use crate::atom_lists::{atoms_of, names_of, take_all};
@@ -16,6 +16,7 @@ use cip_mol::{Molecule, ReadRefusal};
 use cip_text::body_contents;
 use cip_v3000::{FrameLine, Indices, JoinedLine, Table, is_frame, read_table, text_of, words};
 use std::alloc::{AllocError, Global};
+use std::mem;
 
 /// What was read of the lines before: whether a collection is open, the atoms that stand in a group line, the groups.
 #[derive(Drop)]
@@ -23,6 +24,24 @@ pub struct Found {
     pub inside: bool,
     pub taken: Indices,
     pub groups: Groups,
+}
+
+impl Found {
+    // Puts these atoms of a group line to those of its group.
+    fn put(
+        &mut self,
+        alloc: Global,
+        number: u32,
+        kind: GroupKind,
+        atoms: Vec<u32>,
+    ) -> Result<(), GroupRefusal>
+        ensures { Gives (λ _. self.new) result (with_atoms number self.old kind atoms.items) }
+    {
+        take_all(number, &mut self.taken, &atoms)?;
+        let groups = mem::replace(&mut self.groups, Groups::new(alloc));
+        self.groups = groups.with_line(kind, number, atoms)?;
+        Ok(())
+    }
 }
 
 /// The groups of a record from which this molecule is read, or the first line with a cause and its first one.
@@ -105,76 +124,76 @@ fn ended(number: u32, found: Found) -> Result<Groups, GroupFault>
     Ok(found.groups)
 }
 
-// A line behind those before it; lines outside collections are passed over.
-#[tactic(auto, unfolding(crate::specs::Collections::with_joined))]
+// A line behind those before it.
 fn with_joined(
     alloc: Global,
     indices: &Indices,
     number: u32,
-    found: Found,
+    mut found: Found,
     words: &[&[u8]],
 ) -> Result<Found, GroupRefusal>
     requires few { length indices.now ≤ 1000000000 }
     ensures { Gives (λ now. now) result (with_joined indices.now number found (texts words.now)) }
 {
-    if !found.inside {
-        return Ok(Found {
-            inside: is_frame(FrameLine::BeginCollection, words),
-            ..found
-        });
-    }
-    if is_frame(FrameLine::EndCollection, words) {
-        return Ok(Found {
-            inside: false,
-            ..found
-        });
-    }
-    with_words(alloc, indices, number, found, words)
+    read_joined(alloc, indices, number, &mut found, words)?;
+    Ok(found)
 }
 
-fn with_words(
+// Reads a line behind those before it; lines outside collections are passed over.
+#[tactic(auto, unfolding(crate::specs::Collections::with_joined))]
+fn read_joined(
     alloc: Global,
     indices: &Indices,
     number: u32,
-    found: Found,
+    found: &mut Found,
     words: &[&[u8]],
-) -> Result<Found, GroupRefusal>
+) -> Result<(), GroupRefusal>
     requires few { length indices.now ≤ 1000000000 }
-    ensures { Gives (λ now. now) result (with_words indices.now number found (texts words.now)) }
+    ensures { Gives (λ _. found.new) result (with_joined indices.now number found.old (texts words.now)) }
+{
+    if !found.inside {
+        found.inside = is_frame(FrameLine::BeginCollection, words);
+        return Ok(());
+    }
+    if is_frame(FrameLine::EndCollection, words) {
+        found.inside = false;
+        return Ok(());
+    }
+    read_words(alloc, indices, number, found, words)
+}
+
+fn read_words(
+    alloc: Global,
+    indices: &Indices,
+    number: u32,
+    found: &mut Found,
+    words: &[&[u8]],
+) -> Result<(), GroupRefusal>
+    requires few { length indices.now ≤ 1000000000 }
+    ensures { Gives (λ _. found.new) result (with_words indices.now number found.old (texts words.now)) }
 {
     match words {
-        [] => Ok(found),
+        [] => Ok(()),
         [name, words @ ..] => match told_at(number, kind_of(name))? {
-            None => Ok(found),
-            Some(kind) => with_kind(alloc, indices, number, found, words, kind),
+            None => Ok(()),
+            Some(kind) => read_kind(alloc, indices, number, found, words, kind),
         },
     }
 }
 
-// The atoms of a group line put to those of its group.
-fn with_kind(
+// Puts the atoms of a group line to those of its group.
+fn read_kind(
     alloc: Global,
     indices: &Indices,
     number: u32,
-    found: Found,
+    found: &mut Found,
     words: &[&[u8]],
     kind: GroupKind,
-) -> Result<Found, GroupRefusal>
+) -> Result<(), GroupRefusal>
     requires few { length indices.now ≤ 1000000000 }
-    ensures { Gives (λ now. now) result (with_kind indices.now number found (texts words.now) (Some kind)) }
+    ensures { Gives (λ _. found.new) result (with_kind indices.now number found.old (texts words.now) (Some kind)) }
 {
     let names = names_of(alloc, number, words)?;
     let atoms = atoms_of(alloc, number, indices, &names)?;
-    let Found {
-        inside,
-        mut taken,
-        groups,
-    } = found;
-    take_all(number, &mut taken, &atoms)?;
-    let groups = groups.with_line(kind, number, atoms)?;
-    Ok(Found {
-        inside,
-        taken,
-        groups,
-    })
+    found.put(alloc, number, kind, atoms)
 }

@@ -6,26 +6,25 @@ ghost use Rattle.cip_v2000.specs.Grammar.{molecule_of};
 ghost use Rattle.cip_v2000.specs.Version.{is_v3000};
 ghost use Rattle.cip_v3000.specs.Tables.{seen_table, table_of};
 ghost use Rattle.cip_groups.specs.Collections.{groups_of};
-ghost use Rattle.cip_digraph.specs.graph.DrawnGraph.{graph_of};
-ghost use Rattle.cip_digraph.specs.rings.Positions.{positions_of};
+ghost use Rattle.cip_label.specs.Settings.{setting_of};
+ghost use Rattle.cip_unit.specs.Drawings.{drawn_of};
+ghost use Rattle.cip_groups.specs.Outcomes.{all_lines};
 ghost use Rattle.cip_print.specs.Refusals.{refusal_line};
 ghost use Rattle.cip_groups.specs.Readings.{TellsRefusal};
-ghost use Rattle.cip_groups.specs.Texts.{outcome_text, both_text, line_text, is_over, some_over, fault_line, of_lines, of_groups, of_units, of_table, of_molecule, of_contents, told_without_items, told_of, with_number};
+ghost use Rattle.cip_groups.specs.Texts.{outcome_text, both_text, line_text, is_over, some_over, fault_line, of_lines, of_drawn, of_groups, of_table, of_molecule, of_contents, told_without_items, told_of, with_number};
 
 use crate::collections::groups_of;
 use crate::faults::{GroupFault, GroupRefusal};
 use crate::groups::Groups;
 use crate::outcomes::{BothOutcomes, GroupLine, all_lines};
 use cip_desk::Desk;
-use cip_hydro::graph_of;
 use cip_item::without_label_items;
 use cip_label::{Labeller, Setting};
-use cip_mancude::positions;
 use cip_mol::{Molecule, Outcome, ReadFault, ReadRefusal};
 use cip_print::refusal;
 use cip_rank::Rules;
 use cip_text::{Bytes, RecordLines};
-use cip_unit::units;
+use cip_unit::Drawn;
 use cip_v2000::is_v3000;
 use cip_v3000::{Table, read_table};
 use std::alloc::{AllocError, Global};
@@ -202,19 +201,29 @@ fn tell_groups(
     groups: &Groups,
     rules: Rules,
 ) -> Result<GroupText, AllocError>
-    ensures told { IfOk result (λ told. told
-        ≡ of_units rules labeller.old molecule.now (graph_of molecule.now) (positions_of (graph_of molecule.now))
-        groups.now) }
+    ensures told { IfOk result (λ told. told ≡ of_drawn rules labeller.old (drawn_of molecule.now) groups.now) }
     ensures kept { labeller.new ≡ labeller.old }
 {
-    // Reading the atoms tells that there are few.
-    let _atoms = molecule.atoms();
-    let graph = graph_of(alloc, molecule)?;
-    let positions = positions(alloc, &graph)?;
-    let units = units(alloc, molecule, &graph, &positions)?;
-    let setting = Setting::new(alloc, &graph, &positions, units.list(), rules)?;
-    let lines = all_lines(alloc, labeller, &setting, &units, groups.as_slice())?;
+    let drawn = Drawn::of(alloc, molecule)?;
+    let lines = drawn_lines(alloc, labeller, &drawn, groups, rules)?;
     of_lines(alloc, &lines)
+}
+
+// What is drawn stays with the caller, so that no end of this function gives it back.
+fn drawn_lines(
+    alloc: Global,
+    labeller: &mut Labeller<Desk>,
+    drawn: &Drawn,
+    groups: &Groups,
+    rules: Rules,
+) -> Result<Vec<GroupLine>, AllocError>
+    ensures lines { IfOk result (λ lines. lines.items
+        ≡ all_lines labeller.old (setting_of rules drawn.now.graph drawn.now.positions drawn.now.units) groups.now) }
+    ensures kept { labeller.new ≡ labeller.old }
+{
+    let units = drawn.units();
+    let setting = Setting::new(alloc, drawn.graph(), drawn.positions(), units.list(), rules)?;
+    all_lines(alloc, labeller, &setting, units, groups.as_slice())
 }
 
 fn of_lines(alloc: Global, lines: &[GroupLine]) -> Result<GroupText, AllocError>

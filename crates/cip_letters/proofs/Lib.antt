@@ -3,3 +3,4 @@ pub mod Odd
 pub mod OddTurns
 pub mod PairTurns
 pub mod RanksTurn
+pub mod UnitAtoms

@@ -1,4 +1,5 @@
 pub mod Falls
 pub mod Lettered
+pub mod Marking
 pub mod Sides
 pub mod TurnsOf

@@ -12,12 +12,13 @@ use Rattle.cip_branches.specs.Deciding.{Branched}
 use Rattle.cip_ligands.specs.declared.asked.Asked.{Asked}
 use Rattle.cip_ligands.specs.Asking.{AreWithin, is_decided, with_found}
 use Rattle.cip_ligands.specs.Configuring.{DecidesOn}
+use Rattle.cip_ligands.specs.Counting.{TakesMarked}
 use Rattle.cip_ligands.specs.Deciding.{AreDecidedBy, AreReadyFor}
 use Rattle.cip_ligands.specs.Marked.{AreMarksOf}
 use Rattle.cip_ligands.specs.Orders.{is_keyed, key_by, mark_key, order_before, order_by, decided_by, decided_in_turn, rules_before}
-use Rattle.cip_ligands.specs.Taking.{TakesRule, WantsNoMore}
+use Rattle.cip_ligands.specs.Taking.{WantsNoMore}
 use Rattle.cip_ligands.proofs.FoundWithin.{same_found}
-use Rattle.cip_ligands.proofs.MarkedPlaces.{keys_by_marks, marks_stay}
+use Rattle.cip_ligands.proofs.MarkedPlaces.{keys_by_taken, marks_stay}
 use Rattle.cip_ligands.proofs.RulesGoOn.{decides_next, order_told, found_next, order_is}
 use Rattle.cip_ligands.proofs.RulesReady.{ready_next, ready_early}
 
@@ -27,11 +28,11 @@ module _ (marks : List (Option Descriptor)) where
       → ((seen : Seen Node) → order_before seen true next ≡ order_by seen true rule seen.height)
       → ((seen : Seen Node) (node : Node) → mark_key true rule (seen.mark node) ≡ key_by seen true rule node)
       → (old now : Branched) (asked new : List Asked)
-      → TakesRule old (map (mark_key true rule) marks) rule asked now new → DecidesOn marks rule next old asked now new
+      → TakesMarked marks true rule old asked now new → DecidesOn marks rule next old asked now new
   decides_one rule next keyed rules same key old now asked new takes = record {
     each = λ seen named node count begin within before known.
         ready_next seen true named node count begin within rule next keyed rules (same seen) old now asked new before
-        (map (mark_key true rule) marks) (keys_by_marks named marks seen true rule (key seen) old known) takes;
+        takes.keys (keys_by_taken named marks seen true rule (key seen) old now asked new known takes) takes.takes;
   }
 
   -- some rules, which leave a pair undecided, and then others
@@ -98,12 +99,12 @@ module _ (marks : List (Option Descriptor)) (seen : Seen Node) (named node : ℕ
   -- the last rule, either way
   pub last_decides : (r_first : Bool) (old now : Branched) (asked new : List Asked)
       → AreDecidedBy seen true named node count begin (rules_before R5) (order_before seen true R5) old asked
-      → AreMarksOf named seen.mark marks old → TakesRule old (map (mark_key r_first R5) marks) R5 asked now new
+      → AreMarksOf named seen.mark marks old → TakesMarked marks r_first R5 old asked now new
       → new ≡ map (with_found (λ a b. order seen r_first (node a) (node b))) begin
   last_decides r_first old now asked new before known takes =
       decides_next seen r_first named node count begin within (rules_before R5) R5 refl old now asked new
-      (either r_first old asked before) (map (mark_key r_first R5) marks)
-      (keys_by_marks named marks seen r_first R5 (λ n. refl) old known) takes
+      (either r_first old asked before) takes.keys
+      (keys_by_taken named marks seen r_first R5 (λ n. refl) old now asked new known takes) takes.takes
       ∙ same_found (decided_in_turn seen r_first rules_in_turn node) (λ a b. order seen r_first (node a) (node b))
       (AreWithin count) (λ one w. order_is seen r_first named node count begin within one.first one.second) begin within
 

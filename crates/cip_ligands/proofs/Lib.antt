@@ -3,7 +3,7 @@ pub mod FirstNone
 pub mod FoundAmong
 pub mod FoundRules
 pub mod FoundWithin
-pub mod MappedKeys
+pub mod MarkedKeys
 pub mod MarkedPlaces
 pub mod MovedOrders
 pub mod Noted
@@ -13,5 +13,6 @@ pub mod RulesFound
 pub mod RulesGoOn
 pub mod RulesInTurn
 pub mod RulesReady
+pub mod TakenNone
 pub mod TakenSteps
 pub mod UnmarkedBranches

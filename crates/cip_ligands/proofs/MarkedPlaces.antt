@@ -9,20 +9,24 @@ use Rattle.cip_digraph.specs.rules.Orders.{Seen}
 use Rattle.cip_branches.specs.Deciding.{Branched}
 use Rattle.cip_rows.specs.Kin.{Kin}
 use Rattle.cip_branches.specs.Standing.{node_in, AreKeysOf}
+use Rattle.cip_ligands.specs.declared.asked.Asked.{Asked}
+use Rattle.cip_ligands.specs.Counting.{TakesMarked}
 use Rattle.cip_ligands.specs.Marked.{AreMarksOf}
 use Rattle.cip_ligands.specs.Orders.{key_by, mark_key}
 use Rattle.cip_ligands.specs.Taking.{WantsNoMore}
-use Rattle.cip_ligands.proofs.MappedKeys.{mapped_keys}
 
 module _ {N : Type 0} (named : ℕ → N) (marks : List (Option Descriptor)) where
-  -- by a rule that looks at descriptors
-  pub keys_by_marks : (seen : Seen N) (r_first : Bool) (rule : Rule)
-      → ((node : N) → mark_key r_first rule (seen.mark node) ≡ key_by seen r_first rule node) → (now : Branched)
-      → AreMarksOf named seen.mark marks now
-      → AreKeysOf named (key_by seen r_first rule) (map (mark_key r_first rule) marks) now
-  keys_by_marks seen r_first rule is now known =
-      mapped_keys named (mark_key r_first rule) (key_by seen r_first rule) marks None now known.within
-      (λ t place p. ap (mark_key r_first rule) (known.each t place p) ∙ is (node_in named now place))
+  -- keys that are those of descriptors at places of wanted branches are keys of the nodes there
+  pub keys_by_taken : (seen : Seen N) (r_first : Bool) (rule : Rule)
+      → ((node : N) → mark_key r_first rule (seen.mark node) ≡ key_by seen r_first rule node) → (begin now : Branched)
+      → (asked new : List Asked) → AreMarksOf named seen.mark marks begin
+      → (takes : TakesMarked marks r_first rule begin asked now new)
+      → AreKeysOf named (key_by seen r_first rule) takes.keys begin
+  keys_by_taken seen r_first rule is begin now asked new known takes = record {
+    each = λ t place p.
+        takes.same t place p (known.within t place p) ∙ ap (mark_key r_first rule) (known.each t place p)
+        ∙ is (node_in named begin place);
+  }
 
   -- over the same places, where no more branches are wanted
   pub marks_stay : (mark : N → Option Descriptor) (old now : Branched) → now.layers.kin ≡ old.layers.kin

@@ -1,12 +1,12 @@
 -- What is taken over both readings of branches is what Rule 4b decides.
 use Rattle.std.proofs.Common.{◌≡◌, ◌≢◌, ◌<◌, ◌≤◌, ◌+◌, ◌-◌, ◌∷◌, ◌⊎◌, [], ℕ, ℤ, zero, suc, Bool, true, false, cond, if◌then◌else◌, List, length, map, slice_index, refl, sym, ap, ◌∙◌, subst, arith, inl, inr}
-use Rattle.std.specs.Prelude.{None, Some}
+use Rattle.std.specs.Prelude.{None, Some, pos}
 use Rattle.std.specs.declared.option.Option.{Option}
 use Rattle.std.specs.declared.cmp.Ordering.{Ordering}
 use Rattle.std.specs.declared.cmp.Ordering.TheVariants.{Equal}
 use Rattle.std.specs.Cmp.{IsTotalOrder}
 use Rattle.std.specs.List.{AllByRecursion, range_with_len, slice_index_or}
-use Rattle.std.specs.Ordering.{is_lt, int_cmp}
+use Rattle.std.specs.Ordering.{is_lt, int_cmp, nat_cmp}
 use Rattle.std.proofs.lemmas.Bool.Decides.{nat_tests}
 use Rattle.std.proofs.lemmas.Cmp.{on_total, tied_itself}
 use Rattle.std.proofs.lemmas.List.{get_or-map, length-map}
@@ -17,10 +17,11 @@ use Rattle.cip_rank.proofs.NumberedNodes.{equal_is}
 use Rattle.cip_rank.proofs.Refining.{depths_refine}
 use Rattle.cip_rank.proofs.TotalOrder.{comparison_total}
 use Rattle.cip_mol.specs.declared.descriptor.Descriptor.{Descriptor}
-use Rattle.cip_mol.specs.declared.outcome.Rule.TheVariants.{R4b}
+use Rattle.cip_mol.specs.declared.descriptor.Descriptor.TheVariants as letters
+use Rattle.cip_mol.specs.declared.outcome.Rule.TheVariants.{R4b, R5}
 use Rattle.cip_digraph.specs.declared.decision.Decision.{Decision}
 use Rattle.cip_digraph.specs.rules.Decisions.{Difference, first_difference, look}
-use Rattle.cip_digraph.specs.rules.Kinds.{Kind, KindR, KindS, marked, like_key}
+use Rattle.cip_digraph.specs.rules.Kinds.{Kind, KindR, KindS, Neither, marked, like_key, like_kind}
 use Rattle.cip_digraph.specs.rules.Orders.{Seen, rule_4a, read_children, readings, is_s_higher, higher_reading, lower_reading, rule_4b_higher, rule_4b_lower}
 use Rattle.cip_digraph.proofs.ExchangedOrders.{total_4a}
 use Rattle.cip_digraph.proofs.WholeOrder.{side_at, first_side}
@@ -34,17 +35,20 @@ use Rattle.cip_branches.specs.Views.{IsView, IsEnded}
 use Rattle.cip_rows.proofs.Cases.{cases_same, cases_flag, not_both}
 use Rattle.cip_branches.proofs.DecidedBranches.{first_stays}
 use Rattle.cip_branches.proofs.Ending.{deep}
-use Rattle.cip_branches.proofs.TwinSpheres.{kept_at_most}
+use Rattle.cip_branches.proofs.TwinRanks.{double_order, twins_followed}
+use Rattle.cip_branches.proofs.TwinSpheres.{kept_at_most, number_first, number_second}
 use Rattle.cip_branches.proofs.TwinStands.{IsReading, wants_twin, twin_named, read_each, itself, node_first, node_second, view_before, ended_before, ended_twins, twins_stand, reading_in, top_node}
 use Rattle.cip_ligands.specs.declared.asked.Asked.{Asked}
-use Rattle.cip_ligands.specs.Asking.{AreWithin, decided, kept_or, with_found}
+use Rattle.cip_ligands.specs.Asking.{AreWithin, decided, differing, found_between, kept_or, with_found}
+use Rattle.cip_ligands.specs.Counting.{AreUncounted}
 use Rattle.cip_ligands.specs.Marked.{AreMarksOf}
-use Rattle.cip_ligands.specs.Orders.{decided_by, found_below}
+use Rattle.cip_ligands.specs.Orders.{decided_by, found_below, mark_key}
 use Rattle.cip_ligands.specs.Readings.{twin_of, side_of, is_second, s_higher, base_of, reading_of, read_as, between, reading_key, reading_keys, TakesReadings}
 use Rattle.cip_ligands.specs.Taking.{TakesRule}
 use Rattle.cip_ligands.proofs.FoundAmong.{AsksAmong, rule_found, found_rest}
 use Rattle.cip_ligands.proofs.FoundWithin.{same_found, same_difference, kept_kept, decided_else}
 use Rattle.cip_ligands.proofs.ReadingKeys.{key_here}
+use Rattle.cip_ligands.proofs.TakenNone.{none_taken}
 
 key_low : (marks : List (Option Descriptor)) (nodes : List ℕ) (count x : ℕ) → x < count
     → reading_key marks nodes count x ≡ marked (like_key KindR) (slice_index_or marks (slice_index nodes x) None)
@@ -80,6 +84,31 @@ all_range : {X : Type 0} (P : X → Type 0) (f : ℕ → X) (first count : ℕ)
 all_range P f first zero each = tt
 all_range P f first (suc count) each =
     (each first (omega arith), all_range P f (first + 1) count (λ k lt. each k (omega (arith, lt))))
+
+-- what is neither like one kind nor like the other one
+like_none : (kind : Kind) → like_kind kind Neither ≡ 0 → (mark : Option Descriptor) → mark_key true R5 mark ≡ pos 0
+    → marked (like_key kind) mark ≡ pos 0
+like_none kind n None e = refl
+like_none kind n (Some letters.R) e = let bad : pos 2 ≡ pos 0 = e in cc
+like_none kind n (Some letters.S) e = let bad : pos 1 ≡ pos 0 = e in cc
+like_none kind n (Some letters.SmallR) e = ap pos n
+like_none kind n (Some letters.SmallS) e = ap pos n
+like_none kind n (Some letters.M) e = let bad : pos 2 ≡ pos 0 = e in cc
+like_none kind n (Some letters.P) e = let bad : pos 1 ≡ pos 0 = e in cc
+like_none kind n (Some letters.SmallM) e = ap pos n
+like_none kind n (Some letters.SmallP) e = ap pos n
+like_none kind n (Some letters.Z) e = ap pos n
+like_none kind n (Some letters.E) e = ap pos n
+like_none kind n (Some letters.SeqCis) e = let bad : pos 2 ≡ pos 0 = e in cc
+like_none kind n (Some letters.SeqTrans) e = let bad : pos 1 ≡ pos 0 = e in cc
+
+abbrev first_decided : List Asked → Option Decision
+first_decided [] = None
+first_decided (one ∷ asked) = one.decision
+
+kept_itself : (found : Option Decision) → kept_or found found ≡ found
+kept_itself None = refl
+kept_itself (Some found) = refl
 
 -- five steps are one
 five : {X : Type 0} (P : X → Type 0) (a b c d e g : X → X) → ((x : X) → P x → e (d (c (b (a x)))) ≡ g x)
@@ -265,6 +294,43 @@ module _ {N : Type 0} (seen : Seen N) (named : ℕ → N) (from : Branched) (fol
       (reading_keys marks from) keys_now R4b asked new now takes (seen.height + 1) (omega (arith, tall, most)) within
       ∙ same_found (found_below R4b compare node_now (seen.height + 1 + 1)) found (AsksAmong (IsReading from))
       (λ one w. settled one.first one.second w.0 w.1) asked within
+
+  -- Where no descriptor counts, no more is found between readings than their numbers tell.
+  module _ (none : AreUncounted marks true R5 from) where
+    nothing_read : (kind : Kind) → like_kind kind Neither ≡ 0 → (t place : ℕ) → WantedIn from t place
+        → pos 0 ≡ key (node place, kind)
+    nothing_read kind n t place p =
+        sym (like_none kind n (slice_index_or marks (slice_index from.layers.kin.nodes place) None)
+        (none.each t place p))
+        ∙ ap (marked (like_key kind)) (are.each t place p)
+
+    keys_none : AreKeysOf reads key [] twins
+    keys_none = record {
+      each = λ t x w.
+          let twin = wants_twin room from followed may t x w in
+          elim twin.which [
+            | inl e ↦ nothing_read KindR refl t twin.place twin.wanted
+                ∙ sym (ap key (ap node_now e
+                ∙ node_first room from followed may seen.children named KindR KindS twin.place twin.low))
+            | inr e ↦ nothing_read KindS refl t twin.place twin.wanted
+                ∙ sym (ap key (ap node_now e
+                ∙ node_second room from followed may seen.children named KindR KindS twin.place twin.low))
+          ];
+    }
+
+    abbrev by_twins : ℕ → ℕ → Option Decision
+    by_twins = found_between twins.layers.ranked.numbers R4b 0
+
+    found_none : (a b : ℕ) → IsReading from a → IsReading from b → found a b ≡ by_twins a b
+    found_none a b p q =
+        let one : Asked = record { first = a; second = b; decision = None } in
+        let most = kept_at_most room from followed may in
+        let told = rule_found (IsReading from) (read_each seen.children) reads earlier total key twins stand ends_now []
+        keys_none R4b (one ∷ []) (map (with_found by_twins) (one ∷ [])) twins
+        (none_taken twins (twins_followed room from followed may) R4b (one ∷ []) (map (with_found by_twins) (one ∷ []))
+        refl)
+        (seen.height + 1) (omega (arith, tall, most)) ((p, q), tt) in
+        sym (ap first_decided told ∙ settled a b p q)
 
   -- the other reading of a branch, or the branch
   twin_reads : (k : ℕ) → k < length from.wanted → IsReading from (twin_of from k)
@@ -526,6 +592,42 @@ module _ {N : Type 0} (seen : Seen N) (named : ℕ → N) (from : Branched) (fol
         ∙ ap (kept_or d) (sym (decided_else R4b (look seen true (node i) (node j) (rule_4b_higher seen))
         (look seen true (node i) (node j) (rule_4b_lower seen))))
 
+    -- so the rule finds no more between branches than their own numbers tell
+    module _ (none : AreUncounted marks true R5 from) where
+      number_is : (x k : ℕ) → k < length from.wanted → (x ≡ k) ⊎ (x ≡ count + k)
+          → slice_index twins.layers.ranked.numbers x
+          ≡ slice_index from.layers.ranked.numbers k + slice_index from.layers.ranked.numbers k
+      number_is x k lt (inl e) = ap (slice_index twins.layers.ranked.numbers) e
+          ∙ number_first room from followed may 0 k (stands.shown.top k lt)
+      number_is x k lt (inr e) = ap (slice_index twins.layers.ranked.numbers) e
+          ∙ number_second room from followed may 0 k (stands.shown.top k lt)
+
+      by_number_is : (x y i j : ℕ) → i < length from.wanted → j < length from.wanted → (x ≡ i) ⊎ (x ≡ count + i)
+          → (y ≡ j) ⊎ (y ≡ count + j)
+          → by_twins none x y ≡ found_between from.layers.ranked.numbers R4b 0 i j
+      by_number_is x y i j li lj of_x of_y =
+          ap (λ n. decided R4b (differing 0 (nat_cmp n (slice_index twins.layers.ranked.numbers y))))
+          (number_is x i li of_x)
+          ∙ ap (λ n. decided R4b (differing 0 (nat_cmp (slice_index from.layers.ranked.numbers i
+          + slice_index from.layers.ranked.numbers i) n))) (number_is y j lj of_y)
+          ∙ ap (λ r. decided R4b (differing 0 r))
+          (double_order (slice_index from.layers.ranked.numbers i) (slice_index from.layers.ranked.numbers j))
+
+      pub none_decided : (i j : ℕ) → i < length from.wanted → j < length from.wanted
+          → found_between from.layers.ranked.numbers R4b 0 i j ≡ decided_by seen true R4b node i j
+      none_decided i j li lj =
+          let told = found_between from.layers.ranked.numbers R4b 0 i j in
+          let higher : found (hi_of i) (hi_of j) ≡ told =
+          ap (λ x. found x (hi_of j)) (hi_is i li) ∙ ap (found (hi i)) (hi_is j lj)
+          ∙ found_none none (hi i) (hi j) (hi_reads_by i (has_flag flags i) li) (hi_reads_by j (has_flag flags j) lj)
+          ∙ by_number_is (hi i) (hi j) i j li lj (hi_or i) (hi_or j) in
+          let lower : found (lo_of (hi_of i)) (lo_of (hi_of j)) ≡ told =
+          ap (λ x. found x (lo_of (hi_of j))) (lo_is i li) ∙ ap (found (lo i)) (lo_is j lj)
+          ∙ found_none none (lo i) (lo j) (lo_reads_by i (has_flag flags i) li) (lo_reads_by j (has_flag flags j) lj)
+          ∙ by_number_is (lo i) (lo j) i j li lj (lo_or i) (lo_or j) in
+          sym (kept_itself told) ∙ sym (ap (λ d. kept_or d told) higher)
+          ∙ sym (ap (kept_or (found (hi_of i) (hi_of j))) lower) ∙ both_found None i j li lj
+
     one_pair : (one : Asked) → AreWithin (length from.wanted) one
         → between (base_of count) (with_found found (between lo_of (with_found found (between hi_of one))))
         ≡ with_found (decided_by seen true R4b node) one
@@ -577,6 +679,22 @@ readings_found seen named from followed may stands ends tall marks are asked new
     ∙ ap (λ (all : List Asked). map (with_found f) (map (between (read_as from (s_higher takes.sides) true)) all))
     higher)
     ∙ all_pairs seen named from followed may stands ends tall marks are room takes.sides sides asked within
+
+-- where no descriptor counts, the numbers of branches tell what the rule decides
+pub readings_none : {N : Type 0} (seen : Seen N) (named : ℕ → N) (from : Branched) → AreFollowed from → MayDouble from
+    → StandsBy seen.children named (rule_4a seen seen.height) from
+    → IsEnded seen.children (node_in named from) (WantedIn from) from.last → from.last ≤ seen.height
+    → (marks : List (Option Descriptor)) → AreMarksOf named seen.mark marks from → AreUncounted marks true R5 from
+    → (asked new : List Asked) → AllByRecursion (AreWithin (length from.wanted)) asked
+    → new ≡ map (with_found (found_between from.layers.ranked.numbers R4b 0)) asked
+    → new ≡ map (with_found (decided_by seen true R4b (node_in named from))) asked
+readings_none seen named from followed may stands ends tall marks are none asked new within noted =
+    let f = found seen named from followed may stands ends tall marks are 0 in
+    noted ∙ same_found (found_between from.layers.ranked.numbers R4b 0) (decided_by seen true R4b (node_in named from))
+    (AreWithin (length from.wanted))
+    (λ one w. none_decided seen named from followed may stands ends tall marks are 0
+    (map (with_found f) (map (side_of from) (range_with_len 0 (length from.wanted)))) refl none one.first one.second w.0
+    w.1) asked within
 
 pub none_asked : (f : ℕ → ℕ → Option Decision) (asked : List Asked) → AllByRecursion (AreWithin 0) asked
     → asked ≡ map (with_found f) asked

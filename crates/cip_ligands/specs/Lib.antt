@@ -1,5 +1,6 @@
 pub mod Asking
 pub mod Configuring
+pub mod Counting
 pub mod Deciding
 pub mod Laws
 pub mod MarkColumns

@@ -10,22 +10,25 @@ ghost use Rattle.cip_rows.specs.Keys.{AreKeyed};
 ghost use Rattle.cip_ligands.specs.declared.asked.Asked.{Asked as AnyAsked};
 ghost use Rattle.cip_ligands.specs.Asking.{AreWithin, is_decided, with_found};
 ghost use Rattle.cip_ligands.specs.Configuring.{DecidesOn, DecidesAll};
+ghost use Rattle.cip_ligands.specs.Counting.{TakesMarked, TakesMarkedOnce};
 ghost use Rattle.cip_ligands.specs.Deciding.{AreDecidedBy};
 ghost use Rattle.cip_ligands.specs.Marked.{AreMarksOf};
-ghost use Rattle.cip_ligands.specs.Orders.{mark_key, rules_before};
-ghost use Rattle.cip_ligands.specs.Taking.{TakesOnce, TakesRule, WantsNoMore};
+ghost use Rattle.cip_ligands.specs.Orders.{rules_before};
+ghost use Rattle.cip_ligands.specs.Taking.{WantsNoMore};
 
 use crate::asked::{Asked, are_decided};
 use crate::both_ways::take_both_ways;
+use crate::counted::some_count;
 use crate::mark_keys::MarkKeys;
 use crate::marked::Marked;
+use crate::noting::note;
 use crate::readings::{Readings, take_readings};
 use crate::taking::take_rule;
 use crate::unmarked::are_unmarked;
 use cip_branches::Branches;
 use cip_mol::Rule;
 
-// One of the rules that look at descriptors, which isn't Rule 4b.
+// One of the rules that look at descriptors, which isn't Rule 4b. Where none counts, numbers stand and branches too.
 fn take_marked<M: Marked>(
     branches: &mut Branches,
     marks: &M,
@@ -34,13 +37,16 @@ fn take_marked<M: Marked>(
 ) -> bool
     requires followed { AreFollowed branches.old }
     requires keyed { AreKeyed (length (M.marks marks.now)) branches.old.layers.kin }
-    ensures taken { TakesRule branches.old (map (mark_key true rule) (M.marks marks.now)) rule asked.old branches.new
-        asked.new }
+    ensures taken { TakesMarked (M.marks marks.now) true rule branches.old asked.old branches.new asked.new }
     ensures followed { AreFollowed branches.new }
     ensures all { result ≡ list_all is_decided asked.new }
     ensures kin { branches.new.layers.kin ≡ branches.old.layers.kin }
     ensures wanted { WantsNoMore branches.old branches.new }
 {
+    if !some_count(branches, marks, rule) {
+        note(branches, rule, 0, asked);
+        return are_decided(asked);
+    }
     let keys = MarkKeys {
         rule,
         r_first: true,
@@ -145,11 +151,16 @@ fn decide_last<M: Marked>(
     requires keyed { AreKeyed (length (M.marks marks.now)) branches.old.layers.kin }
     requires room { length branches.old.layers.kin.ups ≤ readings.old.bound }
     requires len { length turned.old ≡ length asked.old }
-    ensures decided { TakesOnce branches.old (map (mark_key true R5) (M.marks marks.now)) R5 asked.old asked.new }
-    ensures turned { TakesOnce branches.old (map (mark_key false R5) (M.marks marks.now)) R5 asked.old turned.new }
+    ensures decided { TakesMarkedOnce (M.marks marks.now) true R5 branches.old asked.old asked.new }
+    ensures turned { TakesMarkedOnce (M.marks marks.now) false R5 branches.old asked.old turned.new }
     ensures kin { branches.new.layers.kin ≡ branches.old.layers.kin }
     ensures bound { readings.new.bound ≡ readings.old.bound }
 {
+    if !some_count(branches, marks, Rule::R5) {
+        note(branches, Rule::R5, 0, asked);
+        turned.copy_from_slice(asked);
+        return;
+    }
     let keys = MarkKeys {
         rule: Rule::R5,
         r_first: true,

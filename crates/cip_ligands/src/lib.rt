@@ -3,8 +3,10 @@
 
 mod asked;
 mod both_ways;
+mod by_rule;
 mod configuration;
 mod constitution;
+mod counted;
 mod descriptors;
 mod laws;
 mod mark_keys;
@@ -17,6 +19,7 @@ mod values;
 
 pub use asked::{Asked, are_decided};
 pub use both_ways::take_both_ways;
+pub use by_rule::{NodeMarks, take_readings_by, take_rule_by};
 pub use configuration::decide_configuration;
 pub use constitution::decide_constitution;
 pub use descriptors::Descriptors;

@@ -19,7 +19,9 @@ ghost use Rattle.cip_ligands.specs.Readings.{reading_key, reading_keys, IsAside,
 ghost use Rattle.cip_ligands.specs.Taking.{TakesRule};
 
 use crate::asked::{Asked, are_decided};
+use crate::counted::some_count;
 use crate::marked::Marked;
+use crate::noting::note;
 use crate::taking::take_rule;
 use crate::values::{compare_values, like_value};
 use cip_branches::{Branches, SavedRanks};
@@ -287,7 +289,8 @@ fn take_with<M: Marked>(
 }
 
 /// What Rule 4b decides between branches that stand by Rule 4a: the higher readings of two decide, and where they tie
-/// the lower ones. The branches' own numbers stay. No memory is taken.
+/// the lower ones. Where no descriptor is of kind R or S, the numbers of the branches tell it. These stay. No memory is
+/// taken.
 pub fn take_readings<M: Marked>(
     branches: &Branches,
     readings: &mut Readings,
@@ -302,6 +305,32 @@ pub fn take_readings<M: Marked>(
         → AreDecidedBy seen true named node count begin rules (rule_4a seen seen.height) branches.now asked.old
         → AreMarksOf named seen.mark (M.marks marks.now) branches.now
         → asked.new ≡ map (with_found (decided_by seen true R4b node)) asked.old }
+    ensures bound { readings.new.bound ≡ readings.old.bound }
+{
+    // Counting the places tells that branches can be doubled.
+    let _places = branches.count();
+    if !some_count(branches, marks, Rule::R5) {
+        note(branches, Rule::R4b, 0, asked);
+        return;
+    }
+    take_both(branches, readings, marks, asked);
+}
+
+/// The same, of nodes of any kind: the rule is taken over both readings, where there is a branch.
+pub(crate) fn take_both<M: Marked>(
+    branches: &Branches,
+    readings: &mut Readings,
+    marks: &M,
+    asked: &mut [Asked],
+)
+    requires followed { AreFollowed branches.now }
+    requires keyed { AreKeyed (length (M.marks marks.now)) branches.now.layers.kin }
+    requires room { length branches.now.layers.kin.ups ≤ readings.old.bound }
+    ensures none { length branches.now.layers.kin.ups ≡ 0 → asked.new ≡ asked.old }
+    ensures taken { 0 < length branches.now.layers.kin.ups → TakesReadings branches.now (M.marks marks.now) asked.old
+        asked.new }
+    ensures may { 0 < length branches.now.layers.kin.ups → MayDouble branches.now }
+    ensures tops { length branches.now.wanted ≤ length branches.now.layers.kin.ups }
     ensures bound { readings.new.bound ≡ readings.old.bound }
 {
     if branches.len() == 0 {

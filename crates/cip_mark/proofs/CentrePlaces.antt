@@ -23,7 +23,8 @@ use Rattle.cip_digraph.specs.units.Allenes.{axis_site, axis_sites, doubles, is_a
 use Rattle.cip_digraph.specs.units.Centres.{is_centre}
 use Rattle.cip_digraph.specs.units.DoubleBonds.{bond_site, bond_sites, is_bond_unit}
 use Rattle.cip_digraph.specs.units.Units.{centre_site, sites_of, units_of}
-use Rattle.cip_label.specs.Settings.{Setting, setting_of, outcome_in}
+use Rattle.cip_label.specs.Settings.{setting_of, outcome_in}
+use Rattle.cip_unit.specs.Drawings.{Drawn, drawn_of}
 use Rattle.cip_rank.specs.declared.rules.Rules.{Rules}
 use Rattle.cip_digraph.proofs.Lists.{all_append, all_mapped}
 use Rattle.cip_digraph.specs.units.DrawnUnits.{units_in}
@@ -253,17 +254,11 @@ module _ (drawing : Drawing) (atom : ℕ) where
       ((at_place (units_in drawing) units_there place lt centre_unit).told
       (ap (is_centre_at atom) is ∙ eq-eqb atom atom refl)).1
 
--- a list of units that was made for a drawing
-module _ (drawing : Drawing) (graph : Graph) (positions : List (List ℕ)) (listed : List units.Unit)
-    (is_graph : graph ≡ graph_of drawing) (are_positions : positions ≡ positions_of graph)
-    (are_units : listed ≡ units_of (geometry_of drawing) graph positions) where
-  all_positions : positions ≡ positions_of (graph_of drawing)
-  all_positions = are_positions ∙ ap positions_of is_graph
-
-  pub units_listed : listed ≡ units_in drawing
-  units_listed =
-      let places = all_positions in
-      are_units ∙ (λ i. units_of (geometry_of drawing) (is_graph i) (places i))
+-- the units of what is drawn, as they are listed
+module _ (drawing : Drawing) (drawn : Drawn) (is : drawn ≡ drawn_of drawing) (listed : List units.Unit)
+    (same : listed ≡ drawn.units) where
+  units_listed : listed ≡ units_in drawing
+  units_listed = same ∙ ap (λ (d : Drawn). d.units) is
 
   module _ (atom place : ℕ) (found : position (is_centre_at atom) listed ≡ Some place) where
     there : position (is_centre_at atom) (units_in drawing) ≡ Some place
@@ -275,20 +270,17 @@ module _ (drawing : Drawing) (graph : Graph) (positions : List (List ℕ)) (list
     pub centre_stands : has_centre drawing atom ≡ true
     centre_stands = (place_found drawing atom place there).1
 
-    pub within_list : place < length listed
-    within_list = slice_get_within listed place (centre_unit drawing atom) centre_listed
+    pub within_list : place < length drawn.units
+    within_list =
+        subst (λ us. place < length us) same (slice_get_within listed place (centre_unit drawing atom) centre_listed)
 
-    pub outcome_found : (rules : Rules) (bound : ℕ) (setting : Setting)
-        → setting ≡ setting_of rules graph positions listed
-        → (outcome : Outcome)
-        → ((u : units.Unit) → slice_get setting.units place ≡ Some u → outcome ≡ outcome_in setting bound u)
+    pub outcome_found : (rules : Rules) (bound : ℕ) (outcome : Outcome)
+        → ((u : units.Unit) → slice_get drawn.units place ≡ Some u
+        → outcome ≡ outcome_in (setting_of rules drawn.graph drawn.positions drawn.units) bound u)
         → outcome ≡ found_at rules bound drawing atom
-    outcome_found rules bound setting is outcome told =
-        let places = all_positions in
-        let all = units_listed in
-        told (centre_unit drawing atom) (ap (λ (s : Setting). slice_get s.units place) is ∙ centre_listed)
-        ∙ ap (λ (s : Setting). outcome_in s bound (centre_unit drawing atom)) is
-        ∙ (λ i. outcome_in (setting_of rules (is_graph i) (places i) (all i)) bound (centre_unit drawing atom))
+    outcome_found rules bound outcome told =
+        told (centre_unit drawing atom) (ap (λ us. slice_get us place) (sym same) ∙ centre_listed)
+        ∙ ap (λ (d : Drawn). outcome_in (setting_of rules d.graph d.positions d.units) bound (centre_unit drawing atom)) is
 
   pub none_listed : (atom : ℕ) → position (is_centre_at atom) listed ≡ None → has_centre drawing atom ≡ false
   none_listed atom none = no_place drawing atom (ap (position (is_centre_at atom)) (sym units_listed) ∙ none)

@@ -14,12 +14,10 @@ use crate::choosing::{chosen, shows_coincident};
 use crate::finding::{centre_place, find};
 use crate::letter::{CentreRefusal, Marked, Request};
 use crate::marking::{bare, marked};
-use cip_hydro::graph_of;
 use cip_label::{Digraphs, Labeller};
-use cip_mancude::positions;
 use cip_mol::{CentreLetter, Descriptor, Mark, Molecule, Outcome, Site};
 use cip_orient::orient;
-use cip_unit::units;
+use cip_unit::Drawn;
 use std::alloc::{AllocError, Global};
 
 /// Which mark at which ligand's bond gives the centre at an atom the asked letter, or the first cause why none does.
@@ -51,14 +49,10 @@ fn answer<D: Digraphs>(
         ≡ mark_asked request.rules labeller.old molecule.now request.atom request.letter) }
     ensures kept { labeller.new ≡ labeller.old }
 {
-    let graph = graph_of(alloc, molecule)?;
-    let positions = positions(alloc, &graph)?;
-    let units = units(alloc, molecule, &graph, &positions)?;
-    match centre_place(units.list(), request.atom) {
-        Some(place) => {
-            let site = &units.list()[place].site;
-            mark_centre(alloc, labeller, molecule, site, request)
-        }
+    let drawn = Drawn::of(alloc, molecule)?;
+    let units = drawn.units().list();
+    match centre_place(units, request.atom) {
+        Some(place) => mark_centre(alloc, labeller, molecule, &units[place].site, request),
         None => Ok(Err(CentreRefusal::NoCentre)),
     }
 }

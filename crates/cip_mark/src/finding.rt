@@ -2,17 +2,15 @@
 ghost use Rattle.std.specs.Prelude.{◌≡◌, ◌<◌, true, IfOk, Some, length, slice_get};
 ghost use Rattle.std.specs.List.{position};
 ghost use Rattle.cip_mol.specs.declared.site.Unit as units;
-ghost use Rattle.cip_label.specs.Settings.{outcome_in};
+ghost use Rattle.cip_label.specs.Settings.{outcome_in, setting_of};
 ghost use Rattle.cip_mark.specs.FoundCentres.{found_at, is_centre_at};
 ghost use Rattle.cip_mark.specs.Marking.{has_centre};
 
-use cip_hydro::graph_of;
 use cip_label::{Digraphs, Labeller, Setting};
-use cip_mancude::positions;
 use cip_mol::{Molecule, Outcome, Site, Unit};
 use cip_rank::Rules;
 use cip_steps::Steps;
-use cip_unit::units;
+use cip_unit::Drawn;
 use std::alloc::{AllocError, Global};
 use std::marker::Brand;
 use std::sync::ledger::{Blank, Ledger};
@@ -45,18 +43,29 @@ pub fn find<D: Digraphs>(
     ensures found { IfOk result (λ outcome. outcome ≡ found_at rules labeller.old molecule.now atom) }
     ensures kept { labeller.new ≡ labeller.old }
 {
-    // Reading the atoms tells that there are few.
-    let _atoms = molecule.atoms();
-    let graph = graph_of(alloc, molecule)?;
-    let positions = positions(alloc, &graph)?;
-    let units = units(alloc, molecule, &graph, &positions)?;
-    let setting = Setting::new(alloc, &graph, &positions, units.list(), rules)?;
-    match centre_place(units.list(), atom) {
-        Some(place) => {
-            label_counted::<D, Brand>(alloc, labeller, &setting, place as u32, Blank::new(1))
-        }
+    let drawn = Drawn::of(alloc, molecule)?;
+    match centre_place(drawn.units().list(), atom) {
+        Some(place) => find_at(alloc, labeller, &drawn, place as u32, rules),
         None => unreachable!(),
     }
+}
+
+// What is found of the unit at a place. What is drawn stays with the caller, so that no end of this function gives it back.
+fn find_at<D: Digraphs>(
+    alloc: Global,
+    labeller: &mut Labeller<D>,
+    drawn: &Drawn,
+    place: u32,
+    rules: Rules,
+) -> Result<Outcome, AllocError>
+    requires place { place < length drawn.now.units }
+    ensures outcome { IfOk result (λ outcome. (u : units.Unit) → slice_get drawn.now.units place ≡ Some u →
+        outcome ≡ outcome_in (setting_of rules drawn.now.graph drawn.now.positions drawn.now.units) labeller.old u) }
+    ensures kept { labeller.new ≡ labeller.old }
+{
+    let units = drawn.units().list();
+    let setting = Setting::new(alloc, drawn.graph(), drawn.positions(), units, rules)?;
+    label_counted::<D, Brand>(alloc, labeller, &setting, place, Blank::new(1))
 }
 
 // With a counter of steps.

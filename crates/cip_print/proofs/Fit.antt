@@ -32,7 +32,6 @@ use Rattle.cip_print.specs.Labels.{ligand_name, spaced_name, names_at, names_of_
 use Rattle.cip_print.specs.Laws.{ValuesAreFit}
 use Rattle.cip_print.specs.Naming.{number, pair, name_text}
 use Rattle.cip_print.specs.Refusals.{refusal_line}
-use Rattle.cip_print.specs.declared.values.TheConstants.{VERSION, WORDING, NODES}
 use Rattle.cip_print.specs.Values.{year_text, settings_line, outcome_line, unit_line, or_none, values_of}
 
 -- bytes that end no line
@@ -266,11 +265,10 @@ or_none_fit (line ∷ lines) h = h
 
 settings_fit : (nodes : ℕ) (rules : Rules) → IsFit (settings_line nodes rules)
 settings_fit nodes rules =
-    fit_more (VERSION.now) (WORDING.now ++ (year_text rules ++ (NODES.now ++ decimal nodes)))
+    fit_more (codes "cip 2 rule1b ") (year_text rules ++ (codes " nodes " ++ decimal nodes))
     (record { begun = refl; plain = refl })
-    (plain_both (WORDING.now) (year_text rules ++ (NODES.now ++ decimal nodes)) refl
-    (plain_both (year_text rules) (NODES.now ++ decimal nodes) (year_plain rules)
-    (plain_both (NODES.now) (decimal nodes) refl (decimal_plain nodes))))
+    (plain_both (year_text rules) (codes " nodes " ++ decimal nodes) (year_plain rules)
+    (plain_both (codes " nodes ") (decimal nodes) refl (decimal_plain nodes)))
 
 refusal_fit : (fault : ReadFault) → IsFit (refusal_line fault)
 refusal_fit fault =

@@ -37,11 +37,14 @@ names_in_order drawn (Centre at ligands) places = names_at drawn ligands places
 names_in_order drawn (Bond a b first second) places = names_of_ends drawn first second places
 names_in_order drawn (Axis a middle b first second) places = names_of_ends drawn first second places
 
--- a label: the unit, the descriptor, the rule and the sphere
+-- the descriptor, the rule and the sphere
+abbrev pub decision_text : Label → List ℕ
+decision_text label =
+    codes " " ++ (letter_text label.letter ++ (codes " " ++ (rule_text label.rule ++ (codes " " ++ decimal label.sphere))))
+
+-- a label: the unit and what is decided
 abbrev pub label_line : List ℕ → Label → List ℕ
-label_line name label =
-    name ++ (codes " " ++ (letter_text label.letter ++ (codes " " ++
-    (rule_text label.rule ++ (codes " " ++ decimal label.sphere)))))
+label_line name label = name ++ decision_text label
 
 -- a label with the ligands in the order that it rests on
 unfoldable pub ordered_label : UnitAnswer → Label → List ℕ

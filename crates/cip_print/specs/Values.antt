@@ -1,4 +1,4 @@
--- The value lines of a record's item. Own.
+-- The value lines of a record's item, version 2. Own.
 use Rattle.std.specs.Prelude.{ℕ, List, [], ◌<◌, ◌-◌, ◌^◌, ◌∷◌, ◌++◌, ⊤, codes, decimal, length, Some, None}
 use Rattle.std.specs.declared.option.Option.{Option}
 use Rattle.std.specs.List.{filter_map}
@@ -9,7 +9,6 @@ use Rattle.cip_rank.specs.declared.rules.Rules.TheVariants.{Wording2013, Wording
 use Rattle.cip_print.specs.declared.answer.Answer.{Answer}
 use Rattle.cip_print.specs.declared.answer.Answer.TheVariants.{Labelled, Refused}
 use Rattle.cip_print.specs.declared.answer.UnitAnswer.{UnitAnswer}
-use Rattle.cip_print.specs.declared.values.TheConstants.{VERSION, WORDING, NODES}
 use Rattle.cip_print.specs.Labels.{ordered_label}
 use Rattle.cip_print.specs.Naming.{name_text}
 use Rattle.cip_print.specs.Refusals.{refusal_line}
@@ -18,9 +17,9 @@ abbrev pub year_text : Rules → List ℕ
 year_text Wording2013 = codes "2013"
 year_text Wording2018 = codes "2018"
 
--- the version, and what the labels rest on: the wording of Rule 1b, and the bound on the nodes of a digraph
+-- the version of the item, and what the labels rest on: the wording of Rule 1b, and the bound on the nodes of a digraph
 abbrev pub settings_line : ℕ → Rules → List ℕ
-settings_line nodes rules = VERSION.now ++ (WORDING.now ++ (year_text rules ++ (NODES.now ++ decimal nodes)))
+settings_line nodes rules = codes "cip 2 rule1b " ++ (year_text rules ++ (codes " nodes " ++ decimal nodes))
 
 -- the line of a unit; none where two ligands tie or the drawing shows no sense
 abbrev pub outcome_line : UnitAnswer → Outcome → Option (List ℕ)

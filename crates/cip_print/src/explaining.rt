@@ -1,9 +1,11 @@
 // What is told of a record beside its drawing.
-ghost use Rattle.std.specs.Prelude.{◌≡◌, ◌++◌, IfOk, OnOk};
+ghost use Rattle.std.specs.Prelude.{◌≡◌, ◌++◌, IfOk, OnOk, codes};
+ghost use Rattle.cip_print.specs.Naming.{name_text};
 ghost use Rattle.cip_print.specs.Explaining.{reason_text, told, told_line, told_lines, told_answer, explained};
 
 use crate::answer::{Answer, UnitAnswer, UnitAnswers};
-use crate::labels::ordered_label;
+use crate::digits::push_word;
+use crate::labels::{named, ordered_label};
 use crate::refusals::refusal;
 use cip_mol::{Cause, Outcome};
 use std::alloc::{AllocError, Global};
@@ -55,16 +57,21 @@ fn push_unit(alloc: Global, text: &mut Vec<u8>, unit: &UnitAnswer) -> Result<(),
 fn told(alloc: Global, unit: &UnitAnswer) -> Result<Vec<u8>, AllocError>
     ensures { IfOk result (λ text. text.items ≡ told unit.now unit.now.outcome) }
 {
-    let name = unit.name;
     match &unit.outcome {
         Outcome::Label(label) => ordered_label(alloc, unit, label),
-        Outcome::Over => Ok(format!(in alloc; "{name} over")?.into_bytes()),
-        Outcome::Tie => Ok(format!(in alloc; "{name} tie")?.into_bytes()),
-        Outcome::NoGeometry(cause) => {
-            let reason = reason(*cause);
-            Ok(format!(in alloc; "{name} none {reason}")?.into_bytes())
-        }
+        Outcome::Over => named(alloc, unit, "over"),
+        Outcome::Tie => named(alloc, unit, "tie"),
+        Outcome::NoGeometry(cause) => without_sense(alloc, unit, *cause),
     }
+}
+
+fn without_sense(alloc: Global, unit: &UnitAnswer, cause: Cause) -> Result<Vec<u8>, AllocError>
+    ensures { IfOk result (λ text. text.items
+        ≡ name_text unit.now.name ++ (codes " none " ++ reason_text cause)) }
+{
+    let mut text = named(alloc, unit, "none")?;
+    push_word(&mut text, reason(cause))?;
+    Ok(text)
 }
 
 // Why a drawing shows no sense of a unit, in a word.

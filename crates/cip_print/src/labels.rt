@@ -1,96 +1,132 @@
 // How labels are written.
-ghost use Rattle.std.specs.Prelude.{◌≡◌, ◌++◌, IfOk, string_bytes, slice_get, codes};
-ghost use Rattle.cip_print.specs.Labels.{ligand_name, spaced_name, names_at, names_of_ends, names_in_order, ordered_label};
+ghost use Rattle.std.specs.Prelude.{◌≡◌, ◌++◌, IfOk, OnOk, codes, decimal, slice_get};
+ghost use Rattle.cip_mol.specs.Letters.{letter_text, rule_text};
+ghost use Rattle.cip_print.specs.Naming.{name_text};
+ghost use Rattle.cip_print.specs.Labels.{ligand_name, spaced_name, names_at, names_of_ends, names_in_order, decision_text, ordered_label};
 
 use crate::answer::UnitAnswer;
+use crate::digits::{push_number, push_word};
+use crate::naming::{push_atom, push_name};
 use cip_mol::{Label, Ligand, Site};
 use std::alloc::{AllocError, Global};
 
+// Most lines of labels have no more bytes.
+pub const LINE: usize = 80;
+
 /// A label with the ligands in the order that it rests on.
-#[tactic(auto, unfolding(crate::specs::Labels::ordered_label))]
 pub fn ordered_label(alloc: Global, unit: &UnitAnswer, label: &Label) -> Result<Vec<u8>, AllocError>
     ensures { IfOk result (λ text. text.items ≡ ordered_label unit.now label.now) }
 {
-    let name = unit.name;
-    let letter = label.letter;
-    let rule = label.rule;
-    let sphere = label.sphere;
-    let mut text = format!(in alloc; "{name} {letter} {rule} {sphere}")?.into_bytes();
-    text.extend_from_slice(b" order")?;
-    let names = names_in_order(alloc, unit.drawn, &unit.site, label.order.as_slice())?;
-    text.extend_from_slice(&names)?;
+    let mut text = Vec::with_capacity(alloc, LINE)?;
+    push_label(&mut text, unit, label)?;
     Ok(text)
 }
 
-fn names_in_order(
-    alloc: Global,
+/// The name of a unit, and a word.
+pub fn named(alloc: Global, unit: &UnitAnswer, word: &str) -> Result<Vec<u8>, AllocError>
+    ensures { IfOk result (λ text. text.items ≡ name_text unit.now.name ++ (codes " " ++ word.now)) }
+{
+    let mut text = Vec::with_capacity(alloc, LINE)?;
+    push_name(&mut text, unit.name)?;
+    push_word(&mut text, word)?;
+    Ok(text)
+}
+
+#[tactic(auto, unfolding(crate::specs::Labels::ordered_label), using(crate::proofs::Texts::moved))]
+fn push_label(text: &mut Vec<u8>, unit: &UnitAnswer, label: &Label) -> Result<(), AllocError>
+    ensures { OnOk result (text.new.items ≡ text.old.items ++ ordered_label unit.now label.now) }
+{
+    push_name(text, unit.name)?;
+    push_decision(text, label)?;
+    text.extend_from_slice(b" order")?;
+    push_names_in_order(text, unit.drawn, &unit.site, label.order.as_slice())
+}
+
+// The descriptor, the rule and the sphere, a space before each.
+#[tactic(auto, using(crate::proofs::Texts::moved))]
+fn push_decision(text: &mut Vec<u8>, label: &Label) -> Result<(), AllocError>
+    ensures { OnOk result (text.new.items ≡ text.old.items ++ decision_text label.now) }
+{
+    push_word(text, label.letter.text())?;
+    push_word(text, label.rule.text())?;
+    text.push(b' ')?;
+    push_number(text, u64::from(label.sphere))
+}
+
+/// Adds the ligands of a site at these places, a space before each; a bar between two ends.
+pub fn push_names_in_order(
+    text: &mut Vec<u8>,
     drawn: u32,
     site: &Site,
     places: &[u32],
-) -> Result<Vec<u8>, AllocError>
-    ensures { IfOk result (λ text. text.items ≡ names_in_order drawn site.now places.now) }
+) -> Result<(), AllocError>
+    ensures { OnOk result (text.new.items ≡ text.old.items ++ names_in_order drawn site.now places.now) }
 {
     match site {
-        Site::Centre { ligands, .. } => names_at(alloc, drawn, ligands.as_slice(), places),
+        Site::Centre { ligands, .. } => push_names(text, drawn, ligands.as_slice(), places),
         Site::Bond { first, second, .. } | Site::Axis { first, second, .. } => {
-            names_of_ends(alloc, drawn, first.as_slice(), second.as_slice(), places)
+            push_ends(text, drawn, first.as_slice(), second.as_slice(), places)
         }
     }
 }
 
-#[tactic(auto, unfolding(crate::specs::Labels::names_of_ends))]
-fn names_of_ends(
-    alloc: Global,
+#[tactic(auto, unfolding(crate::specs::Labels::names_of_ends), using(crate::proofs::Texts::moved))]
+fn push_ends(
+    text: &mut Vec<u8>,
     drawn: u32,
     first: &[Ligand],
     second: &[Ligand],
     places: &[u32],
-) -> Result<Vec<u8>, AllocError>
-    ensures { IfOk result (λ text. text.items ≡ names_of_ends drawn first.now second.now places.now) }
+) -> Result<(), AllocError>
+    ensures { OnOk result (text.new.items ≡ text.old.items ++ names_of_ends drawn first.now second.now places.now) }
 {
     let behind = first.len().min(places.len());
-    let mut text = names_at(alloc, drawn, first, &places[..behind])?;
+    push_names(text, drawn, first, &places[..behind])?;
     text.extend_from_slice(b" |")?;
-    text.extend_from_slice(&names_at(alloc, drawn, second, &places[behind..])?)?;
-    Ok(text)
+    push_names(text, drawn, second, &places[behind..])
 }
 
 // The ligands at these places, a space before each.
 #[tactic(auto, using(crate::proofs::Texts::moved))]
-fn names_at(
-    alloc: Global,
+fn push_names(
+    text: &mut Vec<u8>,
     drawn: u32,
     ligands: &[Ligand],
     places: &[u32],
-) -> Result<Vec<u8>, AllocError>
-    ensures { IfOk result (λ text. text.items ≡ names_at drawn ligands.now places.now) }
+) -> Result<(), AllocError>
+    ensures { OnOk result (text.new.items ≡ text.old.items ++ names_at drawn ligands.now places.now) }
 {
-    let mut text = Vec::new(alloc);
     for place in places {
-        text.extend_from_slice(name_at(alloc, drawn, ligands, *place)?.as_bytes())?;
+        push_name_at(text, drawn, ligands, *place)?;
     }
-    Ok(text)
+    Ok(())
 }
 
 // The ligand at a place with a space before it; nothing where no ligand is there.
-fn name_at(alloc: Global, drawn: u32, ligands: &[Ligand], place: u32) -> Result<String, AllocError>
-    ensures { IfOk result (λ text. string_bytes text ≡ spaced_name drawn (slice_get ligands.now place)) }
+fn push_name_at(
+    text: &mut Vec<u8>,
+    drawn: u32,
+    ligands: &[Ligand],
+    place: u32,
+) -> Result<(), AllocError>
+    ensures { OnOk result (text.new.items ≡ text.old.items ++ spaced_name drawn (slice_get ligands.now place)) }
 {
     match ligands.get(place as usize) {
-        Some(ligand) => spaced(alloc, drawn, *ligand),
-        None => Ok(String::new(alloc)),
+        Some(ligand) => push_ligand(text, drawn, *ligand),
+        None => Ok(()),
     }
 }
 
-fn spaced(alloc: Global, drawn: u32, ligand: Ligand) -> Result<String, AllocError>
-    ensures { IfOk result (λ text. string_bytes text ≡ codes " " ++ ligand_name drawn ligand) }
+#[tactic(auto, using(crate::proofs::Texts::moved))]
+fn push_ligand(text: &mut Vec<u8>, drawn: u32, ligand: Ligand) -> Result<(), AllocError>
+    ensures { OnOk result (text.new.items ≡ text.old.items ++ (codes " " ++ ligand_name drawn ligand)) }
 {
     match ligand {
         Ligand::Vertex(vertex) if vertex < drawn => {
-            let number = u64::from(vertex) + 1;
-            format!(in alloc; " {number}")
+            text.push(b' ')?;
+            push_atom(text, vertex)
         }
-        Ligand::Vertex(_) => format!(in alloc; " H"),
-        Ligand::LonePair => format!(in alloc; " :"),
+        Ligand::Vertex(_) => push_word(text, "H"),
+        Ligand::LonePair => push_word(text, ":"),
     }
 }

@@ -2,6 +2,7 @@
 #![tactic(auto)]
 
 mod answer;
+mod digits;
 mod explaining;
 mod labels;
 mod laws;
@@ -11,9 +12,11 @@ mod tally;
 mod values;
 
 pub use answer::{Answer, UnitAnswer, UnitAnswers};
+pub use digits::{push_number, push_word};
 pub use explaining::explain_text;
+pub use labels::push_names_in_order;
 pub use laws::values_are_fit;
-pub use naming::{UnitName, name_of};
+pub use naming::{UnitName, name_of, push_name};
 pub use refusals::refusal;
 pub use tally::Tally;
 pub use values::item_values;

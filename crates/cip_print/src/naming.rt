@@ -1,9 +1,10 @@
 // How units are named.
-ghost use Rattle.std.specs.Prelude.{◌≡◌, ◌+◌};
-ghost use Rattle.cip_print.specs.Naming.{name_of, name_text};
+ghost use Rattle.std.specs.Prelude.{◌≡◌, ◌+◌, ◌++◌, ◌∷◌, [], OnOk};
+ghost use Rattle.cip_print.specs.Naming.{name_of, name_text, number, pair};
 
+use crate::digits::push_number;
 use cip_mol::Site;
-use std::fmt;
+use std::alloc::AllocError;
 
 /// The name of a unit: its kind, and its atoms counted from 1, the lower one first.
 #[derive(Clone, Copy)]
@@ -26,25 +27,41 @@ pub fn name_of(site: &Site) -> UnitName
     }
 }
 
-impl fmt::Display for UnitName {
-    ghost use Rattle.std.specs.Prelude.{Some};
-
-    ghost output = { λ name. Some (name_text name) };
-
-    fn fmt<W: fmt::Write>(&self, f: &mut fmt::Formatter<W>) -> fmt::Result {
-        match *self {
-            UnitName::Centre(at) => write!(f, "a{}", number(at)),
-            UnitName::Bond(a, b) => write!(f, "b{}-{}", number(a.min(b)), number(a.max(b))),
-            UnitName::Axis(a, b) => write!(f, "x{}-{}", number(a.min(b)), number(a.max(b))),
-            UnitName::Cumulene(a, b) => write!(f, "c{}-{}", number(a.min(b)), number(a.max(b))),
-            UnitName::Biaryl(a, b) => write!(f, "t{}-{}", number(a.min(b)), number(a.max(b))),
-        }
+/// Adds the name of a unit.
+pub fn push_name(text: &mut Vec<u8>, name: UnitName) -> Result<(), AllocError>
+    ensures { OnOk result (text.new.items ≡ text.old.items ++ name_text name) }
+{
+    match name {
+        UnitName::Centre(at) => push_centre(text, at),
+        UnitName::Bond(a, b) => push_pair(text, b'b', a, b),
+        UnitName::Axis(a, b) => push_pair(text, b'x', a, b),
+        UnitName::Cumulene(a, b) => push_pair(text, b'c', a, b),
+        UnitName::Biaryl(a, b) => push_pair(text, b't', a, b),
     }
 }
 
-// An atom counted from 1.
-fn number(atom: u32) -> u64
-    ensures { result ≡ atom + 1 }
+#[tactic(auto, using(crate::proofs::Texts::moved))]
+fn push_centre(text: &mut Vec<u8>, at: u32) -> Result<(), AllocError>
+    ensures { OnOk result (text.new.items ≡ text.old.items ++ 97 ∷ number at) }
 {
-    u64::from(atom) + 1
+    text.push(b'a')?;
+    push_atom(text, at)
+}
+
+// A letter, and two atoms, the lower one first.
+#[tactic(auto, using(crate::proofs::Texts::moved))]
+fn push_pair(text: &mut Vec<u8>, kind: u8, a: u32, b: u32) -> Result<(), AllocError>
+    ensures { OnOk result (text.new.items ≡ text.old.items ++ kind ∷ pair a b) }
+{
+    text.push(kind)?;
+    push_atom(text, a.min(b))?;
+    text.push(b'-')?;
+    push_atom(text, a.max(b))
+}
+
+/// Adds the number of an atom, counted from 1.
+pub fn push_atom(text: &mut Vec<u8>, atom: u32) -> Result<(), AllocError>
+    ensures { OnOk result (text.new.items ≡ text.old.items ++ number atom) }
+{
+    push_number(text, u64::from(atom) + 1)
 }

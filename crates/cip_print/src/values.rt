@@ -1,25 +1,18 @@
 // The value lines of a record's item.
-ghost use Rattle.std.specs.Prelude.{◌≡◌, ◌<◌, ◌≤◌, ◌+◌, ◌-◌, ◌^◌, ◌++◌, ◌∷◌, [], length, IfOk, OnOk, string_bytes};
+ghost use Rattle.std.specs.Prelude.{◌≡◌, ◌<◌, ◌≤◌, ◌+◌, ◌-◌, ◌^◌, ◌++◌, ◌∷◌, [], length, IfOk, OnOk};
 ghost use Rattle.std.specs.List.{filter_map};
 ghost use Rattle.std.specs.Option.{option_map};
 ghost use Rattle.cip_print.specs.Values.{year_text, settings_line, unit_line, or_none, values_of, HasRoom};
 
 use crate::answer::{Answer, UnitAnswer, UnitAnswers};
-use crate::labels::ordered_label;
+use crate::digits::{push_number, push_word};
+use crate::labels::{LINE, named, ordered_label};
 use crate::refusals::refusal;
 use cip_item::Texts;
 use cip_mol::Outcome;
 use cip_rank::Rules;
 use cip_text::Bytes;
 use std::alloc::{AllocError, Global};
-
-// The version of the item, with which its first line begins.
-const VERSION: &str = "cip 2";
-
-// What stands in that line before the year of the wording of Rule 1b, and before the bound on nodes.
-const WORDING: &str = " rule1b ";
-
-const NODES: &str = " nodes ";
 
 /// The value lines of an answer that was found within a bound on nodes by a wording of Rule 1b: these two, then why the
 /// record is refused, or a line for each unit that has a label or whose digraph is larger than the bound, and `none`
@@ -44,12 +37,17 @@ pub fn item_values(
     }
 }
 
-// What the labels rest on.
-fn settings(alloc: Global, nodes: u32, rules: Rules) -> Result<String, AllocError>
-    ensures { IfOk result (λ line. string_bytes line ≡ settings_line nodes rules) }
+// The version of the item, and what the labels rest on.
+#[tactic(auto, using(crate::proofs::Texts::moved))]
+fn settings(alloc: Global, nodes: u32, rules: Rules) -> Result<Vec<u8>, AllocError>
+    ensures { IfOk result (λ line. line.items ≡ settings_line nodes rules) }
 {
-    let year = year(rules);
-    format!(in alloc; "{VERSION}{WORDING}{year}{NODES}{nodes}")
+    let mut line = Vec::with_capacity(alloc, LINE)?;
+    line.extend_from_slice(b"cip 2 rule1b")?;
+    push_word(&mut line, year(rules))?;
+    line.extend_from_slice(b" nodes ")?;
+    push_number(&mut line, u64::from(nodes))?;
+    Ok(line)
 }
 
 fn year(rules: Rules) -> &'static str
@@ -61,9 +59,9 @@ fn year(rules: Rules) -> &'static str
     }
 }
 
-fn unit_values(alloc: Global, units: &UnitAnswers, first: String) -> Result<Texts, AllocError>
+fn unit_values(alloc: Global, units: &UnitAnswers, first: Vec<u8>) -> Result<Texts, AllocError>
     requires { length units.now < 2 ^ 32 - 1 }
-    ensures { IfOk result (λ texts. texts ≡ string_bytes first ∷ or_none (filter_map unit_line units.now)) }
+    ensures { IfOk result (λ texts. texts ≡ first.items ∷ or_none (filter_map unit_line units.now)) }
 {
     let mut values = one_text(alloc, first)?;
     push_lines(alloc, &mut values, units)?;
@@ -102,18 +100,15 @@ fn value_of(alloc: Global, unit: &UnitAnswer) -> Result<Option<Vec<u8>>, AllocEr
 {
     match &unit.outcome {
         Outcome::Label(label) => Ok(Some(ordered_label(alloc, unit, label)?)),
-        Outcome::Over => {
-            let name = unit.name;
-            Ok(Some(format!(in alloc; "{name} over")?.into_bytes()))
-        }
+        Outcome::Over => Ok(Some(named(alloc, unit, "over")?)),
         Outcome::Tie | Outcome::NoGeometry(_) => Ok(None),
     }
 }
 
-fn one_text(alloc: Global, text: String) -> Result<Texts, AllocError>
-    ensures { IfOk result (λ texts. texts ≡ string_bytes text ∷ []) }
+fn one_text(alloc: Global, text: Vec<u8>) -> Result<Texts, AllocError>
+    ensures { IfOk result (λ texts. texts ≡ text.items ∷ []) }
 {
     let mut texts = Texts::new(alloc);
-    texts.push(Bytes::from_vec(text.into_bytes()))?;
+    texts.push(Bytes::from_vec(text))?;
     Ok(texts)
 }

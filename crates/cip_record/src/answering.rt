@@ -9,21 +9,20 @@ ghost use Rattle.cip_record.specs.Answers.{
   answer_without_items,
   is_flagged,
   is_over,
+  of_drawn,
   of_molecule,
 };
 
 use crate::units::label_units;
 use cip_desk::Desk;
-use cip_hydro::graph_of;
 use cip_item::without_label_items;
 use cip_label::{Labeller, Setting};
-use cip_mancude::positions;
 use cip_mol::{Molecule, Outcome, ReadRefusal};
 use cip_molfile::read_molecule;
 use cip_print::{Answer, UnitAnswers};
 use cip_rank::Rules;
 use cip_text::RecordLines;
-use cip_unit::units;
+use cip_unit::Drawn;
 use std::alloc::{AllocError, Global};
 
 /// Memory in which records are answered, one after the other.
@@ -111,14 +110,24 @@ fn answer_molecule(
     ensures room { IfOk result HasRoom }
     ensures kept { labeller.new ≡ labeller.old }
 {
-    // Reading the atoms tells that there are few.
-    let _atoms = molecule.atoms();
-    let graph = graph_of(alloc, molecule)?;
-    let positions = positions(alloc, &graph)?;
-    let units = units(alloc, molecule, &graph, &positions)?;
-    let setting = Setting::new(alloc, &graph, &positions, units.list(), rules)?;
-    let answers = label_units(alloc, labeller, &setting)?;
-    Ok(Answer::Labelled(answers))
+    let drawn = Drawn::of(alloc, molecule)?;
+    answer_drawn(alloc, labeller, &drawn, rules)
+}
+
+// What is drawn stays with the caller, so that no end of this function gives it back.
+fn answer_drawn(
+    alloc: Global,
+    labeller: &mut RecordLabeller,
+    drawn: &Drawn,
+    rules: Rules,
+) -> Result<Answer, AllocError>
+    ensures answer { IfOk result (λ answer. answer ≡ of_drawn rules labeller.old drawn.now) }
+    ensures room { IfOk result HasRoom }
+    ensures kept { labeller.new ≡ labeller.old }
+{
+    let units = drawn.units().list();
+    let setting = Setting::new(alloc, drawn.graph(), drawn.positions(), units, rules)?;
+    Ok(Answer::Labelled(label_units(alloc, labeller, &setting)?))
 }
 
 /// Whether a record is refused, or a digraph of it is larger than the bound.

@@ -1,6 +1,7 @@
 pub mod Cases
 pub mod ClassInSphere
 pub mod FamilyColumn
+pub mod PartedAlike
 pub mod PartedClass
 pub mod PartedPair
 pub mod PartedSphere

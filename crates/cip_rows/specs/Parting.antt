@@ -2,6 +2,7 @@
 use Rattle.std.specs.Prelude.{◌≡◌, ◌≢◌, ◌<◌, ◌≤◌, ◌+◌, ◌==◌, ◌&&◌, ◌⊎◌, ℕ, Bool, true, false, List, length, nat_lt, slice_index}
 use Rattle.std.specs.List.{slice_index_or}
 use Rattle.std.specs.declared.cmp.Ordering.{Ordering}
+use Rattle.std.specs.declared.cmp.Ordering.TheVariants.{Equal}
 use Rattle.cip_rank.specs.Ranged.{KeepsOthers}
 use Rattle.cip_rank.specs.Ranking.{by_number}
 use Rattle.cip_rows.specs.Rows.{IsRow, number_in, AreClassed}
@@ -30,6 +31,10 @@ pub record PartsClass (compare : ℕ → ℕ → Ordering) (first : ℕ) (nodes 
   pub others : (place : ℕ) → ((k : ℕ) → k < length nodes → slice_index nodes k ≢ place)
       → slice_index new_numbers place ≡ slice_index numbers place
   pub len : length new_numbers ≡ length numbers
+
+-- all nodes compare alike with the first of them
+pub record AreAlike (compare : ℕ → ℕ → Ordering) (nodes : List ℕ) : Type 0 where
+  pub each : (k : ℕ) → k < length nodes → compare (slice_index nodes 0) (slice_index nodes k) ≡ Equal
 
 -- the rows from the first one to `past` are those of one number
 pub record EndsClass (rows numbers : List ℕ) (first to past : ℕ) : Type 0 where

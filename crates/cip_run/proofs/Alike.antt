@@ -17,7 +17,7 @@ use Rattle.cip_run.specs.declared.ending.Ending.{Ending}
 use Rattle.cip_run.specs.declared.ending.Ending.TheVariants as endings
 use Rattle.cip_run.specs.declared.ending.Missed.{Missed}
 use Rattle.cip_run.specs.declared.ending.Note.{Note}
-use Rattle.cip_run.specs.declared.status.TheConstants.{DONE, FLAGGED, NOT_CHANGED}
+use Rattle.cip_run.specs.ExitStatuses.{DONE, FLAGGED, NOT_CHANGED}
 use Rattle.cip_run.specs.Endings.{ending_by, ending_of, missed, status_of}
 use Rattle.cip_run.specs.Laws.{EndAlike, WorkersChangeNothing}
 use Rattle.cip_run.specs.Making.{made_text}

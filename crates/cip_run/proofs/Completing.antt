@@ -9,7 +9,7 @@ use Rattle.cip_stream.specs.Endings.{Grew, IsLimited}
 use Rattle.cip_stream.specs.Limits.{limit_place}
 use Rattle.cip_stream.specs.Manner.{Manner}
 use Rattle.cip_words.specs.declared.settings.Settings.TheVariants as asked
-use Rattle.cip_run.specs.declared.status.TheConstants.{DONE, FLAGGED, OUT_OF_MEMORY, NOT_CHANGED}
+use Rattle.cip_run.specs.ExitStatuses.{DONE, FLAGGED, OUT_OF_MEMORY, NOT_CHANGED}
 use Rattle.cip_run.specs.declared.asked.Task.{Task}
 use Rattle.cip_run.specs.declared.ending.Note.{Note}
 use Rattle.cip_run.specs.Completeness.{NeverFails, ReadsWell, RunsComplete}

@@ -9,7 +9,7 @@ use Rattle.cip_stream.specs.declared.verdict.Verdict.{Verdict}
 use Rattle.cip_stream.specs.Limits.{limit_place, answered}
 use Rattle.cip_stream.specs.Manner.{Manner}
 use Rattle.cip_stream.proofs.Dividing.{streams_divide}
-use Rattle.cip_run.specs.declared.status.TheConstants.{DONE, FLAGGED, NOT_CHANGED}
+use Rattle.cip_run.specs.ExitStatuses.{DONE, FLAGGED, NOT_CHANGED}
 use Rattle.cip_run.specs.declared.ending.Note.{Note}
 use Rattle.cip_run.specs.Dividing.{PartsAddUp}
 use Rattle.cip_run.specs.Statuses.{Flags, MeansOfReading, Streams}

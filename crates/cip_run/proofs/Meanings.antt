@@ -5,7 +5,7 @@ use Rattle.std.specs.List.{slice_index_or}
 use Rattle.cip_stream.specs.declared.limits.Limits.{Limits}
 use Rattle.cip_words.specs.declared.settings.Settings.{Settings}
 use Rattle.cip_words.specs.declared.settings.Settings.TheVariants as asked
-use Rattle.cip_run.specs.declared.status.TheConstants.{DONE, FLAGGED, WORDS_REFUSED, READ_FAULT, WRITE_FAULT, OUT_OF_MEMORY, LIMIT, NOT_CHANGED}
+use Rattle.cip_run.specs.ExitStatuses.{DONE, FLAGGED, WORDS_REFUSED, READ_FAULT, WRITE_FAULT, OUT_OF_MEMORY, LIMIT, NOT_CHANGED}
 use Rattle.cip_run.specs.Statuses.{Means, Streams}
 
 -- one of some statuses

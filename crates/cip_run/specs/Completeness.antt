@@ -5,7 +5,7 @@ use Rattle.cip_stream.specs.declared.limits.Limits.{Limits}
 use Rattle.cip_stream.specs.Limits.{limit_place}
 use Rattle.cip_words.specs.declared.settings.Settings.{Settings}
 use Rattle.cip_words.specs.declared.settings.Settings.TheVariants as asked
-use Rattle.cip_run.specs.declared.status.TheConstants.{DONE, FLAGGED, OUT_OF_MEMORY, NOT_CHANGED}
+use Rattle.cip_run.specs.ExitStatuses.{DONE, FLAGGED, OUT_OF_MEMORY, NOT_CHANGED}
 use Rattle.cip_run.specs.Statuses.{Means, Stream, Streams}
 
 abbrev pub NeverFails : Stream → Stream → Type 0

@@ -14,7 +14,7 @@ use Rattle.cip_stream.specs.declared.verdict.Verdict.{Verdict}
 use Rattle.cip_words.specs.declared.settings.Settings.{Settings}
 use Rattle.cip_words.specs.declared.settings.Settings.TheVariants as asked
 use Rattle.cip_words.specs.Help.{help}
-use Rattle.cip_run.specs.declared.status.TheConstants.{DONE, FLAGGED, WORDS_REFUSED, READ_FAULT, WRITE_FAULT, OUT_OF_MEMORY, LIMIT, NOT_CHANGED}
+use Rattle.cip_run.specs.ExitStatuses.{DONE, FLAGGED, WORDS_REFUSED, READ_FAULT, WRITE_FAULT, OUT_OF_MEMORY, LIMIT, NOT_CHANGED}
 use Rattle.cip_run.specs.declared.asked.Task.{Task}
 use Rattle.cip_run.specs.declared.asked.Task.TheVariants as tasks
 use Rattle.cip_run.specs.declared.ending.Ending.{Ending}

@@ -5,8 +5,8 @@ ghost use Rattle.cip_digraph.specs.graph.Graph.{other_end};
 ghost use Rattle.cip_digraph.specs.rings.Positions.{is_delocalised};
 ghost use Rattle.cip_unit.specs.Sites.{can_be_bond_unit, LeadsToAtoms, one_bond_site, units_at};
 
-use crate::drawn::Drawn;
 use crate::ends::{end_ligands, is_bond_end};
+use crate::sketch::Sketch;
 use crate::unit::push_unit;
 use cip_digraph::{Edge, Graph, Positions, Units};
 use cip_mol::Site;
@@ -16,19 +16,19 @@ use std::alloc::{AllocError, Global};
 /// Adds the bond units of a first end, by the second one. The set serves the search for rings.
 pub fn push_bonds(
     alloc: Global,
-    drawn: &Drawn<'_>,
+    sketch: &Sketch<'_>,
     a: u32,
     reached: &mut VertexSet,
     units: &mut Units,
 ) -> Result<(), AllocError>
-    requires drawn { drawn.now.graph.now.drawn ≡ length drawn.now.molecule.now.atoms }
-    requires within { a < drawn.now.graph.now.drawn }
-    requires leads { LeadsToAtoms drawn.now.graph.now }
+    requires drawn { sketch.now.graph.now.drawn ≡ length sketch.now.molecule.now.atoms }
+    requires within { a < sketch.now.graph.now.drawn }
+    requires leads { LeadsToAtoms sketch.now.graph.now }
     ensures { OnOk result (units.new ≡ units.old
-        ++ units_at drawn.now.molecule.now (bond_sites drawn.now.graph.now drawn.now.positions.now a)) }
+        ++ units_at sketch.now.molecule.now (bond_sites sketch.now.graph.now sketch.now.positions.now a)) }
 {
-    for edge in drawn.graph.edges_at(a) {
-        push_bond(alloc, drawn, a, edge, reached, units)?;
+    for edge in sketch.graph.edges_at(a) {
+        push_bond(alloc, sketch, a, edge, reached, units)?;
     }
     Ok(())
 }
@@ -36,29 +36,29 @@ pub fn push_bonds(
 // Adds the unit of a bond, where it is one.
 fn push_bond(
     alloc: Global,
-    drawn: &Drawn<'_>,
+    sketch: &Sketch<'_>,
     a: u32,
     edge: &Edge,
     reached: &mut VertexSet,
     units: &mut Units,
 ) -> Result<(), AllocError>
-    requires drawn { drawn.now.graph.now.drawn ≡ length drawn.now.molecule.now.atoms }
-    requires within { a < drawn.now.graph.now.drawn }
-    requires leads { edge.now.order ≡ 2 → other_end a edge.now < drawn.now.graph.now.drawn }
+    requires drawn { sketch.now.graph.now.drawn ≡ length sketch.now.molecule.now.atoms }
+    requires within { a < sketch.now.graph.now.drawn }
+    requires leads { edge.now.order ≡ 2 → other_end a edge.now < sketch.now.graph.now.drawn }
     ensures { OnOk result
         (units.new ≡ units.old
-        ++ units_at drawn.now.molecule.now (one_bond_site drawn.now.graph.now drawn.now.positions.now a edge.now)) }
+        ++ units_at sketch.now.molecule.now (one_bond_site sketch.now.graph.now sketch.now.positions.now a edge.now)) }
 {
     let b = edge.other_end(a);
-    if is_bond_unit(drawn.graph, drawn.positions, a, b, edge, reached)? {
+    if is_bond_unit(sketch.graph, sketch.positions, a, b, edge, reached)? {
         let unit = [a, b];
         let site = Site::Bond {
             a,
             b,
-            first: end_ligands(alloc, drawn.graph, &unit, a),
-            second: end_ligands(alloc, drawn.graph, &unit, b),
+            first: end_ligands(alloc, sketch.graph, &unit, a),
+            second: end_ligands(alloc, sketch.graph, &unit, b),
         };
-        push_unit(alloc, drawn.molecule, site, units)?;
+        push_unit(alloc, sketch.molecule, site, units)?;
     }
     Ok(())
 }

@@ -11,7 +11,7 @@ ghost use Rattle.cip_unit.specs.Sites.{centre_sites, LeadsToAtoms, units_at};
 use crate::axes::push_axes;
 use crate::bonds::push_bonds;
 use crate::centres::push_centre;
-use crate::drawn::Drawn;
+use crate::sketch::Sketch;
 use cip_digraph::{Graph, Positions, Units};
 use cip_mol::Molecule;
 use cip_ring::VertexSet;
@@ -27,73 +27,73 @@ pub fn units(
     requires { graph.now ≡ graph_of molecule.now }
     ensures { IfOk result (λ units. units ≡ units_of (geometry_of molecule.now) graph.now positions.now) }
 {
-    let drawn = Drawn {
+    let sketch = Sketch {
         molecule,
         graph,
         positions,
     };
     let atoms = molecule.atoms().len() as u32;
     let mut units = Units::new(alloc);
-    push_all_centres(alloc, &drawn, atoms, &mut units)?;
-    push_all_bonds(alloc, &drawn, atoms, &mut units)?;
-    push_all_axes(alloc, &drawn, atoms, &mut units)?;
+    push_all_centres(alloc, &sketch, atoms, &mut units)?;
+    push_all_bonds(alloc, &sketch, atoms, &mut units)?;
+    push_all_axes(alloc, &sketch, atoms, &mut units)?;
     Ok(units)
 }
 
 fn push_all_centres(
     alloc: Global,
-    drawn: &Drawn<'_>,
+    sketch: &Sketch<'_>,
     atoms: u32,
     units: &mut Units,
 ) -> Result<(), AllocError>
-    requires drawn { drawn.now.graph.now.drawn ≡ length drawn.now.molecule.now.atoms }
-    requires atoms { atoms ≡ drawn.now.graph.now.drawn }
+    requires drawn { sketch.now.graph.now.drawn ≡ length sketch.now.molecule.now.atoms }
+    requires atoms { atoms ≡ sketch.now.graph.now.drawn }
     ensures { OnOk result
         (units.new ≡ units.old
-        ++ units_at drawn.now.molecule.now (flat_map (centre_sites drawn.now.graph.now) (range_with_len 0 atoms))) }
+        ++ units_at sketch.now.molecule.now (flat_map (centre_sites sketch.now.graph.now) (range_with_len 0 atoms))) }
 {
     for atom in 0..atoms {
-        push_centre(alloc, drawn.molecule, drawn.graph, atom, units)?;
+        push_centre(alloc, sketch.molecule, sketch.graph, atom, units)?;
     }
     Ok(())
 }
 
 fn push_all_bonds(
     alloc: Global,
-    drawn: &Drawn<'_>,
+    sketch: &Sketch<'_>,
     atoms: u32,
     units: &mut Units,
 ) -> Result<(), AllocError>
-    requires drawn { drawn.now.graph.now.drawn ≡ length drawn.now.molecule.now.atoms }
-    requires atoms { atoms ≡ drawn.now.graph.now.drawn }
-    requires leads { LeadsToAtoms drawn.now.graph.now }
+    requires drawn { sketch.now.graph.now.drawn ≡ length sketch.now.molecule.now.atoms }
+    requires atoms { atoms ≡ sketch.now.graph.now.drawn }
+    requires leads { LeadsToAtoms sketch.now.graph.now }
     ensures { OnOk result
         (units.new ≡ units.old
-        ++ units_at drawn.now.molecule.now
-        (flat_map (bond_sites drawn.now.graph.now drawn.now.positions.now) (range_with_len 0 atoms))) }
+        ++ units_at sketch.now.molecule.now
+        (flat_map (bond_sites sketch.now.graph.now sketch.now.positions.now) (range_with_len 0 atoms))) }
 {
-    let mut reached = VertexSet::new(alloc, drawn.graph.vertices().len())?;
+    let mut reached = VertexSet::new(alloc, sketch.graph.vertices().len())?;
     for atom in 0..atoms {
-        push_bonds(alloc, drawn, atom, &mut reached, units)?;
+        push_bonds(alloc, sketch, atom, &mut reached, units)?;
     }
     Ok(())
 }
 
 fn push_all_axes(
     alloc: Global,
-    drawn: &Drawn<'_>,
+    sketch: &Sketch<'_>,
     atoms: u32,
     units: &mut Units,
 ) -> Result<(), AllocError>
-    requires drawn { drawn.now.graph.now.drawn ≡ length drawn.now.molecule.now.atoms }
-    requires atoms { atoms ≡ drawn.now.graph.now.drawn }
-    requires leads { LeadsToAtoms drawn.now.graph.now }
+    requires drawn { sketch.now.graph.now.drawn ≡ length sketch.now.molecule.now.atoms }
+    requires atoms { atoms ≡ sketch.now.graph.now.drawn }
+    requires leads { LeadsToAtoms sketch.now.graph.now }
     ensures { OnOk result
         (units.new ≡ units.old
-        ++ units_at drawn.now.molecule.now (flat_map (axis_sites drawn.now.graph.now) (range_with_len 0 atoms))) }
+        ++ units_at sketch.now.molecule.now (flat_map (axis_sites sketch.now.graph.now) (range_with_len 0 atoms))) }
 {
     for atom in 0..atoms {
-        push_axes(alloc, drawn, atom, units)?;
+        push_axes(alloc, sketch, atom, units)?;
     }
     Ok(())
 }

@@ -6,6 +6,7 @@ use Rattle.std.specs.List.{list_any}
 use Rattle.std.specs.Option.{is_some}
 use Rattle.std.specs.Str.{bytes_eq}
 use Rattle.cip_words.specs.Numbers.{number_of}
+use Rattle.cip_words.specs.Options.{Named}
 use Rattle.cip_words.specs.declared.forms.Choice.{Choice}
 use Rattle.cip_words.specs.declared.forms.Values.{Values}
 use Rattle.cip_words.specs.declared.forms.Values.TheVariants.{Between, CentreLetter, Either}
@@ -29,11 +30,14 @@ among values (Some number) = if allows values number then Some number else None
 abbrev pub allowed : Values → List ℕ → Option ℕ
 allowed values word = among values (number_of word)
 
--- whether the words are such names, each with a word for its value behind it
-abbrev pub are_pairs : List (List ℕ) → List (String Global) → Bool
-are_pairs names [] = true
-are_pairs names (word ∷ []) = false
-are_pairs names (word ∷ value ∷ words) = list_any (bytes_eq (string_bytes word)) names && are_pairs names words
+abbrev pub is_name : List Named → List ℕ → Bool
+is_name options word = list_any (λ option. bytes_eq word option.0) options
+
+-- whether the words are names of these options, each with a word for its value behind it
+abbrev pub are_pairs : List Named → List (String Global) → Bool
+are_pairs options [] = true
+are_pairs options (word ∷ []) = false
+are_pairs options (word ∷ value ∷ words) = is_name options (string_bytes word) && are_pairs options words
 
 -- the word behind a name where it stands first, and the words behind that
 abbrev pub first_given : List ℕ → List (String Global) → Option (List ℕ × List (String Global))

@@ -3,7 +3,7 @@ use Rattle.std.specs.Prelude.{ℕ, List, [], ◌∷◌, ◌++◌, codes, Some, N
 use Rattle.std.specs.declared.option.Option.{Option}
 use Rattle.std.specs.List.{flat_map}
 use Rattle.cip_words.specs.declared.forms.Choice.{Choice}
-use Rattle.cip_words.specs.declared.forms.TheConstants.{FORMS}
+use Rattle.cip_words.specs.Forms.{forms}
 
 -- in brackets where it may be left out
 abbrev pub bracketed : Option ℕ → List ℕ → List ℕ
@@ -17,4 +17,4 @@ abbrev pub form_line : List ℕ → List ℕ → List ℕ
 form_line name choices = codes "cip " ++ (name ++ (choices ++ 10 ∷ []))
 
 abbrev pub help : List ℕ
-help = flat_map (λ form. form_line form.0.now (flat_map (λ choice. choice_text choice.0.now choice.1) form.2.now)) FORMS
+help = flat_map (λ form. form_line form.0 (flat_map (λ option. choice_text option.0 option.1) form.2)) forms

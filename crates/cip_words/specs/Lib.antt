@@ -1,6 +1,8 @@
 pub mod Choices
+pub mod Forms
 pub mod Help
 pub mod Letters
 pub mod Numbers
+pub mod Options
 pub mod Ranges
 pub mod Settings

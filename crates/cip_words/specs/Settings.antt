@@ -1,6 +1,6 @@
 -- What the words of a command line ask for: a command's name, then names of its options, each at most once, and values
 -- in turn. Own.
-use Rattle.std.specs.Prelude.{ℕ, List, [], ◌∷◌, ◌==◌, map, String, string_bytes, Some, None, if◌then◌else◌}
+use Rattle.std.specs.Prelude.{ℕ, List, [], ◌∷◌, ◌==◌, String, string_bytes, Some, None, if◌then◌else◌}
 use Rattle.std.specs.declared.option.Option.{Option}
 use Rattle.std.specs.declared.alloc.Global.{Global}
 use Rattle.std.specs.Option.{option_map}
@@ -12,17 +12,11 @@ use Rattle.cip_words.specs.Choices.{◌>>=◌, are_pairs, once, set_to}
 use Rattle.cip_words.specs.Letters.{letter_named}
 use Rattle.cip_words.specs.declared.forms.Command.{Command}
 use Rattle.cip_words.specs.declared.forms.Command.TheVariants as commands
-use Rattle.cip_words.specs.declared.forms.TheConstants.{ATOM, FORMS, LETTER, NODES, RECORD, RECORDS, START, WORDING, WORKERS}
+use Rattle.cip_words.specs.Forms.{Form, forms}
+use Rattle.cip_words.specs.Options as options
 use Rattle.cip_words.specs.declared.settings.Labelling.{Labelling}
 use Rattle.cip_words.specs.declared.settings.Settings.{Settings}
 use Rattle.cip_words.specs.declared.settings.Settings.TheVariants.{Annotate, Explain, Make, Trial, Set, Mirror, Groups, Axes, Help}
-
--- a command's name, the command, and the names of its options
-abbrev pub Form : Type 0
-Form = List ℕ × Command × List (List ℕ)
-
-abbrev pub forms : List Form
-forms = map (λ form. (form.0.now, form.1, map (λ choice. choice.0.now) form.2.now)) FORMS
 
 -- the command of this name
 abbrev pub form_of : List ℕ → List Form → Option Form
@@ -36,28 +30,28 @@ wording_of year = if year == 2013 then Wording2013 else Wording2018
 -- the options
 
 abbrev pub start_of : List (String Global) → Option ℕ
-start_of words = set_to START.0.now START.1 words
+start_of words = set_to options.start.0 options.start.1 words
 
 abbrev pub records_of : List (String Global) → Option ℕ
-records_of words = set_to RECORDS.0.now RECORDS.1 words
+records_of words = set_to options.records.0 options.records.1 words
 
 abbrev pub record_of : List (String Global) → Option ℕ
-record_of words = set_to RECORD.0.now RECORD.1 words
+record_of words = set_to options.number.0 options.number.1 words
 
 abbrev pub atom_of : List (String Global) → Option ℕ
-atom_of words = set_to ATOM.0.now ATOM.1 words
+atom_of words = set_to options.atom.0 options.atom.1 words
 
 abbrev pub letter_of : List (String Global) → Option CentreLetter
-letter_of words = once LETTER.0.now words >>= letter_named
+letter_of words = once options.letter.0 words >>= letter_named
 
 abbrev pub nodes_of : List (String Global) → Option ℕ
-nodes_of words = set_to NODES.0.now NODES.1 words
+nodes_of words = set_to options.nodes.0 options.nodes.1 words
 
 abbrev pub workers_of : List (String Global) → Option ℕ
-workers_of words = set_to WORKERS.0.now WORKERS.1 words
+workers_of words = set_to options.workers.0 options.workers.1 words
 
 abbrev pub rules_of : List (String Global) → Option Rules
-rules_of words = option_map wording_of (set_to WORDING.0.now WORDING.1 words)
+rules_of words = option_map wording_of (set_to options.wording.0 options.wording.1 words)
 
 -- what all commands that label ask for
 abbrev pub labelling_of : List (String Global) → Option Labelling

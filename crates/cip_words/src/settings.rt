@@ -1,6 +1,7 @@
 // What the words of a command line ask for.
 ghost use Rattle.std.specs.Prelude.{◌≡◌, IfSome, map};
 ghost use Rattle.std.specs.Option.{option_map};
+ghost use Rattle.cip_words.specs.Forms.{forms};
 ghost use Rattle.cip_words.specs.Settings.{form_of, letter_of, workers_of, rules_of, labelling_of, making_of, trial_of, setting_of};
 ghost use Rattle.cip_words.specs.Settings.{asked, settings_of};
 ghost use Rattle.cip_words.specs.Letters.{letter_named};
@@ -82,16 +83,25 @@ pub fn read_words(words: &[String]) -> Option<Settings>
     let [name, rest @ ..] = words else {
         return None;
     };
-    let (_, command, choices) = form_of(name.as_bytes(), &FORMS)?;
+    let (_, command, choices) = form_named(name.as_bytes())?;
     if !are_pairs(choices, rest) {
         return None;
     }
     asked(command, rest)
 }
 
+// The command of this name.
+fn form_named(name: &[u8]) -> Option<Form>
+    ensures { option_map (λ form. (form.0.now, form.1, map (λ choice. (choice.0.now, choice.1)) form.2.now)) result
+        ≡ form_of name.now forms }
+{
+    form_of(name, &FORMS)
+}
+
 fn form_of(name: &[u8], forms: &[Form]) -> Option<Form>
-    ensures { option_map (λ form. (form.0.now, form.1, map (λ choice. choice.0.now) form.2.now)) result
-        ≡ form_of name.now (map (λ form. (form.0.now, form.1, map (λ choice. choice.0.now) form.2.now)) forms.now) }
+    ensures { option_map (λ form. (form.0.now, form.1, map (λ choice. (choice.0.now, choice.1)) form.2.now)) result
+        ≡ form_of name.now
+        (map (λ form. (form.0.now, form.1, map (λ choice. (choice.0.now, choice.1)) form.2.now)) forms.now) }
 {
     for form in forms {
         if name == form.0 {

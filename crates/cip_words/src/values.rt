@@ -1,9 +1,7 @@
 // What an option is set to by the words behind a command.
 ghost use Rattle.std.specs.Prelude.{◌≡◌, IfSome, map, true};
-ghost use Rattle.std.specs.List.{list_any};
-ghost use Rattle.std.specs.Str.{bytes_eq};
 ghost use Rattle.std.specs.Option.{option_map};
-ghost use Rattle.cip_words.specs.Choices.{allows, first_given, is_given, are_pairs, allowed, once, set_to};
+ghost use Rattle.cip_words.specs.Choices.{allows, first_given, is_given, is_name, are_pairs, allowed, once, set_to};
 ghost use Rattle.cip_words.specs.Ranges.{IsOf};
 
 use crate::forms::{Named, Values};
@@ -11,7 +9,7 @@ use crate::numbers::number;
 
 /// Whether the words are names of these options, each with a word for its value behind it.
 pub fn are_pairs(choices: &[Named], words: &[String]) -> bool
-    ensures { result ≡ are_pairs (map (λ choice. choice.0.now) choices.now) words.now }
+    ensures { result ≡ are_pairs (map (λ choice. (choice.0.now, choice.1)) choices.now) words.now }
 {
     let mut rest = words;
     while let [word, _, more @ ..] = rest {
@@ -24,7 +22,7 @@ pub fn are_pairs(choices: &[Named], words: &[String]) -> bool
 }
 
 fn is_name(choices: &[Named], word: &[u8]) -> bool
-    ensures { result ≡ list_any (bytes_eq word.now) (map (λ choice. choice.0.now) choices.now) }
+    ensures { result ≡ is_name (map (λ choice. (choice.0.now, choice.1)) choices.now) word.now }
 {
     for choice in choices {
         if word == choice.0 {

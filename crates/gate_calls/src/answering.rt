@@ -4,7 +4,7 @@ use crate::changing::{letter_set, marked, mirrored, not_mirrored};
 use crate::command_lines::readers_agree;
 use crate::directions::{around, sign_of_side, sign_of_volume};
 use crate::elements::{element, masses, valences_told};
-use crate::further::{axes_told, group_told, groups_told};
+use crate::further::{axes_told, group_told, groups_told, undefined_told};
 use crate::labelled::labels;
 use crate::molfiles::{first_atom, refusal_of_v2000, refusal_of_v3000, second_atom};
 use crate::printing::{explained, lines_of, tally};
@@ -30,6 +30,10 @@ pub fn answer<R: Files + AllocGlobal>(rt: &R, row: &Row) -> io::Result<String> {
         "mirror" | "not mirrored" | "marked" | "set" => {
             let record = fs::read_to_string(rt, row.field(2))?;
             Ok(change(alloc, row, record.as_str())?)
+        }
+        "undefined" => {
+            let record = changed_record(rt, row, 4)?;
+            Ok(undefined_told(alloc, &record, row.number(3))?)
         }
         "groups" | "axes" | "group" => Ok(told(alloc, row, &fs::read(rt, row.field(2))?)?),
         _ => Ok(without_record(alloc, row)?),

@@ -1,11 +1,16 @@
-// Stereo groups and further units of a record that is told without a desk of the caller's.
+// Stereo groups, further units and undefined units of a record that is told without a desk of the caller's.
 use cip_axis_text::axes_text;
 use cip_groups::{Group, GroupsAnswer, group_text, read_groups};
 use cip_rank::Rules;
+use cip_record::RecordLabeller;
+use cip_text::RecordLines;
+use cip_undefined::{undefined_text, undefined_within};
 use std::alloc::{AllocError, Global};
 
 // More bytes than any of the records has.
 const MOST_BYTES: usize = 1_000_000;
+
+const MOST_NODES: u32 = 1_000_000;
 
 /// What is told of the groups of a first record, and whether it is flagged.
 pub fn groups_told(alloc: Global, record: &[u8]) -> Result<String, AllocError> {
@@ -23,6 +28,17 @@ pub fn axes_told(alloc: Global, record: &[u8]) -> Result<String, AllocError> {
     }
     let told = axes_text(alloc, record, 1, 100, Rules::Wording2018)?;
     shown(alloc, told.text.as_slice(), told.flagged)
+}
+
+/// What is told of the undefined units of a record, within so many nodes.
+pub fn undefined_told(alloc: Global, record: &[u8], nodes: u32) -> Result<String, AllocError> {
+    if nodes == 0 || nodes > MOST_NODES || record.len() > MOST_BYTES {
+        return format!(in alloc; "out of range");
+    }
+    let lines = RecordLines::new(alloc, record)?;
+    let mut labeller = RecordLabeller::reserve(alloc, nodes)?;
+    let answer = undefined_within(alloc, &mut labeller, &lines, Rules::Wording2018)?;
+    String::from_utf8_lossy(alloc, &undefined_text(alloc, &answer)?)
 }
 
 fn shown(alloc: Global, text: &[u8], flagged: bool) -> Result<String, AllocError> {

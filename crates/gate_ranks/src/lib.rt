@@ -2,6 +2,8 @@
 #![tactic(auto)]
 
 #[cfg(test)]
+mod pairs;
+#[cfg(test)]
 mod plain;
 #[cfg(test)]
 mod ranking;

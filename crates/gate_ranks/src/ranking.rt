@@ -56,8 +56,8 @@ fn go_on(branches: &mut Branches, keys: &Keys<'_>)
     }
 }
 
-// The branches of a case, followed so many spheres by the first rule.
-fn branches_of(
+/// The branches of a case, followed so many spheres by the first rule.
+pub fn branches_of(
     rt: &impl Abort,
     alloc: Global,
     case: &Case,
@@ -177,7 +177,7 @@ fn assert_stands(rt: &impl Abort, alloc: Global, case: &Case, stands: &[u8]) -> 
 #[test]
 fn branches_rank_as_worked_by_hand(rt: HostRuntime) -> Result<(), Fail> {
     // the parents, the keys and the node that the tree is seen from, and how the branches stand
-    let cases: [(&[u8], &[u8]); 16] = [
+    let cases: [(&[u8], &[u8]); 17] = [
         // none, and one
         (b"0 5 0", b""),
         (b"001 123 0", b"0/0/0 1"),
@@ -194,6 +194,8 @@ fn branches_rank_as_worked_by_hand(rt: HostRuntime) -> Result<(), Fail> {
         (b"0001234 6666618 0", b"00/00/01 123456"),
         // glyceraldehyde from 3, its CH2OH: oxygen, twice hydrogen, and the stereocentre's carbon
         (b"000001112333 668618811811 3", b"3002/3002/3002 9ab0 12"),
+        // from 1, its CHO: oxygen and its duplicate, hydrogen, and the stereocentre, which was the root
+        (b"000001112333 668618811811 1", b"3302/3302 5670 01"),
         // with equal keys: CHO, OH and hydrogen are next to the stereocentre
         (b"000001112333 000000000000 3", b"0000/0003 9ab0124 012"),
         // from a node next to the root, behind which all is as below the node

@@ -1,3 +1,2 @@
-pub mod Commands
 pub mod Elements
-pub mod Runs
+pub mod HelpText

@@ -3,8 +3,9 @@ ghost use Rattle.std.specs.Prelude.{◌≡◌, ◌<◌, ◌≤◌, length};
 
 use crate::molecules::{Ends, GLYCERALDEHYDE, METHYLCYCLOPROPANE, OXIRANE, TETRAHEDRANE, graph};
 use cip_arena::{Arena, Grown};
-use cip_constitution::{MarkedUnits, Work, settle};
+use cip_constitution::{Work, settle};
 use cip_digraph::{Graph, Positions};
+use cip_letters::MarkedUnits;
 use cip_mancude::positions;
 use cip_mol::{Cause, Geometry, Ligand, Ligands, Site, Unit};
 use cip_rank::{Rules, both};

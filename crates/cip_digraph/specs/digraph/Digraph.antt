@@ -1,6 +1,6 @@
 -- The hierarchical digraph of a graph from a root: all paths without a repeated vertex, with duplicates. IUPAC 2013,
 -- P-92.1.4; the numbering of spheres from the root's 0 is own.
-use Rattle.std.specs.Prelude.{ℕ, zero, suc, ◌-◌, ◌==◌, ◌&&◌, Bool, true, false, cond, List, [], ◌∷◌, ◌++◌, replicate, flat_map}
+use Rattle.std.specs.Prelude.{ℕ, zero, suc, ◌-◌, ◌==◌, ◌&&◌, Bool, true, false, List, [], ◌∷◌, ◌++◌, replicate, flat_map, if◌then◌else◌}
 use Rattle.cip_digraph.specs.declared.graph.Edge.{Edge}
 use Rattle.cip_digraph.specs.graph.Graph.{Graph, edges_at, other_end}
 use Rattle.cip_digraph.specs.rings.Alternating.{is_in}
@@ -35,17 +35,18 @@ begins_with vertex (first ∷ path) = first == vertex
 -- the path a closure, and any other vertex a real node
 abbrev pub neighbour_child : ℕ → List ℕ → ℕ → List Node
 neighbour_child vertex up other =
-    cond (begins_with other up) []
-    (cond (is_in other (vertex ∷ up)) (duplicate Closure other (vertex ∷ up) ∷ []) (real_node other (vertex ∷ up) ∷ []))
+    if begins_with other up then []
+    else if is_in other (vertex ∷ up) then duplicate Closure other (vertex ∷ up) ∷ []
+    else real_node other (vertex ∷ up) ∷ []
 
 -- the duplicates of a counted multiple bond, one of a double bond and two of a triple bond
 abbrev pub bond_children : List (List ℕ) → Edge → ℕ → List ℕ → List Node
 bond_children positions edge vertex up =
-    cond edge.counted
-    (replicate (edge.order - 1) (cond ((edge.order == 2) && is_delocalised positions vertex)
-    (duplicate Delocalised vertex (vertex ∷ up))
-    (duplicate Multiple (other_end vertex edge) (vertex ∷ up))))
-    []
+    if edge.counted
+    then replicate (edge.order - 1)
+    (if (edge.order == 2) && is_delocalised positions vertex then duplicate Delocalised vertex (vertex ∷ up)
+    else duplicate Multiple (other_end vertex edge) (vertex ∷ up))
+    else []
 
 abbrev pub edge_children : List (List ℕ) → ℕ → List ℕ → Edge → List Node
 edge_children positions vertex up edge =
@@ -61,7 +62,7 @@ path_children graph positions (vertex ∷ up) = real_children graph positions ve
 
 -- duplicates have no children
 abbrev pub children : Graph → List (List ℕ) → Node → List Node
-children graph positions node = cond (is_real node.kind) (path_children graph positions node.path) []
+children graph positions node = if is_real node.kind then path_children graph positions node.path else []
 
 abbrev pub sphere : Graph → List (List ℕ) → ℕ → ℕ → List Node
 sphere graph positions root zero = real_node root [] ∷ []

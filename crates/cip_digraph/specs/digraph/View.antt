@@ -1,6 +1,6 @@
 -- A digraph seen from one of its real nodes: the same nodes and neighbours, with that node as the root. IUPAC 2013,
 -- P-92.1.4: a descriptor inside a digraph is found from the hierarchical order seen from there. Distances are own.
-use Rattle.std.specs.Prelude.{ℕ, zero, suc, ◌+◌, ◌-◌, ◌*◌, ◌==◌, ◌&&◌, Bool, true, false, cond, not, List, [], ◌∷◌, ◌++◌, filter, flat_map, length, drop, nat_le, pos, None}
+use Rattle.std.specs.Prelude.{ℕ, zero, suc, ◌+◌, ◌-◌, ◌*◌, ◌==◌, ◌&&◌, Bool, true, false, not, List, [], ◌∷◌, ◌++◌, filter, flat_map, length, drop, nat_le, pos, None, if◌then◌else◌}
 use Rattle.std.specs.declared.option.Option.{Option}
 use Rattle.cip_rank.specs.declared.rules.Rules.{Rules}
 use Rattle.cip_mol.specs.declared.descriptor.Descriptor.{Descriptor}
@@ -37,14 +37,14 @@ parent (vertex ∷ next ∷ up) = real_node next up ∷ []
 -- on the way to the root the children off the way and the parent, elsewhere the children as they are
 unfoldable pub view_children : Graph → List (List ℕ) → List ℕ → Node → List Node
 view_children graph positions from node =
-    cond (is_on_way from node)
-    (filter (λ child. not (is_on_way from child)) (children graph positions node) ++ parent node.path)
-    (children graph positions node)
+    if is_on_way from node
+    then filter (λ child. not (is_on_way from child)) (children graph positions node) ++ parent node.path
+    else children graph positions node
 
 -- how many vertices two paths have in common at the root's end
 abbrev pub common : List ℕ → List ℕ → ℕ
 common path [] = 0
-common path (vertex ∷ up) = cond (is_end_of (vertex ∷ up) path) (length up + 1) (common path up)
+common path (vertex ∷ up) = if is_end_of (vertex ∷ up) path then length up + 1 else common path up
 
 -- how far the real nodes of two paths are apart: the sphere of the one, seen from the other
 abbrev pub apart : List ℕ → List ℕ → ℕ
@@ -66,5 +66,5 @@ seen_from rules graph positions from mark = record {
   atomic = λ node. pos (atomic_key graph positions node);
   distance = λ node. lower_precedes (distance_key rules (apart from) node);
   mass = λ node. pos (mass_key graph node);
-  mark = λ node. cond (is_real node.kind) (mark node.path) None;
+  mark = λ node. if is_real node.kind then mark node.path else None;
 }

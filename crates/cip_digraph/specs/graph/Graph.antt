@@ -1,5 +1,5 @@
 -- The graph of a molecule: its atoms and implicit hydrogens as vertices, its bonds as edges. Own.
-use Rattle.std.specs.Prelude.{ℕ, pos, Bool, false, cond, ◌==◌, ◌||◌, List, [], ◌∷◌, map, filter, nat_lt, slice_index_or}
+use Rattle.std.specs.Prelude.{ℕ, pos, Bool, false, ◌==◌, ◌||◌, List, [], ◌∷◌, map, filter, nat_lt, slice_index_or, if◌then◌else◌}
 use Rattle.cip_digraph.specs.declared.graph.Vertex.{Vertex}
 use Rattle.cip_digraph.specs.declared.graph.Edge.{Edge}
 
@@ -21,14 +21,14 @@ touches vertex edge = (edge.a == vertex) || (edge.b == vertex)
 
 -- the end of an edge that isn't this vertex
 abbrev pub other_end : ℕ → Edge → ℕ
-other_end vertex edge = cond (edge.a == vertex) edge.b edge.a
+other_end vertex edge = if edge.a == vertex then edge.b else edge.a
 
 -- an edge put into a list that ascends by the other ends
 abbrev pub insert_up : ℕ → Edge → List Edge → List Edge
 insert_up vertex edge [] = edge ∷ []
 insert_up vertex edge (next ∷ edges) =
-    cond (nat_lt (other_end vertex next) (other_end vertex edge)) (next ∷ insert_up vertex edge edges)
-    (edge ∷ next ∷ edges)
+    if nat_lt (other_end vertex next) (other_end vertex edge) then next ∷ insert_up vertex edge edges
+    else edge ∷ next ∷ edges
 
 abbrev pub sorted_up : ℕ → List Edge → List Edge
 sorted_up vertex [] = []

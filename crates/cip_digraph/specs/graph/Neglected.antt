@@ -1,6 +1,6 @@
 -- Multiple bonds that are neglected: those of phosphorus, arsenic, sulfur and selenium with four ligands or more. Own,
 -- after IUPAC 2013, P-92.1: contributions of d orbitals to bonds of quadriligant atoms are neglected.
-use Rattle.std.specs.Prelude.{ℕ, Bool, cond, ◌+◌, ◌&&◌, ◌||◌, not, is_some, nat_le}
+use Rattle.std.specs.Prelude.{ℕ, Bool, ◌+◌, ◌&&◌, ◌||◌, not, is_some, nat_le, if◌then◌else◌}
 use Rattle.cip_elem.specs.Electrons.{outer_of}
 use Rattle.cip_mol.specs.Bonds.{degree}
 use Rattle.cip_mol.specs.Drawing.{Drawing}
@@ -10,7 +10,7 @@ use Rattle.cip_digraph.specs.graph.LonePairs.{lone_pair_of}
 
 -- an element by its number of bonds with those to hydrogens, and whether it has a lone pair, which is a ligand too
 abbrev pub neglects : ℕ → ℕ → Bool → Bool
-neglects z edges lone = is_some (outer_of z) && nat_le 4 (edges + cond lone 1 0)
+neglects z edges lone = is_some (outer_of z) && nat_le 4 (edges + (if lone then 1 else 0))
 
 abbrev pub neglects_at : Drawing → ℕ → Bool
 neglects_at drawing atom =

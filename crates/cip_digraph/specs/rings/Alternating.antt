@@ -1,6 +1,6 @@
 -- Alternating atoms and rings: by turns a double and a single bond, as in mancude ring systems. IUPAC 2013,
 -- P-92.1.4; which atoms alternate, and that a ring has at most 24 of them, is own.
-use Rattle.std.specs.Prelude.{ℕ, zero, suc, Bool, false, cond, not, ◌==◌, ◌&&◌, ◌||◌, List, [], ◌∷◌, map, filter, length, nat_le}
+use Rattle.std.specs.Prelude.{ℕ, zero, suc, Bool, false, not, ◌==◌, ◌&&◌, ◌||◌, List, [], ◌∷◌, map, filter, length, nat_le, if◌then◌else◌}
 use Rattle.std.specs.List.{list_any}
 use Rattle.cip_digraph.specs.declared.graph.Edge.{Edge}
 use Rattle.cip_digraph.specs.graph.Graph.{Graph, edges_at, other_end}
@@ -46,7 +46,7 @@ reaches graph target (suc more) path at =
     (at == target)
     || list_any
     (λ next. let other = partner graph next in
-    cond (goes_on graph path next) (reaches graph target more (other ∷ next ∷ path) other) false)
+    if goes_on graph path next then reaches graph target more (other ∷ next ∷ path) other else false)
     (singles graph at)
 
 -- The single bond between two alternating atoms lies in an alternating ring: from the double bond of the one, eleven

@@ -1,7 +1,7 @@
 -- Where the double bond of an alternating atom can stand, and the mean atomic number of its other end. IUPAC 2013,
 -- P-92.1.4: a duplicate of an atom in a mancude ring system has the mean of the atomic numbers it would have in all
 -- forms. The positions are those of alternating rings; this is own.
-use Rattle.std.specs.Prelude.{ℕ, Bool, cond, ◌*◌, ◌/◌, ◌==◌, ◌||◌, List, [], map, filter, length, sum, nat_lt, slice_index_or}
+use Rattle.std.specs.Prelude.{ℕ, Bool, ◌*◌, ◌/◌, ◌==◌, ◌||◌, List, [], map, filter, length, sum, nat_lt, slice_index_or, if◌then◌else◌}
 use Rattle.std.specs.List.{range_with_len}
 use Rattle.cip_digraph.specs.graph.Graph.{Graph, vertex_at, neighbours}
 use Rattle.cip_digraph.specs.rings.Alternating.{is_alternating, partner, closes_ring}
@@ -10,7 +10,7 @@ use Rattle.cip_digraph.specs.rings.Alternating.{is_alternating, partner, closes_
 abbrev pub positions_at : Graph → ℕ → List ℕ
 positions_at graph vertex =
     let is_position : ℕ → Bool = λ other. (other == partner graph vertex) || closes_ring graph vertex other in
-    cond (is_alternating graph vertex) (filter is_position (neighbours graph vertex)) []
+    if is_alternating graph vertex then filter is_position (neighbours graph vertex) else []
 
 -- of each vertex
 unfoldable pub positions_of : Graph → List (List ℕ)

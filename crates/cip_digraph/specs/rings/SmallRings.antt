@@ -1,5 +1,5 @@
 -- Bonds in small rings. IUPAC 2013, P-93.5: a double bond in a ring of fewer than eight atoms has no descriptor.
-use Rattle.std.specs.Prelude.{ℕ, zero, suc, ◌==◌, ◌&&◌, ◌||◌, Bool, cond, not, List, [], ◌∷◌, ◌++◌, filter, flat_map}
+use Rattle.std.specs.Prelude.{ℕ, zero, suc, ◌==◌, ◌&&◌, ◌||◌, Bool, not, List, [], ◌∷◌, ◌++◌, filter, flat_map, if◌then◌else◌}
 use Rattle.cip_digraph.specs.rings.Alternating.{is_in}
 use Rattle.cip_digraph.specs.graph.Graph.{Graph, neighbours}
 
@@ -10,7 +10,8 @@ neighbours_aside graph a b vertex =
 
 abbrev pub with_new : List ℕ → List ℕ → List ℕ
 with_new vertices [] = vertices
-with_new vertices (other ∷ others) = with_new (cond (is_in other vertices) vertices (vertices ++ other ∷ [])) others
+with_new vertices (other ∷ others) =
+    with_new (if is_in other vertices then vertices else vertices ++ other ∷ []) others
 
 -- the vertices at most so many steps from a, none of them along the bond between a and b
 abbrev pub within_steps : Graph → ℕ → ℕ → ℕ → List ℕ

@@ -1,7 +1,7 @@
 -- Auxiliary descriptors: those of units inside a digraph, each seen from where it stands. IUPAC 2013, P-92.1.4 and
 -- Hanson et al. 2018. That only descriptors strictly inside its own subtree count there, and that a bond or an axis has
 -- its descriptor at the end nearer to the root, is own.
-use Rattle.std.specs.Prelude.{ℕ, zero, suc, ◌==◌, ◌&&◌, Bool, true, false, cond, not, List, [], ◌∷◌, ◌++◌, map, filter, length, None, Some, nat_lt, nat_le}
+use Rattle.std.specs.Prelude.{ℕ, zero, suc, ◌==◌, ◌&&◌, Bool, true, false, not, List, [], ◌∷◌, ◌++◌, map, filter, length, None, Some, nat_lt, nat_le, if◌then◌else◌}
 use Rattle.std.specs.List.{list_any, list_all}
 use Rattle.std.specs.declared.option.Option.{Option}
 use Rattle.cip_rank.specs.declared.rules.Rules.{Rules}
@@ -39,9 +39,11 @@ ligand_node nodes (Vertex vertex) = filter (stands_for vertex) nodes
 -- the end nearer to the root first, where the vertex is an end of the unit
 abbrev pub nearer_first : ℕ → List End → List End
 nearer_first vertex [] = []
-nearer_first vertex (end ∷ []) = cond (end.at == vertex) (end ∷ []) []
+nearer_first vertex (end ∷ []) = if end.at == vertex then end ∷ [] else []
 nearer_first vertex (end ∷ other ∷ ends) =
-    cond (end.at == vertex) (end ∷ other ∷ []) (cond (other.at == vertex) (other ∷ end ∷ []) [])
+    if end.at == vertex then end ∷ other ∷ []
+    else if other.at == vertex then other ∷ end ∷ []
+    else []
 
 module _ (rules : Rules) (graph : Graph) (positions : List (List ℕ)) where
   -- an end as it is ranked in the digraph seen from the real node of a path, with these descriptors

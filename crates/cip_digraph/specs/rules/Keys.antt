@@ -1,7 +1,7 @@
 -- The keys by which nodes of a digraph compare. IUPAC 2013, P-92.2: atomic for Rule 1a, distance for Rule 1b, as
 -- printed and as Hanson et al. 2018 correct it; P-92.3: mass for Rule 2. Distances of nodes that aren't duplicates and
 -- of delocalised ones, and that duplicates have no mass, are own.
-use Rattle.std.specs.Prelude.{ℕ, zero, suc, ℤ, pos, negsuc, cond, ◌*◌, ◌-◌, ◌==◌, List, [], ◌∷◌, length}
+use Rattle.std.specs.Prelude.{ℕ, zero, suc, ℤ, pos, negsuc, ◌*◌, ◌-◌, ◌==◌, List, [], ◌∷◌, length, if◌then◌else◌}
 use Rattle.cip_elem.specs.Masses.{natural_half_of}
 use Rattle.cip_rank.specs.declared.rules.Rules.{Rules}
 use Rattle.cip_rank.specs.declared.rules.Rules.TheVariants.{Wording2013, Wording2018}
@@ -23,7 +23,7 @@ atomic_key graph positions node = by_kind node.kind
 
 -- in half units; duplicates have no mass
 abbrev pub atom_mass : Vertex → ℕ
-atom_mass vertex = cond (vertex.isotope == 0) (natural_half_of vertex.z) (2 * vertex.isotope)
+atom_mass vertex = if vertex.isotope == 0 then natural_half_of vertex.z else 2 * vertex.isotope
 
 abbrev pub mass_key : Graph → Node → ℕ
 mass_key graph node = by_kind node.kind
@@ -37,11 +37,12 @@ mass_key graph node = by_kind node.kind
 -- the part of a path from a vertex on
 abbrev pub path_from : ℕ → List ℕ → List ℕ
 path_from vertex [] = []
-path_from vertex (first ∷ path) = cond (first == vertex) (first ∷ path) (path_from vertex path)
+path_from vertex (first ∷ path) = if first == vertex then first ∷ path else path_from vertex path
 
 -- the path of the real node that stands for what a duplicate repeats: a node on the path, or a child
 abbrev pub counterpart : Node → List ℕ
-counterpart node = cond (is_in node.vertex node.path) (path_from node.vertex node.path) (node.vertex ∷ node.path)
+counterpart node =
+    if is_in node.vertex node.path then path_from node.vertex node.path else node.vertex ∷ node.path
 
 -- The sphere of a node, or of what it is a duplicate of. The wordings differ at the duplicate of a multiple bond: as
 -- printed it has the sphere of its counterpart, as corrected that of the atom that carries it.

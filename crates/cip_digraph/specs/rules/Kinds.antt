@@ -1,6 +1,6 @@
 -- What descriptors count in Rules 3 to 5. IUPAC 2013, P-92.4 to P-92.6. That r and m are alike, s and p, and that
 -- seqCis and seqTrans count as kinds in Rules 4 and 5 and not in Rule 3, is own.
-use Rattle.std.specs.Prelude.{ℕ, ℤ, pos, Bool, cond, None, Some}
+use Rattle.std.specs.Prelude.{ℕ, ℤ, pos, Bool, None, Some, if◌then◌else◌}
 use Rattle.std.specs.declared.option.Option.{Option}
 use Rattle.cip_mol.specs.declared.descriptor.Descriptor.{Descriptor}
 use Rattle.cip_mol.specs.declared.descriptor.Descriptor.TheVariants.{R, S, SmallR, SmallS, M, P, SmallM, SmallP, Z, E, SeqCis, SeqTrans}
@@ -89,8 +89,8 @@ small_key SeqTrans = 0
 
 -- Rule 5: kind R before kind S, or turned
 abbrev pub capital_by : Bool → Kind → ℕ
-capital_by r_first KindR = cond r_first 2 1
-capital_by r_first KindS = cond r_first 1 2
+capital_by r_first KindR = if r_first then 2 else 1
+capital_by r_first KindS = if r_first then 1 else 2
 capital_by r_first Neither = 0
 
 abbrev pub capital_key : Bool → Descriptor → ℕ

@@ -1,7 +1,7 @@
 -- How two branches of a digraph stand by each rule. IUPAC 2013, P-92.1.4 and P-92.2 to P-92.6: each rule is applied to
 -- the whole digraph before the next one. The form of Rule 4b, and that Rules 4c and 5 leave out what it decides, is
 -- own.
-use Rattle.std.specs.Prelude.{ℕ, ℤ, Bool, cond, List, map}
+use Rattle.std.specs.Prelude.{ℕ, ℤ, Bool, List, map, if◌then◌else◌}
 use Rattle.std.specs.Ordering.{is_lt}
 use Rattle.std.specs.declared.option.Option.{Option}
 use Rattle.std.specs.declared.cmp.Ordering.{Ordering}
@@ -52,10 +52,10 @@ module _ {N : Type 0} (seen : Seen N) where
   is_s_higher node = is_lt (readings seen.height (node, KindR) (node, KindS))
 
   abbrev pub higher_reading : N → N × Kind
-  higher_reading node = (node, cond (is_s_higher node) KindS KindR)
+  higher_reading node = (node, if is_s_higher node then KindS else KindR)
 
   abbrev pub lower_reading : N → N × Kind
-  lower_reading node = (node, cond (is_s_higher node) KindR KindS)
+  lower_reading node = (node, if is_s_higher node then KindR else KindS)
 
   unfoldable pub rule_4b_higher : ℕ → N → N → Ordering
   rule_4b_higher depth a b = readings depth (higher_reading a) (higher_reading b)

@@ -1,6 +1,6 @@
 -- Centres: the atoms that can be chirality centres, and their ligands. IUPAC 2013, P-93.2; the list of elements
 -- and the wish for three drawn neighbours are own.
-use Rattle.std.specs.Prelude.{ℕ, ℤ, pos, Bool, cond, ◌==◌, ◌&&◌, ◌||◌, List, [], ◌∷◌, ◌++◌, map, filter, length, is_some, int_lt, nat_le, nat_lt}
+use Rattle.std.specs.Prelude.{ℕ, ℤ, pos, Bool, ◌==◌, ◌&&◌, ◌||◌, List, [], ◌∷◌, ◌++◌, map, filter, length, is_some, int_lt, nat_le, nat_lt, if◌then◌else◌}
 use Rattle.cip_elem.specs.Electrons.{outer_of}
 use Rattle.cip_mol.specs.declared.site.Ligand.{Ligand}
 use Rattle.cip_mol.specs.declared.site.Ligand.TheVariants.{LonePair}
@@ -32,4 +32,4 @@ is_centre graph vertex =
 abbrev pub centre_ligands : Graph → ℕ → List Ligand
 centre_ligands graph vertex =
     let others = neighbours graph vertex in
-    map ligands.Vertex others ++ cond (length others == 3) (LonePair ∷ []) []
+    map ligands.Vertex others ++ (if length others == 3 then LonePair ∷ [] else [])

@@ -1,6 +1,6 @@
 -- The descriptor of a unit from its sense and the ranks of its ligands. IUPAC 2013, P-91.2 and P-93: R, S, Z, E, M and
 -- P; r, s, m and p where Rule 5 turns them; seqCis and seqTrans for bonds in that case are own.
-use Rattle.std.specs.Prelude.{ℕ, zero, suc, Bool, true, false, cond, not, List, [], ◌∷◌, map, flat_map}
+use Rattle.std.specs.Prelude.{ℕ, zero, suc, Bool, true, false, not, List, [], ◌∷◌, map, flat_map, if◌then◌else◌}
 use Rattle.cip_mol.specs.declared.descriptor.Descriptor.{Descriptor}
 use Rattle.cip_mol.specs.declared.descriptor.Descriptor.TheVariants.{R, S, SmallR, SmallS, M, P, SmallM, SmallP, Z, E, SeqCis, SeqTrans}
 use Rattle.cip_mol.specs.declared.descriptor.Sense.{Sense}
@@ -58,7 +58,7 @@ same_sense Minus Minus = true
 
 -- small exactly where the turned last rule gives the opposite
 abbrev pub letter_by : Site → Sense → Sense → Descriptor
-letter_by site sense turned = cond (same_sense sense turned) (capital site sense) (small (capital site sense))
+letter_by site sense turned = if same_sense sense turned then capital site sense else small (capital site sense)
 
 abbrev pub letter : {N : Type 0} → Site → Sense → List (Root N) → Descriptor
 letter site sense roots =

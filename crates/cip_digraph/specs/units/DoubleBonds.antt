@@ -1,6 +1,6 @@
 -- Bond units: double bonds that can have a descriptor, with the ligands of their ends. IUPAC 2013, P-93.4; the list of
 -- ends is own.
-use Rattle.std.specs.Prelude.{ℕ, ℤ, pos, ◌==◌, ◌&&◌, ◌||◌, Bool, cond, not, List, [], ◌∷◌, ◌++◌, map, filter, length, nat_lt, nat_le}
+use Rattle.std.specs.Prelude.{ℕ, ℤ, pos, ◌==◌, ◌&&◌, ◌||◌, Bool, not, List, [], ◌∷◌, ◌++◌, map, filter, length, nat_lt, nat_le, if◌then◌else◌}
 use Rattle.std.specs.List.{list_any}
 use Rattle.std.specs.Ordering.{int_eq}
 use Rattle.cip_mol.specs.declared.site.Ligand.{Ligand}
@@ -42,7 +42,7 @@ is_bond_end graph unit vertex =
 abbrev pub end_ligands : Graph → List ℕ → ℕ → List Ligand
 end_ligands graph unit vertex =
     map ligands.Vertex (outer_neighbours graph unit vertex)
-    ++ cond (((vertex_at graph vertex).z == 7) && (length (edges_at graph vertex) == 2)) (LonePair ∷ []) []
+    ++ (if ((vertex_at graph vertex).z == 7) && (length (edges_at graph vertex) == 2) then LonePair ∷ [] else [])
 
 -- by an edge at its first end, which has the lower number
 abbrev pub is_bond_unit : Graph → List (List ℕ) → ℕ → Edge → Bool

@@ -1,6 +1,6 @@
 -- The ligands of a root in rank order, and what was needed for it. IUPAC 2013, P-92.1; that a lone pair is below all
 -- ligands is P-93.2, and that Rule 1a decides it in the first sphere is own.
-use Rattle.std.specs.Prelude.{ℕ, ◌==◌, ◌&&◌, ◌||◌, Bool, true, false, cond, List, [], ◌∷◌, length, None, Some, nat_lt, slice_index_or}
+use Rattle.std.specs.Prelude.{ℕ, ◌==◌, ◌&&◌, ◌||◌, Bool, true, false, List, [], ◌∷◌, length, None, Some, nat_lt, slice_index_or, if◌then◌else◌}
 use Rattle.std.specs.List.{range_with_len, list_any, list_all, fold}
 use Rattle.std.specs.declared.option.Option.{Option}
 use Rattle.std.specs.declared.cmp.Ordering.{Ordering}
@@ -104,7 +104,7 @@ is_later reason decision =
 abbrev pub later_reason : Reason → Option Decision → Reason
 later_reason reason None = reason
 later_reason reason (Some decision) =
-    cond (is_later reason decision) (record { rule = decision.rule; sphere = decision.sphere }) reason
+    if is_later reason decision then record { rule = decision.rule; sphere = decision.sphere } else reason
 
 -- the last rule that was needed, and the greatest sphere in which it was
 abbrev pub last_reason : List (Option Decision) → Reason

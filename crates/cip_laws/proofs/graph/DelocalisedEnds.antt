@@ -24,12 +24,12 @@ use Rattle.cip_laws.proofs.outcomes.LastReasons.{pairwise_arranged}
 use Rattle.cip_laws.proofs.graph.WaySymmetry.{edge_of, back_way, leads_back, one_way_to}
 use Rattle.cip_laws.proofs.lists.Truths.{true_not_false, same_truth, and_parts, or_true}
 
-record OneEdge (edges : List Edge) : Type 0 where
-  edge : Edge
-  is : edges ≡ edge ∷ []
-  double : (edge.order == 2) ≡ true
+pub record OneEdge (edges : List Edge) : Type 0 where
+  pub edge : Edge
+  pub is : edges ≡ edge ∷ []
+  pub double : (edge.order == 2) ≡ true
 
-one_edge : (edges : List Edge) → is_one_double edges ≡ true → OneEdge edges
+pub one_edge : (edges : List Edge) → is_one_double edges ≡ true → OneEdge edges
 one_edge [] e = absurd (true_not_false (sym e))
 one_edge (edge ∷ []) e = record { edge = edge; is = refl; double = e }
 one_edge (edge ∷ next ∷ edges) e = absurd (true_not_false (sym e))
@@ -295,7 +295,7 @@ module _ (graph : Graph) (sound : IsSound graph) where
           (filtered_all (position_test v) (neighbours graph v))
           (ltb-true 1 (length (filter (position_test v) (neighbours graph v))) g)
 
-  listed : (v : ℕ) → v < length graph.vertices
+  pub listed : (v : ℕ) → v < length graph.vertices
       → is_delocalised (positions_of graph) v ≡ nat_lt 1 (length (positions_at graph v))
   unfolding positions_of
   listed v lt =

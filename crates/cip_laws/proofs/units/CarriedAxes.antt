@@ -141,30 +141,19 @@ module _ (graph other : Graph) (image : ℕ → ℕ) (r : IsRenamed graph other 
       ∙ length-map (doubles graph v) image
 
   pub middle_carried : (v : ℕ) → is_allene_middle other (image v) ≡ is_allene_middle graph v
-  middle_carried v =
-      ap (λ z. (z == 6) && (length (edges_at other (image v)) == 2) && (length (doubles other (image v)) == 2))
-      (z_same graph other image r v)
-      ∙ ap (λ k. ((vertex_at graph v).z == 6) && (k == 2) && (length (doubles other (image v)) == 2))
-      (degree_carried graph other image r v)
-      ∙ ap (λ k. ((vertex_at graph v).z == 6) && (length (edges_at graph v) == 2) && (k == 2)) (doubles_long v)
+  middle_carried v = rw (z_same graph other image r v, degree_carried graph other image r v, doubles_long v)
 
   pub axis_end_carried : (unit theirs : List ℕ) → SameUnit graph other image r unit theirs → (v : ℕ)
       → is_axis_end other theirs (image v) ≡ is_axis_end graph unit v
   axis_end_carried unit theirs same v =
-      ap
-      (λ z. (z == 6) && (length (edges_at other (image v)) == 3) && has_end_bonds other theirs (image v)
-      && (length (outer_neighbours other theirs (image v)) == 2)) (z_same graph other image r v)
-      ∙ ap
-      (λ k. ((vertex_at graph v).z == 6) && (k == 3) && has_end_bonds other theirs (image v)
-      && (length (outer_neighbours other theirs (image v)) == 2)) (degree_carried graph other image r v)
-      ∙ ap
-      (λ b. ((vertex_at graph v).z == 6) && (length (edges_at graph v) == 3) && b
-      && (length (outer_neighbours other theirs (image v)) == 2))
-      (end_bonds_carried graph other image r unit theirs same v)
-      ∙ ap
-      (λ k. ((vertex_at graph v).z == 6) && (length (edges_at graph v) == 3) && has_end_bonds graph unit v && (k == 2))
-      (length_permutation (map image (outer_neighbours graph unit v)) (outer_neighbours other theirs (image v))
-      (outer_moved graph other image r unit theirs same v) ∙ length-map (outer_neighbours graph unit v) image)
+      let outer = length_permutation _ _ (outer_moved graph other image r unit theirs same v)
+      ∙ length-map (outer_neighbours graph unit v) image in
+      rw (
+        z_same graph other image r v,
+        degree_carried graph other image r v,
+        end_bonds_carried graph other image r unit theirs same v,
+        outer,
+      )
 
   axis_there : (a m b : ℕ) → IsAxisCore graph a m b → IsAxisCore other (image a) (image m) (image b)
   axis_there a m b k = record {

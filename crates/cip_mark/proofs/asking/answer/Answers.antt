@@ -1,10 +1,8 @@
 use Rattle.std.proofs.Common.{◌≡◌, ◌∙◌, ap, sym}
-use Rattle.std.specs.List.{position}
 use Rattle.std.specs.declared.result.Result.{Result}
 use Rattle.std.proofs.lemmas.Option.{get_or_from_slice_get}
 use Rattle.std.proofs.lemmas.Result.{IfOk-weaker}
 use Rattle.cip_mol.specs.declared.site.Unit as units
-use Rattle.cip_mark.specs.FoundCentres.{is_centre_at}
 use Rattle.cip_mark.specs.SetLetters.{mark_asked, mark_centre}
 use Rattle.cip_mark.specs.declared.letter.CentreRefusal.{CentreRefusal}
 use Rattle.cip_mark.specs.declared.letter.Marked.{Marked}
@@ -16,22 +14,15 @@ pub mark_centre-requires-clause-site : goal.mark_centre-requires-clause-site
 mark_centre-requires-clause-site g c =
     let asked = c.args.request in
     ap (λ (unit : units.Unit). unit.site)
-    (get_or_from_slice_get c.list-in-Some.result.now c.in-Some.place
-    (centre_unit c.args.molecule.now asked.atom)
-    c.index-list-place.result
-    (centre_listed c.args.molecule.now c.in_ok-graph.graph c.in_ok-positions.positions c.list-in-Some.result.now
-    c.in_ok-graph.ensures c.in_ok-positions.ensures
-    (c.list-in-Some.ensures ∙ c.in_ok-units.ensures) asked.atom
-    c.in-Some.place
-    (ap (position (is_centre_at asked.atom)) (c.list-in-Some.ensures ∙ sym c.list.ensures)
-    ∙ sym c.in-Some.ensures)))
+    (get_or_from_slice_get c.list-units.result.now c.in-Some.place (centre_unit c.args.molecule.now asked.atom)
+    c.index-units-place.result
+    (centre_listed c.args.molecule.now c.in_ok-drawn.drawn c.in_ok-drawn.ensures c.list-units.result.now
+    (c.list-units.ensures ∙ c.units.ensures.value) asked.atom c.in-Some.place (sym c.in-Some.ensures)))
 
 pub mark_centre-requires-clause-centre : goal.mark_centre-requires-clause-centre
 mark_centre-requires-clause-centre g c =
-    let asked = c.args.request in
-    centre_stands c.args.molecule.now c.in_ok-graph.graph c.in_ok-positions.positions c.list.result.now
-    c.in_ok-graph.ensures c.in_ok-positions.ensures (c.list.ensures ∙ c.in_ok-units.ensures) asked.atom
-    c.in-Some.place (sym c.in-Some.ensures)
+    centre_stands c.args.molecule.now c.in_ok-drawn.drawn c.in_ok-drawn.ensures c.list-units.result.now
+    (c.list-units.ensures ∙ c.units.ensures.value) c.args.request.atom c.in-Some.place (sym c.in-Some.ensures)
 
 pub returns-in-Some-clause-answer : goal.returns-in-Some-clause-answer
 returns-in-Some-clause-answer g c =
@@ -44,9 +35,8 @@ returns-in-Some-clause-answer g c =
     is
     ∙ sym
     (some_centre asked.rules c.args.labeller.now c.args.molecule.now asked.atom asked.letter
-    (centre_stands c.args.molecule.now c.in_ok-graph.graph c.in_ok-positions.positions c.list.result.now
-    c.in_ok-graph.ensures c.in_ok-positions.ensures (c.list.ensures ∙ c.in_ok-units.ensures) asked.atom
-    c.in-Some.place (sym c.in-Some.ensures))))
+    (centre_stands c.args.molecule.now c.in_ok-drawn.drawn c.in_ok-drawn.ensures c.list-units.result.now
+    (c.list-units.ensures ∙ c.units.ensures.value) asked.atom c.in-Some.place (sym c.in-Some.ensures))))
     c.mark_centre.ensures.answer
 
 pub returns-clause-answer : goal.returns-clause-answer
@@ -54,6 +44,5 @@ returns-clause-answer g c =
     let asked = c.args.request in
     sym
     (no_centre asked.rules c.args.labeller.now c.args.molecule.now asked.atom asked.letter
-    (none_listed c.args.molecule.now c.in_ok-graph.graph c.in_ok-positions.positions c.list.result.now
-    c.in_ok-graph.ensures c.in_ok-positions.ensures (c.list.ensures ∙ c.in_ok-units.ensures) asked.atom
-    (sym c.in-None.ensures)))
+    (none_listed c.args.molecule.now c.in_ok-drawn.drawn c.in_ok-drawn.ensures c.list-units.result.now
+    (c.list-units.ensures ∙ c.units.ensures.value) asked.atom (sym c.in-None.ensures)))

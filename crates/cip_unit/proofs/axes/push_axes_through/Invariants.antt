@@ -6,8 +6,8 @@ use Rattle.cip_unit.proofs.axes.push_axes_through.Given as goal
 
 abbrev pub invariant-loop-edge : goal.invariant-loop-edge
 invariant-loop-edge l =
-    l.units ++ units_at l.drawn.molecule.now
-    (flat_map (one_axis_site l.drawn.graph.now l.a l.middle)
+    l.units ++ units_at l.sketch.molecule.now
+    (flat_map (one_axis_site l.sketch.graph.now l.a l.middle)
     (map (other_end l.middle) (filter (λ edge. edge.order == 2)
-    (drop l.edge-index (edges_at l.drawn.graph.now l.middle)))))
-    ≡ l.initial.units ++ units_at l.drawn.molecule.now (axes_through l.drawn.graph.now l.a l.middle)
+    (drop l.edge-index (edges_at l.sketch.graph.now l.middle)))))
+    ≡ l.initial.units ++ units_at l.sketch.molecule.now (axes_through l.sketch.graph.now l.a l.middle)

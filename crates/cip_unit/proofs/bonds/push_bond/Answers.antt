@@ -10,18 +10,18 @@ use Rattle.cip_unit.proofs.bonds.push_bond.Goals as goal
 pub push_unit-requires : goal.push_unit-requires
 push_unit-requires c =
     rw (c.end_ligands.ensures, c.end_ligands-then-branch.ensures, c.other_end-b.ensures)
-    (bond_shown c.args.drawn.now.graph.now c.args.drawn.now.positions.now _ c.args.a c.args.edge.now c.requires.drawn
+    (bond_shown c.args.sketch.now.graph.now c.args.sketch.now.positions.now _ c.args.a c.args.edge.now c.requires.drawn
     c.requires.within c.requires.leads (sym c.in_ok-is_bond_unit.ensures ∙ c.if-branch.true))
 
 pub returns-in_ok-push_unit : goal.returns-in_ok-push_unit
 returns-in_ok-push_unit c =
     let same : ◌≡◌ {A = Site}
     (Bond c.args.a c.other_end-b.result c.end_ligands.result c.end_ligands-then-branch.result)
-    (bond_site c.args.drawn.now.graph.now c.args.a c.args.edge.now) =
+    (bond_site c.args.sketch.now.graph.now c.args.a c.args.edge.now) =
     rw (c.end_ligands.ensures, c.end_ligands-then-branch.ensures, c.other_end-b.ensures) refl in
     c.in_ok-push_unit.ensures
-    ∙ ap (λ sites. c.args.units.now ++ units_at c.args.drawn.now.molecule.now sites)
+    ∙ ap (λ sites. c.args.units.now ++ units_at c.args.sketch.now.molecule.now sites)
     (ap (λ site. site ∷ []) same
-    ∙ one_is (is_bond_unit c.args.drawn.now.graph.now c.args.drawn.now.positions.now c.args.a c.args.edge.now)
-    (bond_site c.args.drawn.now.graph.now c.args.a c.args.edge.now)
+    ∙ one_is (is_bond_unit c.args.sketch.now.graph.now c.args.sketch.now.positions.now c.args.a c.args.edge.now)
+    (bond_site c.args.sketch.now.graph.now c.args.a c.args.edge.now)
     (sym c.in_ok-is_bond_unit.ensures ∙ c.if-branch.true))

@@ -8,13 +8,13 @@ use Rattle.cip_unit.proofs.bonds.push_bonds.Goals as goal
 
 pub loop-edge-init : goal.loop-edge-init
 loop-edge-init c =
-    ap (λ sites. c.args.units.now ++ units_at c.args.drawn.now.molecule.now sites)
-    (sym (kept_each (bond_site c.args.drawn.now.graph.now c.args.a)
-    (is_bond_unit c.args.drawn.now.graph.now c.args.drawn.now.positions.now c.args.a)
-    (edges_at c.args.drawn.now.graph.now c.args.a)))
+    ap (λ sites. c.args.units.now ++ units_at c.args.sketch.now.molecule.now sites)
+    (sym (kept_each (bond_site c.args.sketch.now.graph.now c.args.a)
+    (is_bond_unit c.args.sketch.now.graph.now c.args.sketch.now.positions.now c.args.a)
+    (edges_at c.args.sketch.now.graph.now c.args.a)))
 
 pub push_bond-requires-clause-leads : goal.push_bond-requires-clause-leads
 push_bond-requires-clause-leads c = λ order.
-    leads_on c.args.drawn.now.graph.now c.requires.leads c.args.a
+    leads_on c.args.sketch.now.graph.now c.requires.leads c.args.a
     c.edges_at-edge-items.result.now c.loop-edge.edge-index _
     c.edges_at-edge-items.ensures.value c.loop-edge-test.true order

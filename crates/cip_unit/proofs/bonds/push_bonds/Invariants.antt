@@ -7,7 +7,7 @@ use Rattle.cip_unit.proofs.bonds.push_bonds.Given as goal
 
 abbrev pub invariant-loop-edge : goal.invariant-loop-edge
 invariant-loop-edge l =
-    l.units ++ units_at l.drawn.molecule.now
-    (flat_map (one_bond_site l.drawn.graph.now l.drawn.positions.now l.a)
-    (drop l.edge-index (edges_at l.drawn.graph.now l.a)))
-    ≡ l.initial.units ++ units_at l.drawn.molecule.now (bond_sites l.drawn.graph.now l.drawn.positions.now l.a)
+    l.units ++ units_at l.sketch.molecule.now
+    (flat_map (one_bond_site l.sketch.graph.now l.sketch.positions.now l.a)
+    (drop l.edge-index (edges_at l.sketch.graph.now l.a)))
+    ≡ l.initial.units ++ units_at l.sketch.molecule.now (bond_sites l.sketch.graph.now l.sketch.positions.now l.a)

@@ -7,5 +7,5 @@ use Rattle.cip_unit.proofs.listing.push_all_axes.Given as goal
 
 abbrev pub invariant-loop-atom : goal.invariant-loop-atom
 invariant-loop-atom l =
-    l.units ≡ l.initial.units ++ units_at l.drawn.molecule.now
-    (flat_map (axis_sites l.drawn.graph.now) (range_with_len 0 l.atom))
+    l.units ≡ l.initial.units ++ units_at l.sketch.molecule.now
+    (flat_map (axis_sites l.sketch.graph.now) (range_with_len 0 l.atom))

@@ -4,6 +4,6 @@ use Rattle.cip_unit.proofs.listing.push_all_bonds.Goals as goal
 
 pub loop-atom-preserved : goal.loop-atom-preserved
 loop-atom-preserved c =
-    units_more c.args.drawn.now.molecule.now
-    (bond_sites c.args.drawn.now.graph.now c.args.drawn.now.positions.now) c.loop-atom.atom _ _ _ c.loop-atom.invariant
+    units_more c.args.sketch.now.molecule.now
+    (bond_sites c.args.sketch.now.graph.now c.args.sketch.now.positions.now) c.loop-atom.atom _ _ _ c.loop-atom.invariant
     c.in_ok-push_bonds.ensures

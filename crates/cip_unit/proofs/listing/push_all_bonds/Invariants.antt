@@ -8,5 +8,5 @@ use Rattle.cip_unit.proofs.listing.push_all_bonds.Given as goal
 abbrev pub invariant-loop-atom : goal.invariant-loop-atom
 invariant-loop-atom l =
     l.units ≡ l.initial.units
-    ++ units_at l.drawn.molecule.now
-    (flat_map (bond_sites l.drawn.graph.now l.drawn.positions.now) (range_with_len 0 l.atom))
+    ++ units_at l.sketch.molecule.now
+    (flat_map (bond_sites l.sketch.graph.now l.sketch.positions.now) (range_with_len 0 l.atom))

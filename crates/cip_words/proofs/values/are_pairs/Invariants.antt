@@ -4,8 +4,8 @@ use Rattle.cip_words.proofs.values.are_pairs.Given as goal
 
 abbrev pub invariant-loop-rest : goal.invariant-loop-rest
 invariant-loop-rest l =
-    are_pairs (map (λ choice. choice.0.now) l.choices) l.rest
-    ≡ are_pairs (map (λ choice. choice.0.now) l.choices) l.words
+    are_pairs (map (λ choice. (choice.0.now, choice.1)) l.choices) l.rest
+    ≡ are_pairs (map (λ choice. (choice.0.now, choice.1)) l.choices) l.words
 
 abbrev pub decreases-loop-rest : goal.decreases-loop-rest
 decreases-loop-rest l = length l.rest

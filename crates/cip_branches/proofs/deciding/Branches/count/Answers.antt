@@ -1,6 +1,9 @@
-use Rattle.std.proofs.Common.{◌<◌, length, slice_index, subst, ap, ◌∙◌, arith}
+use Rattle.std.proofs.Common.{◌<◌, length, rules, slice_index, subst, ap, ◌∙◌, arith}
 use Rattle.cip_branches.specs.Deciding.{Branched}
 use Rattle.cip_branches.proofs.deciding.Branches.count.Goals as goal
+
+pub returns-clause-may : goal.returns-clause-may
+returns-clause-may c = search rules
 
 pub returns-clause-below : goal.returns-clause-below
 returns-clause-below c t place p =

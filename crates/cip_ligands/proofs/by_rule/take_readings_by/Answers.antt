@@ -1,0 +1,29 @@
+use Rattle.std.proofs.Common.{◌≡◌, ◌<◌, ◌∙◌, arith, inl, inr, length, subst, true}
+use Rattle.std.proofs.lemmas.Bool.{cases_lt}
+use Rattle.std.specs.List.{AllByRecursion}
+use Rattle.cip_mol.specs.declared.outcome.Rule.TheVariants.{R4b}
+use Rattle.cip_branches.specs.Standing.{node_in}
+use Rattle.cip_ligands.specs.Asking.{AreWithin}
+use Rattle.cip_ligands.specs.Orders.{decided_by}
+use Rattle.cip_ligands.proofs.ReadingsFound.{readings_found, none_asked}
+use Rattle.cip_ligands.proofs.by_rule.take_readings_by.Goals as goal
+
+pub returns-clause-found : goal.returns-clause-found
+returns-clause-found g c =
+    let marks = c.args.marks.now in
+    let from = c.args.branches.now in
+    let seen = g.M.NodeMarks.seen marks in
+    let r = c.requires in
+    let took = c.take_both.ensures in
+    elim (cases_lt 0 (length from.layers.kin.ups)) [
+      | inl some ↦
+          readings_found seen (g.M.NodeMarks.named marks) from r.followed (took.may some) r.stands r.ended r.tall
+          (g.M.Marked.marks marks) r.same c.args.asked.now c.take_both.new.asked r.within (took.taken some)
+      | inr none ↦
+          let no_place : length from.layers.kin.ups ≡ 0 = omega (arith, none) in
+          let tops = took.tops in
+          let no_branch : length from.wanted ≡ 0 = omega (arith, tops, no_place) in
+          took.none no_place
+          ∙ none_asked (decided_by seen true R4b (node_in (g.M.NodeMarks.named marks) from)) c.args.asked.now
+          (subst (λ n. AllByRecursion (AreWithin n) c.args.asked.now) no_branch r.within)
+    ]

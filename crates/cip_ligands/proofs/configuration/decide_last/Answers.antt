@@ -1,0 +1,36 @@
+use Rattle.std.proofs.Common.{◌∙◌, false, true}
+use Rattle.cip_mol.specs.declared.outcome.Rule.TheVariants.{R5}
+use Rattle.cip_ligands.proofs.MarkedKeys.{taken_by_marks, taken_by_none, uncounted_turned}
+use Rattle.cip_ligands.proofs.configuration.decide_last.Goals as goal
+
+pub returns-then-not-some_count-clause-decided : goal.returns-then-not-some_count-clause-decided
+returns-then-not-some_count-clause-decided g c = record {
+  now = c.args.branches.now;
+  takes = taken_by_none (g.M.Marked.marks c.args.marks.now) c.args.branches.now c.args.asked.now c.note.new.asked true R5
+      c.requires.followed (c.some_count.ensures.none c.if-not-some_count.true) c.note.ensures;
+}
+
+pub returns-then-not-some_count-clause-turned : goal.returns-then-not-some_count-clause-turned
+returns-then-not-some_count-clause-turned g c =
+    let marks = g.M.Marked.marks c.args.marks.now in
+    let begin = c.args.branches.now in
+    record {
+      now = begin;
+      takes = taken_by_none marks begin c.args.asked.now c.copy_from_slice.new.self false R5 c.requires.followed
+          (uncounted_turned marks begin (c.some_count.ensures.none c.if-not-some_count.true))
+          (c.copy_from_slice.ensures.after ∙ c.note.ensures);
+    }
+
+pub returns-clause-decided : goal.returns-clause-decided
+returns-clause-decided g c = record {
+  now = c.take_both_ways.ensures.decided.now;
+  takes = taken_by_marks (g.M.Marked.marks c.args.marks.now) c.args.branches.now c.args.asked.now
+      c.take_both_ways.new.asked true R5 c.take_both_ways.ensures.decided.now c.take_both_ways.ensures.decided.takes;
+}
+
+pub returns-clause-turned : goal.returns-clause-turned
+returns-clause-turned g c = record {
+  now = c.take_both_ways.new.branches;
+  takes = taken_by_marks (g.M.Marked.marks c.args.marks.now) c.args.branches.now c.args.asked.now
+      c.take_both_ways.new.turned false R5 c.take_both_ways.new.branches c.take_both_ways.ensures.turned;
+}

@@ -1,0 +1,41 @@
+-- Rules that look at descriptors, taken where some descriptor counts and passed over where none does. Own.
+use Rattle.std.specs.Prelude.{◌≡◌, ◌≢◌, ◌<◌, ℕ, ℤ, pos, Bool, true, List, None, length, slice_index}
+use Rattle.std.specs.List.{slice_index_or}
+use Rattle.std.specs.declared.option.Option.{Option}
+use Rattle.cip_rank.specs.Ranking.{key_at}
+use Rattle.cip_mol.specs.declared.descriptor.Descriptor.{Descriptor}
+use Rattle.cip_mol.specs.declared.outcome.Rule.{Rule}
+use Rattle.cip_branches.specs.Deciding.{Branched}
+use Rattle.cip_branches.specs.Standing.{WantedIn}
+use Rattle.cip_rows.specs.Parting.{has_flag}
+use Rattle.cip_ligands.specs.declared.asked.Asked.{Asked}
+use Rattle.cip_ligands.specs.Orders.{mark_key}
+use Rattle.cip_ligands.specs.Taking.{TakesRule}
+
+module _ (marks : List (Option Descriptor)) (r_first : Bool) (rule : Rule) where
+  -- what the node at a place counts for
+  abbrev pub mark_key_at : Branched → ℕ → ℤ
+  mark_key_at now place = mark_key r_first rule (slice_index_or marks (slice_index now.layers.kin.nodes place) None)
+
+  -- the nodes at places of wanted branches count for nothing
+  pub record AreUncounted (now : Branched) : Type 0 where
+    pub each : (t place : ℕ) → WantedIn now t place → mark_key_at now place ≡ pos 0
+
+  -- one of them counts
+  pub record IsSomeCounted (now : Branched) : Type 0 where
+    pub place : ℕ
+    pub within : place < length now.layers.kin.ups
+    pub flagged : has_flag now.wanted (slice_index now.layers.kin.branches place) ≡ true
+    pub counts : mark_key_at now place ≢ pos 0
+
+  -- the rule is taken by keys that are those of descriptors at places of wanted branches
+  pub record TakesMarked (begin : Branched) (asked : List Asked) (now : Branched) (new : List Asked) : Type 0 where
+    pub keys : List ℤ
+    pub same : (t place : ℕ) → WantedIn begin t place → slice_index begin.layers.kin.nodes place < length marks
+        → key_at keys (slice_index begin.layers.kin.nodes place) ≡ mark_key_at begin place
+    pub takes : TakesRule begin keys rule asked now new
+
+  -- the same, whatever becomes of the branches
+  pub record TakesMarkedOnce (begin : Branched) (asked new : List Asked) : Type 0 where
+    pub now : Branched
+    pub takes : TakesMarked begin asked now new

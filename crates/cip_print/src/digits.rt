@@ -1,0 +1,34 @@
+// Numbers and words at the end of a text.
+ghost use Rattle.std.specs.Prelude.{◌≡◌, ◌++◌, ◌∷◌, [], ◌+◌, ◌<◌, OnOk, codes, decimal};
+
+use std::alloc::AllocError;
+
+/// Adds the digits of a number.
+#[tactic(auto, using(crate::proofs::LastDigits::one_digit, crate::proofs::LastDigits::one_digit_more))]
+pub fn push_number(text: &mut Vec<u8>, number: u64) -> Result<(), AllocError>
+    ensures { OnOk result (text.new.items ≡ text.old.items ++ decimal number) }
+{
+    if number < 10 {
+        return push_digit(text, number);
+    }
+    push_number(text, number / 10)?;
+    push_digit(text, number % 10)
+}
+
+fn push_digit(text: &mut Vec<u8>, digit: u64) -> Result<(), AllocError>
+    requires { digit < 10 }
+    ensures { OnOk result (text.new.items ≡ text.old.items ++ (48 + digit) ∷ []) }
+{
+    text.push(b'0' + digit as u8)?;
+    Ok(())
+}
+
+/// Adds a space and a word.
+#[tactic(auto, using(crate::proofs::Texts::moved))]
+pub fn push_word(text: &mut Vec<u8>, word: &str) -> Result<(), AllocError>
+    ensures { OnOk result (text.new.items ≡ text.old.items ++ (codes " " ++ word.now)) }
+{
+    text.push(b' ')?;
+    text.extend_from_slice(word.as_bytes())?;
+    Ok(())
+}

@@ -1,0 +1,3 @@
+mod FitPairs
+pub mod KeptOrders
+mod Rounds

@@ -1,0 +1,5 @@
+use Rattle.cip_undefined.proofs.KeptOrders.{senses_keep}
+use Rattle.cip_undefined.proofs.laws.senses_keep_orders.Goals as goal
+
+pub returns : goal.returns
+returns c = senses_keep

@@ -1,0 +1,105 @@
+// The answer to a record by the units of which its drawing shows no sense.
+ghost use Rattle.std.specs.Prelude.{◌≡◌, ◌<◌, ◌-◌, ◌^◌, IfOk, length};
+ghost use Rattle.cip_text.specs.Slices.{texts};
+ghost use Rattle.cip_label.specs.Settings.{setting_of};
+ghost use Rattle.cip_undefined.specs.Answers.{answer_in, setting_in, undefined_of_lines, undefined_without_items};
+ghost use Rattle.cip_undefined.specs.Ties.{told_units};
+ghost use Rattle.cip_undefined.specs.UndefinedUnits.{found_among};
+
+use crate::finding::found_among;
+use crate::ties::tell_dependent;
+use crate::unit::{UndefinedAnswer, UndefinedUnits};
+use cip_label::{Digraphs, Labeller, Setting};
+use cip_mol::{Molecule, ReadRefusal};
+use cip_molfile::read_molecule;
+use cip_rank::Rules;
+use cip_steps::Steps;
+use cip_text::RecordLines;
+use cip_unit::Drawn;
+use std::alloc::{AllocError, Global};
+use std::marker::Brand;
+use std::sync::ledger::{Blank, Ledger};
+
+/// The undefined units of a record that has no label items, each with how its ligands stand; or why the record is
+/// refused.
+#[tactic(auto, unfolding(crate::specs::Answers::undefined_without_items))]
+pub fn undefined_within<D: Digraphs>(
+    alloc: Global,
+    labeller: &mut Labeller<D>,
+    lines: &RecordLines,
+    rules: Rules,
+) -> Result<UndefinedAnswer, AllocError>
+    requires few { length lines.now < 2 ^ 32 - 1 }
+    ensures answer { IfOk result (λ answer. answer ≡ undefined_without_items rules labeller.old lines.now) }
+    ensures kept { labeller.new ≡ labeller.old }
+{
+    undefined_of_lines(alloc, labeller, lines.contents(), rules)
+}
+
+fn undefined_of_lines<D: Digraphs>(
+    alloc: Global,
+    labeller: &mut Labeller<D>,
+    lines: &[&[u8]],
+    rules: Rules,
+) -> Result<UndefinedAnswer, AllocError>
+    requires few { length lines.now < 2 ^ 32 - 1 }
+    ensures answer { IfOk result (λ answer. answer ≡ undefined_of_lines rules labeller.old (texts lines.now)) }
+    ensures kept { labeller.new ≡ labeller.old }
+{
+    match read_molecule(alloc, lines) {
+        Ok(molecule) => undefined_of_molecule(alloc, labeller, &molecule, rules),
+        Err(ReadRefusal::Fault(fault)) => Ok(UndefinedAnswer::Refused(fault)),
+        Err(ReadRefusal::Memory) => Err(AllocError),
+    }
+}
+
+fn undefined_of_molecule<D: Digraphs>(
+    alloc: Global,
+    labeller: &mut Labeller<D>,
+    molecule: &Molecule,
+    rules: Rules,
+) -> Result<UndefinedAnswer, AllocError>
+    ensures answer { IfOk result (λ answer. answer ≡ answer_in labeller.old (setting_in rules molecule.now)) }
+    ensures kept { labeller.new ≡ labeller.old }
+{
+    let drawn = Drawn::of(alloc, molecule)?;
+    undefined_of_drawn(alloc, labeller, &drawn, rules)
+}
+
+// What is drawn stays with the caller, so that no end of this function gives it back.
+fn undefined_of_drawn<D: Digraphs>(
+    alloc: Global,
+    labeller: &mut Labeller<D>,
+    drawn: &Drawn,
+    rules: Rules,
+) -> Result<UndefinedAnswer, AllocError>
+    ensures answer { IfOk result (λ answer. answer
+        ≡ answer_in labeller.old (setting_of rules drawn.now.graph drawn.now.positions drawn.now.units)) }
+    ensures kept { labeller.new ≡ labeller.old }
+{
+    let units = drawn.units().list();
+    let setting = Setting::new(alloc, drawn.graph(), drawn.positions(), units, rules)?;
+    let told = told_among::<D, Brand>(alloc, labeller, &setting, Blank::new(1))?;
+    Ok(UndefinedAnswer::Listed(told))
+}
+
+// The undefined units of a setting, with a counter of steps.
+fn told_among<D: Digraphs, L: Ledger>(
+    alloc: Global,
+    labeller: &mut Labeller<D>,
+    setting: &Setting<'_>,
+    blank: Blank,
+) -> Result<UndefinedUnits, AllocError>
+    requires name { blank.name ≡ L.name }
+    requires parts { blank.parts ≡ L.parts }
+    requires one { 0 < blank.parts }
+    ensures told { IfOk result (λ told. told
+        ≡ told_units setting.now labeller.old (found_among setting.now labeller.old setting.now.units)) }
+    ensures kept { labeller.new ≡ labeller.old }
+{
+    let units = setting.units().as_slice();
+    let mut steps = Steps::<L>::open(blank);
+    let mut found = found_among(alloc, labeller, setting, units, &mut steps)?;
+    tell_dependent(alloc, labeller, setting, &mut found, &mut steps)?;
+    Ok(UndefinedUnits::of(found))
+}

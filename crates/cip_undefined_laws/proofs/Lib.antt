@@ -1,0 +1,4 @@
+mod GivenMarks
+mod KeptMarks
+mod MarkedLigands
+mod TurnedDrawings

@@ -1,0 +1,80 @@
+// Rule 4b between two branches of two nodes each, as worked by hand.
+ghost use Rattle.std.specs.Prelude.{◌≡◌, IfOk, length};
+ghost use Rattle.cip_branches.specs.Deciding.{AreFollowed};
+ghost use Rattle.cip_rows.specs.Keys.{AreKeyed};
+
+use crate::ranking::branches_of;
+use crate::trees::{DEEPEST, ROOM, case_of};
+use cip_branches::Branches;
+use cip_digraph::Decision;
+use cip_ligands::{Asked, Descriptors, Readings, take_readings};
+use cip_mol::Descriptor;
+use std::alloc::{AllocError, Global};
+use std::cmp::Ordering;
+use std::process::Abort;
+use std::test::Fail;
+
+fn descriptor_of(letter: u8) -> Option<Descriptor> {
+    match letter {
+        b'R' => Some(Descriptor::R),
+        b'S' => Some(Descriptor::S),
+        _ => None,
+    }
+}
+
+// The descriptors of nodes, a letter each.
+fn descriptors(rt: &impl Abort, alloc: Global, letters: &[u8]) -> Result<Descriptors, AllocError> {
+    let mut all = Descriptors::reserve(alloc, ROOM)?;
+    for letter in letters {
+        assert!(rt; all.len() < ROOM);
+        all.push(descriptor_of(*letter));
+    }
+    Ok(all)
+}
+
+// What is decided between the branches at nodes 1 and 2, whose children are 3 and 4.
+fn decided(rt: &impl Abort, alloc: Global, letters: &[u8]) -> Result<Option<Decision>, AllocError> {
+    let case = case_of(alloc, b"00012 00000 0")?;
+    let marks = descriptors(rt, alloc, letters)?;
+    assert!(rt; marks.len() as usize == case.keys.len());
+    let branches = branches_of(rt, alloc, &case, DEEPEST)?;
+    decided_between(rt, alloc, &branches, &marks)
+}
+
+// What is decided between the branches at the first two places.
+fn decided_between(
+    rt: &impl Abort,
+    alloc: Global,
+    branches: &Branches,
+    marks: &Descriptors,
+) -> Result<Option<Decision>, AllocError>
+    requires followed { AreFollowed branches.now }
+    requires keyed { AreKeyed (length marks.now.marks) branches.now.layers.kin }
+{
+    let mut readings = Readings::reserve(alloc, ROOM)?;
+    let mut asked = [Asked {
+        first: 0,
+        second: 1,
+        decision: None,
+    }];
+    assert!(rt; branches.len() <= ROOM);
+    take_readings(branches, &mut readings, marks, &mut asked);
+    Ok(asked[0].decision)
+}
+
+#[test]
+fn pairs_are_decided_by_both_readings(rt: HostRuntime) -> Result<(), Fail> {
+    // the descriptors at nodes 0 to 4, which branch precedes, and in which sphere they differ
+    let cases: [(&[u8], Option<(Ordering, u32)>); 5] = [
+        (b"-RRRS", Some((Ordering::Greater, 2))),
+        (b"-SRSS", Some((Ordering::Greater, 2))),
+        (b"-SRSR", None),
+        (b"-RRSR", Some((Ordering::Less, 2))),
+        (b"-----", None),
+    ];
+    for (letters, wanted) in cases {
+        let found = decided(&rt, rt.alloc(), letters)?;
+        assert!(rt; found.map(|one| (one.side, one.sphere)) == wanted);
+    }
+    Ok(())
+}

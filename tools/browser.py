@@ -1,0 +1,94 @@
+"""A headless Chromium that scripts speak to."""
+import base64
+import contextlib
+import json
+import os
+import subprocess
+import time
+from pathlib import Path
+
+import sdf
+
+SECONDS = 60
+WIDTH = 1280
+SWITCHES = ("--headless=new", "--remote-debugging-pipe", "--disable-gpu", "--no-sandbox", "--hide-scrollbars",
+            "--no-first-run")
+OPENED = "document.body && document.body.dataset.opened && document.querySelectorAll('.card .inside').length"
+
+
+class Browser:
+    """A Chromium that is spoken to by a pair of pipes, in its protocol for developers."""
+
+    def __init__(self, path, folder):
+        to_it, ours = os.pipe()
+        theirs, from_it = os.pipe()
+        command = ["/bin/sh", "-c", f'exec "$@" 3<&{to_it} 4>&{from_it}', "sh", path, *SWITCHES,
+                   f"--user-data-dir={folder}", "about:blank"]
+        self.child = subprocess.Popen(command, pass_fds=(to_it, from_it), stdin=subprocess.DEVNULL,
+                                      stdout=subprocess.DEVNULL, stderr=subprocess.DEVNULL)
+        os.close(to_it)
+        os.close(from_it)
+        self.out, self.into = os.fdopen(ours, "wb", 0), os.fdopen(theirs, "rb", 0)
+        self.rest, self.number, self.session, self.faults = b"", 0, None, []
+        target = self.ask("Target.createTarget", url="about:blank")["targetId"]
+        self.session = self.ask("Target.attachToTarget", targetId=target, flatten=True)["sessionId"]
+        for domain in ("Page", "Runtime", "Log"):
+            self.ask(f"{domain}.enable")
+
+    def message(self):
+        while b"\0" not in self.rest:
+            piece = self.into.read(65_536)
+            if not piece:
+                raise sdf.Fault("Chromium ended")
+            self.rest += piece
+        text, self.rest = self.rest.split(b"\0", 1)
+        return json.loads(text)
+
+    def ask(self, method, **parameters):
+        self.number += 1
+        asked = {"id": self.number, "method": method, "params": parameters}
+        if self.session:
+            asked["sessionId"] = self.session
+        self.out.write(json.dumps(asked).encode() + b"\0")
+        while (answer := self.message()).get("id") != self.number:
+            self.note(answer)
+        if "error" in answer:
+            raise sdf.Fault(f"Chromium: {method}: {answer['error']['message']}")
+        return answer["result"]
+
+    def note(self, event):
+        if event.get("method") == "Runtime.exceptionThrown":
+            details = event["params"]["exceptionDetails"]
+            self.faults.append(details.get("exception", {}).get("description", details["text"]).split("\n")[0])
+
+    def value(self, expression):
+        """What an expression gives in the page, once its promise is kept."""
+        answer = self.ask("Runtime.evaluate", expression=expression, awaitPromise=True, returnByValue=True)
+        if "exceptionDetails" in answer:
+            self.faults.append(f"{expression[:60]}: {answer['exceptionDetails']['text']}")
+        return answer["result"].get("value")
+
+    def open(self, path, width=WIDTH, height=1000, dark=False):
+        self.ask("Emulation.setDeviceMetricsOverride", width=width, height=height, deviceScaleFactor=1, mobile=False)
+        scheme = {"name": "prefers-color-scheme", "value": "dark" if dark else "light"}
+        self.ask("Emulation.setEmulatedMedia", features=[scheme])
+        self.ask("Page.navigate", url=Path(path).as_uri())
+        end = time.monotonic() + SECONDS
+        while time.monotonic() < end:
+            if self.value(OPENED):
+                return int(self.value("document.body.dataset.opened"))
+            time.sleep(0.02)
+        raise sdf.Fault(f"{path} isn't drawn after {SECONDS} s")
+
+    def picture(self, path):
+        picture = self.ask("Page.captureScreenshot", format="png")
+        with open(path, "wb") as file:
+            file.write(base64.b64decode(picture["data"]))
+
+    def close(self):
+        with contextlib.suppress(OSError, sdf.Fault):
+            self.session = None
+            self.ask("Browser.close")
+        self.out.close()
+        self.into.close()
+        self.child.wait()

@@ -1,0 +1,51 @@
+"""What `cip explain`, `axes` and `groups` and tools/undefined write of records, one record after the other.
+
+Each record has a line `record NUMBER`, and lines for its units, each as words here.
+"""
+import sdf
+
+GROUPS = ("abs", "rac", "rel")
+
+
+def tellings(file, path):
+    """The lines of each record as lists of words; a fault where a file isn't such an output."""
+    number, lines = 0, None
+    for content in file:
+        words = sdf.text(content).split()
+        if words == ["record", str(number + 1)]:
+            if lines is not None:
+                yield lines
+            number, lines = number + 1, []
+        elif lines is None or not words or words[0] == "record":
+            raise sdf.Fault(f"{path}: no line `record {number + 1}` where it is due")
+        else:
+            lines.append(words)
+    if lines is not None:
+        yield lines
+
+
+def labels_in(lines):
+    """The labels of a record."""
+    return [sdf.label_of(words) for words in lines if sdf.is_label(words)]
+
+
+def without_in(lines):
+    """The units of a record without a label, each with the reason: tie, over, or why the drawing shows no sense."""
+    return [(words[0], words[-1]) for words in lines
+            if sdf.UNIT.fullmatch(words[0]) and (words[1:] in (["tie"], ["over"]) or words[1] == "none")]
+
+
+def groups_in(lines):
+    """The atoms of stereo groups: group, unit, the letter as drawn, and that in the group's other form."""
+    return [tuple(words) for words in lines if words[0][:3] in GROUPS and len(words) == 4]
+
+
+def undefined_in(lines):
+    """The undefined units of a record: unit and state, and of an open one rule, sphere and order."""
+    found = []
+    for words in lines:
+        if sdf.UNIT.fullmatch(words[0]) and words[1] == "open":
+            found.append((words[0], "open", words[2], int(words[3]), sdf.order_of(words[5:])))
+        elif sdf.UNIT.fullmatch(words[0]) and words[1] in ("dependent", "tie", "over"):
+            found.append((words[0], words[1]))
+    return found

@@ -1,0 +1,61 @@
+"""The library beside the program, record by record, where one stands that was proved from these sources."""
+import os
+import subprocess
+import sys
+import tempfile
+import unittest
+
+import sdf
+import trying
+
+COMPOUNDS = trying.path("examples", "compounds.sdf")
+LAST = 5
+
+
+def stands():
+    line = 'top=$1; . "$top/tools/proved.sh"; ! is_old "$program" && ! is_old "$library"'
+    return subprocess.run(["sh", "-c", line, "sh", trying.TOP], check=False).returncode == 0
+
+
+@unittest.skipUnless(stands(), "no library stands that was proved from these sources (tools/build)")
+@trying.needs("cc", "gcc")
+class Library(unittest.TestCase):
+    @classmethod
+    def setUpClass(cls):
+        room = tempfile.TemporaryDirectory()
+        cls.addClassCleanup(room.cleanup)
+        cls.prefix = room.name
+        done = trying.script_ran("tools/install", cls.prefix)
+        assert done.returncode == 0, done.stderr.decode()
+        os.environ["CIP_LIBRARY"] = os.path.join(cls.prefix, "lib", "libcip.so.1")
+        sys.path.insert(0, trying.path("python"))
+        with open(COMPOUNDS, "rb") as file:
+            cls.records = list(sdf.records(file))
+
+    def test_the_module_for_python_gives_the_program_s_records_and_texts(self):
+        import cip
+
+        written = b"".join(cip.Labeller().annotate(record) for record in self.records)
+        self.assertEqual(written, trying.annotated(trying.bytes_of("examples", "compounds.sdf")))
+        labeller = cip.Labeller(nodes=20, rule_1b=2013)
+        told = "".join(labeller.explain(record, number) for number, record in enumerate(self.records, 1))
+        words = ("explain", "--nodes", "20", "--rule1b", "2013")
+        given = trying.bytes_of("examples", "compounds.sdf")
+        self.assertEqual(told.encode(), trying.ran(trying.program(), *words, given=given).stdout)
+
+    def test_its_version_is_that_of_all(self):
+        import cip
+
+        version = trying.text_of("VERSION").strip()
+        self.assertEqual([cip.library_version(), cip.__version__], [version] * 2)
+        with open(os.path.join(self.prefix, "lib", "pkgconfig", "cip.pc"), encoding="utf-8") as file:
+            self.assertIn(f"\nVersion: {version}\n", file.read())
+
+    def test_the_example_in_c_gives_the_program_s_records(self):
+        made, lib = os.path.join(self.prefix, "label"), os.path.join(self.prefix, "lib")
+        command = ["cc", "-o", made, trying.path("examples", "label.c"), "-I", os.path.join(self.prefix, "include"),
+                   "-L", lib, "-lcip", f"-Wl,-rpath,{lib}"]
+        done = trying.ran(*command)
+        self.assertEqual(done.returncode, 0, done.stderr.decode())
+        for record in self.records[-LAST:]:
+            self.assertEqual(trying.ran(made, given=record).stdout, trying.annotated(record))

@@ -1,0 +1,49 @@
+"""What tools/install put somewhere: the program with its help, and the scripts."""
+import os
+
+import trying
+from small_tree import Tree
+
+HELP = "cip: see cip --help, or man cip\n"
+
+
+class Installed(Tree):
+    """What is installed, which no test changes."""
+
+    def setUp(self):
+        self.prefix = os.path.join(self.room, "prefix")
+        if not os.path.exists(self.prefix):
+            self.install(self.prefix)
+
+    def called(self, name, *words, given=b""):
+        done = trying.ran(os.path.join(self.prefix, "bin", name), *words, given=given)
+        return done.returncode, done.stdout.decode(), done.stderr.decode()
+
+    def test_the_program_labels_and_tells_help_and_version(self):
+        self.assertEqual(self.called("cip", "annotate", given=b"text"), (0, "text", ""))
+        self.assertEqual(self.called("cip", "--version"), (0, f"cip {trying.text_of('VERSION')}", ""))
+        for word in ("-h", "--help"):
+            self.assertEqual(self.called("cip", word), (0, trying.text_of("installed", "help.txt"), ""))
+
+    def test_refused_words_lead_on(self):
+        for words in ([], ["mine.sdf"], ["annotate", "mine.sdf"], ["annotate", "--nodes=5"], ["set", "--record"]):
+            with self.subTest(words):
+                self.assertEqual(self.called("cip", *words), (2, "", "cip: words refused\n" + HELP))
+
+    def test_a_link_to_it_works(self):
+        link = os.path.join(self.room, "link")
+        os.symlink(os.path.join(self.prefix, "bin", "cip"), link)
+        self.assertEqual(trying.ran(link, "annotate", given=b"text").stdout, b"text")
+
+    def test_scripts_tell_what_they_do(self):
+        names = [name for name in os.listdir(os.path.join(self.prefix, "bin")) if name != "cip"]
+        self.assertIn("cip-page", names)
+        for name in names:
+            with self.subTest(name):
+                status, told, complaint = self.called(name, "--help")
+                self.assertEqual((status, complaint), (0, ""))
+                self.assertTrue(told.startswith(f"usage: {name} "), told[:60])
+
+    def test_what_stands_already_is_left_alone(self):
+        told = [line for line in self.install(self.prefix).splitlines() if "library" not in line]
+        self.assertEqual([line for line in told if not line.endswith("stands already")], [])
