@@ -7,20 +7,15 @@ import trying
 COMPOUNDS = trying.path("examples", "compounds.sdf")
 
 
-def missing():
-    """What a cluster lacks on this machine, or nothing."""
-    done = trying.ran(script.DEBIAN_PYTHON, "-c", "import distributed")
-    if done.returncode:
-        return "distributed isn't installed (Debian: python3-distributed)"
-    done = trying.ran(script.DEBIAN_PYTHON, "-c", "import cip; cip.Labeller()", cwd=trying.path("python"))
-    return done.returncode and "the library isn't installed (tools/build library, tools/install)"
-
-
+@trying.needs_library()
 class Cluster(unittest.TestCase):
+    @classmethod
+    def setUpClass(cls):
+        if trying.ran(script.DEBIAN_PYTHON, "-c", "import distributed").returncode:
+            raise unittest.SkipTest("distributed isn't installed (Debian: python3-distributed)")
+        trying.installed_for(cls)
+
     def test_two_workers_make_the_table_of_one_run(self):
-        lacking = missing()
-        if lacking:
-            self.skipTest(lacking)
         done = trying.ran(trying.path("tools", "cluster"), "--block", "8", COMPOUNDS)
         self.assertEqual(done.returncode, 0, done.stderr.decode())
         labelled = trying.annotated(trying.bytes_of("examples", "compounds.sdf"))

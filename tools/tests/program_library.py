@@ -1,8 +1,6 @@
 """The library beside the program, record by record, where one stands that was proved from these sources."""
 import os
-import subprocess
 import sys
-import tempfile
 import unittest
 
 import sdf
@@ -12,22 +10,12 @@ COMPOUNDS = trying.path("examples", "compounds.sdf")
 LAST = 5
 
 
-def stands():
-    line = 'top=$1; . "$top/tools/proved.sh"; ! is_old "$program" && ! is_old "$library"'
-    return subprocess.run(["sh", "-c", line, "sh", trying.TOP], check=False).returncode == 0
-
-
-@unittest.skipUnless(stands(), "no library stands that was proved from these sources (tools/build)")
+@trying.needs_library()
 @trying.needs("cc", "gcc")
 class Library(unittest.TestCase):
     @classmethod
     def setUpClass(cls):
-        room = tempfile.TemporaryDirectory()
-        cls.addClassCleanup(room.cleanup)
-        cls.prefix = room.name
-        done = trying.script_ran("tools/install", cls.prefix)
-        assert done.returncode == 0, done.stderr.decode()
-        os.environ["CIP_LIBRARY"] = os.path.join(cls.prefix, "lib", "libcip.so.1")
+        cls.prefix = trying.installed_for(cls)
         sys.path.insert(0, trying.path("python"))
         with open(COMPOUNDS, "rb") as file:
             cls.records = list(sdf.records(file))

@@ -3,6 +3,7 @@ import os
 import shutil
 import subprocess
 import sys
+import tempfile
 import unittest
 
 import script
@@ -81,6 +82,23 @@ def program():
 def annotated(given, *words):
     """What the program makes of an SDfile."""
     return ran(program(), "annotate", *words, given=given).stdout
+
+
+def needs_library():
+    """Passes a test over where no library stands beside the program."""
+    line = 'top=$1; . "$top/tools/proved.sh"; ! is_old "$program" && ! is_old "$library"'
+    return unittest.skipIf(ran("sh", "-c", line, "sh", TOP).returncode,
+                           "no library stands that was proved from these sources (tools/build)")
+
+
+def installed_for(case):
+    """Installs all that stands for the tests of a class, and tells where; the module for Python finds the library."""
+    room = tempfile.TemporaryDirectory()
+    case.addClassCleanup(room.cleanup)
+    done = script_ran("tools/install", room.name)
+    assert done.returncode == 0, done.stderr.decode()
+    os.environ["CIP_LIBRARY"] = os.path.join(room.name, "lib", "libcip.so.1")
+    return room.name
 
 
 class Checked(unittest.TestCase):
