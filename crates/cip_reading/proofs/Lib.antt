@@ -8,3 +8,5 @@ pub mod SameLines
 pub mod SpacedParts
 pub mod Texts
 pub mod Turns
+pub mod UsualDecimals
+pub mod UsualNumbers

@@ -1,8 +1,9 @@
 // The numbers in the fields and words of a line.
-ghost use Rattle.std.specs.Prelude.{◌≡◌, ◌≤◌, ◌<◌, unsigned_abs, max, IfSome};
+ghost use Rattle.std.specs.Prelude.{◌≡◌, ◌≤◌, ◌<◌, unsigned_abs, max, IfSome, Some};
 ghost use Rattle.cip_text.specs.Numbers.{integer_of};
 ghost use Rattle.cip_reading.specs.Fields.{or_zero, stated, up_to, between, number_in, signed_in, number_stated, signed_stated, place_named};
 
+use crate::usual::few_digits;
 use cip_text::{NumberFault, integer};
 
 /// The number of a field, from 0 to a most; 0 where the field is empty.
@@ -27,13 +28,17 @@ pub fn signed(low: u8, high: u8, field: &[u8]) -> Option<i8>
 }
 
 /// The number of a word, from 0 to a most.
-#[tactic(auto, unfolding(crate::specs::Fields::number_stated))]
+#[tactic(auto, using(crate::proofs::UsualNumbers::digits_read), unfolding(crate::specs::Fields::number_stated))]
 pub fn number_stated(most: u32, word: &[u8]) -> Option<u32>
     requires { most ≤ 1000000000 }
     ensures value { result ≡ number_stated most word.now }
     ensures range { IfSome result (λ number. number ≤ most) }
 {
-    up_to(most, stated(word))
+    match few_digits(word) {
+        Some(number) if number <= most => Some(number),
+        Some(_) => None,
+        None => up_to(most, stated(word)),
+    }
 }
 
 /// The number of a word, from `-low` to `high`.
@@ -53,7 +58,14 @@ pub fn place_named(most: u32, field: &[u8]) -> Option<u32>
     ensures value { result ≡ place_named (number_in most field.now) }
     ensures range { IfSome result (λ place. place < most) }
 {
-    let number = number(most, field)?;
+    place_of(number(most, field)?)
+}
+
+/// The place, from 0, of what a number names from 1.
+pub fn place_of(number: u32) -> Option<u32>
+    ensures value { result ≡ place_named (Some number) }
+    ensures range { IfSome result (λ place. place < number) }
+{
     if number == 0 {
         return None;
     }

@@ -2,11 +2,15 @@
 #![tactic(auto)]
 
 mod causes;
+mod column_numbers;
 mod fields;
 mod places;
 mod spaces;
+mod usual;
 
 pub use causes::{checked, coordinate, order};
+pub use column_numbers::{coordinate_at, number_at, place_at};
 pub use fields::{number, number_stated, place_named, signed, signed_stated};
 pub use places::{numbered, short};
 pub use spaces::spaced_words;
+pub use usual::behind_spaces;

@@ -1,12 +1,14 @@
 // Atom lines.
-ghost use Rattle.std.specs.Prelude.{◌≡◌, ◌≤◌, unsigned_abs, IfOk};
+ghost use Rattle.std.specs.Prelude.{◌≡◌, ◌≤◌, unsigned_abs, IfOk, IfSome};
+ghost use Rattle.cip_text.specs.Columns.{field};
+ghost use Rattle.cip_reading.specs.Fields.{signed_in};
 ghost use Rattle.cip_elem.specs.Symbols.{IsElement};
 ghost use Rattle.cip_v2000.specs.AtomLine.{isotope_of, charge_of, radical_of, atom_of, IsAtomLine};
 
 use cip_elem::{Element, number_of, reference_mass};
 use cip_mol::{Atom, ReadCause};
 use cip_num::Vec3;
-use cip_reading::{coordinate, number, signed};
+use cip_reading::{coordinate_at, number_at, signed};
 use cip_text::columns;
 
 /// An atom, and the isotope that its symbol states: 0 where it states none.
@@ -22,13 +24,13 @@ pub fn atom_in(line: &[u8]) -> Result<AtomLine, ReadCause>
     ensures value { result ≡ atom_of line.now }
     ensures range { IfOk result IsAtomLine }
 {
-    let x = coordinate(columns(line, 1, 10))?;
-    let y = coordinate(columns(line, 11, 20))?;
-    let z = coordinate(columns(line, 21, 30))?;
-    let element = number_of(columns(line, 32, 34)).ok_or(ReadCause::Symbol)?;
-    let difference = signed(3, 4, columns(line, 35, 36)).ok_or(ReadCause::AtomField)?;
-    let code = number(7, columns(line, 37, 39)).ok_or(ReadCause::AtomField)?;
-    let valence = number(15, columns(line, 49, 51)).ok_or(ReadCause::AtomField)?;
+    let x = coordinate_at(line, 1)?;
+    let y = coordinate_at(line, 11)?;
+    let z = coordinate_at(line, 21)?;
+    let element = number_of(symbol(line)).ok_or(ReadCause::Symbol)?;
+    let difference = mass_difference(line).ok_or(ReadCause::AtomField)?;
+    let code = number_at(7, line, 37).ok_or(ReadCause::AtomField)?;
+    let valence = number_at(15, line, 49).ok_or(ReadCause::AtomField)?;
     let atom = Atom {
         z: element.z,
         isotope: isotope(element, difference),
@@ -43,7 +45,41 @@ pub fn atom_in(line: &[u8]) -> Result<AtomLine, ReadCause>
     })
 }
 
+// The symbol in columns 32 to 34. Most programs begin it in the first of them, some end it in the last.
+#[tactic(auto, using(crate::proofs::QuietFields::first_alone, crate::proofs::QuietFields::last_alone, crate::proofs::QuietFields::first_two))]
+fn symbol(line: &[u8]) -> &[u8]
+    ensures { result.now ≡ field 32 34 line.now }
+{
+    if line.len() < 34 {
+        return columns(line, 32, 34);
+    }
+    let (first, second, third) = (line[31], line[32], line[33]);
+    if first != b' ' && second == b' ' && third == b' ' {
+        return &line[31..32];
+    }
+    if first == b' ' && second == b' ' && third != b' ' {
+        return &line[33..34];
+    }
+    if first != b' ' && second != b' ' && third == b' ' {
+        return &line[31..33];
+    }
+    columns(line, 32, 34)
+}
+
+// The mass difference in columns 35 and 36, which is 0 in nearly every line.
+#[tactic(auto, using(crate::proofs::QuietFields::no_difference))]
+fn mass_difference(line: &[u8]) -> Option<i8>
+    ensures value { result ≡ signed_in 3 4 (field 35 36 line.now) }
+    ensures range { IfSome result (λ difference. unsigned_abs difference ≤ 4) }
+{
+    if line.len() >= 36 && line[34] == b' ' && line[35] == b'0' {
+        return Some(0);
+    }
+    signed(3, 4, columns(line, 35, 36))
+}
+
 // The isotope of an element with a mass difference.
+#[tactic(auto, using(crate::proofs::QuietFields::none_stated))]
 fn isotope(element: Element, difference: i8) -> u16
     requires known { IsElement element.z }
     requires light { element.isotope ≤ 3 }
@@ -51,12 +87,11 @@ fn isotope(element: Element, difference: i8) -> u16
     ensures value { result ≡ isotope_of element difference }
     ensures range { result ≤ 400 }
 {
-    if element.isotope != 0 {
+    if element.isotope != 0 || difference == 0 {
         return element.isotope;
     }
     match reference_mass(element.z) {
         None => 0,
-        Some(_) if difference == 0 => 0,
         Some(mass) if difference > 0 => mass + u16::from(difference.unsigned_abs()),
         Some(mass) => mass.saturating_sub(u16::from(difference.unsigned_abs())),
     }

@@ -1,13 +1,11 @@
 // Bond lines.
 ghost use Rattle.std.specs.Prelude.{◌≡◌, ◌≤◌, IfOk};
 ghost use Rattle.cip_mol.specs.Ranges.{IsBond};
-ghost use Rattle.cip_reading.specs.Fields.{number_in};
 ghost use Rattle.cip_reading.specs.Causes.{IsFree};
 ghost use Rattle.cip_v2000.specs.BondLine.{mark_of, bond_of};
 
 use cip_mol::{Bond, BondList, Mark, ReadCause};
-use cip_reading::{checked, number, order, place_named};
-use cip_text::columns;
+use cip_reading::{checked, number_at, order, place_at};
 
 /// What a bond line says, among so many atoms and behind these bonds.
 #[tactic(auto, unfolding(crate::specs::BondLine::bond_of))]
@@ -18,18 +16,17 @@ pub fn bond_in(atoms: u32, before: &BondList, line: &[u8]) -> Result<Bond, ReadC
     ensures range { IfOk result IsBond }
     ensures free { IfOk result (IsFree before.now) }
 {
-    let a = place_named(atoms, columns(line, 1, 3)).ok_or(ReadCause::BondEnd)?;
-    let b = place_named(atoms, columns(line, 4, 6)).ok_or(ReadCause::BondEnd)?;
-    let order = order(number(3, columns(line, 7, 9))).ok_or(ReadCause::BondType)?;
-    let mark = mark(order, columns(line, 10, 12)).ok_or(ReadCause::BondMark)?;
+    let a = place_at(atoms, line, 1).ok_or(ReadCause::BondEnd)?;
+    let b = place_at(atoms, line, 4).ok_or(ReadCause::BondEnd)?;
+    let order = order(number_at(3, line, 7)).ok_or(ReadCause::BondType)?;
+    let mark = mark(order, number_at(6, line, 10)).ok_or(ReadCause::BondMark)?;
     checked(before, Bond { a, b, order, mark })
 }
 
-fn mark(order: u8, field: &[u8]) -> Option<Mark>
-    ensures { result ≡ mark_of order (number_in 6 field.now) }
+fn mark(order: u8, code: Option<u32>) -> Option<Mark>
+    ensures { result ≡ mark_of order code }
 {
-    let code = number(6, field)?;
-    match (order, code) {
+    match (order, code?) {
         (_, 0) => Some(Mark::Plain),
         (1, 1) => Some(Mark::Up),
         (1, 4) => Some(Mark::Either),

@@ -43,11 +43,12 @@ pub fn push_stated(
     push_pairs(pairs, fault, property, atoms, last + 1, words)
 }
 
+#[tactic(auto, using(crate::proofs::QuietFields::no_property))]
 fn property_in(line: &[u8]) -> Option<Property>
     ensures value { result ≡ property_of line.now }
     ensures long { IfSome result (λ _. 6 ≤ length line.now) }
 {
-    if line.len() < 6 {
+    if line.len() < 6 || line[0] != b'M' {
         return None;
     }
     let columns = &line[..6];

@@ -1,9 +1,11 @@
 pub mod BlockRows
 pub mod Counted
+pub mod FirstWords
 pub mod InOrder
 pub mod Joined
 pub mod JoinedInOrder
 pub mod LineCauses
+pub mod PlacedWords
 pub mod Soundness
 pub mod Tables
 pub mod WordSteps

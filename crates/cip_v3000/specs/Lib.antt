@@ -9,6 +9,7 @@ pub mod JoinedLines
 pub mod Joining
 pub mod Keys
 pub mod Laws
+pub mod LineWords
 pub mod Soundness
 pub mod Tables
 pub mod Words

@@ -1,12 +1,13 @@
 // Atom lines.
-ghost use Rattle.std.specs.Prelude.{◌≡◌, ◌≤◌, IfOk};
+ghost use Rattle.std.specs.Prelude.{◌≡◌, ◌≤◌, false, length, nat_lt, IfOk, IfSome, IsNone};
 ghost use Rattle.cip_text.specs.Numbers.{integer_of};
-ghost use Rattle.cip_text.specs.Slices.{texts};
 ghost use Rattle.cip_v3000.specs.AtomLine.{isotope_of, is_number, atom_of, IsAtomLine};
+ghost use Rattle.cip_v3000.specs.LineWords.{AreAtomWords};
+ghost use Rattle.cip_v3000.specs.Words.{words_of};
 
 use crate::indices::{Indices, new_index};
 use crate::keys::{AtomKeys, atom_keys};
-use crate::splitting::{behind, word};
+use crate::splitting::next_word;
 use cip_elem::number_of;
 use cip_mol::{Atom, ReadCause};
 use cip_num::Vec3;
@@ -28,24 +29,34 @@ pub struct AtomLine {
     pub atom: Atom,
 }
 
+// The six words that an atom line has at least, and the text behind them.
+#[derive(Clone, Copy)]
+struct AtomWords<'a> {
+    index: &'a [u8],
+    symbol: &'a [u8],
+    x: &'a [u8],
+    y: &'a [u8],
+    z: &'a [u8],
+    mapping: &'a [u8],
+    keys: &'a [u8],
+}
+
 /// What the words of an atom line say, behind lines of these indices.
 #[tactic(auto, unfolding(crate::specs::AtomLine::atom_of))]
-pub fn atom_in(known: &Indices, words: &[&[u8]]) -> Result<AtomLine, ReadCause>
-    ensures value { result ≡ atom_of known.now (texts words.now) }
+pub fn atom_in(known: &Indices, text: &[u8]) -> Result<AtomLine, ReadCause>
+    ensures value { result ≡ atom_of known.now (words_of text.now) }
     ensures range { IfOk result (IsAtomLine known.now) }
 {
-    if words.len() < 6 {
-        return Err(ReadCause::Frame);
-    }
-    let index = new_index(known, word(words, 0))?;
-    let element = number_of(word(words, 1)).ok_or(ReadCause::Symbol)?;
-    let x = coordinate(word(words, 2))?;
-    let y = coordinate(word(words, 3))?;
-    let z = coordinate(word(words, 4))?;
-    if !is_number(word(words, 5)) {
+    let words = atom_words(text).ok_or(ReadCause::Frame)?;
+    let index = new_index(known, words.index)?;
+    let element = number_of(words.symbol).ok_or(ReadCause::Symbol)?;
+    let x = coordinate(words.x)?;
+    let y = coordinate(words.y)?;
+    let z = coordinate(words.z)?;
+    if !is_number(words.mapping) {
         return Err(ReadCause::KeyValue);
     }
-    let keys = atom_keys(NO_KEYS, behind(words, 6))?;
+    let keys = atom_keys(NO_KEYS, words.keys)?;
     let atom = Atom {
         z: element.z,
         isotope: isotope(element.isotope, keys.mass),
@@ -55,6 +66,28 @@ pub fn atom_in(known: &Indices, words: &[&[u8]]) -> Result<AtomLine, ReadCause>
         at: Vec3 { x, y, z },
     };
     Ok(AtomLine { index, atom })
+}
+
+#[tactic(auto, using(crate::proofs::PlacedWords::atom_words_are))]
+fn atom_words(text: &[u8]) -> Option<AtomWords<'_>>
+    ensures some { IfSome result (AreAtomWords (words_of text.now)) }
+    ensures none { IsNone result → nat_lt 5 (length (words_of text.now)) ≡ false }
+{
+    let (index, rest) = next_word(text)?;
+    let (symbol, rest) = next_word(rest)?;
+    let (x, rest) = next_word(rest)?;
+    let (y, rest) = next_word(rest)?;
+    let (z, rest) = next_word(rest)?;
+    let (mapping, keys) = next_word(rest)?;
+    Some(AtomWords {
+        index,
+        symbol,
+        x,
+        y,
+        z,
+        mapping,
+        keys,
+    })
 }
 
 fn isotope(stated: u16, mass: u16) -> u16

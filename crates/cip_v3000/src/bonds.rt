@@ -1,13 +1,14 @@
 // Bond lines.
-ghost use Rattle.std.specs.Prelude.{◌≡◌, ◌≤◌, ◌<◌, length, IfOk, IfSome};
-ghost use Rattle.cip_text.specs.Slices.{texts};
+ghost use Rattle.std.specs.Prelude.{◌≡◌, ◌≤◌, ◌<◌, false, length, nat_lt, IfOk, IfSome, IsNone};
 ghost use Rattle.cip_mol.specs.declared.molecule.Mark.TheVariants.{Plain};
 ghost use Rattle.cip_reading.specs.Fields.{number_stated};
 ghost use Rattle.cip_v3000.specs.BondLine.{mark_of, marked, with_mark, place_named, bond_of, IsBondLine, IsMark};
+ghost use Rattle.cip_v3000.specs.LineWords.{AreBondWords};
+ghost use Rattle.cip_v3000.specs.Words.{words_of};
 ghost use Rattle.cip_reading.specs.Turns.{over};
 
 use crate::indices::{GREATEST, Indices, new_index};
-use crate::splitting::{behind, key_and_value, word};
+use crate::splitting::{key_and_value, next_word};
 use cip_mol::{Bond, BondList, Mark, ReadCause};
 use cip_reading::{checked, number_stated, order};
 
@@ -18,29 +19,55 @@ pub struct BondLine {
     pub bond: Bond,
 }
 
+// The four words that a bond line has at least, and the text behind them.
+#[derive(Clone, Copy)]
+struct BondWords<'a> {
+    index: &'a [u8],
+    order: &'a [u8],
+    a: &'a [u8],
+    b: &'a [u8],
+    keys: &'a [u8],
+}
+
 /// What the words of a bond line say, among atoms of these indices and behind these bonds.
 #[tactic(auto, unfolding(crate::specs::BondLine::bond_of))]
 pub fn bond_in(
     atoms: &Indices,
     known: &Indices,
     before: &BondList,
-    words: &[&[u8]],
+    text: &[u8],
 ) -> Result<BondLine, ReadCause>
     requires few { length atoms.now ≤ 1000000000 }
     requires among { before.now.atoms ≡ length atoms.now }
-    ensures value { result ≡ bond_of atoms.now known.now before.now.bonds (texts words.now) }
+    ensures value { result ≡ bond_of atoms.now known.now before.now.bonds (words_of text.now) }
     ensures range { IfOk result (IsBondLine known.now before.now) }
 {
-    if words.len() < 4 {
-        return Err(ReadCause::Frame);
-    }
-    let index = new_index(known, word(words, 0))?;
-    let order = order(number_stated(3, word(words, 1))).ok_or(ReadCause::BondType)?;
-    let a = place_named(atoms, word(words, 2)).ok_or(ReadCause::BondEnd)?;
-    let b = place_named(atoms, word(words, 3)).ok_or(ReadCause::BondEnd)?;
-    let mark = mark_in(order, behind(words, 4))?;
+    let words = bond_words(text).ok_or(ReadCause::Frame)?;
+    let index = new_index(known, words.index)?;
+    let order = order(number_stated(3, words.order)).ok_or(ReadCause::BondType)?;
+    let a = place_named(atoms, words.a).ok_or(ReadCause::BondEnd)?;
+    let b = place_named(atoms, words.b).ok_or(ReadCause::BondEnd)?;
+    let mark = mark_in(order, words.keys)?;
     let bond = checked(before, Bond { a, b, order, mark })?;
     Ok(BondLine { index, bond })
+}
+
+#[tactic(auto, using(crate::proofs::PlacedWords::bond_words_are))]
+fn bond_words(text: &[u8]) -> Option<BondWords<'_>>
+    ensures some { IfSome result (AreBondWords (words_of text.now)) }
+    ensures none { IsNone result → nat_lt 3 (length (words_of text.now)) ≡ false }
+{
+    let (index, rest) = next_word(text)?;
+    let (order, rest) = next_word(rest)?;
+    let (a, rest) = next_word(rest)?;
+    let (b, keys) = next_word(rest)?;
+    Some(BondWords {
+        index,
+        order,
+        a,
+        b,
+        keys,
+    })
 }
 
 /// The place, from 0, of the atom that a word names by its index.
@@ -55,14 +82,16 @@ pub fn place_named(indices: &Indices, word: &[u8]) -> Option<u32>
     Some(place as u32)
 }
 
-// The mark that the keys of a bond state.
-fn mark_in(order: u8, words: &[&[u8]]) -> Result<Mark, ReadCause>
-    ensures value { result ≡ over (with_mark order) Plain (texts words.now) }
+// The mark that the keys of a bond state, which are the words of a text.
+fn mark_in(order: u8, text: &[u8]) -> Result<Mark, ReadCause>
+    ensures value { result ≡ over (with_mark order) Plain (words_of text.now) }
     ensures range { IfOk result (IsMark order) }
 {
     let mut mark = Mark::Plain;
-    for word in words {
+    let mut rest = text;
+    while let Some((word, behind)) = next_word(rest) {
         mark = with_mark(order, mark, word)?;
+        rest = behind;
     }
     Ok(mark)
 }

@@ -1,9 +1,9 @@
 // The keys of an atom line.
 ghost use Rattle.std.specs.Prelude.{◌≡◌, ◌≤◌, unsigned_abs, IfOk};
-ghost use Rattle.cip_text.specs.Slices.{texts};
 ghost use Rattle.cip_v3000.specs.Keys.{valence_of, with_value, with_key, keys_from, AreKeys};
+ghost use Rattle.cip_v3000.specs.Words.{words_of};
 
-use crate::splitting::key_and_value;
+use crate::splitting::{key_and_value, next_word};
 use cip_mol::ReadCause;
 use cip_reading::{number_stated, signed_stated};
 
@@ -17,15 +17,17 @@ pub struct AtomKeys {
     pub valence_mark: u8,
 }
 
-/// The keys of these words, in turn.
-pub fn atom_keys(start: AtomKeys, words: &[&[u8]]) -> Result<AtomKeys, ReadCause>
+/// The keys of the words of a text, in turn.
+pub fn atom_keys(start: AtomKeys, text: &[u8]) -> Result<AtomKeys, ReadCause>
     requires { AreKeys start }
-    ensures value { result ≡ keys_from start (texts words.now) }
+    ensures value { result ≡ keys_from start (words_of text.now) }
     ensures range { IfOk result AreKeys }
 {
     let mut keys = start;
-    for word in words {
+    let mut rest = text;
+    while let Some((word, behind)) = next_word(rest) {
         keys = with_key(keys, word)?;
+        rest = behind;
     }
     Ok(keys)
 }

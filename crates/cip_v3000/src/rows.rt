@@ -44,8 +44,7 @@ pub fn atom_line(
 {
     let line = joined.line(place)?;
     let text = text_of(alloc, &line)?;
-    let words = words(alloc, text.bytes())?;
-    Ok(numbered(line.number, atom_in(known, &words))?)
+    Ok(numbered(line.number, atom_in(known, text.bytes()))?)
 }
 
 /// Reads the bond line at a place, among atoms of these indices and behind these bonds.
@@ -66,8 +65,7 @@ pub fn bond_line(
 {
     let line = joined.line(place)?;
     let text = text_of(alloc, &line)?;
-    let words = words(alloc, text.bytes())?;
-    Ok(numbered(line.number, bond_in(atoms, known, before, &words))?)
+    Ok(numbered(line.number, bond_in(atoms, known, before, text.bytes()))?)
 }
 
 /// Reads the line at a place that frames a part.

@@ -1,0 +1,77 @@
+// The numbers in the columns of a line, which are counted from 1.
+ghost use Rattle.std.specs.Prelude.{◌≡◌, ◌≤◌, ◌<◌, ◌+◌, pos, unsigned_abs, IfOk, IfSome, Ok};
+ghost use Rattle.cip_text.specs.Columns.{field};
+ghost use Rattle.cip_text.specs.Numbers.{integer_of, decimal4_of};
+ghost use Rattle.cip_reading.specs.Causes.{coordinate};
+ghost use Rattle.cip_reading.specs.Fields.{number_in, place_named};
+
+use crate::causes::coordinate;
+use crate::fields::{number, place_of};
+use crate::usual::{usual_decimal, usual_number};
+use cip_mol::ReadCause;
+use cip_text::columns;
+
+/// The coordinate in ten columns from this one on, in ten-thousandths of an ångström.
+pub fn coordinate_at(line: &[u8], first: u32) -> Result<i64, ReadCause>
+    requires counted { 0 < first }
+    requires near { first ≤ 1000 }
+    ensures value { result ≡ coordinate (decimal4_of (field first (first + 9) line.now)) }
+    ensures small { IfOk result (λ number. unsigned_abs number ≤ 500000000) }
+{
+    match usual_coordinate(line, first) {
+        Some(number) => Ok(number),
+        None => coordinate(columns(line, first, first + 9)),
+    }
+}
+
+/// The number in three columns from this one on, from 0 to a most; 0 where they are empty.
+#[tactic(auto, unfolding(crate::specs::Fields::number_in))]
+pub fn number_at(most: u32, line: &[u8], first: u32) -> Option<u32>
+    requires most { most ≤ 1000000000 }
+    requires counted { 0 < first }
+    requires near { first ≤ 1000 }
+    ensures value { result ≡ number_in most (field first (first + 2) line.now) }
+    ensures range { IfSome result (λ number. number ≤ most) }
+{
+    match usual_field(line, first) {
+        Some(number) if number <= most => Some(number),
+        Some(_) => None,
+        None => number(most, columns(line, first, first + 2)),
+    }
+}
+
+/// The place, from 0, of what the number in three columns from this one on names from 1 to a most.
+pub fn place_at(most: u32, line: &[u8], first: u32) -> Option<u32>
+    requires most { most ≤ 1000000000 }
+    requires counted { 0 < first }
+    requires near { first ≤ 1000 }
+    ensures value { result ≡ place_named (number_in most (field first (first + 2) line.now)) }
+    ensures range { IfSome result (λ place. place < most) }
+{
+    place_of(number_at(most, line, first)?)
+}
+
+fn usual_coordinate(line: &[u8], first: u32) -> Option<i64>
+    requires counted { 0 < first }
+    requires near { first ≤ 1000 }
+    ensures value { IfSome result (λ number. decimal4_of (field first (first + 9) line.now) ≡ Ok number) }
+    ensures small { IfSome result (λ number. unsigned_abs number ≤ 500000000) }
+{
+    let start = first as usize - 1;
+    if line.len() < start + 10 {
+        return None;
+    }
+    usual_decimal(&line[start..start + 10])
+}
+
+fn usual_field(line: &[u8], first: u32) -> Option<u32>
+    requires counted { 0 < first }
+    requires near { first ≤ 1000 }
+    ensures { IfSome result (λ number. integer_of (field first (first + 2) line.now) ≡ Ok (pos number)) }
+{
+    let start = first as usize - 1;
+    if line.len() < start + 3 {
+        return None;
+    }
+    usual_number(line[start], line[start + 1], line[start + 2])
+}

@@ -1,0 +1,125 @@
+// Numbers as most programs write them: a few digits behind spaces, and coordinates with four places behind their point.
+// What is written in another way has no number here, and is read in the general way.
+ghost use Rattle.std.specs.Prelude.{◌≡◌, ◌≤◌, ◌+◌, ◌-◌, ◌*◌, ◌∷◌, [], pos, true, length, unsigned_abs, if◌then◌else◌, drop, IfSome, Ok, Some};
+ghost use Rattle.cip_text.specs.Columns.{without_spaces_before};
+ghost use Rattle.cip_text.specs.Lines.{begins_with};
+ghost use Rattle.cip_text.specs.Numbers.{is_digit, signed, integer_of, decimal4_of};
+ghost use Rattle.cip_reading.specs.Usual.{trimmed, unsigned, Spells, ArePlaces};
+
+use cip_text::begins_with;
+
+/// The number in three columns, digits behind spaces.
+#[tactic(auto, using(crate::proofs::UsualNumbers::one_digit, crate::proofs::UsualNumbers::two_digits, crate::proofs::UsualNumbers::three_digits))]
+pub fn usual_number(first: u8, second: u8, third: u8) -> Option<u32>
+    ensures { IfSome result (λ number. integer_of (trimmed (first ∷ second ∷ third ∷ [])) ≡ Ok (pos number)) }
+{
+    let ones = digit_of(third)?;
+    if first == b' ' && second == b' ' {
+        return Some(ones);
+    }
+    let tens = digit_of(second)?;
+    if first == b' ' {
+        return Some(10 * tens + ones);
+    }
+    let hundreds = digit_of(first)?;
+    Some(100 * hundreds + (10 * tens + ones))
+}
+
+/// The decimal in ten columns with its point in the sixth one, in ten-thousandths.
+pub fn usual_decimal(columns: &[u8]) -> Option<i64>
+    requires { length columns.now ≡ 10 }
+    ensures value { IfSome result (λ number. decimal4_of (trimmed columns.now) ≡ Ok number) }
+    ensures small { IfSome result (λ number. unsigned_abs number ≤ 500000000) }
+{
+    if columns[5] != b'.' {
+        return None;
+    }
+    let places = four_digits(&columns[6..])?;
+    let front = behind_spaces(&columns[..5]);
+    let whole = few_digits(without_minus(front))?;
+    with_sign(begins_with(front, b'-'), ten_thousandths(whole, places))
+}
+
+/// The number that a text of digits alone, one at least, spells, where it is below a million.
+pub fn few_digits(text: &[u8]) -> Option<u32>
+    ensures { IfSome result (Spells text.now) }
+{
+    if text.is_empty() {
+        return None;
+    }
+    let mut sum: u32 = 0;
+    for byte in text {
+        if sum > 99_999 {
+            return None;
+        }
+        sum = 10 * sum + digit_of(*byte)?;
+    }
+    Some(sum)
+}
+
+fn four_digits(text: &[u8]) -> Option<u32>
+    requires { length text.now ≡ 4 }
+    ensures { IfSome result (ArePlaces text.now) }
+{
+    let thousands = digit_of(text[0])?;
+    let hundreds = digit_of(text[1])?;
+    let tens = digit_of(text[2])?;
+    let ones = digit_of(text[3])?;
+    Some(1000 * thousands + (100 * hundreds + (10 * tens + ones)))
+}
+
+fn digit_of(byte: u8) -> Option<u32>
+    ensures digit { IfSome result (λ _. is_digit byte ≡ true) }
+    ensures value { IfSome result (λ digit. digit ≡ byte - 48) }
+    ensures small { IfSome result (λ digit. digit ≤ 9) }
+{
+    if byte.is_ascii_digit() {
+        Some(u32::from(byte - b'0'))
+    } else {
+        None
+    }
+}
+
+/// A text without the spaces before it.
+pub fn behind_spaces(text: &[u8]) -> &[u8]
+    ensures { result.now ≡ without_spaces_before text.now }
+{
+    let mut rest = text;
+    while let [b' ', behind @ ..] = rest {
+        rest = behind;
+    }
+    rest
+}
+
+fn without_minus(text: &[u8]) -> &[u8]
+    ensures { result.now ≡ unsigned text.now }
+{
+    if begins_with(text, b'-') {
+        &text[1..]
+    } else {
+        text
+    }
+}
+
+fn ten_thousandths(whole: u32, places: u32) -> u64
+    requires whole { whole ≤ 999999 }
+    requires places { places ≤ 9999 }
+    ensures { result ≡ 10000 * whole + places }
+{
+    10_000 * u64::from(whole) + u64::from(places)
+}
+
+// A number with its sign, where it isn't too large for a coordinate.
+fn with_sign(negative: bool, size: u64) -> Option<i64>
+    ensures value { IfSome result (λ number. signed 500000000 negative (Some size) ≡ Ok number) }
+    ensures small { IfSome result (λ number. unsigned_abs number ≤ 500000000) }
+{
+    if size > 500_000_000 {
+        return None;
+    }
+    if negative {
+        Some(-(size as i64))
+    } else {
+        Some(size as i64)
+    }
+}

@@ -1,0 +1,22 @@
+use Rattle.std.proofs.Common.{rules, ◌≡◌, ◌<◌, length}
+use Rattle.cip_v3000.proofs.FirstWords.{no_words, first_word}
+use Rattle.cip_v3000.proofs.splitting.next_word.Goals as goal
+
+pub returns-then-is_empty-clause-none : goal.returns-then-is_empty-clause-none
+returns-then-is_empty-clause-none c =
+    let none : length c.behind_spaces-begun.result.now ≡ 0 = search rules in
+    λ _. no_words c.args.text.now c.behind_spaces-begun.result.now c.behind_spaces-begun.ensures none
+
+pub returns-clause-some : goal.returns-clause-some
+returns-clause-some c =
+    let some : 0 < length c.behind_spaces-begun.result.now = search rules in
+    (first_word c.args.text.now c.behind_spaces-begun.result.now c.word_end-end.result
+    c.behind_spaces-begun.ensures some c.word_end-end.ensures.cut c.word_end-end.ensures.within
+    c.word_end-end.ensures.space).words
+
+pub returns-clause-shorter : goal.returns-clause-shorter
+returns-clause-shorter c =
+    let some : 0 < length c.behind_spaces-begun.result.now = search rules in
+    (first_word c.args.text.now c.behind_spaces-begun.result.now c.word_end-end.result
+    c.behind_spaces-begun.ensures some c.word_end-end.ensures.cut c.word_end-end.ensures.within
+    c.word_end-end.ensures.space).shorter
