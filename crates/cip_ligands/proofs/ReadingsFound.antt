@@ -43,7 +43,7 @@ use Rattle.cip_ligands.specs.Asking.{AreWithin, decided, differing, found_betwee
 use Rattle.cip_ligands.specs.Counting.{AreUncounted}
 use Rattle.cip_ligands.specs.Marked.{AreMarksOf}
 use Rattle.cip_ligands.specs.Orders.{decided_by, found_below, mark_key}
-use Rattle.cip_ligands.specs.Readings.{twin_of, side_of, is_second, s_higher, base_of, reading_of, read_as, between, reading_key, reading_keys, TakesReadings}
+use Rattle.cip_ligands.specs.Readings.{twin_of, side_of, is_second, s_higher, base_of, one_reading, reading_of, read_as, between, reading_key, reading_keys, TakesReadings}
 use Rattle.cip_ligands.specs.Taking.{TakesRule}
 use Rattle.cip_ligands.proofs.FoundAmong.{AsksAmong, rule_found, found_rest}
 use Rattle.cip_ligands.proofs.FoundWithin.{same_found, same_difference, kept_kept, decided_else}
@@ -375,7 +375,8 @@ module _ {N : Type 0} (seen : Seen N) (named : ℕ → N) (from : Branched) (fol
     flags = s_higher sides
 
     -- of a branch it is found which reading is the higher one
-    flag_is : (k : ℕ) → k < length from.wanted → has_flag flags k ≡ is_second (found k (twin_of from k))
+    flag_is : (k : ℕ) → k < length from.wanted
+        → has_flag flags k ≡ is_second (kept_or (side_of from k).decision (found k (twin_of from k)))
     flag_is k lt =
         let all = range_with_len 0 (length from.wanted) in
         let len = length-map-range_with_len (side_of from) 0 (length from.wanted) in
@@ -402,6 +403,7 @@ module _ {N : Type 0} (seen : Seen N) (named : ℕ → N) (from : Branched) (fol
         let sum : seen.height + 1 ≡ suc seen.height = omega arith in
         let last : 0 + seen.height ≡ seen.height = omega arith in
         flag_is k lt
+        ∙ ap (λ b. is_second (kept_or (if b then None else one_reading) (found k (twin_of from k)))) f
         ∙ second_by (first_difference (λ depth. readings seen depth x y) 0 (seen.height + 1))
         ∙ ap is_lt (ap (λ more. side_at (first_difference (λ depth. readings seen depth x y) 0 more)) sum
         ∙ first_side (λ depth. readings seen depth x y) (refines x y) seen.height 0

@@ -3,6 +3,7 @@ use Rattle.std.specs.Prelude.{◌≡◌, ◌<◌, ◌^◌, ◌+◌, ◌-◌, ℕ
 use Rattle.std.specs.declared.option.Option.{Option}
 use Rattle.std.specs.List.{range_with_len, slice_index_or}
 use Rattle.std.specs.Ordering.{is_lt}
+use Rattle.std.specs.declared.cmp.Ordering.TheVariants.{Equal}
 use Rattle.cip_mol.specs.declared.descriptor.Descriptor.{Descriptor}
 use Rattle.cip_mol.specs.declared.outcome.Rule.TheVariants.{R4b}
 use Rattle.cip_digraph.specs.declared.decision.Decision.{Decision}
@@ -30,9 +31,17 @@ pub record KeepReadings (bound : ℕ) (twins : Branched) (saved : Saved) (sides 
 abbrev pub twin_of : Branched → ℕ → ℕ
 twin_of from branch = if has_flag from.wanted branch then length from.layers.kin.ups + branch else branch
 
--- which of the readings of a branch is the higher one is asked
+-- one reading ties with itself
+abbrev pub one_reading : Option Decision
+one_reading = Some (record { side = Equal; rule = R4b; sphere = 0 })
+
+-- Which of the readings of a branch is the higher one is asked. Of one that was let go that is decided: it has one.
 abbrev pub side_of : Branched → ℕ → Asked
-side_of from branch = record { first = branch; second = twin_of from branch; decision = None }
+side_of from branch = record {
+  first = branch;
+  second = twin_of from branch;
+  decision = if has_flag from.wanted branch then None else one_reading;
+}
 
 -- the second one is
 abbrev pub is_second : Option Decision → Bool

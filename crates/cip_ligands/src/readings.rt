@@ -25,6 +25,7 @@ use crate::noting::note;
 use crate::taking::take_rule;
 use crate::values::{compare_values, like_value};
 use cip_branches::{Branches, SavedRanks};
+use cip_digraph::Decision;
 use cip_mol::Rule;
 use cip_rank::{Keyed, both};
 use cip_rows::Column;
@@ -127,6 +128,28 @@ fn twin_of(branches: &Branches, branch: u32) -> u32
     }
 }
 
+// Asks which reading of a branch is the higher one. Of one that was let go that is decided, so that the rule isn't taken
+// further for it.
+fn side_of(branches: &Branches, branch: u32) -> Asked
+    requires { length branches.now.layers.kin.ups + length branches.now.layers.kin.ups < 2 ^ 32 }
+    ensures { result ≡ side_of branches.now branch }
+{
+    let decision = if branches.is_wanted(branch) {
+        None
+    } else {
+        Some(Decision {
+            side: Ordering::Equal,
+            rule: Rule::R4b,
+            sphere: 0,
+        })
+    };
+    Asked {
+        first: branch,
+        second: twin_of(branches, branch),
+        decision,
+    }
+}
+
 // Asks which reading of each branch is the higher one.
 fn ask_sides(branches: &Branches, sides: &mut Column<Asked>)
     requires few { length branches.now.layers.kin.ups + length branches.now.layers.kin.ups < 2 ^ 32 }
@@ -138,11 +161,7 @@ fn ask_sides(branches: &Branches, sides: &mut Column<Asked>)
 {
     sides.clear();
     for branch in 0..branches.branch_count() {
-        sides.push(Asked {
-            first: branch,
-            second: twin_of(branches, branch),
-            decision: None,
-        });
+        sides.push(side_of(branches, branch));
     }
 }
 
