@@ -1,6 +1,6 @@
 // Rule 4b, taken over both readings of branches.
 ghost use Rattle.std.specs.Prelude.{◌≡◌, ◌<◌, ◌≤◌, ◌+◌, ◌^◌, [], ℕ, Bool, false, IfOk, List, length, map, pos, true};
-ghost use Rattle.std.specs.List.{AllByRecursion, range_with_len};
+ghost use Rattle.std.specs.List.{AllByRecursion, list_all, range_with_len};
 ghost use Rattle.cip_mol.specs.declared.outcome.Rule.{Rule as AnyRule};
 ghost use Rattle.cip_mol.specs.declared.outcome.Rule.TheVariants.{R4b};
 ghost use Rattle.cip_digraph.specs.digraph.Digraph.{Node};
@@ -10,7 +10,7 @@ ghost use Rattle.cip_rows.specs.Parting.{has_flag};
 ghost use Rattle.cip_rows.specs.Keys.{AreKeyed};
 ghost use Rattle.cip_branches.specs.Twins.{twins_of, MayDouble};
 ghost use Rattle.cip_ligands.specs.declared.asked.Asked.{Asked as AnyAsked};
-ghost use Rattle.cip_ligands.specs.Asking.{AreWithin, with_found};
+ghost use Rattle.cip_ligands.specs.Asking.{AreWithin, is_decided, with_found};
 ghost use Rattle.cip_ligands.specs.Deciding.{AreDecidedBy};
 ghost use Rattle.cip_ligands.specs.Marked.{AreMarksOf};
 ghost use Rattle.cip_ligands.specs.Orders.{decided_by};
@@ -252,6 +252,26 @@ fn take_again<K: Keyed>(
     take_rule(twins, keys, Rule::R4b, asked);
 }
 
+// The same, where a pair is still open.
+fn take_open<K: Keyed>(
+    branches: &Branches,
+    twins: &mut Branches,
+    saved: &SavedRanks,
+    keys: &K,
+    asked: &mut [Asked],
+)
+    requires aside { IsAside (twins_of twins.old.layers.kin.room branches.now) saved.now twins.old }
+    requires keyed { AreKeyed (K.nodes keys.now) twins.old.layers.kin }
+    ensures decided { list_all is_decided asked.old ≡ true → asked.new ≡ asked.old }
+    ensures taken { list_all is_decided asked.old ≡ false → TakesRule (twins_of twins.old.layers.kin.room branches.now)
+        (K.key keys.now) R4b asked.old twins.new asked.new }
+    ensures kin { twins.new.layers.kin ≡ twins.old.layers.kin }
+{
+    if !are_decided(asked) {
+        take_again(branches, twins, saved, keys, asked);
+    }
+}
+
 // The same, for the pairs in a column.
 fn take_sides<K: Keyed>(
     branches: &Branches,
@@ -303,7 +323,7 @@ fn take_with<M: Marked>(
     read_all(branches, sides.as_slice(), false, asked);
     take_again(branches, twins, saved, &keys, asked);
     read_all(branches, sides.as_slice(), true, asked);
-    take_again(branches, twins, saved, &keys, asked);
+    take_open(branches, twins, saved, &keys, asked);
     name_all(branches.len(), asked);
 }
 
