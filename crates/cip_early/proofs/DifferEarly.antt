@@ -1,21 +1,18 @@
 -- The answers of all pairs are decided where each two ligands of a root differ within two spheres.
-use Rattle.std.proofs.Common.{◌≡◌, ◌≢◌, ◌==◌, ◌&&◌, ◌∙◌, ℕ, pos, Bool, true, false, cond, not, List, [], ◌∷◌, flat_map, None, Some, refl, sym, ap, arith}
-use Rattle.std.proofs.lemmas.Bool.{eq-eqb}
-use Rattle.std.proofs.lemmas.Bool.Decides.{nat_tests}
+use Rattle.std.proofs.Common.{◌≡◌, ◌≢◌, ◌&&◌, ◌∙◌, ℕ, Bool, true, false, cond, not, List, [], ◌∷◌, flat_map, None, Some, refl, sym, ap}
 use Rattle.std.proofs.lemmas.List.Folds.{list_all-append, list_all-map}
 use Rattle.std.proofs.lemmas.Simd.{map-map}
 use Rattle.std.specs.Cmp.Lexicographic.{slice_cmp}
 use Rattle.std.specs.List.{AllByRecursion, list_all}
-use Rattle.std.specs.Ordering.{is_eq, ordering_reverse, ordering_then}
+use Rattle.std.specs.Ordering.{is_eq, ordering_then}
 use Rattle.std.specs.declared.cmp.Ordering.{Ordering}
 use Rattle.std.specs.declared.cmp.Ordering.TheVariants.{Less, Equal, Greater}
 use Rattle.std.specs.declared.option.Option.{Option}
-use Rattle.cip_rank.proofs.TotalOrder.{comparison_total}
 use Rattle.cip_mol.specs.declared.outcome.Rule.TheVariants.{R1a}
 use Rattle.cip_mol.specs.declared.site.Ligand.{Ligand}
 use Rattle.cip_mol.specs.declared.site.Ligand.TheVariants.{Vertex, LonePair}
 use Rattle.cip_digraph.specs.declared.decision.Decision.{Decision}
-use Rattle.cip_digraph.specs.digraph.Digraph.{Node, real_node, children}
+use Rattle.cip_digraph.specs.digraph.Digraph.{Node, real_node}
 use Rattle.cip_digraph.specs.digraph.View.{view_children}
 use Rattle.cip_digraph.specs.graph.Graph.{neighbours}
 use Rattle.cip_digraph.specs.graph.SoundGraphs.{IsSound}
@@ -23,7 +20,6 @@ use Rattle.cip_digraph.specs.rings.Alternating.{is_in}
 use Rattle.cip_digraph.specs.rules.Auxiliary.{auxiliary, ligand_node}
 use Rattle.cip_digraph.specs.rules.Decisions.{or_else}
 use Rattle.cip_digraph.specs.rules.EarlyOrder.{differ_within, seen_at}
-use Rattle.cip_digraph.specs.rules.Keys.{atomic_key}
 use Rattle.cip_digraph.specs.rules.Orders.{rule_1a}
 use Rattle.cip_digraph.specs.units.Ends.{end_at}
 use Rattle.cip_digraph.specs.units.Ranked.{every_pair}
@@ -32,7 +28,6 @@ use Rattle.cip_digraph.proofs.SettledTies.{both_all}
 use Rattle.cip_label.proofs.LigandNodes.{one_node, ne_eqb}
 use Rattle.cip_label.specs.Fitting.{IsFit, IsNeighbour}
 use Rattle.cip_label.specs.Settings.{Setting}
-use Rattle.cip_constitution.proofs.AllTie.{tie_total}
 use Rattle.cip_constitution.proofs.DifferTold.{pairs_by}
 use Rattle.cip_constitution.proofs.SeenRules.{IsFurther, seen_1a}
 use Rattle.cip_constitution.specs.Noting.{asked_by, by_atoms}
