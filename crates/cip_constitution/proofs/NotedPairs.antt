@@ -1,5 +1,6 @@
 -- Pairs of a root's ligands by their branches, and what the numbers of these tell sphere by sphere.
-use Rattle.std.proofs.Common.{◌≡◌, ◌<◌, ◌≤◌, ◌+◌, ◌-◌, ◌*◌, ◌∷◌, ◌++◌, ℕ, suc, List, [], map, flat_map, length, None, Some, slice_index, sym, ap, ◌∙◌, subst, arith, length-append}
+use Rattle.std.proofs.Common.{◌≡◌, ◌<◌, ◌≤◌, ◌+◌, ◌-◌, ◌∷◌, ◌++◌, ℕ, suc, List, [], drop, map, flat_map, length, None, Some, slice_index, take, sym, ap, ◌∙◌, subst, arith, length-append}
+use Rattle.std.proofs.lemmas.List.{take_rest}
 use Rattle.std.specs.Prelude.{unwrap_or, slice_index_or}
 use Rattle.std.specs.declared.option.Option.{Option}
 use Rattle.std.specs.List.{AllByRecursion}
@@ -46,15 +47,21 @@ at_few : (ligands : List Ligand) (one : Ligand) → length (pairs_at ligands one
 at_few ligands LonePair = omega arith
 at_few ligands (Vertex a) = each_few a ligands
 
-all_few : (ligands others : List Ligand) → length ligands ≤ 4
-    → length (flat_map (pairs_at ligands) others) ≤ 4 * length others
-all_few ligands [] few = omega arith
-all_few ligands (one ∷ others) few =
-    let sum = length-append (pairs_at ligands one) (flat_map (pairs_at ligands) others) in
-    omega (arith, sum, at_few ligands one, all_few ligands others few, few)
+one_more : (one : Ligand) (ligands : List Ligand)
+    → length (pairs_of (one ∷ ligands)) ≤ length ligands + length (pairs_of ligands)
+one_more one ligands =
+    let sum = length-append (pairs_at ligands one) (pairs_of ligands) in
+    omega (arith, sum, at_few ligands one)
 
-pub few_pairs : (ligands : List Ligand) → length ligands ≤ 4 → length (pairs_of ligands) ≤ 16
-few_pairs ligands few = omega (arith, few, all_few ligands ligands few)
+pub few_pairs : (ligands : List Ligand) → length ligands ≤ 4 → length (pairs_of ligands) ≤ 6
+few_pairs [] few = omega arith
+few_pairs (a ∷ []) few = omega (arith, one_more a [])
+few_pairs (a ∷ b ∷ []) few = omega (arith, one_more a (b ∷ []), one_more b [])
+few_pairs (a ∷ b ∷ c ∷ []) few =
+    omega (arith, one_more a (b ∷ c ∷ []), one_more b (c ∷ []), one_more c [])
+few_pairs (a ∷ b ∷ c ∷ d ∷ []) few =
+    omega (arith, one_more a (b ∷ c ∷ d ∷ []), one_more b (c ∷ d ∷ []), one_more c (d ∷ []), one_more d [])
+few_pairs (a ∷ b ∷ c ∷ d ∷ e ∷ others) few = absurd (omega (arith, few))
 
 -- room for what is still to come
 room_left : {X : Type 0} (done next rest all : List X) (room : ℕ) → done ++ (next ++ rest) ≡ all
@@ -70,6 +77,14 @@ pub first_room : {X : Type 0} (f : Ligand → List X) (rest : List Ligand) (done
     → length done + length (f (slice_index_or rest 0 d)) ≤ room
 first_room f [] done all d room some is few = absurd (omega (arith, some))
 first_room f (one ∷ rest) done all d room some is few = room_left done (f one) (flat_map f rest) all room is few
+
+pub pairs_room : (rest : List Ligand) (done all : List Pair) (d : Ligand) (room : ℕ)
+    → 1 ≤ length rest → done ++ pairs_of rest ≡ all → length all ≤ room
+    → length done + length (pairs_at (take (length rest - 1) (drop 1 rest)) (slice_index_or rest 0 d)) ≤ room
+pairs_room [] done all d room some is few = absurd (omega (arith, some))
+pairs_room (one ∷ rest) done all d room some is few =
+    subst (λ others. length done + length (pairs_at others one) ≤ room) (sym (take_rest (one ∷ rest) 1))
+    (room_left done (pairs_at rest one) (pairs_of rest) all room is few)
 
 module _ (g : Graph) (positions : List (List ℕ)) (root bound : ℕ) where
   -- pairs ask about branches that there are

@@ -1,5 +1,5 @@
 -- Each two ligands of a root, by their vertices. Own.
-use Rattle.std.specs.Prelude.{ℕ, ◌==◌, cond, List, [], ◌∷◌, flat_map}
+use Rattle.std.specs.Prelude.{ℕ, ◌==◌, cond, List, [], ◌∷◌, ◌++◌, flat_map}
 use Rattle.cip_mol.specs.declared.site.Ligand.{Ligand}
 use Rattle.cip_mol.specs.declared.site.Ligand.TheVariants.{Vertex, LonePair}
 use Rattle.cip_constitution.specs.declared.pairs.Pair.{Pair}
@@ -16,6 +16,7 @@ abbrev pub pairs_at : List Ligand → Ligand → List Pair
 pairs_at ligands LonePair = []
 pairs_at ligands (Vertex a) = flat_map (pair_with a) ligands
 
--- each two different vertices of ligands, in both directions
+-- each two different vertices of ligands, the earlier one first
 abbrev pub pairs_of : List Ligand → List Pair
-pairs_of ligands = flat_map (pairs_at ligands) ligands
+pairs_of [] = []
+pairs_of (ligand ∷ ligands) = pairs_at ligands ligand ++ pairs_of ligands

@@ -11,12 +11,12 @@ trying_of columns = record {
   noted = columns.noted.items;
 }
 
--- all nodes but the root may have a place; and there is room for each two of four ligands, in both directions
+-- all nodes but the root may have a place; and there is room for each two of four ligands
 pub record HaveRoom (columns : Inside) : Type 0 where
   pub branches : columns.branches.layers.kin.room ≡ columns.bound - 1
   pub tops : columns.tops.room ≡ columns.bound
-  pub pairs : 16 ≤ vec_capacity columns.pairs
-  pub few : length columns.pairs.items ≤ 16
-  pub noted : 16 ≤ vec_capacity columns.noted
+  pub pairs : 6 ≤ vec_capacity columns.pairs
+  pub few : length columns.pairs.items ≤ 6
+  pub noted : 6 ≤ vec_capacity columns.noted
   pub saved : columns.saved.room ≡ columns.bound - 1
   pub under : columns.bound ≤ vec_capacity columns.under

@@ -11,7 +11,7 @@ pub struct Pair {
     pub b: u32,
 }
 
-/// Each two different vertices of ligands, in both directions.
+/// Each two different vertices of ligands, the earlier one first.
 pub fn pair_up(ligands: &[Ligand], pairs: &mut Vec<Pair>)
     requires room { length (pairs_of ligands.now) ≤ vec_capacity pairs.old }
     ensures pairs { pairs.new.items ≡ pairs_of ligands.now }
@@ -20,7 +20,7 @@ pub fn pair_up(ligands: &[Ligand], pairs: &mut Vec<Pair>)
     pairs.clear();
     let mut rest = ligands;
     while let [ligand, others @ ..] = rest {
-        pair_all(ligand, ligands, pairs);
+        pair_all(ligand, others, pairs);
         rest = others;
     }
 }

@@ -24,8 +24,8 @@ use cip_rows::Column;
 use std::alloc::{AllocError, Global};
 use std::marker::Model;
 
-/// There are fewer ordered pairs of four ligands.
-const MOST_PAIRS: usize = 16;
+/// So many pairs have four ligands.
+const MOST_PAIRS: usize = 6;
 
 /// The branches of settling, in memory that is taken at once.
 #[derive(Drop)]
@@ -84,7 +84,7 @@ impl Work {
         })
     }
 
-    /// Asks about each two of these ligands, in both directions. Nothing is noted of them before a digraph is followed.
+    /// Asks about each two of these ligands once. Nothing is noted of them before a digraph is followed.
     pub fn ask(&mut self, ligands: &Ligands)
         ensures pairs { self.new.pairs ≡ pairs_of ligands.now }
         ensures bound { self.new.bound ≡ self.old.bound }
@@ -183,10 +183,10 @@ fn place_count(bound: u32) -> u32
     bound.saturating_sub(1)
 }
 
-// Each two of four ligands, in both directions, and what is decided between them.
+// Each two of four ligands, and what is decided between them.
 fn reserve_pairs(alloc: Global) -> Result<(Vec<Pair>, Vec<Asked>), AllocError>
-    ensures pairs { IfOk result (λ both. (both.0.items ≡ []) × (16 ≤ vec_capacity both.0)) }
-    ensures noted { IfOk result (λ both. (both.1.items ≡ []) × (16 ≤ vec_capacity both.1)) }
+    ensures pairs { IfOk result (λ both. (both.0.items ≡ []) × (6 ≤ vec_capacity both.0)) }
+    ensures noted { IfOk result (λ both. (both.1.items ≡ []) × (6 ≤ vec_capacity both.1)) }
 {
     let pairs = Vec::with_capacity(alloc, MOST_PAIRS)?;
     both(pairs, Vec::with_capacity(alloc, MOST_PAIRS))

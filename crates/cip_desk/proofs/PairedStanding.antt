@@ -15,6 +15,8 @@ use Rattle.cip_constitution.specs.Pairs.{pairs_of}
 use Rattle.cip_constitution.specs.declared.pairs.Pair.{Pair}
 use Rattle.cip_ligands.specs.declared.asked.Asked.{Asked}
 use Rattle.cip_ligands.specs.Asking.{with_found}
+use Rattle.cip_label.specs.Standing.{reversed}
+use Rattle.cip_label.proofs.OppositeOrders.{order_reversed}
 use Rattle.cip_desk.specs.Standing.{Standing, found_of, standing_of, asked_in}
 use Rattle.cip_desk.proofs.FoundPairs.{found_mapped, has_pair}
 
@@ -44,5 +46,8 @@ module _ (seen : Seen Node) (root : ℕ) (ligands : List Ligand) (branch : ℕ �
           ap (λ pairs. found_of v w pairs (asked_in standing r_first)) pairs
           ∙ ap (found_of v w (pairs_of ligands))
           (asked r_first ∙ map-map (with_found (find r_first)) (asked_by branch) (pairs_of ligands))
-          ∙ found_mapped v w (answer r_first) (pairs_of ligands) (has_pair v w ligands i j at_v at_w is)
-          ∙ ordered r_first i j v w at_v at_w
+          ∙ found_mapped v w (answer r_first)
+          (order seen r_first (real_node v (root ∷ [])) (real_node w (root ∷ [])))
+          (ordered r_first i j v w at_v at_w) (ap reversed (ordered r_first j i w v at_w at_v)
+          ∙ order_reversed seen r_first (real_node v (root ∷ [])) (real_node w (root ∷ []))) (pairs_of ligands)
+          (has_pair v w ligands i j at_v at_w is)

@@ -7,12 +7,13 @@ ghost use Rattle.cip_desk.specs.Standing.{found_of, standing_of};
 
 use cip_constitution::{Pair, Work};
 use cip_digraph::Decision;
+use cip_label::reversed;
 use cip_ligands::{Asked, Descriptors, Readings};
 use std::alloc::{AllocError, Global};
 use std::marker::Model;
 
-/// At most four ligands make so many ordered pairs.
-const MOST_PAIRS: usize = 12;
+/// At most four ligands make so many pairs.
+const MOST_PAIRS: usize = 6;
 
 /// How the branches at each two neighbours of a root stand, with R first and with S first.
 #[derive(Drop)]
@@ -87,6 +88,7 @@ impl Branches {
     }
 }
 
+// What was noted of two, whichever of them was asked about first.
 fn found_of(pairs: &[Pair], asked: &[Asked], a: u32, b: u32) -> Option<Decision>
     ensures { result ≡ found_of a b pairs.now asked.now }
 {
@@ -98,6 +100,9 @@ fn found_of(pairs: &[Pair], asked: &[Asked], a: u32, b: u32) -> Option<Decision>
         };
         if pair.a == a && pair.b == b {
             return one.decision;
+        }
+        if pair.a == b && pair.b == a {
+            return reversed(one.decision);
         }
         rest = others;
         found = later;

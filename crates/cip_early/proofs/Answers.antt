@@ -1,6 +1,6 @@
 -- The answers of branches are what is asked of the pairs of their vertices.
 use Rattle.std.proofs.Common.{◌≡◌, ◌==◌, ◌++◌, ◌∙◌, ℕ, Bool, true, false, cond, List, [], ◌∷◌, flat_map, map, refl, sym, ap}
-use Rattle.std.proofs.lemmas.List.{append-nil, map-append}
+use Rattle.std.proofs.lemmas.List.{map-append}
 use Rattle.std.proofs.lemmas.Simd.{map-map}
 use Rattle.cip_mol.specs.declared.site.Ligand.{Ligand}
 use Rattle.cip_mol.specs.declared.site.Ligand.TheVariants.{Vertex, LonePair}
@@ -53,23 +53,25 @@ module _ (setting : Setting) (root : ℕ) where
       (told_is setting.graph setting.positions root a b)
       ∙ answer_by a b (a == b)
 
-  answers_with : (ligands : List Ligand) (one : Ligand)
-      → flat_map (answers_at (branches_of setting.graph setting.positions root ligands)) (show one)
-      ≡ map answer (pairs_at ligands one)
-  answers_with ligands LonePair = refl
-  answers_with ligands (Vertex a) =
-      append-nil (answers_at (branches_of setting.graph setting.positions root ligands) (branch a))
-      ∙ flat_flat (answer_between (branch a)) show ligands
+  answers_with : (ligands : List Ligand) (a : ℕ)
+      → answers_at (branches_of setting.graph setting.positions root ligands) (branch a)
+      ≡ map answer (pairs_at ligands (Vertex a))
+  answers_with ligands a =
+      flat_flat (answer_between (branch a)) show ligands
       ∙ flat_alike (λ ligand. flat_map (answer_between (branch a)) (show ligand))
       (λ ligand. map answer (pair_with a ligand)) (one_answer a) ligands
       ∙ sym (map_flat answer (pair_with a) ligands)
 
+  each_answer : (ligands : List Ligand)
+      → answers_of (branches_of setting.graph setting.positions root ligands) ≡ map answer (pairs_of ligands)
+  each_answer [] = refl
+  each_answer (LonePair ∷ ligands) = each_answer ligands
+  each_answer (Vertex a ∷ ligands) =
+      (λ k. answers_with ligands a k ++ each_answer ligands k)
+      ∙ sym (map-append answer (pairs_at ligands (Vertex a)) (pairs_of ligands))
+
   pub answers_are : (ligands : List Ligand)
       → answers_of (branches_of setting.graph setting.positions root ligands) ≡ noted_early setting root ligands
   answers_are ligands =
-      let branches = branches_of setting.graph setting.positions root ligands in
-      flat_flat (answers_at branches) show ligands
-      ∙ flat_alike (λ one. flat_map (answers_at branches) (show one)) (λ one. map answer (pairs_at ligands one))
-      (answers_with ligands) ligands
-      ∙ sym (map_flat answer (pairs_at ligands) ligands)
+      each_answer ligands
       ∙ sym (map-map (with_found (found_early setting root)) (asked_by (λ vertex. vertex)) (pairs_of ligands))

@@ -1,21 +1,18 @@
 -- The answers of all pairs are decided where each two ligands of a root differ within two spheres.
-use Rattle.std.proofs.Common.{◌≡◌, ◌≢◌, ◌==◌, ◌&&◌, ◌∙◌, ℕ, pos, Bool, true, false, cond, not, List, [], ◌∷◌, flat_map, None, Some, refl, sym, ap, arith}
-use Rattle.std.proofs.lemmas.Bool.{eq-eqb}
-use Rattle.std.proofs.lemmas.Bool.Decides.{nat_tests}
+use Rattle.std.proofs.Common.{◌≡◌, ◌≢◌, ◌&&◌, ◌∙◌, ℕ, Bool, true, false, cond, not, List, [], ◌∷◌, flat_map, None, Some, refl, sym, ap}
 use Rattle.std.proofs.lemmas.List.Folds.{list_all-append, list_all-map}
 use Rattle.std.proofs.lemmas.Simd.{map-map}
 use Rattle.std.specs.Cmp.Lexicographic.{slice_cmp}
 use Rattle.std.specs.List.{AllByRecursion, list_all}
-use Rattle.std.specs.Ordering.{is_eq, ordering_reverse, ordering_then}
+use Rattle.std.specs.Ordering.{is_eq, ordering_then}
 use Rattle.std.specs.declared.cmp.Ordering.{Ordering}
 use Rattle.std.specs.declared.cmp.Ordering.TheVariants.{Less, Equal, Greater}
 use Rattle.std.specs.declared.option.Option.{Option}
-use Rattle.cip_rank.proofs.TotalOrder.{comparison_total}
 use Rattle.cip_mol.specs.declared.outcome.Rule.TheVariants.{R1a}
 use Rattle.cip_mol.specs.declared.site.Ligand.{Ligand}
 use Rattle.cip_mol.specs.declared.site.Ligand.TheVariants.{Vertex, LonePair}
 use Rattle.cip_digraph.specs.declared.decision.Decision.{Decision}
-use Rattle.cip_digraph.specs.digraph.Digraph.{Node, real_node, children}
+use Rattle.cip_digraph.specs.digraph.Digraph.{Node, real_node}
 use Rattle.cip_digraph.specs.digraph.View.{view_children}
 use Rattle.cip_digraph.specs.graph.Graph.{neighbours}
 use Rattle.cip_digraph.specs.graph.SoundGraphs.{IsSound}
@@ -23,7 +20,6 @@ use Rattle.cip_digraph.specs.rings.Alternating.{is_in}
 use Rattle.cip_digraph.specs.rules.Auxiliary.{auxiliary, ligand_node}
 use Rattle.cip_digraph.specs.rules.Decisions.{or_else}
 use Rattle.cip_digraph.specs.rules.EarlyOrder.{differ_within, seen_at}
-use Rattle.cip_digraph.specs.rules.Keys.{atomic_key}
 use Rattle.cip_digraph.specs.rules.Orders.{rule_1a}
 use Rattle.cip_digraph.specs.units.Ends.{end_at}
 use Rattle.cip_digraph.specs.units.Ranked.{every_pair}
@@ -32,7 +28,6 @@ use Rattle.cip_digraph.proofs.SettledTies.{both_all}
 use Rattle.cip_label.proofs.LigandNodes.{one_node, ne_eqb}
 use Rattle.cip_label.specs.Fitting.{IsFit, IsNeighbour}
 use Rattle.cip_label.specs.Settings.{Setting}
-use Rattle.cip_constitution.proofs.AllTie.{tie_total}
 use Rattle.cip_constitution.proofs.DifferTold.{pairs_by}
 use Rattle.cip_constitution.proofs.SeenRules.{IsFurther, seen_1a}
 use Rattle.cip_constitution.specs.Noting.{asked_by, by_atoms}
@@ -61,39 +56,15 @@ all_true : {X : Type 0} (xs : List X) → list_all (λ x. true) xs ≡ true
 all_true [] = refl
 all_true (x ∷ xs) = all_true xs
 
-and_pairs : (a b c d : Bool) → ((a && b) && (c && d)) ≡ ((a && c) && (b && d))
-and_pairs false b c d = refl
-and_pairs true false false d = refl
-and_pairs true false true d = refl
-and_pairs true true c d = refl
-
-all_both : {X : Type 0} (test other : X → Bool) (xs : List X)
-    → list_all (λ x. test x && other x) xs ≡ (list_all test xs && list_all other xs)
-all_both test other [] = refl
-all_both test other (x ∷ xs) =
-    ap (λ b. (test x && other x) && b) (all_both test other xs)
-    ∙ and_pairs (test x) (other x) (list_all test xs) (list_all other xs)
-
-twice : (a b : Bool) → (a && (a && b)) ≡ (a && b)
-twice true b = refl
-twice false b = refl
-
--- a test of each two in both directions, which all pass with themselves, is one of each two
-module _ {X : Type 0} (P : X → Type 0) (test other : X → X → Bool) (itself : (x : X) → test x x ≡ true)
-    (turned : (x y : X) → P x → P y → test x y ≡ test y x)
+-- tests that are alike for each two different elements
+module _ {X : Type 0} (P : X → Type 0) (test other : X → X → Bool)
     (same : (x y : X) → P x → P y → x ≢ y → test x y ≡ other x y) where
-  both_ways : (xs : List X) → AllByRecursion P xs → Pairwise ◌≢◌ xs
-      → list_all (λ x. list_all (test x) xs) xs ≡ every_pair other xs
-  both_ways [] all differ = refl
-  both_ways (x ∷ xs) all differ =
-      let rest = list_all (λ y. list_all (test y) xs) xs in
-      ap (λ b. (b && list_all (test x) xs) && list_all (λ y. test y x && list_all (test y) xs) xs) (itself x)
-      ∙ ap (λ b. list_all (test x) xs && b) (all_both (λ y. test y x) (λ y. list_all (test y) xs) xs
-      ∙ ap (λ b. b && rest) (all_alike P (λ y. test y x) (test x) (λ y p. turned y x p all.0) xs all.1))
-      ∙ twice (list_all (test x) xs) rest
-      ∙ ap (λ b. b && rest) (all_alike (λ y. P y × x ≢ y) (test x) (other x) (λ y p. same x y all.0 p.0 p.1) xs
-      (both_all P (λ y. x ≢ y) xs all.1 differ.0))
-      ∙ ap (λ b. list_all (other x) xs && b) (both_ways xs all.1 differ.1)
+  pairs_alike : (xs : List X) → AllByRecursion P xs → Pairwise ◌≢◌ xs → every_pair test xs ≡ every_pair other xs
+  pairs_alike [] all differ = refl
+  pairs_alike (x ∷ xs) all differ =
+      ap (λ b. b && every_pair test xs) (all_alike (λ y. P y × x ≢ y) (test x) (other x)
+      (λ y p. same x y all.0 p.0 p.1) xs (both_all P (λ y. x ≢ y) xs all.1 differ.0))
+      ∙ ap (λ b. list_all (other x) xs && b) (pairs_alike xs all.1 differ.1)
 
 abbrev is_some : Option Decision → Bool
 is_some found = elim found as (λ _. Bool) [ None ↦ false | Some decision ↦ true ]
@@ -106,18 +77,10 @@ some_decided Equal Less = refl
 some_decided Equal Equal = refl
 some_decided Equal Greater = refl
 
-eq_reverse : (side : Ordering) → is_eq (ordering_reverse side) ≡ is_eq side
-eq_reverse Less = refl
-eq_reverse Equal = refl
-eq_reverse Greater = refl
-
 then_equal : (side : Ordering) → ordering_then side Equal ≡ side
 then_equal Less = refl
 then_equal Equal = refl
 then_equal Greater = refl
-
-eqb_turned : (a b : ℕ) → (a == b) ≡ (b == a)
-eqb_turned a b = grind (arith, nat_tests)
 
 and_true : (b : Bool) → (b && true) ≡ b
 and_true true = refl
@@ -143,12 +106,6 @@ module _ (setting : Setting) (root : ℕ) (sound : IsSound setting.graph) where
       ap (λ found. is_some (decided R1a found)) (first_of_two compare _ is)
       ∙ some_decided (compare 0) _ ∙ sym (ap (λ side. not (is_eq side)) is)
 
-  turned_key : (a b : Node) → is_eq (by_key 1 a b) ≡ is_eq (by_key 1 b a)
-  turned_key a b =
-      ap is_eq ((comparison_total (children setting.graph setting.positions)
-      (λ n. pos (atomic_key setting.graph setting.positions n)) tie_total 1).antisymm a b)
-      ∙ eq_reverse (by_key 1 b a)
-
   abbrev pair_if : Ligand → Ligand → List Pair
   pair_if LonePair other = []
   pair_if (Vertex a) other = pair_with a other
@@ -161,22 +118,11 @@ module _ (setting : Setting) (root : ℕ) (sound : IsSound setting.graph) where
   asked_at ligands LonePair = sym (all_true ligands)
   asked_at ligands (Vertex a) = all_flat is_answered (pair_with a) ligands
 
-  itself : (one : Ligand) → is_asked one one ≡ true
-  itself LonePair = refl
-  itself (Vertex a) = ap (λ b. list_all is_answered (cond b [] (pair a a ∷ []))) (eq-eqb a a refl)
-
-  turned_by : (a b : ℕ) (same back : Bool) → same ≡ back → list_all is_answered (cond same [] (pair a b ∷ []))
-      ≡ list_all is_answered (cond back [] (pair b a ∷ []))
-  turned_by a b true back e = ap (λ s. list_all is_answered (cond s [] (pair b a ∷ []))) e
-  turned_by a b false back e =
-      ap (λ b. b && true) (answered_is a b ∙ ap not (turned_key (node a) (node b)) ∙ sym (answered_is b a))
-      ∙ ap (λ s. list_all is_answered (cond s [] (pair b a ∷ []))) e
-
-  turned : (one other : Ligand) → is_asked one other ≡ is_asked other one
-  turned LonePair LonePair = refl
-  turned LonePair (Vertex b) = refl
-  turned (Vertex a) LonePair = refl
-  turned (Vertex a) (Vertex b) = turned_by a b (a == b) (b == a) (eqb_turned a b)
+  each_asked : (ligands : List Ligand) → list_all is_answered (pairs_of ligands) ≡ every_pair is_asked ligands
+  each_asked [] = refl
+  each_asked (one ∷ ligands) =
+      list_all-append is_answered (pairs_at ligands one) (pairs_of ligands)
+      ∙ (λ k. asked_at ligands one k && each_asked ligands k)
 
   abbrev around : List Node
   around = view_children setting.graph setting.positions (root ∷ []) (real_node root [])
@@ -221,9 +167,8 @@ module _ (setting : Setting) (root : ℕ) (sound : IsSound setting.graph) where
   decided_is ligands fit =
       ap (list_all is_decided) (map-map (with_found (found_early setting root)) (asked_by (λ vertex. vertex))
       (pairs_of ligands))
-      ∙ list_all-map is_decided answer (pairs_of ligands) ∙ all_flat is_answered (pairs_at ligands) ligands
-      ∙ ap (λ test. list_all test ligands) (λ i one. asked_at ligands one i)
-      ∙ both_ways (IsNeighbour setting.graph root) is_asked differ itself (λ x y p q. turned x y) same ligands
+      ∙ list_all-map is_decided answer (pairs_of ligands) ∙ each_asked ligands
+      ∙ pairs_alike (IsNeighbour setting.graph root) is_asked differ same ligands
       (by_recursion (IsNeighbour setting.graph root) ligands fit.beside)
       (pairwise_from_pairs ◌≢◌ ligands fit.different)
       ∙ pairs_by (ligand_node around) (λ xs ys. not (is_eq (slice_cmp rule xs ys))) differ (λ x y. refl) ligands

@@ -1,5 +1,5 @@
 -- What two spheres show of the branches at the ligands of a root, and what it decides. Own.
-use Rattle.std.specs.Prelude.{ℕ, ◌-◌, ◌*◌, ◌==◌, ◌&&◌, cond, List, [], ◌∷◌, flat_map, map, replicate}
+use Rattle.std.specs.Prelude.{ℕ, ◌-◌, ◌*◌, ◌==◌, ◌&&◌, cond, List, [], ◌∷◌, ◌++◌, flat_map, map, replicate}
 use Rattle.std.specs.Cmp.Lexicographic.{slice_cmp}
 use Rattle.std.specs.Ordering.{nat_cmp}
 use Rattle.std.specs.declared.option.Option.{Option}
@@ -74,6 +74,7 @@ answer_between one other =
 abbrev pub answers_at : List Branch → Branch → List Asked
 answers_at branches one = flat_map (answer_between one) branches
 
--- of each two, in both directions
+-- of each two, the earlier one first
 abbrev pub answers_of : List Branch → List Asked
-answers_of branches = flat_map (answers_at branches) branches
+answers_of [] = []
+answers_of (one ∷ others) = answers_at others one ++ answers_of others

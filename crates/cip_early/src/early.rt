@@ -14,8 +14,8 @@ use cip_mol::{Ligand, Ligands};
 use std::alloc::{AllocError, Global};
 use std::marker::Model;
 
-/// At most four ligands make so many ordered pairs.
-const MOST_PAIRS: usize = 12;
+/// At most four ligands make so many pairs.
+const MOST_PAIRS: usize = 6;
 
 const MOST_LIGANDS: usize = 4;
 
@@ -56,7 +56,7 @@ impl Early {
     }
 
     /// Whether two spheres of at most `bound` nodes tell each two ligands apart; then it's noted what is decided
-    /// between each two, in both directions.
+    /// between each two.
     pub fn tell(
         &mut self,
         alloc: Global,

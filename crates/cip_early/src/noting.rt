@@ -30,14 +30,14 @@ fn note_with_each(one: &Shown, branches: &[Shown], noted: &mut Vec<Asked>) -> Re
     Ok(())
 }
 
-/// Notes what is told of each two different branches, in both directions.
+/// Notes what is told of each two different branches, the earlier one first.
 pub fn note_each(branches: &[Shown], noted: &mut Vec<Asked>) -> Result<(), AllocError>
     ensures { OnOk result (noted.new.items ≡ answers_of branches.now) }
 {
     noted.clear();
     let mut rest = branches;
     while let [one, others @ ..] = rest {
-        note_with_each(one, branches, noted)?;
+        note_with_each(one, others, noted)?;
         rest = others;
     }
     Ok(())

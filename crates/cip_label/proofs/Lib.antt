@@ -2,6 +2,8 @@ pub mod PlaceLists
 pub mod LastReason
 pub mod KnownOutcomes
 pub mod LigandNodes
+pub mod OppositeOrders
+pub mod RankedOnce
 pub mod RootsAlike
 pub mod SiteEnds
 pub mod UnitOutcomes

@@ -72,11 +72,11 @@ use Rattle.cip_label.specs.declared.digraphs.Ranking.TheVariants.{Known, Tied, O
 use Rattle.cip_label.specs.Standing.{RankedAs, Stands, branch, root_of}
 use Rattle.cip_label.proofs.LigandNodes.{one_node}
 
-abbrev entry : {X : Type 0} → (Ligand → List X) → Option Ligand → List X
+abbrev pub entry : {X : Type 0} → (Ligand → List X) → Option Ligand → List X
 entry f None = []
 entry f (Some ligand) = f ligand
 
-entry_at : {X : Type 0} (f : Ligand → List X) (ligands : List Ligand) (i : ℕ) →
+pub entry_at : {X : Type 0} (f : Ligand → List X) (ligands : List Ligand) (i : ℕ) →
     slice_index_or (map f ligands) i [] ≡ entry f (slice_get ligands i)
 entry_at f [] zero = refl
 entry_at f [] (suc i) = refl

@@ -1,5 +1,6 @@
 pub mod Fitting
 pub mod Labelling
+pub mod Pairwise
 pub mod Settings
 pub mod Standing
 pub mod Steps

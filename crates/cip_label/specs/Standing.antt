@@ -1,6 +1,6 @@
 -- The ligands of a root as they are ranked, where it is known how the branches at neighbours of the root stand. Own.
-use Rattle.std.specs.Prelude.{◌≡◌, ◌≤◌, ◌<◌, ℕ, Bool, true, false, List, [], ◌∷◌, map, slice_get, Some}
-use Rattle.std.specs.declared.cmp.Ordering.{Ordering}
+use Rattle.std.specs.Prelude.{◌≡◌, ◌≤◌, ◌<◌, ℕ, Bool, true, false, List, [], ◌∷◌, map, slice_get, None, Some}
+use Rattle.std.specs.Ordering.{ordering_reverse}
 use Rattle.std.specs.declared.option.Option.{Option}
 use Rattle.cip_mol.specs.declared.site.Ligand.{Ligand}
 use Rattle.cip_mol.specs.declared.site.Ligand.TheVariants.{Vertex, LonePair}
@@ -8,11 +8,15 @@ use Rattle.cip_digraph.specs.declared.decision.Decision.{Decision}
 use Rattle.cip_digraph.specs.digraph.Digraph.{real_node}
 use Rattle.cip_digraph.specs.rules.Decisions.{order}
 use Rattle.cip_digraph.specs.units.Ends.{end_at}
-use Rattle.cip_digraph.specs.units.Ranked.{Root, has_tie, ligand_order, place_order, side_of}
-use Rattle.cip_letters.specs.Sides.{found_side}
+use Rattle.cip_digraph.specs.units.Ranked.{Root, has_tie}
 use Rattle.cip_label.specs.declared.digraphs.Ranking.{Ranking}
 use Rattle.cip_label.specs.declared.digraphs.Ranking.TheVariants.{Known, Tied, Over}
 use Rattle.cip_label.specs.Settings.{Setting, seen_in, root_in, cost_in}
+
+-- a decision between two as it is from the other one
+abbrev pub reversed : Option Decision → Option Decision
+reversed None = None
+reversed (Some decision) = Some (record decision { side = ordering_reverse decision.side })
 
 -- how branches stand by the vertices of two neighbours of the root, by all rules and with the last one turned
 abbrev pub Stands : Type 0
@@ -30,14 +34,6 @@ root_of standing ligands = record {
   turned = standing false;
   ligands = map branch ligands;
 }
-
--- which of two ligands precedes, by all rules
-abbrev pub side_between : Stands → Ligand → Ligand → Option Ordering
-side_between standing one other = found_side (ligand_order (standing true) (branch one) (branch other))
-
--- two ligands by their places
-abbrev pub compared : Stands → Bool → List Ligand → ℕ → ℕ → Ordering
-compared standing r_first ligands i j = side_of (place_order (standing r_first) (map branch ligands) i j)
 
 -- the branches at the vertices of ligands stand as in the whole digraph
 pub record StandsAs (setting : Setting) (root : ℕ) (ligands : List Ligand) (standing : Stands) : Type 0 where

@@ -1,14 +1,13 @@
 // What was needed for a rank order.
-ghost use Rattle.std.specs.Prelude.{◌≡◌, Some, true, map};
+ghost use Rattle.std.specs.Prelude.{◌≡◌, Some};
 ghost use Rattle.std.specs.declared.cmp.Ordering.TheVariants.{Equal};
-ghost use Rattle.cip_digraph.specs.units.Ranked.{decisions_along, last_reason, later_reason, turn_of};
+ghost use Rattle.cip_digraph.specs.units.Ranked.{last_reason, later_reason, turn_of};
 ghost use Rattle.cip_label.specs.Labelling.{as_reason};
-ghost use Rattle.cip_label.specs.Standing.{branch};
+ghost use Rattle.cip_label.specs.Pairwise.{decided_along, decided_at};
 
-use crate::digraphs::Digraphs;
-use crate::standing::decide_places;
+use crate::pairwise::decided_at;
 use cip_digraph::Decision;
-use cip_mol::{Ligands, Places, Rule};
+use cip_mol::{Places, Rule};
 
 /// The last rule that was needed, and the greatest sphere in which it was.
 #[derive(Clone, Copy)]
@@ -17,10 +16,9 @@ pub struct Reason {
     pub sphere: u32,
 }
 
-/// What was needed for places in rank order.
-pub fn reason_along<D: Digraphs>(digraphs: &D, ligands: &Ligands, places: &Places) -> Reason
-    ensures { as_reason result ≡ last_reason (decisions_along (D.standing digraphs.now true) (map branch ligands.now)
-        places.now) }
+/// What was needed for the places of so many ligands in rank order, by what is decided between each two.
+pub fn reason_along(decided: &[Option<Decision>], count: u32, places: &Places) -> Reason
+    ensures { as_reason result ≡ last_reason (decided_along (decided_at count decided.now) places.now) }
 {
     let mut reason = Reason {
         rule: Rule::R1a,
@@ -28,7 +26,7 @@ pub fn reason_along<D: Digraphs>(digraphs: &D, ligands: &Ligands, places: &Place
     };
     for next in 1..places.len() {
         let above = *places.get(next - 1);
-        let decision = decide_places(digraphs, ligands, above, *places.get(next), true);
+        let decision = decided_at(decided, count, above, *places.get(next));
         reason = with_decision(reason, decision);
     }
     reason

@@ -1,16 +1,17 @@
 // The ranked ligands of a root.
-ghost use Rattle.std.specs.Prelude.{◌≡◌, ◌≤◌, ◌∷◌, [], IfOk};
+ghost use Rattle.std.specs.Prelude.{◌≡◌, ◌≤◌, ◌∷◌, [], true, IfOk, length};
 ghost use Rattle.cip_digraph.specs.units.Ends.{end_at};
 ghost use Rattle.cip_label.specs.Fitting.{IsFit};
-ghost use Rattle.cip_label.specs.Labelling.{ranked_by, ranked_root};
-ghost use Rattle.cip_label.specs.Standing.{root_of};
+ghost use Rattle.cip_label.specs.Labelling.{ranked_root};
+ghost use Rattle.cip_label.specs.Pairwise.{decided_each, ranked_in, ranked_once, turned_each};
 ghost use Rattle.cip_label.specs.Steps.{Rises};
 
 use crate::digraphs::{Digraphs, Ranking};
-use crate::places::ranked;
+use crate::pairwise::{decide_each, has_rule_5, has_tie};
+use crate::places::{copied, ranked};
 use crate::reasons::reason_along;
 use crate::setting::Setting;
-use crate::standing::some_tie;
+use cip_digraph::Decision;
 use cip_mol::{Ligands, Places, Rule};
 use cip_steps::Steps;
 use std::alloc::{AllocError, Global};
@@ -61,18 +62,40 @@ fn ranked_by<D: Digraphs>(
     digraphs: &D,
     ligands: &Ligands,
 ) -> Result<Ranked, AllocError>
-    ensures { IfOk result (λ ranked. ranked ≡ ranked_by (root_of (D.standing digraphs.now) ligands.now)) }
+    ensures { IfOk result (λ ranked. ranked ≡ ranked_once (D.standing digraphs.now) ligands.now) }
 {
-    if some_tie(alloc, digraphs, ligands.as_slice())? {
+    let each = decide_each(alloc, digraphs, ligands.as_slice(), true)?;
+    let decided = each.as_slice();
+    if has_tie(decided) {
         return Ok(Ranked::Tie);
     }
-    let places = ranked(alloc, digraphs, ligands, true);
-    let turned = ranked(alloc, digraphs, ligands, false);
-    let reason = reason_along(digraphs, ligands, &places);
+    let places = ranked(alloc, decided, ligands.len());
+    let turned = ranked_turned(alloc, digraphs, ligands, decided, &places)?;
+    let reason = reason_along(decided, ligands.len(), &places);
     Ok(Ranked::Ordered {
         places,
         turned,
         rule: reason.rule,
         sphere: reason.sphere,
     })
+}
+
+// The places with the last rule turned. It's asked about only where that rule decides; else the order is the same.
+fn ranked_turned<D: Digraphs>(
+    alloc: Global,
+    digraphs: &D,
+    ligands: &Ligands,
+    decided: &[Option<Decision>],
+    places: &Places,
+) -> Result<Places, AllocError>
+    requires decided { decided.now ≡ decided_each (D.standing digraphs.now) true ligands.now }
+    requires places { places.now ≡ ranked_in (length ligands.now) decided.now }
+    ensures { IfOk result (λ turned. turned
+        ≡ ranked_in (length ligands.now) (turned_each (D.standing digraphs.now) ligands.now)) }
+{
+    if !has_rule_5(decided) {
+        return Ok(copied(alloc, places));
+    }
+    let turned = decide_each(alloc, digraphs, ligands.as_slice(), false)?;
+    Ok(ranked(alloc, turned.as_slice(), ligands.len()))
 }

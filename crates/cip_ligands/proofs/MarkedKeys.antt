@@ -1,5 +1,5 @@
 -- A rule that looks at descriptors, taken by their keys, and passed over where none counts.
-use Rattle.std.proofs.Common.{◌≡◌, Bool, true, false, List, [], map, refl, sym, ap, slice_index}
+use Rattle.std.proofs.Common.{◌≡◌, Bool, true, false, List, [], map, refl, sym, slice_index}
 use Rattle.std.specs.Prelude.{None, Some, pos}
 use Rattle.std.specs.List.{slice_index_or}
 use Rattle.std.specs.declared.option.Option.{Option}

@@ -5,7 +5,7 @@ use Rattle.std.specs.declared.option.Option.{Option}
 use Rattle.std.specs.declared.cmp.Ordering.{Ordering}
 use Rattle.std.specs.declared.cmp.Ordering.TheVariants.{Equal}
 use Rattle.std.specs.Cmp.{IsTotalOrder}
-use Rattle.std.specs.List.{AllByRecursion, range_with_len, slice_index_or}
+use Rattle.std.specs.List.{AllByRecursion, list_all, range_with_len, slice_index_or}
 use Rattle.std.specs.Ordering.{is_lt, int_cmp, nat_cmp}
 use Rattle.std.proofs.lemmas.Bool.Decides.{nat_tests}
 use Rattle.std.proofs.lemmas.Cmp.{on_total, tied_itself}
@@ -39,14 +39,14 @@ use Rattle.cip_branches.proofs.TwinRanks.{double_order, twins_followed}
 use Rattle.cip_branches.proofs.TwinSpheres.{kept_at_most, number_first, number_second}
 use Rattle.cip_branches.proofs.TwinStands.{IsReading, wants_twin, twin_named, read_each, itself, node_first, node_second, view_before, ended_before, ended_twins, twins_stand, reading_in, top_node}
 use Rattle.cip_ligands.specs.declared.asked.Asked.{Asked}
-use Rattle.cip_ligands.specs.Asking.{AreWithin, decided, differing, found_between, kept_or, with_found}
+use Rattle.cip_ligands.specs.Asking.{AreWithin, decided, differing, found_between, is_decided, kept_or, with_found}
 use Rattle.cip_ligands.specs.Counting.{AreUncounted}
 use Rattle.cip_ligands.specs.Marked.{AreMarksOf}
 use Rattle.cip_ligands.specs.Orders.{decided_by, found_below, mark_key}
-use Rattle.cip_ligands.specs.Readings.{twin_of, side_of, is_second, s_higher, base_of, reading_of, read_as, between, reading_key, reading_keys, TakesReadings}
+use Rattle.cip_ligands.specs.Readings.{twin_of, side_of, is_second, s_higher, base_of, one_reading, reading_of, read_as, between, reading_key, reading_keys, TakesReadings}
 use Rattle.cip_ligands.specs.Taking.{TakesRule}
 use Rattle.cip_ligands.proofs.FoundAmong.{AsksAmong, rule_found, found_rest}
-use Rattle.cip_ligands.proofs.FoundWithin.{same_found, same_difference, kept_kept, decided_else}
+use Rattle.cip_ligands.proofs.FoundWithin.{all_stay, same_found, same_difference, kept_kept, decided_else}
 use Rattle.cip_ligands.proofs.ReadingKeys.{key_here}
 use Rattle.cip_ligands.proofs.TakenNone.{none_taken}
 
@@ -295,6 +295,16 @@ module _ {N : Type 0} (seen : Seen N) (named : ℕ → N) (from : Branched) (fol
       ∙ same_found (found_below R4b compare node_now (seen.height + 1 + 1)) found (AsksAmong (IsReading from))
       (λ one w. settled one.first one.second w.0 w.1) asked within
 
+  -- the same, where it is taken only if a pair is open
+  pub found_open : (asked new : List Asked) (now : Branched) → (list_all is_decided asked ≡ true → new ≡ asked)
+      → (list_all is_decided asked ≡ false → TakesRule twins (reading_keys marks from) R4b asked now new)
+      → AllByRecursion (AsksAmong (IsReading from)) asked → new ≡ map (with_found found) asked
+  found_open asked new now done taken within = by (cases_flag (list_all is_decided asked))
+    where
+      by : (list_all is_decided asked ≡ true) ⊎ (list_all is_decided asked ≡ false) → new ≡ map (with_found found) asked
+      by (inl all) = done all ∙ sym (all_stay found asked all)
+      by (inr left) = found_by asked new now (taken left) within
+
   -- Where no descriptor counts, no more is found between readings than their numbers tell.
   module _ (none : AreUncounted marks true R5 from) where
     nothing_read : (kind : Kind) → like_kind kind Neither ≡ 0 → (t place : ℕ) → WantedIn from t place
@@ -375,7 +385,8 @@ module _ {N : Type 0} (seen : Seen N) (named : ℕ → N) (from : Branched) (fol
     flags = s_higher sides
 
     -- of a branch it is found which reading is the higher one
-    flag_is : (k : ℕ) → k < length from.wanted → has_flag flags k ≡ is_second (found k (twin_of from k))
+    flag_is : (k : ℕ) → k < length from.wanted
+        → has_flag flags k ≡ is_second (kept_or (side_of from k).decision (found k (twin_of from k)))
     flag_is k lt =
         let all = range_with_len 0 (length from.wanted) in
         let len = length-map-range_with_len (side_of from) 0 (length from.wanted) in
@@ -402,6 +413,7 @@ module _ {N : Type 0} (seen : Seen N) (named : ℕ → N) (from : Branched) (fol
         let sum : seen.height + 1 ≡ suc seen.height = omega arith in
         let last : 0 + seen.height ≡ seen.height = omega arith in
         flag_is k lt
+        ∙ ap (λ b. is_second (kept_or (if b then None else one_reading) (found k (twin_of from k)))) f
         ∙ second_by (first_difference (λ depth. readings seen depth x y) 0 (seen.height + 1))
         ∙ ap is_lt (ap (λ more. side_at (first_difference (λ depth. readings seen depth x y) 0 more)) sum
         ∙ first_side (λ depth. readings seen depth x y) (refines x y) seen.height 0
@@ -669,9 +681,9 @@ readings_found seen named from followed may stands ends tall marks are asked new
     let higher = found_by seen named from followed may stands ends tall marks are room
     (map (between (read_as from (s_higher takes.sides) false)) asked) takes.higher takes.higher_now takes.higher_taken
     (hi_asks seen named from followed may stands ends tall marks are room takes.sides sides asked within) in
-    let lower = found_by seen named from followed may stands ends tall marks are room
+    let lower = found_open seen named from followed may stands ends tall marks are room
     (map (between (read_as from (s_higher takes.sides) true)) takes.higher) takes.lower takes.lower_now
-    takes.lower_taken
+    takes.lower_decided takes.lower_taken
     (subst (λ (all : List Asked). AllByRecursion (AsksAmong (IsReading from)) (map (between (read_as from
     (s_higher takes.sides) true)) all)) (sym higher)
     (lo_asks seen named from followed may stands ends tall marks are room takes.sides sides asked within)) in

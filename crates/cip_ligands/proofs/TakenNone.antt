@@ -1,6 +1,5 @@
 -- A rule for which no node counts, taken over branches: the numbers stand.
-use Rattle.std.proofs.Common.{◌≡◌, ◌<◌, ◌≤◌, ◌∙◌, ℕ, ℤ, zero, suc, List, [], map, slice_index, refl, sym, ap, arith, inl, inr}
-use Rattle.std.specs.Prelude.{None, Some, pos}
+use Rattle.std.proofs.Common.{◌≡◌, ◌<◌, ◌≤◌, ◌∙◌, ℕ, zero, suc, List, [], map, slice_index, refl, sym, ap, arith, inl, inr}
 use Rattle.std.specs.declared.cmp.Ordering.{Ordering}
 use Rattle.std.specs.declared.cmp.Ordering.TheVariants.{Less, Equal, Greater}
 use Rattle.std.specs.declared.option.Option.{Option}
@@ -19,7 +18,7 @@ use Rattle.cip_rows.specs.Kids.{kids_of, kid_set}
 use Rattle.cip_rows.proofs.Cases.{cases_same}
 use Rattle.cip_ligands.specs.declared.asked.Asked.{Asked}
 use Rattle.cip_ligands.specs.Asking.{decided, differing, found_between, kept_or, with_found}
-use Rattle.cip_ligands.specs.Taking.{GoesOn, TakenTo, TakesRule}
+use Rattle.cip_ligands.specs.Taking.{TakenTo, TakesRule}
 
 -- what ties by keys is told by what goes before
 then_tie : (r : Ordering) → r ≡ ordering_then r Equal

@@ -1,8 +1,9 @@
 -- Rule 4b over branches and their twins: the twin of a branch is read with S as the reference, it itself with R. Own.
 use Rattle.std.specs.Prelude.{◌≡◌, ◌<◌, ◌^◌, ◌+◌, ◌-◌, ℕ, ℤ, Bool, true, false, cond, if◌then◌else◌, List, None, Some, length, map, nat_le, nat_lt, slice_index}
 use Rattle.std.specs.declared.option.Option.{Option}
-use Rattle.std.specs.List.{range_with_len, slice_index_or}
+use Rattle.std.specs.List.{list_all, range_with_len, slice_index_or}
 use Rattle.std.specs.Ordering.{is_lt}
+use Rattle.std.specs.declared.cmp.Ordering.TheVariants.{Equal}
 use Rattle.cip_mol.specs.declared.descriptor.Descriptor.{Descriptor}
 use Rattle.cip_mol.specs.declared.outcome.Rule.TheVariants.{R4b}
 use Rattle.cip_digraph.specs.declared.decision.Decision.{Decision}
@@ -14,6 +15,7 @@ use Rattle.cip_branches.specs.Saving.{Saved, saved_of}
 use Rattle.cip_branches.specs.Taking.{KeepsPlaces}
 use Rattle.cip_branches.specs.Twins.{twins_of}
 use Rattle.cip_ligands.specs.declared.asked.Asked.{Asked}
+use Rattle.cip_ligands.specs.Asking.{is_decided}
 use Rattle.cip_ligands.specs.Taking.{TakesRule}
 
 -- memory for both readings of branches of so many places
@@ -30,9 +32,17 @@ pub record KeepReadings (bound : ℕ) (twins : Branched) (saved : Saved) (sides 
 abbrev pub twin_of : Branched → ℕ → ℕ
 twin_of from branch = if has_flag from.wanted branch then length from.layers.kin.ups + branch else branch
 
--- which of the readings of a branch is the higher one is asked
+-- one reading ties with itself
+abbrev pub one_reading : Option Decision
+one_reading = Some (record { side = Equal; rule = R4b; sphere = 0 })
+
+-- Which of the readings of a branch is the higher one is asked. Of one that was let go that is decided: it has one.
 abbrev pub side_of : Branched → ℕ → Asked
-side_of from branch = record { first = branch; second = twin_of from branch; decision = None }
+side_of from branch = record {
+  first = branch;
+  second = twin_of from branch;
+  decision = if has_flag from.wanted branch then None else one_reading;
+}
 
 -- the second one is
 abbrev pub is_second : Option Decision → Bool
@@ -79,8 +89,8 @@ pub record IsAside (begin : Branched) (saved : Saved) (now : Branched) : Type 0 
   pub end : now.last ≡ begin.last
   pub count : length now.wanted ≡ length begin.wanted
 
--- First it is asked which reading of each branch is the higher one; then the higher ones are compared, and where they
--- tie the lower ones.
+-- First it is asked which reading of each branch is the higher one; then the higher ones are compared, and where two of
+-- them tie the lower ones.
 pub record TakesReadings (from : Branched) (marks : List (Option Descriptor)) (asked new : List Asked) : Type 0 where
   pub room : ℕ
   pub sides : List Asked
@@ -93,6 +103,9 @@ pub record TakesReadings (from : Branched) (marks : List (Option Descriptor)) (a
       (s_higher sides) false)) asked) higher_now higher
   pub lower : List Asked
   pub lower_now : Branched
-  pub lower_taken : TakesRule (twins_of room from) (reading_keys marks from) R4b (map (between (read_as from
-      (s_higher sides) true)) higher) lower_now lower
+  pub lower_decided : list_all is_decided (map (between (read_as from (s_higher sides) true)) higher) ≡ true
+      → lower ≡ map (between (read_as from (s_higher sides) true)) higher
+  pub lower_taken : list_all is_decided (map (between (read_as from (s_higher sides) true)) higher) ≡ false
+      → TakesRule (twins_of room from) (reading_keys marks from) R4b (map (between (read_as from (s_higher sides) true))
+      higher) lower_now lower
   pub named : new ≡ map (between (base_of (length from.layers.kin.ups))) lower

@@ -1,6 +1,6 @@
 // Rule 4b, taken over both readings of branches.
 ghost use Rattle.std.specs.Prelude.{◌≡◌, ◌<◌, ◌≤◌, ◌+◌, ◌^◌, [], ℕ, Bool, false, IfOk, List, length, map, pos, true};
-ghost use Rattle.std.specs.List.{AllByRecursion, range_with_len};
+ghost use Rattle.std.specs.List.{AllByRecursion, list_all, range_with_len};
 ghost use Rattle.cip_mol.specs.declared.outcome.Rule.{Rule as AnyRule};
 ghost use Rattle.cip_mol.specs.declared.outcome.Rule.TheVariants.{R4b};
 ghost use Rattle.cip_digraph.specs.digraph.Digraph.{Node};
@@ -10,7 +10,7 @@ ghost use Rattle.cip_rows.specs.Parting.{has_flag};
 ghost use Rattle.cip_rows.specs.Keys.{AreKeyed};
 ghost use Rattle.cip_branches.specs.Twins.{twins_of, MayDouble};
 ghost use Rattle.cip_ligands.specs.declared.asked.Asked.{Asked as AnyAsked};
-ghost use Rattle.cip_ligands.specs.Asking.{AreWithin, with_found};
+ghost use Rattle.cip_ligands.specs.Asking.{AreWithin, is_decided, with_found};
 ghost use Rattle.cip_ligands.specs.Deciding.{AreDecidedBy};
 ghost use Rattle.cip_ligands.specs.Marked.{AreMarksOf};
 ghost use Rattle.cip_ligands.specs.Orders.{decided_by};
@@ -25,6 +25,7 @@ use crate::noting::note;
 use crate::taking::take_rule;
 use crate::values::{compare_values, like_value};
 use cip_branches::{Branches, SavedRanks};
+use cip_digraph::Decision;
 use cip_mol::Rule;
 use cip_rank::{Keyed, both};
 use cip_rows::Column;
@@ -127,6 +128,28 @@ fn twin_of(branches: &Branches, branch: u32) -> u32
     }
 }
 
+// Asks which reading of a branch is the higher one. Of one that was let go that is decided, so that the rule isn't taken
+// further for it.
+fn side_of(branches: &Branches, branch: u32) -> Asked
+    requires { length branches.now.layers.kin.ups + length branches.now.layers.kin.ups < 2 ^ 32 }
+    ensures { result ≡ side_of branches.now branch }
+{
+    let decision = if branches.is_wanted(branch) {
+        None
+    } else {
+        Some(Decision {
+            side: Ordering::Equal,
+            rule: Rule::R4b,
+            sphere: 0,
+        })
+    };
+    Asked {
+        first: branch,
+        second: twin_of(branches, branch),
+        decision,
+    }
+}
+
 // Asks which reading of each branch is the higher one.
 fn ask_sides(branches: &Branches, sides: &mut Column<Asked>)
     requires few { length branches.now.layers.kin.ups + length branches.now.layers.kin.ups < 2 ^ 32 }
@@ -138,11 +161,7 @@ fn ask_sides(branches: &Branches, sides: &mut Column<Asked>)
 {
     sides.clear();
     for branch in 0..branches.branch_count() {
-        sides.push(Asked {
-            first: branch,
-            second: twin_of(branches, branch),
-            decision: None,
-        });
+        sides.push(side_of(branches, branch));
     }
 }
 
@@ -233,6 +252,26 @@ fn take_again<K: Keyed>(
     take_rule(twins, keys, Rule::R4b, asked);
 }
 
+// The same, where a pair is still open.
+fn take_open<K: Keyed>(
+    branches: &Branches,
+    twins: &mut Branches,
+    saved: &SavedRanks,
+    keys: &K,
+    asked: &mut [Asked],
+)
+    requires aside { IsAside (twins_of twins.old.layers.kin.room branches.now) saved.now twins.old }
+    requires keyed { AreKeyed (K.nodes keys.now) twins.old.layers.kin }
+    ensures decided { list_all is_decided asked.old ≡ true → asked.new ≡ asked.old }
+    ensures taken { list_all is_decided asked.old ≡ false → TakesRule (twins_of twins.old.layers.kin.room branches.now)
+        (K.key keys.now) R4b asked.old twins.new asked.new }
+    ensures kin { twins.new.layers.kin ≡ twins.old.layers.kin }
+{
+    if !are_decided(asked) {
+        take_again(branches, twins, saved, keys, asked);
+    }
+}
+
 // The same, for the pairs in a column.
 fn take_sides<K: Keyed>(
     branches: &Branches,
@@ -284,7 +323,7 @@ fn take_with<M: Marked>(
     read_all(branches, sides.as_slice(), false, asked);
     take_again(branches, twins, saved, &keys, asked);
     read_all(branches, sides.as_slice(), true, asked);
-    take_again(branches, twins, saved, &keys, asked);
+    take_open(branches, twins, saved, &keys, asked);
     name_all(branches.len(), asked);
 }
 

@@ -1,14 +1,13 @@
 use Rattle.std.proofs.Common.{arith}
-use Rattle.cip_constitution.specs.Pairs.{pairs_at, pairs_of}
-use Rattle.cip_constitution.proofs.NotedPairs.{first_room}
+use Rattle.cip_constitution.specs.Pairs.{pairs_of}
+use Rattle.cip_constitution.proofs.NotedPairs.{pairs_room}
 use Rattle.cip_constitution.proofs.pairs.pair_up.Goals as goal
 
 pub pair_all-requires : goal.pair_all-requires
 pair_all-requires c =
-    let ligands = c.args.ligands.now in
     let room = c.requires.room in
     let wide = c.loop-rest.invariant.room in
     record {
-      room = first_room (pairs_at ligands) c.loop-rest.rest.now c.loop-rest.pairs.items (pairs_of ligands) _ _
+      room = pairs_room c.loop-rest.rest.now c.loop-rest.pairs.items (pairs_of c.args.ligands.now) _ _
           c.in-len1-up.len_at_least c.loop-rest.invariant.so_far (omega (arith, room, wide));
     }

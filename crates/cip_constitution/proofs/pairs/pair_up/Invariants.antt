@@ -1,10 +1,10 @@
-use Rattle.std.proofs.Common.{◌≡◌, ◌≤◌, ◌++◌, flat_map, length, vec_capacity}
-use Rattle.cip_constitution.specs.Pairs.{pairs_at, pairs_of}
+use Rattle.std.proofs.Common.{◌≡◌, ◌≤◌, ◌++◌, length, vec_capacity}
+use Rattle.cip_constitution.specs.Pairs.{pairs_of}
 use Rattle.cip_constitution.proofs.pairs.pair_up.Given as goal
 
 abbrev pub invariant-loop-rest : goal.invariant-loop-rest
 invariant-loop-rest l = record {
-  so_far : l.pairs.items ++ flat_map (pairs_at l.ligands) l.rest ≡ pairs_of l.ligands;
+  so_far : l.pairs.items ++ pairs_of l.rest ≡ pairs_of l.ligands;
   room : vec_capacity l.fn.pairs ≤ vec_capacity l.pairs;
 }
 

@@ -1,4 +1,4 @@
-use Rattle.std.proofs.Common.{◌≡◌, ◌<◌, ◌∙◌, arith, inl, inr, length, subst, true}
+use Rattle.std.proofs.Common.{◌≡◌, ◌∙◌, arith, inl, inr, length, subst, true}
 use Rattle.std.proofs.lemmas.Bool.{cases_lt}
 use Rattle.std.specs.List.{AllByRecursion}
 use Rattle.cip_mol.specs.declared.outcome.Rule.TheVariants.{R4b}

@@ -1,4 +1,4 @@
-use Rattle.std.proofs.Common.{◌≡◌, ◌<◌, ◌∙◌, arith, false, inl, inr, sym, true}
+use Rattle.std.proofs.Common.{◌≡◌, ◌∙◌, arith, false, inl, inr, sym, true}
 use Rattle.std.proofs.lemmas.Bool.{cases_lt}
 use Rattle.cip_ligands.proofs.FoundRules.{rule_found, stands_after}
 use Rattle.cip_ligands.proofs.by_rule.take_rule_by.Goals as goal

@@ -1,5 +1,4 @@
 use Rattle.std.proofs.Common.{List, ◌++◌, ◌∷◌, [], length, map, sym, ap, ◌∙◌, arith}
-use Rattle.std.specs.Prelude.{None}
 use Rattle.std.specs.List.{range_with_len}
 use Rattle.std.proofs.lemmas.List.FromFn.{length-map-range_with_len}
 use Rattle.cip_rows.specs.Reserved.{Reserved}
@@ -18,13 +17,10 @@ push-requires c =
 pub loop-branch-preserved : goal.loop-branch-preserved
 loop-branch-preserved c = record {
   asked = c.push.ensures
-      ∙ ap (λ (r : Reserved Asked). record r {
-        items = r.items ++ record { first = c.loop-branch.branch; second = c.twin_of.result; decision = None } ∷ [];
-      }) c.loop-branch.invariant.asked
-      ∙ ap {B = Reserved Asked} (λ k. record c.args.sides.now {
-        items = map (side_of c.args.branches.now) (range_with_len 0 c.loop-branch.branch)
-            ++ record { first = c.loop-branch.branch; second = k; decision = None } ∷ [];
-      }) c.twin_of.ensures
+      ∙ ap (λ (r : Reserved Asked). record r { items = r.items ++ c.side_of.result ∷ [] }) c.loop-branch.invariant.asked
+      ∙ ap {B = Reserved Asked} (λ one. record c.args.sides.now {
+        items = map (side_of c.args.branches.now) (range_with_len 0 c.loop-branch.branch) ++ one ∷ [];
+      }) c.side_of.ensures
       ∙ ap (λ (all : List Asked). record c.args.sides.now { items = all })
       (sym (mapped_place (side_of c.args.branches.now) c.loop-branch.branch));
 }

@@ -1,4 +1,5 @@
-use Rattle.std.proofs.Common.{false, true, List, ◌+◌, length, map, sym, ap, ◌∙◌, subst}
+use Rattle.std.proofs.Common.{◌≡◌, false, true, List, ◌+◌, length, map, sym, ap, ◌∙◌, subst}
+use Rattle.std.specs.List.{list_all}
 use Rattle.cip_mol.specs.declared.outcome.Rule.TheVariants.{R4b}
 use Rattle.cip_branches.specs.Deciding.{Branched}
 use Rattle.cip_rows.specs.Kin.{Kin}
@@ -7,6 +8,7 @@ use Rattle.cip_rows.specs.Reserved.{Reserved}
 use Rattle.cip_branches.specs.Twins.{twins_of}
 use Rattle.cip_rows.proofs.TwinPlaces.{twins_keyed}
 use Rattle.cip_ligands.specs.declared.asked.Asked.{Asked}
+use Rattle.cip_ligands.specs.Asking.{is_decided}
 use Rattle.cip_ligands.specs.Readings.{reading_keys, s_higher, base_of, read_as, between}
 use Rattle.cip_ligands.specs.Taking.{TakesRule}
 use Rattle.cip_ligands.proofs.readings.take_with.Goals as goal
@@ -26,8 +28,8 @@ take_again-requires-clause-keyed g c =
     subst (λ (k : Kin). AreKeyed (length from.layers.kin.ups + length from.layers.kin.ups) k)
     (sym c.take_sides.ensures.kin) first
 
-pub take_again-requires-2-clause-keyed : goal.take_again-requires-2-clause-keyed
-take_again-requires-2-clause-keyed g c =
+pub take_open-requires-clause-keyed : goal.take_open-requires-clause-keyed
+take_open-requires-clause-keyed g c =
     let from = c.args.branches.now in
     let first = subst (λ (t : Branched). AreKeyed (length from.layers.kin.ups + length from.layers.kin.ups)
     t.layers.kin)
@@ -44,6 +46,10 @@ returns-clause-taken g c =
     let room_two = ap (λ (k : Kin). k.room) c.take_sides.ensures.kin ∙ room_one in
     let room_three = ap (λ (k : Kin). k.room) c.take_again.ensures.kin ∙ room_two in
     let sides = c.take_sides.new.sides.items in
+    let reads : c.read_all-2.new.asked ≡ map (between (read_as from (s_higher sides) true)) c.take_again.new.asked =
+    c.read_all-2.ensures
+    ∙ ap (λ (all : List Asked). map (between (read_as from (s_higher all) true)) c.take_again.new.asked)
+    c.as_slice-2.ensures in
     record {
       room = room;
       sides = sides;
@@ -62,14 +68,12 @@ returns-clause-taken g c =
           c.as_slice.ensures)
           (subst (λ r. TakesRule (twins_of r from) keys R4b c.read_all.new.asked c.take_again.new.twins
           c.take_again.new.asked) room_two c.take_again.ensures.taken);
-      lower = c.take_again-2.new.asked;
-      lower_now = c.take_again-2.new.twins;
-      lower_taken = subst (λ (asked : List Asked). TakesRule (twins_of room from) keys R4b asked
-          c.take_again-2.new.twins c.take_again-2.new.asked)
-          (c.read_all-2.ensures
-          ∙ ap (λ (all : List Asked). map (between (read_as from (s_higher all) true)) c.take_again.new.asked)
-          c.as_slice-2.ensures)
-          (subst (λ r. TakesRule (twins_of r from) keys R4b c.read_all-2.new.asked c.take_again-2.new.twins
-          c.take_again-2.new.asked) room_three c.take_again-2.ensures.taken);
-      named = c.name_all.ensures ∙ ap (λ n. map (between (base_of n)) c.take_again-2.new.asked) c.len.ensures.count;
+      lower = c.take_open.new.asked;
+      lower_now = c.take_open.new.twins;
+      lower_decided = λ done. c.take_open.ensures.decided (ap (list_all is_decided) reads ∙ done) ∙ reads;
+      lower_taken = λ left. subst (λ (asked : List Asked). TakesRule (twins_of room from) keys R4b asked
+          c.take_open.new.twins c.take_open.new.asked) reads
+          (subst (λ r. TakesRule (twins_of r from) keys R4b c.read_all-2.new.asked c.take_open.new.twins
+          c.take_open.new.asked) room_three (c.take_open.ensures.taken (ap (list_all is_decided) reads ∙ left)));
+      named = c.name_all.ensures ∙ ap (λ n. map (between (base_of n)) c.take_open.new.asked) c.len.ensures.count;
     }
