@@ -1,7 +1,9 @@
 // The positions of every vertex.
-ghost use Rattle.std.specs.Prelude.{◌≡◌, ◌==◌, ◌||◌, ◌++◌, ◌∷◌, [], cond, IfOk, OnOk};
+ghost use Rattle.std.specs.Prelude.{◌≡◌, ◌==◌, ◌<◌, ◌||◌, ◌++◌, ◌∷◌, [], cond, IfOk, OnOk, Some, length, slice_set};
 ghost use Rattle.cip_digraph.specs.rings.Alternating.{closes_ring};
-ghost use Rattle.cip_digraph.specs.rings.Positions.{positions_at, positions_of};
+ghost use Rattle.cip_digraph.specs.rings.PositionLists.{IsPositionList};
+ghost use Rattle.cip_digraph.specs.rings.Positions.{listed_positions, positions_at, positions_of};
+ghost use Rattle.cip_mancude.specs.Partners.{alternating_partner};
 
 use crate::alternating::Alternation;
 use crate::search::closes_ring;
@@ -18,12 +20,30 @@ pub fn positions(alloc: Global, graph: &Graph) -> Result<Positions, AllocError>
     let count = graph.vertices().len();
     let alternation = Alternation::new(alloc, graph)?;
     let mut reached = VertexSet::new(alloc, count)?;
-    let mut positions = Positions::with_room(alloc, count)?;
+    let mut positions = Positions::none(alloc, count)?;
     for vertex in 0..count as u32 {
-        let list = positions_at(alloc, &alternation, vertex, &mut reached)?;
-        positions.push(list.as_slice())?;
+        set_positions(alloc, &alternation, vertex, &mut reached, &mut positions)?;
     }
     Ok(positions)
+}
+
+// Sets the positions of a vertex that had none yet.
+fn set_positions(
+    alloc: Global,
+    alternation: &Alternation,
+    vertex: u32,
+    reached: &mut VertexSet,
+    positions: &mut Positions,
+) -> Result<(), AllocError>
+    requires within { vertex < length positions.old }
+    requires none { listed_positions positions.old vertex ≡ [] }
+    ensures { OnOk result (positions.new ≡ slice_set positions.old vertex (positions_at alternation.now vertex)) }
+{
+    if let Some(partner) = alternation.partner(vertex) {
+        let list = positions_at(alloc, alternation, vertex, partner, reached)?;
+        positions.set(vertex, list.as_slice());
+    }
+    Ok(())
 }
 
 // Whether the double bond can lead to another atom than now.
@@ -52,18 +72,19 @@ fn push_if(positions: &mut SmallVec<u32, 3>, other: u32, found: bool) -> Result<
     Ok(())
 }
 
+// The positions of an alternating atom.
 fn positions_at(
     alloc: Global,
     alternation: &Alternation,
     vertex: u32,
+    partner: u32,
     reached: &mut VertexSet,
 ) -> Result<SmallVec<u32, 3>, AllocError>
-    ensures { IfOk result (λ list. list.items ≡ positions_at alternation.now vertex) }
+    requires { alternating_partner alternation.now vertex ≡ Some partner }
+    ensures value { IfOk result (λ list. list.items ≡ positions_at alternation.now vertex) }
+    ensures list { IfOk result (λ list. IsPositionList list.items) }
 {
     let mut positions: SmallVec<u32, 3> = SmallVec::new(alloc);
-    let Some(partner) = alternation.partner(vertex) else {
-        return Ok(positions);
-    };
     for edge in alternation.edges_at(vertex) {
         let other = edge.other_end(vertex);
         let found = is_position(alloc, alternation, vertex, partner, other, reached)?;

@@ -1,6 +1,8 @@
-use Rattle.std.proofs.Common.{ap, ◌∙◌, ◌==◌, ◌||◌}
+use Rattle.std.proofs.Common.{◌≡◌, ap, ◌∙◌, ◌==◌, ◌||◌, arith, subst, sym}
 use Rattle.cip_digraph.specs.rings.Alternating.{closes_ring}
-use Rattle.cip_mancude.proofs.Listed.{along_next}
+use Rattle.cip_digraph.specs.rings.PositionLists.{IsPositionList}
+use Rattle.cip_digraph.specs.rings.Positions.{positions_at}
+use Rattle.cip_mancude.proofs.Listed.{along_all, along_next, are_positions}
 use Rattle.cip_mancude.proofs.Searched.{partner_of}
 use Rattle.cip_mancude.proofs.listing.positions_at.Goals as goal
 
@@ -12,5 +14,15 @@ loop-edge-preserved c =
     (c.in_ok-found.ensures
     ∙ ap (λ partner. (c.other_end-other.result == partner)
     || closes_ring c.args.alternation.now c.args.vertex c.other_end-other.result)
-    (partner_of c.args.alternation.now c.args.vertex c.in-Some.partner c.in-Some.ensures))
+    (partner_of c.args.alternation.now c.args.vertex c.args.partner (sym c.requires)))
     c.in_ok-push_if.ensures
+
+pub returns-clause-value : goal.returns-clause-value
+returns-clause-value c =
+    along_all c.args.alternation.now c.args.vertex c.args.partner c.loop-edge.edge-index _ _ c.requires
+    c.edges_at-edge-items.ensures.value (omega (arith, c.loop-edge-test.false)) c.loop-edge.invariant
+
+pub returns-clause-list : goal.returns-clause-list
+returns-clause-list c =
+    subst IsPositionList (sym (returns-clause-value c))
+    (are_positions c.args.alternation.now c.args.vertex c.edges_at-edge-items.ensures.sound)
