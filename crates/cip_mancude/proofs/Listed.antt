@@ -4,9 +4,9 @@ use Rattle.std.specs.Prelude.{filter}
 use Rattle.std.specs.declared.option.Option.{Option}
 use Rattle.std.specs.List.{range_with_len}
 use Rattle.std.proofs.lemmas.Bool.{and_parts, leb-true}
-use Rattle.std.proofs.lemmas.List.{append-nil, get_or_at, length-map, map_more, set-get_or, set_at, take_all}
+use Rattle.std.proofs.lemmas.List.{append-nil, get_or_append_left, get_or_at, length-map, map_more, set_at, take_all}
 use Rattle.std.proofs.lemmas.List.Elements.{filter-append}
-use Rattle.std.proofs.lemmas.List.FromFn.{length-map-range_with_len, map-range_with_len_more}
+use Rattle.std.proofs.lemmas.List.FromFn.{get_or-map-range_with_len, length-map-range_with_len, map-range_with_len_more}
 use Rattle.std.proofs.lemmas.List.Sums.{count_by-le-length, length-filter}
 use Rattle.cip_digraph.specs.rings.Alternating.{closes_ring, counted_at, is_alternating, is_one_double, partner}
 use Rattle.cip_digraph.specs.graph.Graph.{Graph, edges_at, neighbours, other_end}
@@ -17,7 +17,7 @@ use Rattle.cip_digraph.specs.declared.graph.Edge.{Edge}
 use Rattle.cip_digraph.proofs.Listed.{none_listed}
 use Rattle.cip_digraph.proofs.Lists.{pairs_from_pairwise, pairwise_filtered}
 use Rattle.cip_digraph.proofs.NeighbourOrder.{neighbours_ascend}
-use Rattle.cip_mancude.specs.Partners.{alternating_partner, positions_along}
+use Rattle.cip_mancude.specs.Partners.{alternating_partner, AreListedBelow, positions_along}
 
 abbrev is_position : Graph → ℕ → ℕ → Bool
 is_position graph vertex other = (other == partner graph vertex) || closes_ring graph vertex other
@@ -97,6 +97,14 @@ module _ (graph : Graph) (vertex count : ℕ) (lists : List (List ℕ))
   pub none_yet : vertex < count → listed_positions lists vertex ≡ []
   none_yet lt =
       ap (λ ls. get_or ls vertex []) (next_is lt) ∙ get_or_at done [] (replicate more []) [] vertex long
+
+  pub all_below : vertex ≤ count → AreListedBelow graph vertex lists
+  all_below le = record {
+    each = λ other lt.
+        ap (λ ls. get_or ls other []) before
+        ∙ get_or_append_left done (replicate (count - vertex) []) [] other (omega (arith, lt, long))
+        ∙ get_or-map-range_with_len (positions_at graph) 0 vertex other other [] lt (omega arith);
+  }
 
   pub listed_next : (now : List (List ℕ)) → vertex < count → now ≡ set lists vertex (positions_at graph vertex)
       → now ≡ listed_below graph (vertex + 1) (count - (vertex + 1))

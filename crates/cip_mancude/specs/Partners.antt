@@ -4,6 +4,7 @@ use Rattle.std.specs.List.{list_any}
 use Rattle.std.specs.declared.option.Option.{Option}
 use Rattle.cip_digraph.specs.declared.graph.Edge.{Edge}
 use Rattle.cip_digraph.specs.rings.Alternating.{closes_ring, goes_on, is_alternating, is_in, partner, reaches, singles}
+use Rattle.cip_digraph.specs.rings.Positions.{listed_positions, positions_at}
 use Rattle.cip_digraph.specs.graph.Graph.{Graph, other_end, touches}
 
 abbrev pub alternating_partner : Graph → ℕ → Option ℕ
@@ -58,3 +59,7 @@ goes_through graph target more path next =
 abbrev pub positions_along : Graph → ℕ → List Edge → List ℕ
 positions_along graph vertex edges =
     filter (λ other. (other == partner graph vertex) || closes_ring graph vertex other) (map (other_end vertex) edges)
+
+-- the positions of all lower vertices are listed
+pub record AreListedBelow (graph : Graph) (vertex : ℕ) (positions : List (List ℕ)) : Type 0 where
+  pub each : (other : ℕ) → other < vertex → listed_positions positions other ≡ positions_at graph other

@@ -1,5 +1,5 @@
-use Rattle.std.proofs.Common.{◌≡◌, ap, arith, length}
-use Rattle.cip_mancude.proofs.Noted.{all_noted, none_noted, noted_next}
+use Rattle.std.proofs.Common.{arith}
+use Rattle.cip_mancude.proofs.Noted.{all_noted}
 use Rattle.cip_mancude.proofs.alternating.partners_of.Goals as goal
 
 pub returns : goal.returns

@@ -1,7 +1,5 @@
-use Rattle.std.proofs.Common.{◌≡◌, ◌∙◌, ap, arith, length}
-use Rattle.cip_digraph.specs.graph.Graph.{Graph}
-use Rattle.cip_digraph.specs.rings.Positions.{positions_at}
-use Rattle.cip_mancude.proofs.Listed.{all_listed, listed_next, next_within, none_yet}
+use Rattle.std.proofs.Common.{ap, arith, length}
+use Rattle.cip_mancude.proofs.Listed.{all_below, all_listed, listed_next, next_within, none_yet}
 use Rattle.cip_mancude.proofs.listing.positions.Goals as goal
 
 pub set_positions-requires-clause-within : goal.set_positions-requires-clause-within
@@ -11,6 +9,12 @@ set_positions-requires-clause-within c =
 pub set_positions-requires-clause-none : goal.set_positions-requires-clause-none
 set_positions-requires-clause-none c =
     none_yet c.args.graph.now c.loop-vertex.vertex _ _ c.loop-vertex.invariant c.loop-vertex-test.true
+
+pub set_positions-requires-clause-below : goal.set_positions-requires-clause-below
+set_positions-requires-clause-below c =
+    rw c.in_ok-alternation.ensures
+    (all_below c.args.graph.now c.loop-vertex.vertex _ _ c.loop-vertex.invariant
+    (omega (arith, c.loop-vertex-test.true)))
 
 pub loop-vertex-preserved : goal.loop-vertex-preserved
 loop-vertex-preserved c =
