@@ -7,7 +7,7 @@ use Rattle.std.proofs.lemmas.Bool.Decides.{nat_tests}
 use Rattle.std.proofs.lemmas.Grind.{common_steps}
 use Rattle.cip_digraph.specs.declared.graph.Edge.{Edge}
 use Rattle.cip_digraph.specs.graph.Graph.{Graph, edges_at, touches}
-use Rattle.cip_digraph.specs.graph.Incidence.{IsIncidence, IsListed, row}
+use Rattle.cip_digraph.specs.graph.Incidence.{IsIncidence, row}
 use Rattle.cip_digraph.specs.graph.SoundGraphs.{JoinsBelow, IsSound}
 use Rattle.cip_digraph.proofs.Lists.{by_recursion}
 
@@ -19,8 +19,8 @@ row-replicate zero vertex = refl
 row-replicate (suc vertices) zero = refl
 row-replicate (suc vertices) (suc vertex) = row-replicate vertices vertex
 
-pub listed_none : (vertices : ℕ) → IsListed vertices [] (replicate vertices [])
-listed_none vertices =
+pub rows_none : (vertices : ℕ) → IsIncidence vertices [] (replicate vertices [])
+rows_none vertices =
     record { len = search (rules, common_steps); each = λ vertex within. row-replicate vertices vertex }
 
 -- no edge of a sound graph leads to a number beyond its vertices

@@ -30,7 +30,7 @@ pub mod ReflectedUnits
 pub mod RowRooms
 pub mod SameFromTie
 pub mod SettledTies
-pub mod SortedRows
+pub mod Sinking
 pub mod TieFromSame
 pub mod TurnedTies
 pub mod UnitFree

@@ -1,15 +1,12 @@
--- The positions of any number are a list of positions, of none where they aren't listed.
-use Rattle.std.proofs.Common.{ℕ, zero, suc, List, [], ◌∷◌, arith}
-use Rattle.std.specs.List.{All}
-use Rattle.std.proofs.lemmas.List.Elements.{All-head, All-tail}
-use Rattle.cip_digraph.specs.rings.PositionLists.{IsPositionList}
-use Rattle.cip_digraph.specs.rings.Positions.{listed_positions}
+-- Lists of positions: the list of none, and copies of one list.
+use Rattle.std.proofs.Common.{◌≡◌, ℕ, zero, suc, [], ◌∷◌, ap, arith, map, refl, replicate}
+use Rattle.cip_digraph.specs.declared.positions.PositionList.{PositionList}
+use Rattle.cip_digraph.specs.rings.PositionLists.{IsPositionList, listed}
 
 pub none_listed : IsPositionList []
 none_listed = record { ascending = λ i j d lt within. absurd (omega (arith, within)); few = omega arith }
 
-pub are_positions : (lists : List (List ℕ)) (vertex : ℕ) → All IsPositionList lists
-    → IsPositionList (listed_positions lists vertex)
-are_positions [] vertex all = none_listed
-are_positions (list ∷ lists) zero all = All-head IsPositionList list lists all
-are_positions (list ∷ lists) (suc vertex) all = are_positions lists vertex (All-tail IsPositionList list lists all)
+-- so many times the same list
+pub copies_listed : (n : ℕ) (list : PositionList) → map listed (replicate n list) ≡ replicate n (listed list)
+copies_listed zero list = refl
+copies_listed (suc n) list = ap (λ lists. listed list ∷ lists) (copies_listed n list)

@@ -1,39 +1,60 @@
 // Where the double bonds of alternating atoms can stand, by vertex.
-ghost use Rattle.std.specs.Prelude.{◌≡◌, ◌++◌, ◌∷◌, [], IfOk, OnOk, OnErr};
-ghost use Rattle.cip_digraph.specs.rings.PositionLists.{IsPositionList};
+ghost use Rattle.std.specs.Prelude.{◌≡◌, ◌<◌, ◌≤◌, [], IfOk, length, replicate, slice_set};
+ghost use Rattle.cip_digraph.specs.rings.PositionLists.{IsKept, IsPositionList, listed};
 ghost use Rattle.cip_digraph.specs.rings.Positions.{listed_positions};
 
-use smallvec::SmallVec;
 use std::alloc::{AllocError, Global};
 use std::marker::Model;
 
 /// How many positions a vertex has at most.
 const MOST_POSITIONS: usize = 3;
 
+/// The positions of a vertex: the first so many of three numbers.
+#[derive(Clone, Copy)]
+pub struct PositionList {
+    pub count: usize,
+    pub numbers: [u32; MOST_POSITIONS],
+}
+
+/// Of a vertex that has none.
+const NO_POSITIONS: PositionList = PositionList {
+    count: 0,
+    numbers: [0; MOST_POSITIONS],
+};
+
+impl PositionList {
+    fn as_slice(&self) -> &[u32]
+        requires { IsKept self.now }
+        ensures { result.now ≡ listed self.now }
+    {
+        &self.numbers[..self.count]
+    }
+}
+
 /// The positions of each vertex. Contracts see the list of these lists.
 #[derive(Drop)]
 pub struct Positions {
-    lists: Vec<SmallVec<u32, MOST_POSITIONS>>,
+    lists: Vec<PositionList>,
 }
 
 impl Model for Positions {
     ghost use Rattle.std.specs.Prelude.{ℕ, List, All, map};
-    ghost use Rattle.cip_digraph.specs.rings.PositionLists.{IsPositionList};
+    ghost use Rattle.cip_digraph.specs.rings.PositionLists.{IsKept, listed};
 
     ghost Value = { List (List ℕ) };
 
-    ghost view = { λ p. map (λ list. list.items) p.lists.items };
+    ghost view = { λ p. map listed p.lists.items };
 
-    ghost invariant = { λ p. All IsPositionList (map (λ list. list.items) p.lists.items) };
+    ghost invariant = { λ p. All IsKept p.lists.items };
 }
 
 impl Positions {
-    /// Of no vertex, with room for those of so many.
-    pub fn with_room(alloc: Global, vertices: usize) -> Result<Positions, AllocError>
-        ensures { IfOk result (λ positions. positions ≡ []) }
+    /// Of so many vertices, none of which has any.
+    pub fn none(alloc: Global, vertices: usize) -> Result<Positions, AllocError>
+        ensures { IfOk result (λ positions. positions ≡ replicate vertices []) }
     {
         Ok(Positions {
-            lists: Vec::with_capacity(alloc, vertices)?,
+            lists: vec![in alloc; NO_POSITIONS; vertices]?,
         })
     }
 
@@ -48,14 +69,27 @@ impl Positions {
         }
     }
 
-    /// Adds the positions of the next vertex. A refusal leaves them as they were.
-    pub fn push(&mut self, positions: &[u32]) -> Result<(), AllocError>
-        requires { IsPositionList positions.now }
-        ensures added { OnOk result (self.new ≡ self.old ++ positions.now ∷ []) }
-        ensures refused { OnErr result (self.new ≡ self.old) }
+    /// Gives a vertex its positions.
+    pub fn set(&mut self, vertex: u32, positions: &[u32])
+        requires within { vertex < length self.old }
+        requires list { IsPositionList positions.now }
+        ensures { self.new ≡ slice_set self.old vertex positions.now }
     {
-        let list = SmallVec::from_slice(*self.lists.allocator(), positions)?;
-        self.lists.push(list)?;
-        Ok(())
+        self.lists[vertex as usize] = list_of(positions);
+    }
+}
+
+fn list_of(positions: &[u32]) -> PositionList
+    requires { IsPositionList positions.now }
+    ensures value { listed result ≡ positions.now }
+    ensures kept { IsKept result }
+{
+    let mut numbers = [0; MOST_POSITIONS];
+    for (place, position) in positions.iter().enumerate() {
+        numbers[place] = *position;
+    }
+    PositionList {
+        count: positions.len(),
+        numbers,
     }
 }

@@ -1,22 +1,23 @@
 -- The lists of positions: an edge or a vertex more, and that they ascend and are short.
-use Rattle.std.proofs.Common.{◌≡◌, ◌<◌, ◌+◌, ℕ, Bool, true, false, cond, ◌==◌, ◌||◌, List, [], ◌∷◌, ◌++◌, length, map, take, get_or, refl, sym, ap, ◌∙◌, arith}
+use Rattle.std.proofs.Common.{◌≡◌, ◌<◌, ◌≤◌, ◌+◌, ◌-◌, ℕ, suc, Bool, true, false, cond, ◌==◌, ◌||◌, Some, None, List, [], ◌∷◌, ◌++◌, append_assoc, length, length-append, map, replicate, set, take, get_or, refl, sym, ap, ◌∙◌, arith}
 use Rattle.std.specs.Prelude.{filter}
+use Rattle.std.specs.declared.option.Option.{Option}
 use Rattle.std.specs.List.{range_with_len}
 use Rattle.std.proofs.lemmas.Bool.{and_parts, leb-true}
-use Rattle.std.proofs.lemmas.List.{length-map, map_more}
+use Rattle.std.proofs.lemmas.List.{append-nil, get_or_append_left, get_or_at, length-map, map_more, set_at, take_all}
 use Rattle.std.proofs.lemmas.List.Elements.{filter-append}
-use Rattle.std.proofs.lemmas.List.FromFn.{map-range_with_len_more}
+use Rattle.std.proofs.lemmas.List.FromFn.{get_or-map-range_with_len, length-map-range_with_len, map-range_with_len_more}
 use Rattle.std.proofs.lemmas.List.Sums.{count_by-le-length, length-filter}
 use Rattle.cip_digraph.specs.rings.Alternating.{closes_ring, counted_at, is_alternating, is_one_double, partner}
 use Rattle.cip_digraph.specs.graph.Graph.{Graph, edges_at, neighbours, other_end}
 use Rattle.cip_digraph.specs.rings.PositionLists.{IsPositionList}
-use Rattle.cip_digraph.specs.rings.Positions.{positions_at}
+use Rattle.cip_digraph.specs.rings.Positions.{listed_positions, positions_at, positions_of}
 use Rattle.cip_digraph.specs.graph.SoundGraphs.{IsSound}
 use Rattle.cip_digraph.specs.declared.graph.Edge.{Edge}
 use Rattle.cip_digraph.proofs.Listed.{none_listed}
 use Rattle.cip_digraph.proofs.Lists.{pairs_from_pairwise, pairwise_filtered}
 use Rattle.cip_digraph.proofs.NeighbourOrder.{neighbours_ascend}
-use Rattle.cip_mancude.specs.Partners.{positions_along}
+use Rattle.cip_mancude.specs.Partners.{alternating_partner, AreListedBelow, positions_along}
 
 abbrev is_position : Graph → ℕ → ℕ → Bool
 is_position graph vertex other = (other == partner graph vertex) || closes_ring graph vertex other
@@ -42,11 +43,84 @@ along_next graph vertex items edges k d other found positions more same lt befor
       filter-append test (map (other_end vertex) (take k edges)) (other_end vertex (get_or edges k d) ∷ []),
     ) refl
 
-pub listed_next : (graph : Graph) (vertex : ℕ) (lists : List (List ℕ)) (list : List ℕ)
-    → lists ≡ map (positions_at graph) (range_with_len 0 vertex)
-    → list ≡ positions_at graph vertex → lists ++ list ∷ [] ≡ map (positions_at graph) (range_with_len 0 (vertex + 1))
-listed_next graph vertex lists list before is =
-    rw (before, is) (sym (map-range_with_len_more (positions_at graph) 0 vertex vertex (omega arith)))
+-- all edges are looked at
+pub along_all : (graph : Graph) (vertex other k : ℕ) (items : List Edge) (positions : List ℕ)
+    → ◌≡◌ {A = Option ℕ} (alternating_partner graph vertex) (Some other) → items ≡ edges_at graph vertex
+    → length items ≤ k → positions ≡ positions_along graph vertex (take k (edges_at graph vertex))
+    → positions ≡ positions_at graph vertex
+along_all graph vertex other k items positions some same past is =
+    let far : length (edges_at graph vertex) ≤ k = rw (← same) past in
+    is ∙ ap (positions_along graph vertex) (take_all k (edges_at graph vertex) far)
+    ∙ ap (λ b. cond b (filter (is_position graph vertex) (neighbours graph vertex)) [])
+    (sym (alternates_by (is_alternating graph vertex) some))
+  where
+    alternates_by : (b : Bool) → ◌≡◌ {A = Option ℕ} (cond b (Some (partner graph vertex)) None) (Some other)
+        → b ≡ true
+    alternates_by true e = refl
+    alternates_by false e = cc
+
+pub none_at : (graph : Graph) (vertex : ℕ) → ◌≡◌ {A = Option ℕ} (alternating_partner graph vertex) None
+    → positions_at graph vertex ≡ []
+none_at graph vertex e =
+    ap (λ b. cond b (filter (is_position graph vertex) (neighbours graph vertex)) [])
+    (rests_by (is_alternating graph vertex) e)
+  where
+    rests_by : (b : Bool) → ◌≡◌ {A = Option ℕ} (cond b (Some (partner graph vertex)) None) None → b ≡ false
+    rests_by true e = cc
+    rests_by false e = refl
+
+-- the lists of the vertices below one, and none behind them
+abbrev pub listed_below : Graph → ℕ → ℕ → List (List ℕ)
+listed_below graph vertex more = map (positions_at graph) (range_with_len 0 vertex) ++ replicate more []
+
+module _ (graph : Graph) (vertex count : ℕ) (lists : List (List ℕ))
+    (before : lists ≡ listed_below graph vertex (count - vertex)) where
+  abbrev done : List (List ℕ)
+  done = map (positions_at graph) (range_with_len 0 vertex)
+
+  abbrev more : ℕ
+  more = count - (vertex + 1)
+
+  long : length done ≡ vertex
+  long = length-map-range_with_len (positions_at graph) 0 vertex
+
+  next_is : vertex < count → lists ≡ done ++ [] ∷ replicate more []
+  next_is lt =
+      let same : count - vertex ≡ suc more = omega (arith, lt) in
+      before ∙ ap (λ n. done ++ replicate n []) same
+
+  pub next_within : vertex < count → vertex < length lists
+  next_within lt =
+      let all = ap length (next_is lt) ∙ length-append done ([] ∷ replicate more []) in
+      omega (arith, all, long)
+
+  pub none_yet : vertex < count → listed_positions lists vertex ≡ []
+  none_yet lt =
+      ap (λ ls. get_or ls vertex []) (next_is lt) ∙ get_or_at done [] (replicate more []) [] vertex long
+
+  pub all_below : vertex ≤ count → AreListedBelow graph vertex lists
+  all_below le = record {
+    each = λ other lt.
+        ap (λ ls. get_or ls other []) before
+        ∙ get_or_append_left done (replicate (count - vertex) []) [] other (omega (arith, lt, long))
+        ∙ get_or-map-range_with_len (positions_at graph) 0 vertex other other [] lt (omega arith);
+  }
+
+  pub listed_next : (now : List (List ℕ)) → vertex < count → now ≡ set lists vertex (positions_at graph vertex)
+      → now ≡ listed_below graph (vertex + 1) (count - (vertex + 1))
+  listed_next now lt is =
+      is ∙ ap (λ ls. set ls vertex (positions_at graph vertex)) (next_is lt)
+      ∙ set_at done [] (replicate more []) (positions_at graph vertex) vertex long
+      ∙ sym (append_assoc done (positions_at graph vertex ∷ []) (replicate more []))
+      ∙ ap (λ ls. ls ++ replicate more [])
+      (sym (map-range_with_len_more (positions_at graph) 0 vertex vertex (omega arith)))
+
+  pub all_listed : count ≡ length graph.vertices → vertex ≡ count → lists ≡ positions_of graph
+  unfolding positions_of
+  all_listed all last =
+      let none : count - vertex ≡ 0 = omega (arith, last) in
+      before ∙ ap (λ n. done ++ replicate n []) none ∙ append-nil done
+      ∙ ap (λ n. map (positions_at graph) (range_with_len 0 n)) (last ∙ all)
 
 listed_by : (graph : Graph) (vertex : ℕ) (b : Bool) → is_alternating graph vertex ≡ b → IsSound graph
     → IsPositionList (cond b (filter (is_position graph vertex) (neighbours graph vertex)) [])

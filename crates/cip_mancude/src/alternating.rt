@@ -1,8 +1,9 @@
 // Alternating atoms, and the other ends of their double bonds.
-ghost use Rattle.std.specs.Prelude.{◌≡◌, IfOk, length};
+ghost use Rattle.std.specs.Prelude.{◌≡◌, ◌<◌, IfOk, length};
 ghost use Rattle.cip_digraph.specs.graph.Graph.{edges_at};
+ghost use Rattle.cip_digraph.specs.graph.SoundGraphs.{IsSound};
 ghost use Rattle.cip_digraph.specs.rings.Alternating.{is_alternating, is_in, singles};
-ghost use Rattle.cip_mancude.specs.Partners.{alternating_partner, ArePartners, sole_counted};
+ghost use Rattle.cip_mancude.specs.Partners.{alternating_partner, ArePartners, sole_counted, with_partners};
 
 use cip_digraph::{Edge, Graph};
 use std::alloc::{AllocError, Global};
@@ -52,6 +53,7 @@ impl<'a> Alternation<'a> {
     /// The edges at a vertex, by ascending neighbour.
     pub fn edges_at(&self, vertex: u32) -> &[Edge]
         ensures value { result.now ≡ edges_at self.now vertex }
+        ensures sound { IsSound self.now }
     {
         self.graph.edges_at(vertex)
     }
@@ -86,16 +88,27 @@ impl<'a> Alternation<'a> {
     }
 }
 
-// The partner of each vertex.
+// The partner of each vertex. Only an end of a counted bond has one.
 fn partners_of(alloc: Global, graph: &Graph) -> Result<Vec<Option<u32>>, AllocError>
     ensures { IfOk result (λ partners. ArePartners graph.now partners.items) }
 {
-    let count = graph.vertices().len();
-    let mut partners = Vec::with_capacity(alloc, count)?;
-    for vertex in 0..count as u32 {
-        partners.push(alternating_partner(graph, vertex))?;
+    let mut partners = vec![in alloc; None; graph.vertices().len()]?;
+    for edge in graph.edges() {
+        note_partners(graph, edge, &mut partners);
     }
     Ok(partners)
+}
+
+// Notes the partners of both ends of an edge that is counted.
+fn note_partners(graph: &Graph, edge: &Edge, partners: &mut Vec<Option<u32>>)
+    requires a { edge.now.a < length partners.old.items }
+    requires b { edge.now.b < length partners.old.items }
+    ensures { partners.new.items ≡ with_partners graph.now edge.now partners.old.items }
+{
+    if edge.counted {
+        partners[edge.a as usize] = alternating_partner(graph, edge.a);
+        partners[edge.b as usize] = alternating_partner(graph, edge.b);
+    }
 }
 
 fn alternating_partner(graph: &Graph, vertex: u32) -> Option<u32>

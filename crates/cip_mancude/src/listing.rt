@@ -1,7 +1,11 @@
 // The positions of every vertex.
-ghost use Rattle.std.specs.Prelude.{◌≡◌, ◌==◌, ◌||◌, ◌++◌, ◌∷◌, [], cond, IfOk, OnOk};
-ghost use Rattle.cip_digraph.specs.rings.Alternating.{closes_ring};
-ghost use Rattle.cip_digraph.specs.rings.Positions.{positions_at, positions_of};
+ghost use Rattle.std.specs.Prelude.{◌≡◌, ◌==◌, ◌<◌, ◌||◌, ◌++◌, ◌∷◌, [], cond, IfOk, OnOk, Some, true, length, slice_set};
+ghost use Rattle.cip_digraph.specs.rings.Alternating.{closes_ring, is_in};
+ghost use Rattle.cip_digraph.specs.graph.Graph.{neighbours};
+ghost use Rattle.cip_digraph.specs.graph.SoundGraphs.{IsSound};
+ghost use Rattle.cip_digraph.specs.rings.PositionLists.{IsPositionList};
+ghost use Rattle.cip_digraph.specs.rings.Positions.{listed_positions, positions_at, positions_of};
+ghost use Rattle.cip_mancude.specs.Partners.{alternating_partner, AreListedBelow};
 
 use crate::alternating::Alternation;
 use crate::search::closes_ring;
@@ -9,6 +13,13 @@ use cip_digraph::{Graph, Positions};
 use cip_ring::VertexSet;
 use smallvec::SmallVec;
 use std::alloc::{AllocError, Global};
+
+/// An alternating atom, and the other end of its double bond.
+#[derive(Clone, Copy)]
+struct Double {
+    vertex: u32,
+    partner: u32,
+}
 
 /// Where the double bonds of alternating atoms can stand.
 #[tactic(auto, unfolding(cip_digraph::specs::rings::Positions::positions_of))]
@@ -18,29 +29,64 @@ pub fn positions(alloc: Global, graph: &Graph) -> Result<Positions, AllocError>
     let count = graph.vertices().len();
     let alternation = Alternation::new(alloc, graph)?;
     let mut reached = VertexSet::new(alloc, count)?;
-    let mut positions = Positions::with_room(alloc, count)?;
+    let mut positions = Positions::none(alloc, count)?;
     for vertex in 0..count as u32 {
-        let list = positions_at(alloc, &alternation, vertex, &mut reached)?;
-        positions.push(list.as_slice())?;
+        set_positions(alloc, &alternation, vertex, &mut reached, &mut positions)?;
     }
     Ok(positions)
 }
 
-// Whether the double bond can lead to another atom than now.
-fn is_position(
+// Sets the positions of a vertex that had none yet.
+fn set_positions(
     alloc: Global,
     alternation: &Alternation,
     vertex: u32,
-    partner: u32,
+    reached: &mut VertexSet,
+    positions: &mut Positions,
+) -> Result<(), AllocError>
+    requires within { vertex < length positions.old }
+    requires none { listed_positions positions.old vertex ≡ [] }
+    requires below { AreListedBelow alternation.now vertex positions.old }
+    ensures { OnOk result (positions.new ≡ slice_set positions.old vertex (positions_at alternation.now vertex)) }
+{
+    if let Some(partner) = alternation.partner(vertex) {
+        let double = Double { vertex, partner };
+        let list = positions_at(alloc, alternation, double, positions, reached)?;
+        positions.set(vertex, list.as_slice());
+    }
+    Ok(())
+}
+
+// Whether the double bond of an alternating atom can lead to a neighbour. Whether a ring goes through a bond was looked
+// for from its lower end.
+fn is_position(
+    alloc: Global,
+    alternation: &Alternation,
+    double: Double,
     other: u32,
+    before: &Positions,
     reached: &mut VertexSet,
 ) -> Result<bool, AllocError>
-    ensures { IfOk result (λ found. found ≡ ((other == partner) || closes_ring alternation.now vertex other)) }
+    requires sound { IsSound alternation.now }
+    requires partner { alternating_partner alternation.now double.vertex ≡ Some double.partner }
+    requires near { is_in other (neighbours alternation.now double.vertex) ≡ true }
+    requires below { AreListedBelow alternation.now double.vertex before.now }
+    ensures { IfOk result
+        (λ found. found ≡ ((other == double.partner) || closes_ring alternation.now double.vertex other)) }
 {
-    if other == partner {
+    if other == double.partner {
         return Ok(true);
     }
-    closes_ring(alloc, alternation, vertex, other, reached)
+    if other < double.vertex {
+        return Ok(holds(before.of(other), double.vertex));
+    }
+    closes_ring(alloc, alternation, double.vertex, other, reached)
+}
+
+fn holds(positions: &[u32], vertex: u32) -> bool
+    ensures { result ≡ is_in vertex positions.now }
+{
+    positions.contains(&vertex)
 }
 
 fn push_if(positions: &mut SmallVec<u32, 3>, other: u32, found: bool) -> Result<(), AllocError>
@@ -52,21 +98,23 @@ fn push_if(positions: &mut SmallVec<u32, 3>, other: u32, found: bool) -> Result<
     Ok(())
 }
 
+// The positions of an alternating atom, where those of all lower ones are known.
 fn positions_at(
     alloc: Global,
     alternation: &Alternation,
-    vertex: u32,
+    double: Double,
+    before: &Positions,
     reached: &mut VertexSet,
 ) -> Result<SmallVec<u32, 3>, AllocError>
-    ensures { IfOk result (λ list. list.items ≡ positions_at alternation.now vertex) }
+    requires partner { alternating_partner alternation.now double.vertex ≡ Some double.partner }
+    requires below { AreListedBelow alternation.now double.vertex before.now }
+    ensures value { IfOk result (λ list. list.items ≡ positions_at alternation.now double.vertex) }
+    ensures list { IfOk result (λ list. IsPositionList list.items) }
 {
     let mut positions: SmallVec<u32, 3> = SmallVec::new(alloc);
-    let Some(partner) = alternation.partner(vertex) else {
-        return Ok(positions);
-    };
-    for edge in alternation.edges_at(vertex) {
-        let other = edge.other_end(vertex);
-        let found = is_position(alloc, alternation, vertex, partner, other, reached)?;
+    for edge in alternation.edges_at(double.vertex) {
+        let other = edge.other_end(double.vertex);
+        let found = is_position(alloc, alternation, double, other, before, reached)?;
         push_if(&mut positions, other, found)?;
     }
     Ok(positions)

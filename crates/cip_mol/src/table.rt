@@ -32,7 +32,7 @@ impl Table {
     {
         let mut rows = Vec::with_capacity(alloc, atoms)?;
         for _ in 0..atoms {
-            rows.push(Row::new(alloc))?;
+            rows.push(Row::new())?;
         }
         Ok(Table { rows })
     }

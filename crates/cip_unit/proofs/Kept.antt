@@ -15,7 +15,7 @@ use Rattle.cip_digraph.specs.units.DoubleBonds.{bond_sites}
 use Rattle.cip_digraph.specs.graph.Graph.{Graph, other_end}
 use Rattle.cip_digraph.specs.units.Units.{centre_site, sites_of, units_of}
 use Rattle.cip_digraph.specs.declared.graph.Edge.{Edge}
-use Rattle.cip_unit.specs.Sites.{centre_sites, units_at}
+use Rattle.cip_unit.specs.Sites.{centre_sites, units_at, with_axes, with_bonds}
 
 kept_by : {X Y : Type 0} (f : X → Y) (b : Bool) (x : X) (ys zs : List Y) → ys ≡ zs
     → cond b (f x ∷ ys) ys ≡ cond b (f x ∷ []) [] ++ zs
@@ -76,13 +76,12 @@ count_next test vertex items edges k d count step total same lt before is =
     omega (arith, before, there, sum, all)
 
 pub units_are : (drawing : Drawing) (graph : Graph) (positions : List (List ℕ)) (count : ℕ)
-    (none first second third : List units.Unit) → count ≡ graph.drawn → none ≡ []
+    (none first all : List units.Unit) → count ≡ graph.drawn → none ≡ []
     → first ≡ none ++ units_at drawing (flat_map (centre_sites graph) (range_with_len 0 count))
-    → second ≡ first ++ units_at drawing (flat_map (bond_sites graph positions) (range_with_len 0 count))
-    → third ≡ second ++ units_at drawing (flat_map (axis_sites graph) (range_with_len 0 count))
-    → third ≡ units_of (geometry_of drawing) graph positions
+    → all ≡ with_axes drawing graph count (with_bonds drawing graph positions count first)
+    → all ≡ units_of (geometry_of drawing) graph positions
 unfolding sites_of
-units_are drawing graph positions count none first second third same e f g h =
+units_are drawing graph positions count none first all same e f g =
     let atoms = range_with_len 0 graph.drawn in
     let centres = map (centre_site graph) (filter (is_centre graph) atoms) in
     let bonds = flat_map (bond_sites graph positions) atoms in
@@ -90,9 +89,9 @@ units_are drawing graph positions count none first second third same e f g h =
     let unit : Site → units.Unit = λ site. record { site = site; geometry = geometry_of drawing site } in
     let begun : first ≡ units_at drawing centres = f
     ∙ rw (e, same) (ap (units_at drawing) (sym (kept_each (centre_site graph) (is_centre graph) atoms))) in
-    let more : second ≡ units_at drawing (centres ++ bonds) = g
-    ∙ rw (begun, same) (sym (map-append unit centres bonds)) in
-    h ∙ rw (more, same) (sym (map-append unit (centres ++ bonds) axes))
+    let more : with_bonds drawing graph positions count first ≡ units_at drawing (centres ++ bonds) =
+    rw (begun, same) (sym (map-append unit centres bonds)) in
+    g ∙ rw (more, same) (sym (map-append unit (centres ++ bonds) axes))
 
 -- the sites of units are those of which they were made
 abbrev pub unit_of : (Site → Geometry) → Site → units.Unit

@@ -1,6 +1,6 @@
 -- The sites of units, one atom or bond at a time. Own.
-use Rattle.std.specs.Prelude.{◌≡◌, ◌<◌, ℕ, Bool, cond, ◌==◌, ◌&&◌, ◌||◌, List, [], ◌∷◌, map, filter, is_some, nat_lt, not, All}
-use Rattle.std.specs.List.{list_any}
+use Rattle.std.specs.Prelude.{◌≡◌, ◌<◌, ℕ, Bool, cond, ◌==◌, ◌&&◌, ◌||◌, List, [], ◌∷◌, ◌++◌, map, filter, flat_map, is_some, nat_lt, not, All}
+use Rattle.std.specs.List.{list_any, range_with_len}
 use Rattle.cip_elem.specs.Electrons.{outer_of}
 use Rattle.cip_mol.specs.Drawing.{Drawing}
 use Rattle.cip_mol.specs.Geometry.{geometry_of}
@@ -8,9 +8,9 @@ use Rattle.cip_mol.specs.declared.site.Ligand.{Ligand}
 use Rattle.cip_mol.specs.declared.site.Ligand.TheVariants.{LonePair}
 use Rattle.cip_mol.specs.declared.site.Site.{Site}
 use Rattle.cip_mol.specs.declared.site.Unit as units
-use Rattle.cip_digraph.specs.units.Allenes.{axis_site, doubles, is_axis_unit}
+use Rattle.cip_digraph.specs.units.Allenes.{axis_site, axis_sites, doubles, is_axis_unit}
 use Rattle.cip_digraph.specs.units.Centres.{is_centre, is_quadriligant}
-use Rattle.cip_digraph.specs.units.DoubleBonds.{bond_site, is_bond_end, is_bond_unit, outer_neighbours}
+use Rattle.cip_digraph.specs.units.DoubleBonds.{bond_site, bond_sites, is_bond_end, is_bond_unit, outer_neighbours}
 use Rattle.cip_digraph.specs.graph.Graph.{Graph, other_end}
 use Rattle.cip_digraph.specs.rings.Positions.{is_delocalised}
 use Rattle.cip_digraph.specs.units.Units.{centre_site}
@@ -53,6 +53,18 @@ axes_through graph a middle =
 
 abbrev pub one_axis_site : Graph → ℕ → ℕ → ℕ → List Site
 one_axis_site graph a middle b = cond (is_axis_unit graph a middle b) (axis_site graph a middle b ∷ []) []
+
+abbrev pub has_double : Graph → Bool
+has_double graph = list_any (λ edge. edge.order == 2) graph.edges
+
+-- further units: the bonds, or the axes, of the first atoms
+abbrev pub with_bonds : Drawing → Graph → List (List ℕ) → ℕ → List units.Unit → List units.Unit
+with_bonds drawing graph positions atoms before =
+    before ++ units_at drawing (flat_map (bond_sites graph positions) (range_with_len 0 atoms))
+
+abbrev pub with_axes : Drawing → Graph → ℕ → List units.Unit → List units.Unit
+with_axes drawing graph atoms before =
+    before ++ units_at drawing (flat_map (axis_sites graph) (range_with_len 0 atoms))
 
 -- double bonds join drawn atoms
 pub record LeadsToAtom (drawn : ℕ) (edge : Edge) : Type 0 where

@@ -2,11 +2,9 @@
 ghost use Rattle.std.specs.Prelude.{◌≡◌, ◌++◌, ◌<◌, ◌≤◌, flat_map, IfOk, OnOk, length};
 ghost use Rattle.std.specs.List.{range_with_len};
 ghost use Rattle.cip_mol.specs.Geometry.{geometry_of};
-ghost use Rattle.cip_digraph.specs.units.Allenes.{axis_sites};
-ghost use Rattle.cip_digraph.specs.units.DoubleBonds.{bond_sites};
 ghost use Rattle.cip_digraph.specs.graph.DrawnGraph.{graph_of};
 ghost use Rattle.cip_digraph.specs.units.Units.{units_of};
-ghost use Rattle.cip_unit.specs.Sites.{centre_sites, LeadsToAtoms, units_at};
+ghost use Rattle.cip_unit.specs.Sites.{centre_sites, has_double, LeadsToAtoms, units_at, with_axes, with_bonds};
 
 use crate::axes::push_axes;
 use crate::bonds::push_bonds;
@@ -35,8 +33,7 @@ pub fn units(
     let atoms = molecule.atoms().len() as u32;
     let mut units = Units::new(alloc);
     push_all_centres(alloc, &sketch, atoms, &mut units)?;
-    push_all_bonds(alloc, &sketch, atoms, &mut units)?;
-    push_all_axes(alloc, &sketch, atoms, &mut units)?;
+    push_all_doubles(alloc, &sketch, atoms, &mut units)?;
     Ok(units)
 }
 
@@ -58,6 +55,33 @@ fn push_all_centres(
     Ok(())
 }
 
+// Adds the bond units and then the axis units, of which there are none without double bonds.
+fn push_all_doubles(
+    alloc: Global,
+    sketch: &Sketch<'_>,
+    atoms: u32,
+    units: &mut Units,
+) -> Result<(), AllocError>
+    requires drawn { sketch.now.graph.now.drawn ≡ length sketch.now.molecule.now.atoms }
+    requires atoms { atoms ≡ sketch.now.graph.now.drawn }
+    requires leads { LeadsToAtoms sketch.now.graph.now }
+    ensures { OnOk result
+        (units.new ≡ with_axes sketch.now.molecule.now sketch.now.graph.now atoms
+        (with_bonds sketch.now.molecule.now sketch.now.graph.now sketch.now.positions.now atoms units.old)) }
+{
+    if !has_double(sketch.graph) {
+        return Ok(());
+    }
+    push_all_bonds(alloc, sketch, atoms, units)?;
+    push_all_axes(alloc, sketch, atoms, units)
+}
+
+fn has_double(graph: &Graph) -> bool
+    ensures { result ≡ has_double graph.now }
+{
+    graph.edges().iter().any(|edge| edge.order == 2)
+}
+
 fn push_all_bonds(
     alloc: Global,
     sketch: &Sketch<'_>,
@@ -68,9 +92,7 @@ fn push_all_bonds(
     requires atoms { atoms ≡ sketch.now.graph.now.drawn }
     requires leads { LeadsToAtoms sketch.now.graph.now }
     ensures { OnOk result
-        (units.new ≡ units.old
-        ++ units_at sketch.now.molecule.now
-        (flat_map (bond_sites sketch.now.graph.now sketch.now.positions.now) (range_with_len 0 atoms))) }
+        (units.new ≡ with_bonds sketch.now.molecule.now sketch.now.graph.now sketch.now.positions.now atoms units.old) }
 {
     let mut reached = VertexSet::new(alloc, sketch.graph.vertices().len())?;
     for atom in 0..atoms {
@@ -88,9 +110,7 @@ fn push_all_axes(
     requires drawn { sketch.now.graph.now.drawn ≡ length sketch.now.molecule.now.atoms }
     requires atoms { atoms ≡ sketch.now.graph.now.drawn }
     requires leads { LeadsToAtoms sketch.now.graph.now }
-    ensures { OnOk result
-        (units.new ≡ units.old
-        ++ units_at sketch.now.molecule.now (flat_map (axis_sites sketch.now.graph.now) (range_with_len 0 atoms))) }
+    ensures { OnOk result (units.new ≡ with_axes sketch.now.molecule.now sketch.now.graph.now atoms units.old) }
 {
     for atom in 0..atoms {
         push_axes(alloc, sketch, atom, units)?;

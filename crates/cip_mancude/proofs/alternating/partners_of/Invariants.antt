@@ -1,9 +1,6 @@
-use Rattle.std.proofs.Common.{◌≡◌, length}
-use Rattle.cip_mancude.specs.Partners.{ArePartners}
+use Rattle.std.proofs.Common.{take}
+use Rattle.cip_mancude.specs.Partners.{ArePartnersBy}
 use Rattle.cip_mancude.proofs.alternating.partners_of.Given as goal
 
-abbrev pub invariant-loop-vertex : goal.invariant-loop-vertex
-invariant-loop-vertex l = record {
-  upto : length l.partners.items ≡ l.vertex;
-  each : ArePartners l.graph l.partners.items;
-}
+abbrev pub invariant-loop-edge : goal.invariant-loop-edge
+invariant-loop-edge l = ArePartnersBy l.graph (take l.edge-index l.graph.edges) l.partners.items

@@ -1,17 +1,28 @@
-use Rattle.std.proofs.Common.{ap, ◌∙◌}
-use Rattle.cip_digraph.specs.graph.Graph.{Graph}
-use Rattle.cip_digraph.specs.rings.Positions.{positions_at}
-use Rattle.cip_mancude.proofs.Listed.{are_positions, listed_next}
+use Rattle.std.proofs.Common.{ap, arith, length}
+use Rattle.cip_mancude.proofs.Listed.{all_below, all_listed, listed_next, next_within, none_yet}
 use Rattle.cip_mancude.proofs.listing.positions.Goals as goal
 
-pub push-requires : goal.push-requires
-push-requires c =
-    rw (c.as_slice.ensures, c.in_ok-list.ensures, c.in_ok-alternation.ensures)
-    (are_positions c.args.graph.now c.loop-vertex.vertex c.vertices-count.ensures.sound)
+pub set_positions-requires-clause-within : goal.set_positions-requires-clause-within
+set_positions-requires-clause-within c =
+    next_within c.args.graph.now c.loop-vertex.vertex _ _ c.loop-vertex.invariant c.loop-vertex-test.true
+
+pub set_positions-requires-clause-none : goal.set_positions-requires-clause-none
+set_positions-requires-clause-none c =
+    none_yet c.args.graph.now c.loop-vertex.vertex _ _ c.loop-vertex.invariant c.loop-vertex-test.true
+
+pub set_positions-requires-clause-below : goal.set_positions-requires-clause-below
+set_positions-requires-clause-below c =
+    rw c.in_ok-alternation.ensures
+    (all_below c.args.graph.now c.loop-vertex.vertex _ _ c.loop-vertex.invariant
+    (omega (arith, c.loop-vertex-test.true)))
 
 pub loop-vertex-preserved : goal.loop-vertex-preserved
 loop-vertex-preserved c =
-    c.in_ok-push.ensures.added
-    ∙ listed_next c.args.graph.now _ _ _ c.loop-vertex.invariant
-    (c.as_slice.ensures ∙ c.in_ok-list.ensures
-    ∙ ap (λ (graph : Graph). positions_at graph c.loop-vertex.vertex) c.in_ok-alternation.ensures)
+    listed_next c.args.graph.now c.loop-vertex.vertex _ _ c.loop-vertex.invariant _ c.loop-vertex-test.true
+    (rw c.in_ok-alternation.ensures at c.in_ok-set_positions.ensures)
+
+pub returns : goal.returns
+returns c =
+    all_listed c.args.graph.now c.loop-vertex.vertex _ _ c.loop-vertex.invariant
+    (ap length c.vertices-count.ensures.value)
+    (omega (arith, c.loop-vertex-test.false, c.loop-vertex.auto.vertex-end))

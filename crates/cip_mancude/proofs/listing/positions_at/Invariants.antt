@@ -5,4 +5,4 @@ use Rattle.cip_mancude.proofs.listing.positions_at.Given as goal
 
 abbrev pub invariant-loop-edge : goal.invariant-loop-edge
 invariant-loop-edge l =
-    l.positions.items ≡ positions_along l.alternation l.vertex (take l.edge-index (edges_at l.alternation l.vertex))
+    l.positions.items ≡ positions_along l.alternation l.double.vertex (take l.edge-index (edges_at l.alternation l.double.vertex))

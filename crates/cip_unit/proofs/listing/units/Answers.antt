@@ -10,28 +10,18 @@ pub push_all_centres-requires-clause-atoms : goal.push_all_centres-requires-clau
 push_all_centres-requires-clause-atoms c = ap length c.atoms.ensures.value
     ∙ sym (rw c.requires (drawn_is c.args.molecule.now))
 
-pub push_all_bonds-requires-clause-drawn : goal.push_all_bonds-requires-clause-drawn
-push_all_bonds-requires-clause-drawn c = rw c.requires (drawn_is c.args.molecule.now)
+pub push_all_doubles-requires-clause-drawn : goal.push_all_doubles-requires-clause-drawn
+push_all_doubles-requires-clause-drawn c = rw c.requires (drawn_is c.args.molecule.now)
 
-pub push_all_bonds-requires-clause-atoms : goal.push_all_bonds-requires-clause-atoms
-push_all_bonds-requires-clause-atoms c = ap length c.atoms.ensures.value
+pub push_all_doubles-requires-clause-atoms : goal.push_all_doubles-requires-clause-atoms
+push_all_doubles-requires-clause-atoms c = ap length c.atoms.ensures.value
     ∙ sym (rw c.requires (drawn_is c.args.molecule.now))
 
-pub push_all_bonds-requires-clause-leads : goal.push_all_bonds-requires-clause-leads
-push_all_bonds-requires-clause-leads c = rw c.requires (drawn_leads c.args.molecule.now c.atoms.ensures.sound)
-
-pub push_all_axes-requires-clause-drawn : goal.push_all_axes-requires-clause-drawn
-push_all_axes-requires-clause-drawn c = rw c.requires (drawn_is c.args.molecule.now)
-
-pub push_all_axes-requires-clause-atoms : goal.push_all_axes-requires-clause-atoms
-push_all_axes-requires-clause-atoms c = ap length c.atoms.ensures.value
-    ∙ sym (rw c.requires (drawn_is c.args.molecule.now))
-
-pub push_all_axes-requires-clause-leads : goal.push_all_axes-requires-clause-leads
-push_all_axes-requires-clause-leads c = rw c.requires (drawn_leads c.args.molecule.now c.atoms.ensures.sound)
+pub push_all_doubles-requires-clause-leads : goal.push_all_doubles-requires-clause-leads
+push_all_doubles-requires-clause-leads c = rw c.requires (drawn_leads c.args.molecule.now c.atoms.ensures.sound)
 
 pub returns : goal.returns
 returns c =
-    units_are c.args.molecule.now c.args.graph.now c.args.positions.now _ _ _ _ _
+    units_are c.args.molecule.now c.args.graph.now c.args.positions.now _ _ _ _
     (ap length c.atoms.ensures.value ∙ sym (rw c.requires (drawn_is c.args.molecule.now))) c.new-units.ensures
-    c.in_ok-push_all_centres.ensures c.in_ok-push_all_bonds.ensures c.in_ok-push_all_axes.ensures
+    c.in_ok-push_all_centres.ensures c.in_ok-push_all_doubles.ensures

@@ -1,12 +1,18 @@
-use Rattle.std.proofs.Common.{◌≡◌, arith}
-use Rattle.std.proofs.lemmas.List.{get_or-map}
+use Rattle.std.proofs.Common.{◌≡◌, ◌<◌, arith, get_or, length, subst}
 use Rattle.std.proofs.lemmas.Grind.{common_steps}
-use Rattle.cip_digraph.specs.rings.Positions.{listed_positions}
-use Rattle.cip_digraph.proofs.Listed.{are_positions}
+use Rattle.cip_digraph.specs.rings.PositionLists.{IsKept}
 use Rattle.cip_digraph.proofs.positions.Positions.of.Goals as goal
+
+pub as_slice-requires : goal.as_slice-requires
+as_slice-requires c =
+    let within : c.args.vertex < length c.self.inside.lists.items = grind (arith, common_steps) in
+    let same : get_or c.self.inside.lists.items c.args.vertex c.in-Some.list.now ≡ c.in-Some.list.now =
+    grind (arith, common_steps) in
+    subst IsKept same (c.self.invariant c.args.vertex c.in-Some.list.now within)
 
 pub returns-in-Some-clause-list : goal.returns-in-Some-clause-list
 returns-in-Some-clause-list c =
-    let same : c.as_slice.result.now ≡ listed_positions c.args.self.now c.args.vertex =
-    grind (arith, common_steps, get_or-map) in
-    rw (same, ← c.self.view_is) (are_positions _ c.args.vertex c.self.invariant)
+    let within : c.args.vertex < length c.self.inside.lists.items = grind (arith, common_steps) in
+    let same : get_or c.self.inside.lists.items c.args.vertex c.in-Some.list.now ≡ c.in-Some.list.now =
+    grind (arith, common_steps) in
+    rw c.as_slice.ensures (subst IsKept same (c.self.invariant c.args.vertex c.in-Some.list.now within)).positions

@@ -1,4 +1,4 @@
-use Rattle.cip_unit.proofs.FitDrawings.{drawn_is, made_fits}
+use Rattle.cip_unit.proofs.FitDrawings.{made_fits}
 use Rattle.cip_unit.proofs.drawing.Drawn.of.Goals as goal
 
 pub invariant_of-result : goal.invariant_of-result

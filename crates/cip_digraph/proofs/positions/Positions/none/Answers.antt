@@ -1,0 +1,7 @@
+use Rattle.std.proofs.Common.{◌∙◌, ap, map}
+use Rattle.cip_digraph.specs.rings.PositionLists.{listed}
+use Rattle.cip_digraph.proofs.Listed.{copies_listed}
+use Rattle.cip_digraph.proofs.positions.Positions.none.Goals as goal
+
+pub returns : goal.returns
+returns c = ap (map listed) (c.in_ok-vec.ensures.items_if_clones_equal (λ list same. same)) ∙ copies_listed c.args.vertices _

@@ -1,0 +1,12 @@
+use Rattle.std.proofs.Common.{◌≡◌, ◌∙◌, ap, map, set}
+use Rattle.std.proofs.lemmas.List.{map-set}
+use Rattle.cip_digraph.specs.rings.PositionLists.{listed}
+use Rattle.cip_digraph.proofs.positions.Positions.set.Goals as goal
+
+pub returns : goal.returns
+returns c =
+    let same : map listed (set c.self.inside.lists.items c.args.vertex c.list_of.result)
+    ≡ set (map listed c.self.inside.lists.items) c.args.vertex c.args.positions.now =
+    map-set listed c.self.inside.lists.items c.args.vertex c.list_of.result
+    ∙ ap (set (map listed c.self.inside.lists.items) c.args.vertex) c.list_of.ensures.value in
+    rw (← c.self.view_is) same
