@@ -4,5 +4,4 @@ pub mod Drawn
 pub mod FewFurther
 pub mod FurtherFit
 mod Onward
-mod SmallRings
 pub mod Sited

@@ -2,7 +2,6 @@
 ghost use Rattle.std.specs.Prelude.{◌≡◌, ◌<◌, ◌≤◌, ◌++◌, IfOk, OnOk, length};
 ghost use Rattle.cip_mol.specs.Sites.{IsSite};
 ghost use Rattle.cip_digraph.specs.graph.Graph.{edges_at};
-ghost use Rattle.cip_digraph.specs.graph.SoundGraphs.{IsSound};
 ghost use Rattle.cip_axis.specs.Biaryls.{is_biaryl, is_biaryl_end};
 ghost use Rattle.cip_axis.specs.Further.{biaryl_site, biaryl_unit, biaryls_of};
 ghost use Rattle.cip_axis.specs.Likeness.{like};
@@ -16,7 +15,7 @@ use crate::units::FurtherUnits;
 use cip_digraph::{Edge, Graph, Positions};
 use cip_mol::Molecule;
 use cip_orient::orient;
-use cip_ring::{VertexSet, is_in_ring, is_in_small_ring};
+use cip_ring::{VertexSet, is_in_ring};
 use cip_unit::{end_ligands, has_end_bonds, outer_count};
 use std::alloc::{AllocError, Global};
 
@@ -79,7 +78,8 @@ fn biaryl_unit(alloc: Global, molecule: &Molecule, graph: &Graph, a: u32, b: u32
     FurtherUnit { site, geometry }
 }
 
-// Most bonds between such atoms lie in small rings, which are told at once.
+// Most bonds between such atoms lie in rings, and a search ends where it closes one. Hindered neighbours, which take
+// walks round alternating rings, are looked for last.
 #[tactic(auto, unfolding(crate::specs::Biaryls::is_biaryl))]
 fn is_biaryl(
     alloc: Global,
@@ -89,21 +89,16 @@ fn is_biaryl(
     edge: &Edge,
     reached: &mut VertexSet,
 ) -> Result<bool, AllocError>
-    requires sound { IsSound graph.now }
-    requires within { a < graph.now.drawn }
     ensures { IfOk result (λ found. found ≡ is_biaryl graph.now positions.now a edge.now) }
 {
     if !can_be_biaryl(graph, positions, a, edge) {
         return Ok(false);
     }
     let b = edge.other_end(a);
-    if is_in_small_ring(graph, a, b, reached)? {
+    if is_in_ring(graph, a, b, reached)? {
         return Ok(false);
     }
-    if !are_three_hindered(alloc, graph, a, b) {
-        return Ok(false);
-    }
-    Ok(!is_in_ring(graph, a, b, reached)?)
+    Ok(are_three_hindered(alloc, graph, a, b))
 }
 
 // Whether a bond is a unit by its ends.

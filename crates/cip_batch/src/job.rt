@@ -13,6 +13,9 @@ pub trait Job {
     /// What the work answers.
     ghost answer: { Self → Self.Out };
 
+    /// How much work it is, more or less. Workers share a batch by it; it changes no answer.
+    fn weight(&self) -> u64;
+
     /// Does the work at a desk, whatever was done there before. Only want of memory refuses it.
     fn work(&self, desk: &mut Self::Desk) -> Result<Self::Out, AllocError>
         ensures { IfOk result (λ out. out ≡ answer self.now) };

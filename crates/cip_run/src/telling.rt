@@ -62,6 +62,8 @@ impl Asked {
             return self.tell_lines(alloc, desk, number, &lines);
         }
         let bare = lines_without_label_items(alloc, &lines)?;
+        // the lines of the record go before those of its copy come: a record has up to 16 million
+        drop(lines);
         let lines = RecordLines::new(alloc, &bare)?;
         self.tell_lines(alloc, desk, number, &lines)
     }

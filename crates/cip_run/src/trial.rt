@@ -25,6 +25,11 @@ impl Job for Numbered {
 
     ghost answer = { λ job. answer_of job };
 
+    // Made records are much alike.
+    fn weight(&self) -> u64 {
+        1
+    }
+
     #[tactic(auto, unfolding(crate::specs::Trying::made_answer))]
     fn work(&self, desk: &mut Desk) -> Result<Answer, AllocError> {
         let bytes = record(self.alloc, self.trial.start, self.number)?;

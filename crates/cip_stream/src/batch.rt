@@ -26,6 +26,9 @@ const RECORDS: usize = 8;
 // How many bytes of records are enough for a batch: 64 MiB.
 const BYTES: u64 = 67_108_864;
 
+// What a record weighs beside its bytes, so that many short ones are shared too.
+const RECORD_WEIGHT: u64 = 1_000;
+
 /// A record that waits for its answer.
 #[derive(Drop)]
 pub struct Waiting<'a, T: Teller> {
@@ -42,6 +45,11 @@ impl<'a, T: Teller> Job for Waiting<'a, T> {
     type Desk = T::Desk;
 
     ghost answer = { λ job. telling (T.manner job.teller.now) job.number job.bytes };
+
+    fn weight(&self) -> u64 {
+        let bytes = self.bytes.as_slice().len() as u64;
+        RECORD_WEIGHT + bytes
+    }
 
     fn work(&self, desk: &mut T::Desk) -> Result<Told<T::Note>, AllocError> {
         self.teller

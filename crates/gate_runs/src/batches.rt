@@ -21,6 +21,10 @@ impl<'a> Job for Held<'a> {
 
     ghost answer = { λ job. job.number };
 
+    fn weight(&self) -> u64 {
+        1
+    }
+
     fn work(&self, desk: &mut u32) -> Result<u32, AllocError> {
         *desk = desk.wrapping_add(1);
         if self.begun.fetch_add(1, Ordering::SeqCst) > 0 {
@@ -105,6 +109,10 @@ impl Job for Long {
 
     ghost answer = { λ job. job.number };
 
+    fn weight(&self) -> u64 {
+        1
+    }
+
     fn work(&self, _desk: &mut u32) -> Result<u32, AllocError> {
         for _ in 0..self.turns {
             std::hint::spin_loop();
@@ -136,6 +144,58 @@ fn unlike_jobs_are_answered_in_order(rt: HostRuntime) -> Result<(), Fail> {
         }
         assert_eq!(rt; counted.begun.load(Ordering::SeqCst), 100);
         assert_eq!(rt; counted.places.load(Ordering::SeqCst), 4950);
+    }
+    Ok(())
+}
+
+// A job that notes by whose desk it was done. The desk of each worker holds its number.
+#[derive(Drop)]
+struct Noted<'a> {
+    weight: u64,
+    desk: &'a AtomicU64,
+}
+
+impl<'a> Job for Noted<'a> {
+    type Out = u64;
+
+    type Desk = u64;
+
+    ghost answer = { λ job. job.weight };
+
+    fn weight(&self) -> u64 {
+        self.weight
+    }
+
+    fn work(&self, desk: &mut u64) -> Result<u64, AllocError> {
+        self.desk.store(*desk, Ordering::SeqCst);
+        Ok(self.weight)
+    }
+}
+
+// Each job goes to the worker who has the least so far: one that weighs as much as all others has a worker to itself.
+#[test]
+fn jobs_are_dealt_by_weight(rt: HostRuntime) -> Result<(), Fail> {
+    let alloc = rt.alloc();
+    let mut desks = Vec::new(alloc);
+    for _ in 0..8 {
+        desks.push(AtomicU64::new(9))?;
+    }
+    let mut jobs = Vec::new(alloc);
+    for (weight, desk) in [2, 10, 3, 1, 1, 1, 2, 1].iter().zip(&desks) {
+        jobs.push(Noted {
+            weight: *weight,
+            desk,
+        })?;
+    }
+    let mut workers = Vec::new(alloc);
+    for number in 0..3u64 {
+        workers.push(Worker::new(alloc, number))?;
+    }
+    assert!(rt; 0 < workers.len() && workers.len() <= 16);
+    let answers = map_batch(&rt, alloc, &jobs, &mut workers, &Open)?;
+    assert_eq!(rt; answers.len(), 8);
+    for (desk, owner) in desks.iter().zip([0, 1, 2, 0, 0, 2, 0, 2]) {
+        assert_eq!(rt; desk.load(Ordering::SeqCst), owner);
     }
     Ok(())
 }

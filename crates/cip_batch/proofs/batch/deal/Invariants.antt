@@ -1,0 +1,9 @@
+use Rattle.std.proofs.Common.{◌≡◌, ◌<◌, All, length}
+use Rattle.cip_batch.proofs.batch.deal.Given as goal
+
+abbrev pub invariant-loop-job : goal.invariant-loop-job
+invariant-loop-job g l = record {
+  loads : length l.loads.items ≡ l.workers;
+  all : length l.owners.items ≡ l.job-index;
+  each : All (λ owner. owner < l.workers) l.owners.items;
+}
