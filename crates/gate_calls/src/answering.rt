@@ -21,23 +21,29 @@ use std::{fs, io};
 
 /// What the call of a row answers.
 pub fn answer<R: Files + AllocGlobal>(rt: &R, row: &Row) -> io::Result<String> {
-    let alloc = rt.alloc();
     match row.call() {
-        "v2000" | "v3000" | "first atom" | "second atom" => {
-            Ok(read(alloc, row, &changed_record(rt, row, 3)?)?)
-        }
-        "labels" => Ok(labels(alloc, &changed_record(rt, row, 4)?, row.number(3))?),
-        "mirror" | "not mirrored" | "marked" | "set" => {
-            let record = fs::read_to_string(rt, row.field(2))?;
-            Ok(change(alloc, row, record.as_str())?)
-        }
-        "undefined" => {
-            let record = changed_record(rt, row, 4)?;
-            Ok(undefined_told(alloc, &record, row.number(3))?)
-        }
-        "groups" | "axes" | "group" => Ok(told(alloc, row, &fs::read(rt, row.field(2))?)?),
-        _ => Ok(without_record(alloc, row)?),
+        "v2000" | "v3000" | "first atom" | "second atom" => of_changed(rt, row, 3),
+        "labels" | "undefined" => of_changed(rt, row, 4),
+        "mirror" | "not mirrored" | "marked" | "set" => of_words(rt, row),
+        "groups" | "axes" | "group" => of_bytes(rt, row),
+        _ => Ok(without_record(rt.alloc(), row)?),
     }
+}
+
+// Of the row's record, whose lines are changed as the fields from this one on say.
+fn of_changed<R: Files + AllocGlobal>(rt: &R, row: &Row, place: usize) -> io::Result<String> {
+    let record = changed_record(rt, row, place)?;
+    Ok(read(rt.alloc(), row, &record)?)
+}
+
+fn of_words<R: Files + AllocGlobal>(rt: &R, row: &Row) -> io::Result<String> {
+    let record = fs::read_to_string(rt, row.field(2))?;
+    Ok(change(rt.alloc(), row, record.as_str())?)
+}
+
+fn of_bytes<R: Files + AllocGlobal>(rt: &R, row: &Row) -> io::Result<String> {
+    let record = fs::read(rt, row.field(2))?;
+    Ok(told(rt.alloc(), row, &record)?)
 }
 
 fn read(alloc: Global, row: &Row, record: &[u8]) -> Result<String, AllocError> {
@@ -45,7 +51,9 @@ fn read(alloc: Global, row: &Row, record: &[u8]) -> Result<String, AllocError> {
         "v2000" => refusal_of_v2000(alloc, record),
         "v3000" => refusal_of_v3000(alloc, record),
         "first atom" => first_atom(alloc, record),
-        _ => second_atom(alloc, record),
+        "second atom" => second_atom(alloc, record),
+        "labels" => labels(alloc, record, row.number(3)),
+        _ => undefined_told(alloc, record, row.number(3)),
     }
 }
 

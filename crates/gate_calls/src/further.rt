@@ -1,10 +1,12 @@
 // Stereo groups, further units and undefined units of a record that is told without a desk of the caller's.
+ghost use Rattle.std.specs.Prelude.{◌<◌, ◌≤◌, ◌-◌, ◌^◌, length};
+
 use cip_axis_text::axes_text;
 use cip_groups::{Group, GroupsAnswer, group_text, read_groups};
 use cip_rank::Rules;
 use cip_record::RecordLabeller;
 use cip_text::RecordLines;
-use cip_undefined::{undefined_text, undefined_within};
+use cip_undefined::{UndefinedAnswer, undefined_text, undefined_within};
 use std::alloc::{AllocError, Global};
 
 // More bytes than any of the records has.
@@ -36,9 +38,24 @@ pub fn undefined_told(alloc: Global, record: &[u8], nodes: u32) -> Result<String
         return format!(in alloc; "out of range");
     }
     let lines = RecordLines::new(alloc, record)?;
+    let text = undefined_text(alloc, &undefined_of(alloc, &lines, nodes)?)?;
+    String::from_utf8_lossy(alloc, &text)
+}
+
+fn undefined_of(
+    alloc: Global,
+    lines: &RecordLines,
+    nodes: u32,
+) -> Result<UndefinedAnswer, AllocError>
+    requires few { length lines.now < 2 ^ 32 - 1 }
+    requires some { 1 ≤ nodes }
+    requires bounded { nodes ≤ 1000000 }
+{
     let mut labeller = RecordLabeller::reserve(alloc, nodes)?;
-    let answer = undefined_within(alloc, &mut labeller, &lines, Rules::Wording2018)?;
-    String::from_utf8_lossy(alloc, &undefined_text(alloc, &answer)?)
+    let answer = undefined_within(alloc, &mut labeller, lines, Rules::Wording2018);
+    // given back by a call of its own, which is quicker to prove than this function's end
+    drop(labeller);
+    answer
 }
 
 fn shown(alloc: Global, text: &[u8], flagged: bool) -> Result<String, AllocError> {
