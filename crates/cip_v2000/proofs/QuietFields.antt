@@ -21,7 +21,8 @@ pub no_difference : (line : List ℕ) → 36 ≤ length line → get_or line 34 
     → signed_in 3 4 (field 35 36 line) ≡ Some (pos 0)
 no_difference line within space nought =
     ap (λ text. signed_in 3 4 (trimmed (take 2 text))) (drop_more line 34 0 (omega (arith, within)))
-    ∙ ap (λ back. signed_in 3 4 (trimmed (get_or line 34 0 ∷ take 1 back))) (drop_more line 35 0 (omega (arith, within)))
+    ∙ ap (λ back. signed_in 3 4 (trimmed (get_or line 34 0 ∷ take 1 back)))
+    (drop_more line 35 0 (omega (arith, within)))
     ∙ rw (space, nought) zero_read
 
 -- a line that doesn't begin with M states nothing

@@ -79,7 +79,8 @@ begun_ends within text at lt cuts is =
     let next = drop_more text at 0 lt in
     let here : words_from within (take at text) (drop at text)
     ≡ ended (take at text) ++ words_from Plain [] (drop (at + 1) text) = rw (next, cuts) refl in
-    let behind : words_from Plain [] (drop at text) ≡ words_from Plain [] (drop (at + 1) text) = rw (next, space) refl in
+    let behind : words_from Plain [] (drop at text) ≡ words_from Plain [] (drop (at + 1) text)
+    = rw (next, space) refl in
     sym is ∙ here ∙ ap (λ words. ended (take at text) ++ words) (sym behind)
 
 pub begun_runs_out : (within : Within) (text : List ℕ) (at : ℕ) → length text ≤ at
