@@ -19,10 +19,11 @@ use Rattle.cip_label.specs.Settings.{Setting, cost_in}
 use Rattle.cip_label.specs.Standing.{RankedAs}
 use Rattle.cip_label.specs.declared.digraphs.Ranking.TheVariants.{Known}
 use Rattle.cip_constitution.specs.Pairs.{pairs_of}
-use Rattle.cip_early.specs.ToldEarly.{is_told_early, noted_early}
+use Rattle.cip_early.specs.ToldEarly.{found_early, is_told_early, noted_early}
 use Rattle.cip_early.proofs.NeighbourNodes.{neighbour_further}
 use Rattle.cip_desk.specs.Standing.{Standing, standing_of}
 use Rattle.cip_desk.proofs.EarlyStanding.{stands_first}
+use Rattle.cip_desk.proofs.PairedStanding.{named_already}
 use Rattle.cip_desk.proofs.RootLow.{beside, has_child}
 
 pick : (b : Bool) (number later most : ℕ) → number ≤ most → later ≤ most → here_or number later b ≤ most
@@ -92,22 +93,23 @@ module _ (setting : Setting) (root : ℕ) (ligands : List Ligand) (sound : IsSou
         omega (arith, le, here, most)
 
   pub told_ranked : (bound : ℕ) → is_told_early setting root ligands bound ≡ true → (standing : Standing)
-      → standing.pairs ≡ pairs_of ligands → standing.natural ≡ noted_early setting root ligands
+      → standing.natural ≡ noted_early setting root ligands
       → standing.turned ≡ noted_early setting root ligands
       → RankedAs setting bound root ligands (standing_of standing) Known
-  told_ranked bound told standing pairs natural turned =
+  told_ranked bound told standing natural turned =
       let graph = setting.graph in
       let positions = setting.positions in
       let parts = and_parts (nat_le (length (digraph graph positions root 2)) bound)
       (differ_within setting.rules graph positions setting.units (end_at root ligands) 2) told in
       let few = nat_le_true (length (digraph graph positions root 2)) bound parts.0 in
-      let cost = cost_few parts.1 in (
+      let cost = cost_few parts.1 in
+      let named = sym (named_already (found_early setting root) (pairs_of ligands)) in (
         omega (arith, few, cost),
         record {
           each = stands_first setting.rules graph positions setting.units root 2 (omega arith) sound ligands
               (beside graph root ligands sound fit) (let further = high in omega (arith, further)) parts.1
               (λ vertex. real_node vertex (root ∷ [])) (λ vertex. vertex)
               (neighbour_further graph positions root sound) (λ vertex by. refl)
-              (noted_early setting root ligands) refl standing pairs natural turned;
+              (noted_early setting root ligands) refl standing (natural ∙ named) (turned ∙ named);
         },
       )

@@ -56,7 +56,8 @@ use Rattle.cip_ligands.specs.declared.asked.Asked.{Asked}
 use Rattle.cip_ligands.specs.Asking.{decided, with_found}
 use Rattle.cip_ligands.specs.Orders.{found_below}
 use Rattle.cip_ligands.proofs.FoundWithin.{same_difference}
-use Rattle.cip_desk.specs.Standing.{Standing, standing_of, asked_in}
+use Rattle.cip_constitution.specs.declared.pairs.Pair.{Pair}
+use Rattle.cip_desk.specs.Standing.{Standing, asked_in, by_vertices, standing_of}
 use Rattle.cip_desk.proofs.PairedStanding.{stands_paired}
 use Rattle.cip_label.proofs.LigandNodes.{one_node}
 use Rattle.cip_desk.proofs.RootNodes.{number_is}
@@ -134,20 +135,25 @@ module _ (rules : Rules) (g : Graph) (positions : List (List ℕ)) (all : List u
   module _ (noted : List Asked)
       (notes : noted ≡ map (with_found (found_below R1a (by_atoms g positions root 0) top sphere))
       (map (asked_by branch) (pairs_of ligands))) where
-    asked_is : (standing : Standing) → standing.natural ≡ noted → standing.turned ≡ noted → (r_first : Bool)
-        → asked_in standing r_first ≡ map (with_found find) (map (asked_by branch) (pairs_of ligands))
-    asked_is standing natural turned true = natural ∙ notes
-    asked_is standing natural turned false = turned ∙ notes
+    abbrev pairs : List Pair
+    pairs = pairs_of ligands
 
-    pub stands_first : (standing : Standing) → standing.pairs ≡ pairs_of ligands → standing.natural ≡ noted
-        → standing.turned ≡ noted → (r_first : Bool) (i j v w : ℕ) → slice_get ligands i ≡ Some (Vertex v)
+    asked_is : (standing : Standing) → standing.natural ≡ by_vertices pairs noted
+        → standing.turned ≡ by_vertices pairs noted → (r_first : Bool)
+        → asked_in standing r_first ≡ by_vertices pairs (map (with_found find) (map (asked_by branch) pairs))
+    asked_is standing natural turned true = natural ∙ ap (by_vertices pairs) notes
+    asked_is standing natural turned false = turned ∙ ap (by_vertices pairs) notes
+
+    pub stands_first : (standing : Standing) → standing.natural ≡ by_vertices (pairs_of ligands) noted
+        → standing.turned ≡ by_vertices (pairs_of ligands) noted → (r_first : Bool) (i j v w : ℕ)
+        → slice_get ligands i ≡ Some (Vertex v)
         → slice_get ligands j ≡ Some (Vertex w)
         → standing_of standing r_first v w
         ≡ order (seen_at rules g positions all root) r_first (real_node v (root ∷ [])) (real_node w (root ∷ []))
-    stands_first standing pairs natural turned =
+    stands_first standing natural turned =
         stands_paired seen root ligands branch (λ r_first. find)
         (λ r_first i j v w at_v at_w. found_first v w (beside i v at_v) (beside j w at_w)
-        ∙ told_first r_first i j v w at_v at_w) standing pairs (asked_is standing natural turned)
+        ∙ told_first r_first i j v w at_v at_w) standing (asked_is standing natural turned)
 
 -- noted while its digraph was grown
 module _ (rules : Rules) (g : Graph) (positions : List (List ℕ)) (all : List units.Unit) (a : Growth)
@@ -166,8 +172,9 @@ module _ (rules : Rules) (g : Graph) (positions : List (List ℕ)) (all : List u
       → top_of g positions a.root a.bound (notes.branch v) ≡ real_node v (a.root ∷ [])
   stands v by_v = notes.stands v (real_node v (a.root ∷ [])) (one_node g sound a.root positions v by_v)
 
-  pub stands_early : (standing : Standing) → standing.pairs ≡ pairs_of ligands → standing.natural ≡ noted
-      → standing.turned ≡ noted → (r_first : Bool) (i j v w : ℕ) → slice_get ligands i ≡ Some (Vertex v)
+  pub stands_early : (standing : Standing) → standing.natural ≡ by_vertices (pairs_of ligands) noted
+      → standing.turned ≡ by_vertices (pairs_of ligands) noted → (r_first : Bool) (i j v w : ℕ)
+      → slice_get ligands i ≡ Some (Vertex v)
       → slice_get ligands j ≡ Some (Vertex w)
       → standing_of standing r_first v w
       ≡ order (seen_at rules g positions all a.root) r_first (real_node v (a.root ∷ [])) (real_node w (a.root ∷ []))

@@ -13,41 +13,48 @@ use Rattle.cip_label.specs.Standing.{reversed}
 use Rattle.cip_ligands.specs.declared.asked.Asked.{Asked}
 use Rattle.cip_constitution.specs.declared.pairs.Pair.{Pair}
 use Rattle.cip_constitution.specs.Pairs.{pair, pair_with, pairs_at, pairs_of}
-use Rattle.cip_desk.specs.Standing.{is_between, found_of}
+use Rattle.cip_desk.specs.Standing.{found_of}
 
-same_pair : (a b : ℕ) (one : Pair) → is_between a b one ≡ true → one ≡ pair a b
+abbrev pub is_of : ℕ → ℕ → Pair → Bool
+is_of a b one = (one.a == a) && (one.b == b)
+
+same_pair : (a b : ℕ) (one : Pair) → is_of a b one ≡ true → one ≡ pair a b
 same_pair a b one e =
     let parts = and_parts (one.a == a) (one.b == b) e in
     λ k. pair (eqb-true one.a a parts.0 k) (eqb-true one.b b parts.1 k)
 
-between_itself : (a b : ℕ) → is_between a b (pair a b) ≡ true
+between_itself : (a b : ℕ) → is_of a b (pair a b) ≡ true
 between_itself a b = ap (λ t. t && (b == b)) (eq-eqb a a refl) ∙ eq-eqb b b refl
 
 differ_back : (a b : ℕ) → (a == b) ≡ false → (b == a) ≡ false
 differ_back a b e = grind (arith, nat_tests)
 
+-- what is decided of a pair, by its vertices
+abbrev pub answered : (Pair → Option Decision) → Pair → Asked
+answered decide one = record { first = one.a; second = one.b; decision = decide one }
+
 module _ (a b : ℕ) where
   -- it is the pair of both, in either order
   abbrev pub is_theirs : Pair → Bool
-  is_theirs one = is_between a b one || is_between b a one
+  is_theirs one = is_of a b one || is_of b a one
 
   abbrev has : List Pair → Bool
   has pairs = list_any is_theirs pairs
 
   -- an answer for each pair by the pair alone
-  pub found_mapped : (answer : Pair → Asked) (found : Option Decision) → (answer (pair a b)).decision ≡ found
-      → reversed (answer (pair b a)).decision ≡ found → (pairs : List Pair) → list_any is_theirs pairs ≡ true
-      → found_of a b pairs (map answer pairs) ≡ found
-  found_mapped answer found there back [] e = let bad : false ≡ true = e in cc
-  found_mapped answer found there back (one ∷ pairs) e =
-      by (λ later. found_mapped answer found there back pairs later) (is_between a b one) (is_between b a one) refl refl
+  pub found_mapped : (decide : Pair → Option Decision) (found : Option Decision) → decide (pair a b) ≡ found
+      → reversed (decide (pair b a)) ≡ found → (pairs : List Pair) → list_any is_theirs pairs ≡ true
+      → found_of a b (map (answered decide) pairs) ≡ found
+  found_mapped decide found there back [] e = let bad : false ≡ true = e in cc
+  found_mapped decide found there back (one ∷ pairs) e =
+      by (λ later. found_mapped decide found there back pairs later) (is_of a b one) (is_of b a one) refl refl
     where
-      by : (list_any is_theirs pairs ≡ true → found_of a b pairs (map answer pairs) ≡ found) → (here behind : Bool)
-          → is_between a b one ≡ here → is_between b a one ≡ behind
-          → cond here (answer one).decision
-          (cond behind (reversed (answer one).decision) (found_of a b pairs (map answer pairs))) ≡ found
-      by later true behind is other = ap (λ p. (answer p).decision) (same_pair a b one is) ∙ there
-      by later false true is other = ap (λ p. reversed (answer p).decision) (same_pair b a one other) ∙ back
+      by : (list_any is_theirs pairs ≡ true → found_of a b (map (answered decide) pairs) ≡ found)
+          → (here behind : Bool) → is_of a b one ≡ here → is_of b a one ≡ behind
+          → cond here (decide one)
+          (cond behind (reversed (decide one)) (found_of a b (map (answered decide) pairs))) ≡ found
+      by later true behind is other = ap decide (same_pair a b one is) ∙ there
+      by later false true is other = ap (λ p. reversed (decide p)) (same_pair b a one other) ∙ back
       by later false false is other = later (sym (λ k. (is k || other k) || list_any is_theirs pairs) ∙ e)
 
   any_at : {X : Type 0} (pairs : X → List Pair) (xs : List X) (i : ℕ) (x : X) → slice_get xs i ≡ Some x
@@ -85,10 +92,10 @@ module _ (a b : ℕ) where
       let bad : false ≡ true = sym differ ∙ eq-eqb a b same in cc
   has_pair (one ∷ others) zero (suc j) at_i at_j differ =
       first_has a b one others j at_i at_j differ
-      (or_left (is_between a b (pair a b)) (is_between b a (pair a b)) (between_itself a b))
+      (or_left (is_of a b (pair a b)) (is_of b a (pair a b)) (between_itself a b))
   has_pair (one ∷ others) (suc i) zero at_i at_j differ =
       first_has b a one others i at_j at_i (differ_back a b differ)
-      (or_right (is_between a b (pair b a)) (is_between b a (pair b a)) (between_itself b a))
+      (or_right (is_of a b (pair b a)) (is_of b a (pair b a)) (between_itself b a))
   has_pair (one ∷ others) (suc i) (suc j) at_i at_j differ =
       list_any-append is_theirs (pairs_at others one) (pairs_of others)
       ∙ or_right (has (pairs_at others one)) (has (pairs_of others)) (has_pair others i j at_i at_j differ)

@@ -1,5 +1,5 @@
 -- Roots whose branches are known within a bound.
-use Rattle.std.proofs.Common.{◌≡◌, ◌<◌, ◌≤◌, ℕ, Bool, true, false, List, length, map, slice_get, Some, refl, ◌∙◌, subst, arith}
+use Rattle.std.proofs.Common.{◌≡◌, ◌<◌, ◌≤◌, ℕ, Bool, true, false, List, length, map, slice_get, Some, refl, ap, ◌∙◌, subst, arith}
 use Rattle.std.specs.Prelude.{OnOk}
 use Rattle.std.specs.List.{list_all}
 use Rattle.std.specs.declared.option.Option.{Option}
@@ -7,7 +7,7 @@ use Rattle.std.specs.declared.result.Result.{Result}
 use Rattle.std.specs.declared.result.Result.TheVariants.{Ok, Err}
 use Rattle.cip_arena.specs.Growth.{Growth, Holds}
 use Rattle.cip_constitution.proofs.DecidingSphere.{settled_low}
-use Rattle.cip_constitution.specs.FollowedOut.{AreConstituted, AreOrdered, node_of}
+use Rattle.cip_constitution.specs.FollowedOut.{AreConstituted, node_of}
 use Rattle.cip_constitution.specs.Following.{Trying}
 use Rattle.cip_constitution.specs.Noting.{asked_by, Notes}
 use Rattle.cip_constitution.specs.Pairs.{pairs_of}
@@ -32,7 +32,7 @@ use Rattle.cip_mol.specs.declared.site.Ligand.{Ligand}
 use Rattle.cip_mol.specs.declared.site.Ligand.TheVariants.{Vertex}
 use Rattle.cip_desk.specs.Desks.{settled_by}
 use Rattle.cip_desk.specs.Rooting.{HaveMarks}
-use Rattle.cip_desk.specs.Standing.{Standing, asked_in, standing_of}
+use Rattle.cip_desk.specs.Standing.{Standing, StandsOrdered, asked_in, by_vertices, standing_of}
 use Rattle.cip_desk.proofs.EarlyStanding.{stands_early}
 use Rattle.cip_desk.proofs.RootLow.{beside, root_low, settled_further}
 use Rattle.cip_desk.proofs.SettledRoots.{cost_within}
@@ -46,11 +46,6 @@ pub on_both : {T E : Type 0} {A B D : Type 0} (result : Result T E) → OnOk res
     → OnOk result D
 on_both (Ok value) a b all = all a b
 on_both (Err error) a b all = tt
-
-pub on_all : {T E : Type 0} {A B C D : Type 0} (result : Result T E) → OnOk result A → OnOk result B → OnOk result C
-    → (A → B → C → D) → OnOk result D
-on_all (Ok value) a b c all = all a b c
-on_all (Err error) a b c all = tt
 
 -- what constitution leaves, by equal settings
 pub same_constituted : (rules rules2 : Rules) (graph graph2 : Graph) (positions positions2 : List (List ℕ)) (a : Growth)
@@ -67,9 +62,9 @@ module _ (setting : records.Setting) (ligands : List Ligand) (a : Growth)
     (fit : IsFit setting.graph a.root ligands) (fits : length a.nodes ≤ a.bound) where
   pub ordered_ranked : SettledAs (settled_by setting ligands) a Ordered → (pairs : List Pair) (noted : List Asked)
       → pairs ≡ pairs_of ligands → Notes setting.graph setting.positions a.root a.bound a.sphere pairs noted
-      → (standing : Standing) → standing.pairs ≡ pairs → standing.natural ≡ noted → standing.turned ≡ noted
+      → (standing : Standing) → standing.natural ≡ by_vertices pairs noted → standing.turned ≡ by_vertices pairs noted
       → RankedAs setting a.bound a.root ligands (standing_of standing) Known
-  ordered_ranked settled pairs noted are notes standing same natural turned = (
+  ordered_ranked settled pairs noted are notes standing natural turned = (
     cost_within setting ligands a.root a h refl settled.1 fits,
     record {
       each = stands_early setting.rules setting.graph setting.positions setting.units a h settled.0 sound ligands
@@ -79,7 +74,8 @@ module _ (setting : records.Setting) (ligands : List Ligand) (a : Growth)
           let is = settled.1 in omega (arith, low, is))
           settled.2 noted
           (subst (λ (ps : List Pair). Notes setting.graph setting.positions a.root a.bound a.sphere ps noted) are notes)
-          standing (same ∙ are) natural turned;
+          standing (natural ∙ ap (λ (ps : List Pair). by_vertices ps noted) are)
+          (turned ∙ ap (λ (ps : List Pair). by_vertices ps noted) are);
     },
   )
 
@@ -91,10 +87,9 @@ module _ (setting : records.Setting) (ligands : List Ligand) (a : Growth)
       omega (arith, further, is)
 
   both_ways : (natural turned : List Asked) (ranked : Bool → List Asked) → natural ≡ ranked true → turned ≡ ranked false
-      → (pairs : List Pair) (r_first : Bool)
-      → asked_in (record { pairs = pairs; natural = natural; turned = turned }) r_first ≡ ranked r_first
-  both_ways natural turned ranked n t pairs true = n
-  both_ways natural turned ranked n t pairs false = t
+      → (r_first : Bool) → asked_in (record { natural = natural; turned = turned }) r_first ≡ ranked r_first
+  both_ways natural turned ranked n t true = n
+  both_ways natural turned ranked n t false = t
 
   -- the branches of a root whose digraph is whole, as constitution leaves them
   module _ (settled : SettledAs (settled_by setting ligands) a Whole) (trying : Trying)
@@ -110,35 +105,38 @@ module _ (setting : records.Setting) (ligands : List Ligand) (a : Growth)
     by = beside setting.graph a.root ligands sound fit
 
     -- where it decides all pairs
-    pub early_ranked : list_all is_decided trying.noted ≡ true → (standing : Standing) → standing.pairs ≡ trying.pairs
-        → standing.natural ≡ trying.noted → standing.turned ≡ trying.noted
+    pub early_ranked : list_all is_decided trying.noted ≡ true → (standing : Standing)
+        → standing.natural ≡ by_vertices trying.pairs trying.noted
+        → standing.turned ≡ by_vertices trying.pairs trying.noted
         → RankedAs setting a.bound a.root ligands (standing_of standing) Known
-    early_ranked done standing same natural turned = (
+    early_ranked done standing natural turned = (
       cost_within setting ligands a.root a h refl settled.0 fits,
       record {
         each = stands_whole setting.rules setting.graph setting.positions setting.units a sound ligands by trying are
-            standing (same ∙ pairs_are) (λ r_first. both_ways standing.natural standing.turned (λ r_first. trying.noted)
-            natural turned standing.pairs r_first
-            ∙ found_early setting.rules setting.graph setting.positions setting.units a sound ligands by trying are done
-            r_first);
+            standing (λ r_first. both_ways standing.natural standing.turned
+            (λ r_first. by_vertices trying.pairs trying.noted) natural turned r_first
+            ∙ (λ k. by_vertices (pairs_are k) (found_early setting.rules setting.graph setting.positions setting.units a
+            sound ligands by trying are done r_first k)));
       },
     )
 
     -- where descriptors were asked for
     pub late_ranked : list_all is_decided trying.noted ≡ false → (marks : List (Option Descriptor))
-        → HaveMarks setting a trying.branched marks → (standing : Standing) → standing.pairs ≡ trying.pairs
-        → AreOrdered trying marks standing.natural standing.turned
+        → HaveMarks setting a trying.branched marks → (standing : Standing) → StandsOrdered trying marks standing
         → RankedAs setting a.bound a.root ligands (standing_of standing) Known
-    late_ranked undone marks have standing same ordered =
+    late_ranked undone marks have standing stands =
         let found = found_late setting.rules setting.graph setting.positions setting.units a sound ligands by trying are
-        undone marks have.each standing.natural standing.turned ordered in
+        undone marks have.each stands.first stands.second stands.ordered in
         let seen = seen_at setting.rules setting.graph setting.positions setting.units a.root in
         let node = node_of setting.rules setting.graph setting.positions a trying.branched in (
           cost_within setting ligands a.root a h refl settled.0 fits,
           record {
             each = stands_whole setting.rules setting.graph setting.positions setting.units a sound ligands by trying are
-                standing (same ∙ pairs_are) (both_ways standing.natural standing.turned
-                (λ r_first. map (with_found (λ m n. order seen r_first (node m) (node n)))
-                (map (asked_by are.branch) (pairs_of ligands))) found.0 found.1 standing.pairs);
+                standing (both_ways standing.natural standing.turned
+                (λ r_first. by_vertices (pairs_of ligands)
+                (map (with_found (λ m n. order seen r_first (node m) (node n)))
+                (map (asked_by are.branch) (pairs_of ligands))))
+                (stands.natural ∙ (λ k. by_vertices (pairs_are k) (found.0 k)))
+                (stands.turned ∙ (λ k. by_vertices (pairs_are k) (found.1 k))));
           },
         )

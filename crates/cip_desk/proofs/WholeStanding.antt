@@ -31,7 +31,7 @@ use Rattle.cip_ligands.specs.Asking.{AreWithin, is_decided, with_found}
 use Rattle.cip_ligands.specs.Marked.{AreMarksOf}
 use Rattle.cip_ligands.specs.Orders.{decided_in_turn}
 use Rattle.cip_ligands.proofs.RulesGoOn.{order_told}
-use Rattle.cip_desk.specs.Standing.{Standing, standing_of, asked_in}
+use Rattle.cip_desk.specs.Standing.{Standing, asked_in, by_vertices, standing_of}
 use Rattle.cip_desk.proofs.PairedStanding.{stands_paired}
 
 abbrev early_rules : List Rule
@@ -77,15 +77,16 @@ module _ (rules : Rules) (g : Graph) (positions : List (List ℕ)) (all : List u
       (one_node g sound a.root positions vertex (beside i vertex at))
 
   -- what is found by all rules is the order
-  pub stands_whole : (standing : Standing) → standing.pairs ≡ pairs_of ligands
-      → ((r_first : Bool) → asked_in standing r_first ≡ map (with_found (find r_first)) begin)
+  pub stands_whole : (standing : Standing)
+      → ((r_first : Bool) → asked_in standing r_first
+      ≡ by_vertices (pairs_of ligands) (map (with_found (find r_first)) begin))
       → (r_first : Bool) (i j v w : ℕ) → slice_get ligands i ≡ Some (Vertex v)
       → slice_get ligands j ≡ Some (Vertex w)
       → standing_of standing r_first v w ≡ order seen r_first (real_node v (a.root ∷ [])) (real_node w (a.root ∷ []))
-  stands_whole standing pairs asked =
+  stands_whole standing asked =
       stands_paired seen a.root ligands are.branch find
       (λ r_first i j v w at_v at_w. ap (λ n. order seen r_first n (node (are.branch w))) (node_is i v at_v)
-      ∙ ap (order seen r_first (real_node v (a.root ∷ []))) (node_is j w at_w)) standing pairs asked
+      ∙ ap (order seen r_first (real_node v (a.root ∷ []))) (node_is j w at_w)) standing asked
 
   -- where constitution decides all pairs, it is what all rules find
   pub found_early : list_all is_decided trying.noted ≡ true → (r_first : Bool)

@@ -2,8 +2,7 @@
 ghost use Rattle.std.specs.Prelude.{◌≡◌, ◌≤◌, [], length, IfOk, OnOk};
 ghost use Rattle.cip_branches.specs.Deciding.{AreFollowed};
 ghost use Rattle.cip_rows.specs.Keys.{AreKeyed};
-ghost use Rattle.cip_constitution.specs.FollowedOut.{AreOrdered};
-ghost use Rattle.cip_desk.specs.Standing.{found_of, standing_of};
+ghost use Rattle.cip_desk.specs.Standing.{StandsOrdered, by_vertices, found_of, standing_of};
 
 use cip_constitution::{Pair, Work};
 use cip_digraph::Decision;
@@ -18,43 +17,55 @@ const MOST_PAIRS: usize = 6;
 /// How the branches at each two neighbours of a root stand, with R first and with S first.
 #[derive(Drop)]
 pub struct Branches {
-    pairs: Vec<Pair>,
     natural: Vec<Asked>,
     turned: Vec<Asked>,
+    // whether it may be another one with S first
+    both_ways: bool,
+    // pairs by their branches, while they are decided with S first
+    numbered: Vec<Asked>,
 }
 
 impl Model for Branches {
+    ghost use Rattle.std.specs.Prelude.{cond};
     ghost use Rattle.cip_desk.specs.Standing.{Standing};
 
     ghost Value = { Standing };
 
-    ghost view = { λ b. record { pairs = b.pairs.items; natural = b.natural.items; turned = b.turned.items } };
+    ghost view = { λ b. record { natural = b.natural.items; turned = cond b.both_ways b.turned.items b.natural.items } };
 }
 
 impl Branches {
     /// No pairs, with room for those of four ligands.
     pub fn reserve(alloc: Global) -> Result<Branches, AllocError>
-        ensures { IfOk result (λ made. made ≡ record { pairs = []; natural = []; turned = [] }) }
+        ensures { IfOk result (λ made. made ≡ record { natural = []; turned = [] }) }
     {
         Ok(Branches {
-            pairs: Vec::with_capacity(alloc, MOST_PAIRS)?,
             natural: Vec::with_capacity(alloc, MOST_PAIRS)?,
             turned: Vec::with_capacity(alloc, MOST_PAIRS)?,
+            both_ways: false,
+            numbered: Vec::with_capacity(alloc, MOST_PAIRS)?,
         })
     }
 
-    /// Takes pairs, and what was noted of them: it is the same with R first and with S first.
-    pub fn take(&mut self, pairs: &[Pair], noted: &[Asked]) -> Result<(), AllocError>
-        ensures pairs { OnOk result (self.new.pairs ≡ pairs.now) }
+    /// Takes what was noted of pairs by their vertices: it is the same with R first and with S first.
+    pub fn take_named(&mut self, noted: &[Asked]) -> Result<(), AllocError>
         ensures natural { OnOk result (self.new.natural ≡ noted.now) }
         ensures turned { OnOk result (self.new.turned ≡ noted.now) }
     {
-        copy(pairs, &mut self.pairs)?;
-        copy(noted, &mut self.natural)?;
-        copy(noted, &mut self.turned)
+        self.both_ways = false;
+        copy(noted, &mut self.natural)
     }
 
-    /// Takes pairs that constitution left open, and what all rules decide between them, both ways, by the descriptors of
+    /// Takes what was noted of pairs by their branches: it is the same with R first and with S first.
+    pub fn take(&mut self, pairs: &[Pair], noted: &[Asked]) -> Result<(), AllocError>
+        ensures natural { OnOk result (self.new.natural ≡ by_vertices pairs.now noted.now) }
+        ensures turned { OnOk result (self.new.turned ≡ by_vertices pairs.now noted.now) }
+    {
+        self.both_ways = false;
+        name(pairs, noted, &mut self.natural)
+    }
+
+    /// Takes pairs that constitution left open, as all rules decide between them, both ways, by the descriptors of
     /// nodes.
     pub fn configure(
         &mut self,
@@ -65,15 +76,15 @@ impl Branches {
         requires followed { AreFollowed work.old.branched }
         requires keyed { AreKeyed (length marks.now.marks) work.old.branched.layers.kin }
         requires room { length work.old.branched.layers.kin.ups ≤ readings.old.bound }
-        ensures ordered { OnOk result (AreOrdered work.old marks.now.marks self.new.natural self.new.turned) }
-        ensures pairs { OnOk result (self.new.pairs ≡ work.old.pairs) }
+        ensures ordered { OnOk result (StandsOrdered work.old marks.now.marks self.new) }
         ensures work { work.new.bound ≡ work.old.bound }
         ensures readings { readings.new.bound ≡ readings.old.bound }
     {
-        copy(work.pairs(), &mut self.pairs)?;
-        copy(work.noted(), &mut self.turned)?;
-        work.configure(readings, marks, self.turned.as_mut_slice());
-        copy(work.noted(), &mut self.natural)
+        self.both_ways = true;
+        copy(work.noted(), &mut self.numbered)?;
+        work.configure(readings, marks, self.numbered.as_mut_slice());
+        name(work.pairs(), self.numbered.as_slice(), &mut self.turned)?;
+        name(work.pairs(), work.noted(), &mut self.natural)
     }
 
     /// How the branches at two neighbours stand.
@@ -83,31 +94,51 @@ impl Branches {
         if a == b {
             return None;
         }
-        let asked = if r_first { &self.natural } else { &self.turned };
-        found_of(&self.pairs, asked, a, b)
+        if r_first || !self.both_ways {
+            found_of(&self.natural, a, b)
+        } else {
+            found_of(&self.turned, a, b)
+        }
     }
 }
 
 // What was noted of two, whichever of them was asked about first.
-fn found_of(pairs: &[Pair], asked: &[Asked], a: u32, b: u32) -> Option<Decision>
-    ensures { result ≡ found_of a b pairs.now asked.now }
+fn found_of(asked: &[Asked], a: u32, b: u32) -> Option<Decision>
+    ensures { result ≡ found_of a b asked.now }
 {
-    let mut rest = pairs;
-    let mut found = asked;
-    while let [pair, others @ ..] = rest {
-        let [one, later @ ..] = found else {
-            return None;
-        };
-        if pair.a == a && pair.b == b {
+    let mut rest = asked;
+    while let [one, others @ ..] = rest {
+        if one.first == a && one.second == b {
             return one.decision;
         }
-        if pair.a == b && pair.b == a {
+        if one.first == b && one.second == a {
             return reversed(one.decision);
         }
         rest = others;
-        found = later;
     }
     None
+}
+
+// What was noted of pairs by their branches, by their vertices.
+fn name(pairs: &[Pair], noted: &[Asked], named: &mut Vec<Asked>) -> Result<(), AllocError>
+    ensures { OnOk result (named.new.items ≡ by_vertices pairs.now noted.now) }
+{
+    named.clear();
+    let mut rest = pairs;
+    let mut found = noted;
+    while let [pair, others @ ..] = rest {
+        let [one, later @ ..] = found else {
+            return Ok(());
+        };
+        named.push(Asked {
+            first: pair.a,
+            second: pair.b,
+            decision: one.decision,
+        })?;
+        rest = others;
+        found = later;
+    }
+    Ok(())
 }
 
 fn copy<T: Copy>(items: &[T], other: &mut Vec<T>) -> Result<(), AllocError>

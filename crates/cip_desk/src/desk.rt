@@ -82,22 +82,16 @@ impl Digraphs for Desk {
         ligands: &Ligands,
         steps: &mut Steps<L>,
     ) -> Result<Ranking, AllocError> {
-        self.work.ask(ligands);
         let told = RootedLigands {
             setting,
             root,
             ligands,
             bound: self.bound,
         };
-        if rank_early(
-            alloc,
-            &told,
-            &mut self.early,
-            &self.work,
-            &mut self.branches,
-        )? {
+        if rank_early(alloc, &told, &mut self.early, &mut self.branches)? {
             return Ok(Ranking::Known);
         }
+        self.work.ask(ligands);
         let settled = settle_root(
             &mut self.arena,
             &mut self.work,

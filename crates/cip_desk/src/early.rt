@@ -1,6 +1,5 @@
 // Roots whose ligands two spheres tell apart: no digraph is grown.
 ghost use Rattle.std.specs.Prelude.{◌≡◌, true, IfOk, Ok};
-ghost use Rattle.cip_constitution.specs.Pairs.{pairs_of};
 ghost use Rattle.cip_early.specs.ToldEarly.{is_told_early};
 ghost use Rattle.cip_label.specs.Fitting.{IsFit};
 ghost use Rattle.cip_label.specs.Standing.{RankedAs};
@@ -8,21 +7,17 @@ ghost use Rattle.cip_label.specs.declared.digraphs.Ranking.TheVariants.{Known};
 ghost use Rattle.cip_desk.specs.Standing.{standing_of};
 
 use crate::branches::Branches;
-use cip_constitution::Work;
 use cip_early::{Early, RootedLigands};
 use std::alloc::{AllocError, Global};
 
-/// Ranks the ligands of a root where two spheres tell them apart, and answers whether they do. Their pairs were asked
-/// about.
+/// Ranks the ligands of a root where two spheres tell them apart, and answers whether they do.
 pub fn rank_early(
     alloc: Global,
     rooted: &RootedLigands<'_, '_>,
     early: &mut Early,
-    work: &Work,
     branches: &mut Branches,
 ) -> Result<bool, AllocError>
     requires fit { IsFit rooted.now.setting.now.graph rooted.now.root rooted.now.ligands.now }
-    requires pairs { work.now.pairs ≡ pairs_of rooted.now.ligands.now }
     ensures told { IfOk result (λ told. told ≡ is_told_early rooted.now.setting.now rooted.now.root
         rooted.now.ligands.now rooted.now.bound) }
     ensures ranked { result ≡ Ok true → RankedAs rooted.now.setting.now rooted.now.bound rooted.now.root
@@ -31,7 +26,7 @@ pub fn rank_early(
     let _graph = rooted.setting.graph();
     let told = early.tell(alloc, rooted)?;
     if told {
-        branches.take(work.pairs(), early.noted())?;
+        branches.take_named(early.noted())?;
     }
     Ok(told)
 }
