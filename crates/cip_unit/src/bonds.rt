@@ -1,5 +1,5 @@
 // Bond units: double bonds that can have a descriptor.
-ghost use Rattle.std.specs.Prelude.{◌≡◌, ◌<◌, ◌++◌, ◌∷◌, [], IfOk, OnOk, length};
+ghost use Rattle.std.specs.Prelude.{◌≡◌, ◌==◌, ◌<◌, ◌&&◌, ◌++◌, ◌∷◌, [], IfOk, OnOk, length};
 ghost use Rattle.cip_digraph.specs.units.DoubleBonds.{bond_site, bond_sites, is_bond_unit};
 ghost use Rattle.cip_digraph.specs.graph.Graph.{other_end};
 ghost use Rattle.cip_digraph.specs.rings.Positions.{is_delocalised};
@@ -28,9 +28,18 @@ pub fn push_bonds(
         ++ units_at sketch.now.molecule.now (bond_sites sketch.now.graph.now sketch.now.positions.now a)) }
 {
     for edge in sketch.graph.edges_at(a) {
-        push_bond(alloc, sketch, a, edge, reached, units)?;
+        // Most bonds are single: no site is made for them.
+        if is_counted_double(edge) {
+            push_bond(alloc, sketch, a, edge, reached, units)?;
+        }
     }
     Ok(())
+}
+
+fn is_counted_double(edge: &Edge) -> bool
+    ensures { result ≡ (edge.now.counted && (edge.now.order == 2)) }
+{
+    edge.counted && edge.order == 2
 }
 
 // Adds the unit of a bond, where it is one.
