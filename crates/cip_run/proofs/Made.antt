@@ -5,7 +5,7 @@ use Rattle.cip_io.specs.Growth.{AppendsPrefix}
 use Rattle.cip_make.specs.Made.{made}
 use Rattle.cip_stream.specs.declared.stop.Stop.{Stop}
 use Rattle.cip_stream.specs.declared.stop.Stop.TheVariants as stops
-use Rattle.cip_stream.proofs.Growing.{appends_both, prefix_behind, prefix_longer}
+use Rattle.cip_io.proofs.Growth.{appends_both, prefix_behind, prefix_longer}
 use Rattle.cip_run.specs.Making.{Makes, Writes, made_text}
 
 -- the first records are a front of more of them

@@ -1,16 +1,18 @@
 -- Records that are gathered in batches and answered batch by batch.
-use Rattle.std.proofs.Common.{◌≡◌, ◌<◌, ◌+◌, arith, ℕ, zero, suc, List, [], ◌∷◌, ◌++◌, length, map, take, drop, Option, Result, Ok, Err, refl, sym, ◌∙◌, ap, add-zero, append_assoc, length-append, subst, get_or}
+use Rattle.std.proofs.Common.{◌≡◌, ◌<◌, ◌+◌, arith, ℕ, zero, suc, List, [], ◌∷◌, ◌++◌, length, map, take, drop, Option, Result, Ok, Err, refl, Bool, ◌||◌, true, false, Some, None, sym, ◌∙◌, ap, add-zero, append_assoc, append-nil, length-append, subst, get_or}
 use Rattle.std.proofs.Math.Seq.{take-length}
 use Rattle.std.proofs.lemmas.List.{length-map, length-take-le, map-append, take_more, take-append-drop}
 use Rattle.std.specs.Io.KnownBytes.{Appends}
 use Rattle.cip_stream.specs.declared.stop.Stop.{Stop}
 use Rattle.cip_stream.specs.declared.verdict.Verdict.{Verdict}
 use Rattle.cip_stream.specs.Manner.{Manner}
-use Rattle.cip_stream.specs.Verdicts.{clear, joined}
+use Rattle.cip_stream.specs.Verdicts.{clear, first_note, joined}
 use Rattle.cip_stream.specs.Due.{verdict_from, texts_from}
 use Rattle.cip_stream.specs.Endings.{GrewFrom}
 use Rattle.cip_stream.specs.Batches.{Advances, Answers, Telling, telling, told_from}
-use Rattle.cip_stream.proofs.Growing.{appends_none, told_both, joined_result, answers_longer, answers_behind}
+use Rattle.cip_io.specs.Growth.{AppendsPrefix, TakesFront}
+use Rattle.cip_io.proofs.Growth.{appends_none, appends_both, prefix_behind, prefix_longer}
+use Rattle.cip_stream.proofs.Growing.{told_both, verdict_both, texts_both, joined_result, answers_longer, answers_behind}
 
 told_long : {N : Type 0} (manner : Manner N) (number : ℕ) (records : List (List ℕ))
     → length (told_from manner number records) ≡ length records
@@ -132,55 +134,138 @@ told_here manner number records found k d all within =
     ap (λ xs. get_or xs k d) all
     ∙ told_at manner number records k d (subst (λ n. k < n) (ap length all ∙ told_long manner number records) within)
 
--- the first of the records were answered, so many of them
-pub record IsWritten {N : Type 0} (manner : Manner N) (number : ℕ) (records : List (List ℕ)) (count : ℕ) (verdict : Verdict N)
-    (old new : Option (List ℕ)) : Type 0 where
+-- what the records up to one more add, and their texts
+
+note_alone : {N : Type 0} (note : Option N) → first_note note None ≡ note
+note_alone (Some n) = refl
+note_alone None = refl
+
+flag_alone : (flag : Bool) → flag || false ≡ flag
+flag_alone true = refl
+flag_alone false = refl
+
+joined_clear : {N : Type 0} (verdict : Verdict N) → joined verdict clear ≡ verdict
+joined_clear verdict = rw (flag_alone verdict.flagged, note_alone verdict.note) refl
+
+verdict_more : {N : Type 0} (manner : Manner N) (number : ℕ) (records : List (List ℕ)) (k : ℕ) → k < length records
+    → verdict_from manner number (take (k + 1) records)
+    ≡ joined (verdict_from manner number (take k records)) (manner.verdict (number + k) (get_or records k []))
+verdict_more manner number records k within =
+    let bytes = get_or records k [] in
+    let long : length (take k records) ≡ k = length-take-le k records (omega (arith, within)) in
+    ap (verdict_from manner number) (take_more records k [] within)
+    ∙ verdict_both manner number (take k records) (bytes ∷ [])
+    ∙ ap (joined (verdict_from manner number (take k records)))
+    (joined_clear (manner.verdict (number + length (take k records)) bytes)
+    ∙ ap (λ n. manner.verdict (number + n) bytes) long)
+
+texts_more : {N : Type 0} (manner : Manner N) (number : ℕ) (records : List (List ℕ)) (k : ℕ) → k < length records
+    → texts_from manner number (take (k + 1) records)
+    ≡ texts_from manner number (take k records) ++ manner.text (number + k) (get_or records k [])
+texts_more manner number records k within =
+    let bytes = get_or records k [] in
+    let long : length (take k records) ≡ k = length-take-le k records (omega (arith, within)) in
+    ap (texts_from manner number) (take_more records k [] within)
+    ∙ texts_both manner number (take k records) (bytes ∷ [])
+    ∙ ap (λ text. texts_from manner number (take k records) ++ text)
+    (append-nil (manner.text (number + length (take k records)) bytes)
+    ∙ ap (λ n. manner.text (number + n) bytes) long)
+
+-- a front of the texts of the first records is one of all texts
+front_of_all : {N : Type 0} (manner : Manner N) (number : ℕ) (records : List (List ℕ)) (k : ℕ) (old new : Option (List ℕ))
+    → AppendsPrefix old new (texts_from manner number (take k records))
+    → AppendsPrefix old new (texts_from manner number records)
+front_of_all manner number records k old new prefix =
+    let whole : texts_from manner number (take k records)
+    ++ texts_from manner (number + length (take k records)) (drop k records) ≡ texts_from manner number records =
+    sym (texts_both manner number (take k records) (drop k records))
+    ∙ ap (texts_from manner number) (take-append-drop k records) in
+    subst (AppendsPrefix old new) whole
+    (prefix_longer old new (texts_from manner number (take k records))
+    (texts_from manner (number + length (take k records)) (drop k records)) prefix)
+
+-- the first of the records were told of, so many of them, and the sink took their texts but for what waits
+pub record IsJoined {N : Type 0} (manner : Manner N) (number : ℕ) (records : List (List ℕ)) (count : ℕ) (verdict : Verdict N)
+    (waiting : List ℕ) (old new : Option (List ℕ)) : Type 0 where
   pub told : verdict_from manner number (take count records) ≡ verdict
-  pub written : Appends old new (texts_from manner number (take count records))
+  pub text : TakesFront old new (texts_from manner number (take count records)) waiting
 
-pub one_written : {N : Type 0} (manner : Manner N) (number : ℕ) (records : List (List ℕ)) (found : List (Telling N)) (k : ℕ)
-    (verdict one : Verdict N) (old middle new : Option (List ℕ)) → found ≡ told_from manner number records
-    → k < length found → IsWritten manner number records k verdict old middle
-    → Answers manner (number + k) (get_or records k [] ∷ []) (Ok one) middle new
-    → IsWritten manner number records (k + 1) (joined verdict one) old new
-one_written manner number records found k verdict one old middle new all within before grew =
+pub one_joined : {N : Type 0} (manner : Manner N) (number : ℕ) (records : List (List ℕ)) (found : List (Telling N)) (k : ℕ)
+    (one : Telling N) (verdict : Verdict N) (waiting left : List ℕ) (old middle new : Option (List ℕ))
+    → found ≡ told_from manner number records → k < length found
+    → one ≡ telling manner (number + k) (get_or records k [])
+    → IsJoined manner number records k verdict waiting old middle → TakesFront middle new (waiting ++ one.text) left
+    → IsJoined manner number records (k + 1) (joined verdict one.verdict) left old new
+one_joined {N = N} manner number records found k one verdict waiting left old middle new all within here before takes =
     let place : k < length records = subst (λ n. k < n) (ap length all ∙ told_long manner number records) within in
-    let bytes = get_or records k [] in
-    let long : length (take k records) ≡ k = length-take-le k records (omega (arith, place)) in
-    let longer : take (k + 1) records ≡ take k records ++ bytes ∷ [] = take_more records k [] place in
-    let answers : Answers manner number (take k records ++ bytes ∷ []) (Ok (joined verdict one)) old new =
-    answers_behind manner number (take k records) (bytes ∷ []) verdict (Ok one) old middle new before.told
-    before.written (subst (λ n. Answers manner (number + n) (bytes ∷ []) (Ok one) middle new) (sym long) grew) in
     record {
-      told = ap (verdict_from manner number) longer ∙ answers.holds;
-      written = subst (λ xs. Appends old new (texts_from manner number xs)) (sym longer) answers.written;
+      told = verdict_more manner number records k place
+          ∙ ap (λ (t : Telling N). joined (verdict_from manner number (take k records)) t.verdict) (sym here)
+          ∙ ap (λ v. joined v one.verdict) before.told;
+      text = record {
+        front = before.text.front ++ takes.front;
+        parts = append_assoc before.text.front takes.front left
+            ∙ ap (λ text. before.text.front ++ text) takes.parts
+            ∙ sym (append_assoc before.text.front waiting one.text)
+            ∙ ap (λ text. text ++ one.text) before.text.parts
+            ∙ ap (λ (t : Telling N). texts_from manner number (take k records) ++ t.text) here
+            ∙ sym (texts_more manner number records k place);
+        written = appends_both old middle new before.text.front takes.front before.text.written takes.written;
+      };
     }
 
-pub stopped_in : {N : Type 0} (manner : Manner N) (number : ℕ) (records : List (List ℕ)) (found : List (Telling N)) (k : ℕ)
-    (verdict : Verdict N) (stop : Stop) (old middle new : Option (List ℕ)) → found ≡ told_from manner number records
-    → k < length found → IsWritten manner number records k verdict old middle
-    → Answers manner (number + k) (get_or records k [] ∷ []) (Err stop) middle new
-    → Answers manner number records (Err stop) old new
-stopped_in manner number records found k verdict stop old middle new all within before answers =
+-- the sink took a front of the next text, behind what waited
+pub stopped_at : {N : Type 0} (manner : Manner N) (number : ℕ) (records : List (List ℕ)) (found : List (Telling N)) (k : ℕ)
+    (one : Telling N) (verdict : Verdict N) (waiting : List ℕ) (old middle new : Option (List ℕ))
+    → found ≡ told_from manner number records → k < length found
+    → one ≡ telling manner (number + k) (get_or records k [])
+    → IsJoined manner number records k verdict waiting old middle
+    → AppendsPrefix middle new (waiting ++ one.text)
+    → AppendsPrefix old new (texts_from manner number records)
+stopped_at {N = N} manner number records found k one verdict waiting old middle new all within here before prefix =
     let place : k < length records = subst (λ n. k < n) (ap length all ∙ told_long manner number records) within in
-    let bytes = get_or records k [] in
-    let long : length (take k records) ≡ k = length-take-le k records (omega (arith, place)) in
-    let longer : take (k + 1) records ≡ take k records ++ bytes ∷ [] = take_more records k [] place in
-    subst (λ xs. Answers manner number xs (Err stop) old new)
-    (ap (λ xs. xs ++ drop (k + 1) records) (sym longer) ∙ take-append-drop (k + 1) records)
-    (answers_longer manner number (take k records ++ bytes ∷ []) (drop (k + 1) records) stop old new
-    (answers_behind manner number (take k records) (bytes ∷ []) verdict (Err stop) old middle new before.told
-    before.written (subst (λ n. Answers manner (number + n) (bytes ∷ []) (Err stop) middle new) (sym long) answers)))
+    let so_far : before.text.front ++ (waiting ++ one.text) ≡ texts_from manner number (take (k + 1) records) =
+    sym (append_assoc before.text.front waiting one.text)
+    ∙ ap (λ text. text ++ one.text) before.text.parts
+    ∙ ap (λ (t : Telling N). texts_from manner number (take k records) ++ t.text) here
+    ∙ sym (texts_more manner number records k place) in
+    front_of_all manner number records (k + 1) old new
+    (subst (AppendsPrefix old new) so_far
+    (prefix_behind old middle new before.text.front (waiting ++ one.text) before.text.written prefix))
 
--- the whole of them were answered
+-- what waits behind all of them is written, or a front of it
+
+whole_found : {N : Type 0} (manner : Manner N) (number : ℕ) (records : List (List ℕ)) (found : List (Telling N))
+    → found ≡ told_from manner number records → take (length found) records ≡ records
+whole_found manner number records found all =
+    ap (λ n. take n records) (ap length all ∙ told_long manner number records) ∙ take-length records
+
+pub all_told : {N : Type 0} (manner : Manner N) (number : ℕ) (records : List (List ℕ)) (found : List (Telling N)) (verdict : Verdict N)
+    (waiting : List ℕ) (old new : Option (List ℕ)) → found ≡ told_from manner number records
+    → IsJoined manner number records (length found) verdict waiting old new
+    → verdict_from manner number records ≡ verdict
+all_told manner number records found verdict waiting old new all before =
+    subst (λ xs. verdict_from manner number xs ≡ verdict) (whole_found manner number records found all) before.told
+
+all_parts : {N : Type 0} (manner : Manner N) (number : ℕ) (records : List (List ℕ)) (found : List (Telling N)) (verdict : Verdict N)
+    (waiting : List ℕ) (old new : Option (List ℕ)) → found ≡ told_from manner number records
+    → (before : IsJoined manner number records (length found) verdict waiting old new)
+    → before.text.front ++ waiting ≡ texts_from manner number records
+all_parts manner number records found verdict waiting old new all before =
+    before.text.parts ∙ ap (texts_from manner number) (whole_found manner number records found all)
+
 pub all_written : {N : Type 0} (manner : Manner N) (number : ℕ) (records : List (List ℕ)) (found : List (Telling N)) (verdict : Verdict N)
-    (old new : Option (List ℕ)) → found ≡ told_from manner number records
-    → IsWritten manner number records (length found) verdict old new
-    → Answers manner number records (Ok verdict) old new
-all_written manner number records found verdict old new all before =
-    let long : length found ≡ length records = ap length all ∙ told_long manner number records in
-    let whole : take (length found) records ≡ records = ap (λ n. take n records) long ∙ take-length records in
-    record {
-      holds = subst (λ xs. verdict_from manner number xs ≡ verdict) whole before.told;
-      written = subst (λ xs. Appends old new (texts_from manner number xs)) whole before.written;
-    }
+    (waiting : List ℕ) (old middle new : Option (List ℕ)) → found ≡ told_from manner number records
+    → IsJoined manner number records (length found) verdict waiting old middle → Appends middle new waiting
+    → Appends old new (texts_from manner number records)
+all_written manner number records found verdict waiting old middle new all before written =
+    subst (Appends old new) (all_parts manner number records found verdict waiting old middle all before)
+    (appends_both old middle new before.text.front waiting before.text.written written)
+
+pub stopped_behind : {N : Type 0} (manner : Manner N) (number : ℕ) (records : List (List ℕ)) (found : List (Telling N))
+    (verdict : Verdict N) (waiting : List ℕ) (old middle new : Option (List ℕ)) → found ≡ told_from manner number records
+    → IsJoined manner number records (length found) verdict waiting old middle → AppendsPrefix middle new waiting
+    → AppendsPrefix old new (texts_from manner number records)
+stopped_behind manner number records found verdict waiting old middle new all before prefix =
+    subst (AppendsPrefix old new) (all_parts manner number records found verdict waiting old middle all before)
+    (prefix_behind old middle new before.text.front waiting before.text.written prefix)

@@ -20,7 +20,8 @@ use Rattle.cip_stream.specs.Reading.{Brings, Ends, Overfeeds, Overflows, StandsS
 use Rattle.cip_stream.proofs.Answered.{no_place, all_answered, whole_first, input_passed, record_passed, IsPassed}
 use Rattle.cip_stream.proofs.Batches.{no_memory, gathers, advances_both, answers_both, same_next}
 use Rattle.cip_stream.proofs.Bounds.{consumes_both, takes_more}
-use Rattle.cip_stream.proofs.Growing.{appends_both, prefix_behind, prefix_longer, verdict_both, texts_both, joined_result, answers_longer}
+use Rattle.cip_io.proofs.Growth.{appends_both, prefix_behind, prefix_longer}
+use Rattle.cip_stream.proofs.Growing.{verdict_both, texts_both, joined_result, answers_longer}
 use Rattle.cip_stream.proofs.Counting.{few_closed, fewer}
 use Rattle.cip_stream.proofs.Progressing.{Progress, Fed}
 

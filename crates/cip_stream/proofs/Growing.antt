@@ -1,9 +1,8 @@
 -- Records that are answered one after the other.
-use Rattle.std.proofs.Common.{Bool, Result, Ok, Err, ◌≡◌, ◌+◌, ℕ, suc, List, [], ◌∷◌, ◌++◌, length, Option, Some, None, true, false, refl, sym, ◌∙◌, ap, arith, add-zero, append_assoc, append-nil, length-append, take, ◌||◌}
-use Rattle.std.proofs.lemmas.List.{take-append-le}
-use Rattle.std.proofs.Math.Seq.{take-append-add}
+use Rattle.std.proofs.Common.{Bool, Result, Ok, Err, ◌≡◌, ◌+◌, ℕ, suc, List, [], ◌∷◌, ◌++◌, length, Option, Some, None, true, false, refl, sym, ◌∙◌, ap, arith, add-zero, append_assoc, ◌||◌}
+use Rattle.std.specs.Prelude.{OnErr}
 use Rattle.std.specs.Io.KnownBytes.{Appends}
-use Rattle.cip_io.specs.Growth.{AppendsPrefix}
+use Rattle.cip_io.proofs.Growth.{appends_both, prefix_behind, prefix_longer}
 use Rattle.cip_stream.specs.declared.stop.Stop.{Stop}
 use Rattle.cip_stream.specs.declared.stop.Stop.TheVariants as stops
 use Rattle.cip_stream.specs.declared.verdict.Verdict.{Verdict}
@@ -12,37 +11,9 @@ use Rattle.cip_stream.specs.Verdicts.{first_note, joined}
 use Rattle.cip_stream.specs.Due.{verdict_from, texts_from}
 use Rattle.cip_stream.specs.Batches.{Answers, telling, told_from}
 
--- what a sink took
-
-pub appends_none : (old : Option (List ℕ)) → Appends old old []
-appends_none None = tt
-appends_none (Some bytes) = sym (append-nil bytes)
-
-pub appends_both : (old middle new : Option (List ℕ)) (xs ys : List ℕ) → Appends old middle xs → Appends middle new ys
-    → Appends old new (xs ++ ys)
-appends_both None middle new xs ys first second = tt
-appends_both (Some b) None new xs ys first second = absurd first
-appends_both (Some b) (Some c) None xs ys first second = absurd second
-appends_both (Some b) (Some c) (Some d) xs ys first second = second ∙ ap (λ text. text ++ ys) first
-    ∙ append_assoc b xs ys
-
--- a front that is written behind what was written is a front of both
-pub prefix_behind : (old middle new : Option (List ℕ)) (xs ys : List ℕ) → Appends old middle xs
-    → AppendsPrefix middle new ys → AppendsPrefix old new (xs ++ ys)
-prefix_behind old middle new xs ys first second = (
-  length xs + second.0,
-  rw (length-append xs ys) (omega (arith, second.1)),
-  rw (take-append-add xs ys second.0) (appends_both old middle new xs (take second.0 ys) first second.2),
-)
-
--- a front of a text is a front of a longer one
-pub prefix_longer : (old new : Option (List ℕ)) (text more : List ℕ) → AppendsPrefix old new text
-    → AppendsPrefix old new (text ++ more)
-prefix_longer old new text more front = (
-  front.0,
-  rw (length-append text more) (omega (arith, front.1)),
-  rw (take-append-le front.0 text more front.1) front.2,
-)
+pub where_refused : {T E P : Type 0} (result : Result T E) → P → OnErr result P
+where_refused (Ok x) p = tt
+where_refused (Err e) p = p
 
 -- what is due for records, and for others behind them
 

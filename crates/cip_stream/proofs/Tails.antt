@@ -13,7 +13,7 @@ use Rattle.cip_stream.specs.declared.verdict.Verdict.{Verdict}
 use Rattle.cip_stream.specs.Manner.{Manner}
 use Rattle.cip_stream.specs.Due.{verdict_from, texts_from}
 use Rattle.cip_stream.specs.Batches.{Answers, AnswersTail, blank_of}
-use Rattle.cip_stream.proofs.Growing.{appends_both, prefix_behind, prefix_longer}
+use Rattle.cip_io.proofs.Growth.{appends_both, prefix_behind, prefix_longer}
 
 -- what a tail holds
 

@@ -5,13 +5,13 @@ ghost use Rattle.cip_io.specs.Faults.{Rose};
 ghost use Rattle.cip_io.specs.Growth.{AppendsPrefix};
 ghost use Rattle.cip_frame.specs.Framing.{is_within};
 ghost use Rattle.cip_frame.specs.Records.{tail_of};
-ghost use Rattle.cip_stream.specs.Manner.{Manner};
-ghost use Rattle.cip_stream.specs.Batches.{Answers, AnswersFirst, AnswersTail, told_from, telling};
+ghost use Rattle.cip_stream.specs.Batches.{Answers, AnswersFirst, AnswersTail, telling};
 
 use crate::crew::Desks;
 use crate::stop::Stop;
 use crate::teller::{Teller, Told};
 use crate::verdict::Verdict;
+use crate::writing::write_all;
 use cip_batch::{Gate, Job};
 use cip_frame::{Framer, Tail};
 use cip_io::{Sink, push_all};
@@ -188,36 +188,11 @@ pub fn answer_batch<'a, R: Threads + Sync, G: Gate + Sync, T: Teller + Sync, K: 
     ensures later { K.faults sink.old ≤ K.faults sink.new }
 {
     let found = desks.answer(&batch.waiting)?;
-    let verdict = write_all(&found, sink)?;
+    let verdict = write_all(batch.alloc, &found, sink)?;
     batch.first += batch.waiting.len() as u64;
     batch.waiting.clear();
     batch.bytes = 0;
     Ok(verdict)
-}
-
-// Writes what was found for records, one after the other.
-fn write_all<N: Copy, K: Sink>(found: &[Told<N>], sink: &mut K) -> Result<Verdict<N>, Stop>
-    ensures answered { (manner : Manner N) (number : ℕ) (records : List (List ℕ))
-        → found.now ≡ told_from manner number records
-        → Answers manner number records result (K.taken sink.old) (K.taken sink.new) }
-    ensures fault { IsErrOf result Stop.WriteFault → Rose (K.faults sink.old) (K.faults sink.new) }
-    ensures later { K.faults sink.old ≤ K.faults sink.new }
-{
-    let mut verdict = Verdict::clear();
-    for one in found {
-        verdict = verdict.and(write(one, sink)?);
-    }
-    Ok(verdict)
-}
-
-fn write<N: Copy, K: Sink>(found: &Told<N>, sink: &mut K) -> Result<Verdict<N>, Stop>
-    ensures answered { (manner : Manner N) (number : ℕ) (bytes : List ℕ) → found.now ≡ telling manner number bytes
-        → Answers manner number (bytes ∷ []) result (K.taken sink.old) (K.taken sink.new) }
-    ensures fault { IsErrOf result Stop.WriteFault → Rose (K.faults sink.old) (K.faults sink.new) }
-    ensures later { K.faults sink.old ≤ K.faults sink.new }
-{
-    push_all(sink, &found.text).map_err(|_| Stop::WriteFault)?;
-    Ok(found.verdict)
 }
 
 /// Answers the last batch, into which a last record without its terminator line goes, and writes blank lines behind it

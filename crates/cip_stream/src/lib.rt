@@ -10,6 +10,7 @@ mod stop;
 mod streaming;
 mod teller;
 mod verdict;
+mod writing;
 
 pub use crew::Crew;
 pub use laws::streams_divide;

@@ -1,4 +1,6 @@
-use cip_io::{Failed, MemSink, MemSource, Sink, Source, StdSink, StdSource, push_all};
+ghost use Rattle.std.specs.Prelude.{None};
+
+use cip_io::{Failed, Joined, MemSink, MemSource, Sink, Source, StdSink, StdSource, push_all};
 use std::io;
 use std::test::Fail;
 
@@ -26,6 +28,61 @@ fn memory_moves_bytes_in_pieces_and_fails_when_told(rt: HostRuntime) -> Result<(
     assert_eq!(rt; sink.push(b""), Err(Failed), "the fifth call");
     assert_eq!(rt; push_all(&mut sink, b""), Ok(()));
     assert_eq!(rt; sink.into_bytes().as_slice(), b"hello".as_slice());
+    Ok(())
+}
+
+// A sink that counts its calls.
+#[derive(Drop)]
+struct Called {
+    bytes: Vec<u8>,
+    calls: u64,
+    faults: u64,
+}
+
+impl Sink for Called {
+    ghost taken = { λ _. None };
+
+    ghost faults = { λ sink. sink.faults };
+
+    fn push(&mut self, piece: &[u8]) -> Result<usize, Failed> {
+        self.calls = self.calls.saturating_add(1);
+        if self.bytes.extend_from_slice(piece).is_err() {
+            self.faults = self.faults.saturating_add(1);
+            return Err(Failed);
+        }
+        Ok(piece.len())
+    }
+}
+
+// Pieces wait until the next one doesn't fit into the room; one that is longer than the room is written at once.
+#[test]
+fn pieces_are_written_together(rt: HostRuntime) -> Result<(), Fail> {
+    let alloc = rt.alloc();
+    let mut sink = Called {
+        bytes: Vec::new(alloc),
+        calls: 0,
+        faults: 0,
+    };
+    let mut joined = Joined::with_room(alloc, 5)?;
+    // each piece, how many calls were made behind it, and how many bytes were written
+    let pieces: [(&[u8], u64, usize); 6] = [
+        (b"ab", 0, 0),
+        (b"", 0, 0),
+        (b"cde", 0, 0),
+        (b"f", 1, 5),
+        (b"longer", 3, 12),
+        (b"end", 3, 12),
+    ];
+    for (piece, calls, written) in pieces {
+        assert_eq!(rt; joined.push(piece, &mut sink), Ok(()));
+        assert_eq!(rt; sink.calls, calls);
+        assert_eq!(rt; sink.bytes.len(), written);
+    }
+    for _ in 0..2 {
+        assert_eq!(rt; joined.flush(&mut sink), Ok(()));
+        assert_eq!(rt; sink.calls, 4);
+    }
+    assert_eq!(rt; sink.bytes.as_slice(), b"abcdeflongerend".as_slice());
     Ok(())
 }
 

@@ -170,6 +170,7 @@ impl<'a> Sink for Written<'a> {
 }
 
 // The first piece of three has 136 of 300 records: the answers to them are written before the second one is asked for.
+// Each batch of eight is written at once: 37 batches, and the last four records.
 #[test]
 fn batches_flow(rt: HostRuntime) -> Result<(), Fail> {
     let alloc = rt.alloc();
@@ -196,7 +197,7 @@ fn batches_flow(rt: HostRuntime) -> Result<(), Fail> {
     );
     assert_eq!(rt; status, 0);
     assert_eq!(rt; source.calls, 4);
-    assert_eq!(rt; writes.load(Ordering::SeqCst), 300);
+    assert_eq!(rt; writes.load(Ordering::SeqCst), 38);
     Ok(())
 }
 

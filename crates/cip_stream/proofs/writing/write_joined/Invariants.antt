@@ -1,12 +1,12 @@
 use Rattle.std.proofs.Common.{◌≡◌, ◌≤◌, ℕ, List}
 use Rattle.cip_stream.specs.Manner.{Manner}
 use Rattle.cip_stream.specs.Batches.{told_from}
-use Rattle.cip_stream.proofs.Batches.{IsWritten}
-use Rattle.cip_stream.proofs.batch.write_all.Given as goal
+use Rattle.cip_stream.proofs.Batches.{IsJoined}
+use Rattle.cip_stream.proofs.writing.write_joined.Given as goal
 
 abbrev pub invariant-loop-one : goal.invariant-loop-one
 invariant-loop-one g l = record {
   so_far : (manner : Manner g.row.N.Denot) (number : ℕ) (records : List (List ℕ)) → l.found ≡ told_from manner number records
-      → IsWritten manner number records l.one-index l.verdict (g.K.Sink.taken l.initial.sink) (g.K.Sink.taken l.sink);
+      → IsJoined manner number records l.one-index l.verdict l.joined (g.K.Sink.taken l.initial.sink) (g.K.Sink.taken l.sink);
   later : g.K.Sink.faults l.initial.sink ≤ g.K.Sink.faults l.sink;
 }
