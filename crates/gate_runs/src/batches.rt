@@ -2,6 +2,7 @@ use cip_batch::{Gate, Job, Open, Worker, map_batch};
 use std::alloc::{AllocError, Global};
 use std::sync::atomic::{AtomicU64, Ordering};
 use std::test::Fail;
+use std::thread::Threads;
 
 // How often a counter is looked at before the wait is given up: some tenths of a second.
 const TURNS: u64 = 100_000_000;
@@ -172,30 +173,39 @@ impl<'a> Job for Noted<'a> {
     }
 }
 
-// Each job goes to the worker who has the least so far: one that weighs as much as all others has a worker to itself.
+// What four jobs weigh, and who does them: the worker who has the least so far, the first of two who have the same.
 #[test]
 fn jobs_are_dealt_by_weight(rt: HostRuntime) -> Result<(), Fail> {
-    let alloc = rt.alloc();
-    let mut desks = Vec::new(alloc);
-    for _ in 0..8 {
-        desks.push(AtomicU64::new(9))?;
-    }
-    let mut jobs = Vec::new(alloc);
-    for (weight, desk) in [2, 10, 3, 1, 1, 1, 2, 1].iter().zip(&desks) {
-        jobs.push(Noted {
-            weight: *weight,
-            desk,
-        })?;
-    }
-    let mut workers = Vec::new(alloc);
-    for number in 0..3u64 {
-        workers.push(Worker::new(alloc, number))?;
-    }
-    assert!(rt; 0 < workers.len() && workers.len() <= 16);
-    let answers = map_batch(&rt, alloc, &jobs, &mut workers, &Open)?;
-    assert_eq!(rt; answers.len(), 8);
-    for (desk, owner) in desks.iter().zip([0, 1, 2, 0, 0, 2, 0, 2]) {
-        assert_eq!(rt; desk.load(Ordering::SeqCst), owner);
-    }
+    let desks = [
+        AtomicU64::new(9),
+        AtomicU64::new(9),
+        AtomicU64::new(9),
+        AtomicU64::new(9),
+    ];
+    deal_to_two(&rt, rt.alloc(), &desks)?;
+    assert_eq!(rt; desks[0].load(Ordering::SeqCst), 0);
+    assert_eq!(rt; desks[1].load(Ordering::SeqCst), 1);
+    assert_eq!(rt; desks[2].load(Ordering::SeqCst), 1);
+    assert_eq!(rt; desks[3].load(Ordering::SeqCst), 0);
     Ok(())
+}
+
+fn deal_to_two<R: Threads + Sync>(
+    rt: &R,
+    alloc: Global,
+    desks: &[AtomicU64; 4],
+) -> Result<(), AllocError> {
+    let jobs = [
+        noted(2, &desks[0]),
+        noted(1, &desks[1]),
+        noted(1, &desks[2]),
+        noted(1, &desks[3]),
+    ];
+    let mut workers = [Worker::new(alloc, 0), Worker::new(alloc, 1)];
+    map_batch(rt, alloc, &jobs, &mut workers, &Open)?;
+    Ok(())
+}
+
+fn noted(weight: u64, desk: &AtomicU64) -> Noted<'_> {
+    Noted { weight, desk }
 }
