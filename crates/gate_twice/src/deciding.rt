@@ -68,6 +68,16 @@ pub fn decide_plain(
     plain_order(alloc, tree, rules, first, second)
 }
 
+/// A decision between two as it is from the other one.
+pub fn reversed(decision: Option<Decision>) -> Option<Decision> {
+    let decision = decision?;
+    Some(Decision {
+        side: decision.side.reverse(),
+        rule: decision.rule,
+        sphere: decision.sphere,
+    })
+}
+
 /// Whether it is the same rule that decides in the same sphere in the same way.
 pub fn is_same(one: Option<Decision>, other: Option<Decision>) -> bool {
     match (one, other) {

@@ -4,7 +4,7 @@ ghost use Rattle.cip_tree.specs.Branches.{node_count};
 ghost use Rattle.gate_twice.specs.Tables.{HaveRoom};
 
 use crate::counts::Counts;
-use crate::deciding::{decide_plain, is_same};
+use crate::deciding::{decide_plain, is_same, reversed};
 use crate::molecules::Drawn;
 use crate::tables::Tables;
 use crate::twice::Difference;
@@ -77,7 +77,7 @@ pub fn compare_settled<L: Ledger>(
     compare_noted(alloc, &tree, tables.work.noted(), counts)
 }
 
-// Compares what was noted of each two branches.
+// Compares what was noted of each two branches, either way round.
 fn compare_noted(
     alloc: Global,
     tree: &PlainTree,
@@ -89,10 +89,11 @@ fn compare_noted(
     }
     for one in noted {
         let plain = decide_plain(alloc, tree, Rules::Wording2018, one.first, one.second)?;
-        if !is_same(one.decision, plain) {
+        let back = decide_plain(alloc, tree, Rules::Wording2018, one.second, one.first)?;
+        if !is_same(one.decision, plain) || !is_same(reversed(one.decision), back) {
             return Ok(Some(Difference::Branches(one.first, one.second)));
         }
-        counts.pairs = counts.pairs.saturating_add(1);
+        counts.pairs = counts.pairs.saturating_add(2);
     }
     Ok(None)
 }
