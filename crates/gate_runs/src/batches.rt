@@ -196,16 +196,16 @@ fn deal_to_two<R: Threads + Sync>(
     desks: &[AtomicU64; 4],
 ) -> Result<(), AllocError> {
     let jobs = [
-        noted(2, &desks[0]),
-        noted(1, &desks[1]),
-        noted(1, &desks[2]),
-        noted(1, &desks[3]),
+        weighing(2, &desks[0]),
+        weighing(1, &desks[1]),
+        weighing(1, &desks[2]),
+        weighing(1, &desks[3]),
     ];
     let mut workers = [Worker::new(alloc, 0), Worker::new(alloc, 1)];
     map_batch(rt, alloc, &jobs, &mut workers, &Open)?;
     Ok(())
 }
 
-fn noted(weight: u64, desk: &AtomicU64) -> Noted<'_> {
+fn weighing(weight: u64, desk: &AtomicU64) -> Noted<'_> {
     Noted { weight, desk }
 }
