@@ -1,11 +1,11 @@
 -- The chains that are listed are those of cumulated double bonds.
-use Rattle.std.proofs.Common.{◌≡◌, ◌≢◌, ◌<◌, ◌-◌, inl, inr, ℕ, zero, suc, List, [], ◌∷◌, ◌++◌, length, filter, flat_map, map, refl, sym, ap, subst, ◌∙◌, Bool, true, false, not, cond, ◌==◌, ◌&&◌, eqb-true, eq-eqb, lt-ltb, ltb-true, nat_lt, arith}
+use Rattle.std.proofs.Common.{◌≡◌, ◌≢◌, ◌<◌, ◌-◌, inl, ℕ, zero, suc, List, [], ◌∷◌, ◌++◌, length, filter, flat_map, map, refl, sym, ap, subst, ◌∙◌, Bool, true, false, not, cond, ◌==◌, ◌&&◌, eqb-true, lt-ltb, ltb-true, nat_lt, arith}
 use Rattle.std.specs.Prelude.{slice_index_or}
 use Rattle.std.specs.List.{range_with_len}
-use Rattle.std.proofs.lemmas.Bool.{eqb-false, ne_eqb, leb-true, le-leb}
+use Rattle.std.proofs.lemmas.Bool.{eqb-false, leb-true, le-leb}
 use Rattle.std.proofs.lemmas.List.{map-append}
 use Rattle.cip_mol.specs.Drawing.{Drawing}
-use Rattle.cip_digraph.specs.graph.Graph.{Graph, edges_at, vertex_at}
+use Rattle.cip_digraph.specs.graph.Graph.{Graph, edges_at}
 use Rattle.cip_digraph.specs.graph.SoundGraphs.{IsSound}
 use Rattle.cip_digraph.proofs.Lists.{pairs_from_pairwise}
 use Rattle.cip_digraph.specs.units.Allenes.{doubles, is_allene_middle, is_axis_end}
@@ -16,36 +16,12 @@ use Rattle.cip_laws.proofs.lists.Among.{among_filter, among_flat, among_map, amo
 use Rattle.cip_laws.proofs.lists.Truths.{and_parts, and_both, not_false, not_true}
 use Rattle.cip_laws.proofs.units.CarriedAxes.{double_back}
 use Rattle.cip_axis_laws.specs.CumuleneLaws.{IsInner, AreInner, IsCumulene, chains_in, ChainsAreListed}
-use Rattle.cip_axis_laws.proofs.CarriedChains.{no_middle, from_short}
+use Rattle.cip_axis_laws.proofs.CarriedChains.{no_middle}
 use Rattle.cip_axis_laws.proofs.CarriedFurther.{three_of}
 use Rattle.cip_axis_laws.proofs.ChainsOnce.{chains_differ}
-use Rattle.cip_axis_laws.proofs.TurnedLists.{last_from, last_is}
-
--- of two, the one that isn't the given one
-
-abbrev kept : ℕ → ℕ → Bool → Bool → List ℕ
-kept p q a b = cond (not a) (p ∷ cond (not b) (q ∷ []) []) (cond (not b) (q ∷ []) [])
-
-kept_is : (before p q : ℕ) (a b : Bool) → (p == before) ≡ a → (q == before) ≡ b
-    → filter (λ o. not (o == before)) (p ∷ q ∷ []) ≡ kept p q a b
-kept_is before p q a b e f = ap (λ t. kept p q t (q == before)) e ∙ ap (kept p q a) f
-
-other_kept : (before behind : ℕ) (ds : List ℕ) → length ds ≡ 2 → Among before ds → Among behind ds → before ≢ behind
-    → filter (λ o. not (o == before)) ds ≡ behind ∷ []
-other_kept before behind [] two h k differ = absurd h
-other_kept before behind (p ∷ []) two h k differ = absurd (omega (arith, two))
-other_kept before behind (p ∷ q ∷ []) two (inl e) (inl f) differ = absurd (differ (e ∙ sym f))
-other_kept before behind (p ∷ q ∷ []) two (inl e) (inr (inl f)) differ =
-    kept_is before p q true false (eq-eqb p before (sym e)) (ne_eqb q before (λ s. differ (sym s ∙ sym f)))
-    ∙ ap (λ v. v ∷ []) (sym f)
-other_kept before behind (p ∷ q ∷ []) two (inl e) (inr (inr bad)) differ = absurd bad
-other_kept before behind (p ∷ q ∷ []) two (inr (inl e)) (inl f) differ =
-    kept_is before p q false true (ne_eqb p before (λ s. differ (sym s ∙ sym f))) (eq-eqb q before (sym e))
-    ∙ ap (λ v. v ∷ []) (sym f)
-other_kept before behind (p ∷ q ∷ []) two (inr (inl e)) (inr (inl f)) differ = absurd (differ (e ∙ sym f))
-other_kept before behind (p ∷ q ∷ []) two (inr (inl e)) (inr (inr bad)) differ = absurd bad
-other_kept before behind (p ∷ q ∷ []) two (inr (inr bad)) k differ = absurd bad
-other_kept before behind (p ∷ q ∷ r ∷ ds) two h k differ = absurd (omega (arith, two))
+use Rattle.cip_axis_laws.proofs.InnerAtoms.{other_kept, two_doubles}
+use Rattle.cip_axis_laws.proofs.ShortChains.{chain_differs, chain_short, last_ends}
+use Rattle.cip_axis_laws.proofs.TurnedLists.{last_from}
 
 head_among : (vs : List ℕ) (d : ℕ) → length vs ≡ 1 → Among (slice_index_or vs 0 d) vs
 head_among [] d one = absurd (omega (arith, one))
@@ -55,9 +31,7 @@ module _ (graph : Graph) (sound : IsSound graph) where
   inner_leads : (before at behind : ℕ) → IsInner graph before at behind
       → (leads_on graph before at ≡ true) × (next_atom graph before at ≡ behind)
   inner_leads before at behind i =
-      let two : length (doubles graph at) ≡ 2 =
-      eqb-true (length (doubles graph at)) 2
-      (and_parts (((vertex_at graph at).z == 6) && (length (edges_at graph at) == 2)) _ i.middle).1 in
+      let two : length (doubles graph at) ≡ 2 = two_doubles graph before at behind i in
       let one : onward graph before at ≡ behind ∷ [] =
       other_kept before behind (doubles graph at) two i.back i.on i.differ in (
         and_both (is_allene_middle graph at) (length (onward graph before at) == 1) i.middle
@@ -127,15 +101,11 @@ module _ (graph : Graph) (sound : IsSound graph) where
 
   over_is : (chain : List ℕ) (c : IsCumulene graph chain) → chain_over graph c.a c.next ≡ chain
   over_is chain c =
-      let end : last_atom chain ≡ last_from c.next c.more = ap last_atom c.atoms ∙ last_is c.a (c.next ∷ c.more) in
-      let three : length (edges_at graph (last_from c.next c.more)) ≡ 3 =
-      eqb-true (length (edges_at graph (last_from c.next c.more))) 3
-      (three_of graph chain (last_from c.next c.more)
-      (ap (is_axis_end graph chain) (sym end) ∙ c.last)) in
-      let few = c.few in
+      let few = chain_short graph sound chain c in
       let long : length chain ≡ suc (suc (length c.more)) = ap length c.atoms in
       ap (λ vs. c.a ∷ vs)
-      (follows (length graph.vertices) c.a c.next c.more c.inner three (omega (arith, few, long)))
+      (follows (length graph.vertices) c.a c.next c.more c.inner (last_ends graph sound chain c)
+      (omega (arith, few, long)))
       ∙ sym c.atoms
 
   -- each is tried and passes
@@ -166,7 +136,6 @@ module _ (graph : Graph) (sound : IsSound graph) where
       let some = sound.drawn in
       let fuel : suc (count - 1) ≡ count = omega (arith, some, drawn) in
       let way = followed (count - 1) a next (double_back graph sound a next near) in
-      let short = from_short graph sound count a next in
       let all4 = and_parts _ _ test in
       let all3 = and_parts _ _ all4.0 in
       let all2 = and_parts _ _ all3.0 in
@@ -179,7 +148,6 @@ module _ (graph : Graph) (sound : IsSound graph) where
         joined = near;
         inner = way.inner;
         long = leb-true 4 (length (chain_over graph a next)) all1.0;
-        few = omega (arith, short);
         drawn = drawn;
         lower = ltb-true a (last_atom (chain_over graph a next)) all1.1;
         first = all2.1;
@@ -216,5 +184,6 @@ chains_are_listed drawing graph sound = record {
   units = units_along drawing graph (range_with_len 0 graph.drawn);
   each = listed graph sound;
   only = found graph sound;
+  different = chain_differs graph sound;
   once = pairs_from_pairwise ◌≢◌ (chains_in graph) (chains_differ graph sound);
 }

@@ -1,5 +1,5 @@
 -- Which chains of double bonds are listed as cumulenes. Own, after IUPAC 2013, P-93.
-use Rattle.std.specs.Prelude.{◌≡◌, ◌≢◌, ◌<◌, ◌≤◌, ◌+◌, ⊤, ℕ, List, [], ◌∷◌, true, false, filter, flat_map, map, length}
+use Rattle.std.specs.Prelude.{◌≡◌, ◌≢◌, ◌<◌, ◌≤◌, ⊤, ℕ, List, [], ◌∷◌, true, false, filter, flat_map, map, length}
 use Rattle.std.specs.List.{AllPairs, range_with_len}
 use Rattle.cip_mol.specs.Drawing.{Drawing}
 use Rattle.cip_digraph.specs.graph.Graph.{Graph}
@@ -24,8 +24,7 @@ abbrev pub AreInner : Graph → ℕ → ℕ → List ℕ → Type 0
 AreInner graph before at [] = ⊤
 AreInner graph before at (behind ∷ more) = IsInner graph before at behind × AreInner graph at behind more
 
--- A chain of at least three double bonds, none of them in a ring, with such ends, by the end of the lower number. As one
--- that meets no atom twice it has no more atoms than there are vertices.
+-- a chain of at least three double bonds, none of them in a ring, with such ends, by the end of the lower number
 pub record IsCumulene (graph : Graph) (chain : List ℕ) : Type 0 where
   pub a : ℕ
   pub next : ℕ
@@ -34,7 +33,6 @@ pub record IsCumulene (graph : Graph) (chain : List ℕ) : Type 0 where
   pub joined : Among next (doubles graph a)
   pub inner : AreInner graph a next more
   pub long : 4 ≤ length chain
-  pub few : length chain ≤ length graph.vertices + 1
   pub drawn : a < graph.drawn
   pub lower : a < last_atom chain
   pub first : is_axis_end graph chain a ≡ true
@@ -48,12 +46,14 @@ chains_in graph = flat_map (λ a. filter (is_cumulene graph) (chains graph a)) (
 abbrev pub cumulenes_in : Drawing → Graph → List FurtherUnit
 cumulenes_in drawing graph = flat_map (cumulenes_of drawing graph) (range_with_len 0 graph.drawn)
 
--- the cumulenes that are listed are those of these chains; each such chain is among them once, and nothing else is
+-- the cumulenes that are listed are those of these chains; each such chain is among them once, and nothing else is; none
+-- meets an atom twice
 pub record AreTheCumulenes (drawing : Drawing) (graph : Graph) : Type 0 where
   pub units : cumulenes_in drawing graph ≡ map (cumulene_unit drawing graph) (chains_in graph)
   pub each : (chain : List ℕ) → IsCumulene graph chain → Among chain (chains_in graph)
   pub only : (chain : List ℕ) → Among chain (chains_in graph) → IsCumulene graph chain
   pub once : AllPairs ◌≢◌ (chains_in graph)
+  pub different : (chain : List ℕ) → IsCumulene graph chain → AllPairs ◌≢◌ chain
 
 abbrev pub ChainsAreListed : Type 0
 ChainsAreListed = (drawing : Drawing) (graph : Graph) → IsSound graph → AreTheCumulenes drawing graph
