@@ -1,6 +1,7 @@
 // The edges of a molecule's graph.
-ghost use Rattle.std.specs.Prelude.{◌≡◌, ◌<◌, ◌+◌, ◌^◌, ◌++◌, IfOk, OnOk, length, map};
+ghost use Rattle.std.specs.Prelude.{◌≡◌, ◌<◌, ◌+◌, ◌^◌, ◌++◌, IfOk, OnOk, length, map, replicate};
 ghost use Rattle.cip_digraph.specs.graph.DrawnGraph.{bond_edge, hydrogen_edges};
+ghost use Rattle.cip_hydro.specs.Carriers.{carriers_from};
 ghost use Rattle.cip_hydro.specs.Surroundings.{counted_by, surroundings_of};
 
 use crate::surroundings::Surroundings;
@@ -8,21 +9,22 @@ use cip_digraph::Edge;
 use cip_mol::{Bond, Molecule};
 use std::alloc::{AllocError, Global};
 
-/// The bonds of a molecule, and those of the hydrogens that these atoms carry.
+/// The bonds of a molecule, and those of so many hydrogens, which these atoms carry.
 pub fn edges_of(
     alloc: Global,
     molecule: &Molecule,
     surroundings: &[Surroundings],
-    carriers: &[u32],
+    further: usize,
 ) -> Result<Vec<Edge>, AllocError>
     requires around { surroundings.now ≡ surroundings_of molecule.now }
-    requires few { length surroundings.now + length carriers.now < 2 ^ 32 }
+    requires few { length surroundings.now + length (carriers_from 0 surroundings.now) < 2 ^ 32 }
     ensures { IfOk result
         (λ edges. edges.items
-        ≡ map (bond_edge molecule.now) molecule.now.bonds ++ hydrogen_edges (length molecule.now.atoms) carriers.now) }
+        ≡ map (bond_edge molecule.now) molecule.now.bonds
+        ++ hydrogen_edges (length molecule.now.atoms) (carriers_from 0 surroundings.now)) }
 {
-    let mut edges = bond_edges(alloc, molecule, surroundings, carriers.len())?;
-    push_hydrogens(&mut edges, surroundings.len() as u32, carriers)?;
+    let mut edges = bond_edges(alloc, molecule, surroundings, further)?;
+    push_hydrogens(&mut edges, surroundings.len() as u32, surroundings)?;
     Ok(edges)
 }
 
@@ -73,15 +75,39 @@ fn is_counted(bond: &Bond, surroundings: &[Surroundings]) -> bool
     bond.order >= 2 && !neglected
 }
 
-// The first hydrogen has this number.
-fn push_hydrogens(edges: &mut Vec<Edge>, first: u32, carriers: &[u32]) -> Result<(), AllocError>
-    requires { first + length carriers.now < 2 ^ 32 }
-    ensures { OnOk result (edges.new.items ≡ edges.old.items ++ hydrogen_edges first carriers.now) }
+// Adds the bonds of hydrogens, of which the first has this number.
+fn push_hydrogens(
+    edges: &mut Vec<Edge>,
+    first: u32,
+    surroundings: &[Surroundings],
+) -> Result<(), AllocError>
+    requires atoms { length surroundings.now < 2 ^ 32 }
+    requires few { first + length (carriers_from 0 surroundings.now) < 2 ^ 32 }
+    ensures { OnOk result
+        (edges.new.items ≡ edges.old.items ++ hydrogen_edges first (carriers_from 0 surroundings.now)) }
 {
-    for (place, carrier) in carriers.iter().enumerate() {
+    let mut next = first;
+    for (atom, around) in surroundings.iter().enumerate() {
+        push_carried(edges, next, atom as u32, around.hydrogens)?;
+        next += around.hydrogens;
+    }
+    Ok(())
+}
+
+// Adds the bonds of so many hydrogens of an atom.
+fn push_carried(
+    edges: &mut Vec<Edge>,
+    first: u32,
+    carrier: u32,
+    times: u32,
+) -> Result<(), AllocError>
+    requires { first + times < 2 ^ 32 }
+    ensures { OnOk result (edges.new.items ≡ edges.old.items ++ hydrogen_edges first (replicate times carrier)) }
+{
+    for place in 0..times {
         edges.push(Edge {
-            a: *carrier,
-            b: first + place as u32,
+            a: carrier,
+            b: first + place,
             order: 1,
             counted: false,
         })?;

@@ -17,21 +17,21 @@ const HYDROGEN: Vertex = Vertex {
     lone: false,
 };
 
-/// The atoms of a molecule, and the hydrogens that these atoms carry.
+/// The atoms of a molecule, and so many hydrogens.
 pub fn vertices_of(
     alloc: Global,
     molecule: &Molecule,
     surroundings: &[Surroundings],
-    carriers: &[u32],
+    further: usize,
 ) -> Result<Vec<Vertex>, AllocError>
     requires { surroundings.now ≡ surroundings_of molecule.now }
     ensures { IfOk result
         (λ vertices. vertices.items
         ≡ map (atom_vertex molecule.now) (range_with_len 0 (length molecule.now.atoms))
-        ++ replicate (length carriers.now) hydrogen) }
+        ++ replicate further hydrogen) }
 {
-    let mut vertices = atom_vertices(alloc, molecule, surroundings, carriers.len())?;
-    push_hydrogens(&mut vertices, carriers.len())?;
+    let mut vertices = atom_vertices(alloc, molecule, surroundings, further)?;
+    push_hydrogens(&mut vertices, further)?;
     Ok(vertices)
 }
 

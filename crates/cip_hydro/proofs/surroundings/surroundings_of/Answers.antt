@@ -1,12 +1,8 @@
 use Rattle.std.proofs.Common.{◌∙◌}
 use Rattle.std.proofs.lemmas.List.Elements.{All-push}
 use Rattle.cip_hydro.specs.Carriers.{HasFew}
-use Rattle.cip_hydro.proofs.Drawn.{around_next, bonds_join}
+use Rattle.cip_hydro.proofs.Drawn.{around_next}
 use Rattle.cip_hydro.proofs.surroundings.surroundings_of.Goals as goal
-
-pub order_sums-requires-clause-within : goal.order_sums-requires-clause-within
-order_sums-requires-clause-within c =
-    rw (c.atoms.ensures.value, c.bonds.ensures.value) (bonds_join _ _ c.bonds.ensures.sound)
 
 pub loop-atom-preserved : goal.loop-atom-preserved
 loop-atom-preserved c = record {
