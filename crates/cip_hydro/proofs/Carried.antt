@@ -42,12 +42,15 @@ module _ (all : List Surroundings) (k : ℕ) (d : Surroundings) (lt : k < length
   carriers_next : carriers_from k (drop k all) ≡ replicate here.hydrogens k ++ behind
   carriers_next = at_drop_more (carriers_from k) all k d lt
 
+  pub left_next : length (carriers_from k (drop k all)) ≡ here.hydrogens + length behind
+  left_next =
+      ap length carriers_next
+      ∙ length-append (replicate here.hydrogens k) behind
+      ∙ ap (λ n. n + length behind) (length-replicate here.hydrogens k)
+
   pub count_next : (count whole : ℕ) → count + length (carriers_from k (drop k all)) ≡ whole
       → count + here.hydrogens + length behind ≡ whole
-  count_next count whole is =
-      let split = ap length carriers_next ∙ length-append (replicate here.hydrogens k) behind in
-      let long = length-replicate here.hydrogens k in
-      omega (arith, is, split, long)
+  count_next count whole is = omega (arith, is, left_next)
 
   pub edges_on : (next : ℕ) (edges more whole : List Edge)
       → edges ++ hydrogen_edges next (carriers_from k (drop k all)) ≡ whole

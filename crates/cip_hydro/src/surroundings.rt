@@ -26,7 +26,7 @@ pub fn surroundings_of(alloc: Global, molecule: &Molecule) -> Result<Vec<Surroun
     let count = molecule.atoms().len();
     let mut all = Vec::with_capacity(alloc, count)?;
     for atom in 0..count as u32 {
-        all.push(surroundings_at(molecule, atom))?;
+        all.push_reserved(surroundings_at(molecule, atom));
     }
     Ok(all)
 }

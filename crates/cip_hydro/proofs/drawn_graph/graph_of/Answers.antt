@@ -11,6 +11,12 @@ hydrogen_count-further-requires-clause-atoms c =
     let counted = around_counted c.args.molecule.now _ _ c.in_ok-surroundings.ensures.value refl in
     rw c.deref.ensures.value (omega (arith, counted, c.atoms-drawn.ensures.range.few_atoms))
 
+pub vertices_of-requires-clause-few : goal.vertices_of-requires-clause-few
+vertices_of-requires-clause-few c =
+    let counted = around_counted c.args.molecule.now _ _ c.in_ok-surroundings.ensures.value refl in
+    let few = rw c.deref.ensures.value at c.hydrogen_count-further.ensures.few in
+    rw c.deref-2.ensures.value (omega (arith, counted, few, c.atoms-drawn.ensures.range.few_atoms))
+
 pub edges_of-requires-clause-few : goal.edges_of-requires-clause-few
 edges_of-requires-clause-few c =
     let counted = around_counted c.args.molecule.now _ _ c.in_ok-surroundings.ensures.value refl in
