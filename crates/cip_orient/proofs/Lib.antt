@@ -1,1 +1,2 @@
 pub mod BondsAtAtoms
+mod NoMarks
