@@ -1,5 +1,5 @@
 // Centres: the atoms that can be chirality centres.
-ghost use Rattle.std.specs.Prelude.{◌≡◌, ◌<◌, ◌≤◌, ◌++◌, ◌&&◌, ◌||◌, ◌==◌, OnOk, filter, is_some, length, map};
+ghost use Rattle.std.specs.Prelude.{◌≡◌, ◌<◌, ◌≤◌, ◌++◌, ◌&&◌, ◌||◌, ◌==◌, OnOk, filter, is_some, length, map, true};
 ghost use Rattle.cip_elem.specs.Electrons.{outer_of};
 ghost use Rattle.cip_mol.specs.declared.site.Ligand.TheVariants as variants;
 ghost use Rattle.cip_digraph.specs.units.Centres.{centre_ligands, drawn_neighbours, is_centre, is_quadriligant};
@@ -27,13 +27,30 @@ pub fn push_centre(
     ensures { OnOk result (units.new ≡ units.old ++ units_at molecule.now (centre_sites graph.now atom)) }
 {
     if is_centre(graph, atom) {
-        let site = Site::Centre {
-            at: atom,
-            ligands: centre_ligands(alloc, graph, atom),
-        };
-        push_unit(alloc, molecule, site, units)?;
+        push_site(alloc, molecule, graph, atom, units)?;
     }
     Ok(())
+}
+
+// Most atoms are no centre: what makes a site stands aside, so that looking for them takes few steps.
+#[inline(never)]
+fn push_site(
+    alloc: Global,
+    molecule: &Molecule,
+    graph: &Graph,
+    atom: u32,
+    units: &mut Units,
+) -> Result<(), AllocError>
+    requires drawn { graph.now.drawn ≡ length molecule.now.atoms }
+    requires within { atom < graph.now.drawn }
+    requires centre { is_centre graph.now atom ≡ true }
+    ensures { OnOk result (units.new ≡ units.old ++ units_at molecule.now (centre_sites graph.now atom)) }
+{
+    let site = Site::Centre {
+        at: atom,
+        ligands: centre_ligands(alloc, graph, atom),
+    };
+    push_unit(alloc, molecule, site, units)
 }
 
 fn is_centre(graph: &Graph, atom: u32) -> bool
