@@ -48,13 +48,16 @@ fn show_by_order(alloc: Global, directions: &[Vec2], marks: &[Sign]) -> Geometry
 
 // The places of directions in their counterclockwise order.
 fn places(alloc: Global, directions: &[Vec2]) -> AtMostFour<usize>
+    requires some { 0 < length directions.now }
     requires few { length directions.now ≤ 4 }
     requires small { All IsSmall directions.now }
     ensures { result ≡ places directions.now }
 {
     let mut places = AtMostFour::new(alloc);
-    for direction in directions {
-        places.push(place_of(directions, *direction));
+    // The first is met first.
+    places.push(0);
+    for number in 1..directions.len() {
+        places.push(place_of(directions, directions[number]));
     }
     places
 }
