@@ -1,5 +1,5 @@
 -- Of some directions the first is met first.
-use Rattle.std.proofs.Common.{◌≡◌, ◌<◌, ℕ, List, [], ◌∷◌, length, map, take, sym, ap, arith}
+use Rattle.std.proofs.Common.{◌≡◌, ◌<◌, List, [], ◌∷◌, length, map, take, sym, ap, arith}
 use Rattle.cip_num.specs.declared.plane.Vec2.{Vec2}
 use Rattle.cip_num.specs.Around.{place}
 use Rattle.cip_num.proofs.Places.{first_place}

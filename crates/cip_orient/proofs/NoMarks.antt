@@ -4,9 +4,9 @@ use Rattle.std.proofs.lemmas.Bool.{and_left, and_right, or_from, or_parts, trueâ
 use Rattle.cip_num.specs.declared.plane.Sign.{Sign}
 use Rattle.cip_num.specs.declared.plane.Sign.TheVariants.{Minus, Zero, Plus}
 use Rattle.cip_num.specs.declared.plane.Vec2.{Vec2}
-use Rattle.cip_num.specs.Around.{direction_at, places}
-use Rattle.cip_num.specs.Signs.{is_minus, is_plus, is_zero, opposite}
-use Rattle.cip_mol.specs.FlatCentres.{has_minus, has_plus, is_marked_between, is_reentrant, lies_between, turned, turned_by_place, votes}
+use Rattle.cip_num.specs.Around.{places}
+use Rattle.cip_num.specs.Signs.{is_zero, opposite}
+use Rattle.cip_mol.specs.FlatCentres.{has_minus, has_plus, is_marked_between, is_reentrant, turned, turned_by_place, votes}
 use Rattle.cip_mol.specs.Marks.{has_mark, mark_at}
 use Rattle.cip_mol.specs.declared.site.Cause.TheVariants.{NoMark}
 use Rattle.cip_mol.specs.declared.site.Geometry.TheVariants.{Unknown}
