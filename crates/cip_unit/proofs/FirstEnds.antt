@@ -1,12 +1,12 @@
 -- An atom that can't be a first end begins no bond unit.
-use Rattle.std.proofs.Common.{◌≡◌, ℕ, Bool, true, false, List, [], ◌∷◌, length, map, sym, ap, ◌∙◌}
+use Rattle.std.proofs.Common.{◌≡◌, ℕ, true, false, List, [], ◌∷◌, map, sym, ap, ◌∙◌}
 use Rattle.std.specs.Prelude.{not}
 use Rattle.std.specs.List.{AllByRecursion}
 use Rattle.std.proofs.lemmas.Bool.{and_from, and_parts, false_from_ne_true, true≢false}
 use Rattle.cip_digraph.specs.declared.graph.Edge.{Edge}
-use Rattle.cip_digraph.specs.graph.Graph.{Graph, edges_at, other_end, vertex_at}
+use Rattle.cip_digraph.specs.graph.Graph.{Graph, edges_at, other_end}
 use Rattle.cip_digraph.specs.rings.Positions.{is_delocalised}
-use Rattle.cip_digraph.specs.units.DoubleBonds.{bond_site, bond_sites, has_end_bonds, is_bond_unit, is_double_end}
+use Rattle.cip_digraph.specs.units.DoubleBonds.{bond_site, bond_sites, has_end_bonds, is_bond_unit}
 use Rattle.cip_unit.specs.Sites.{can_begin}
 use Rattle.cip_unit.proofs.NoDoubles.{none_pass}
 use Rattle.cip_unit.proofs.Shown.{unit_parts}

@@ -1,5 +1,3 @@
-use Rattle.std.proofs.Common.{◌∙◌, ap, drop}
-use Rattle.cip_digraph.specs.graph.Incidence.{leads_lower}
 use Rattle.cip_digraph.proofs.NeighbourOrder.{neighbours_ascend}
 use Rattle.cip_unit.proofs.ThirdNeighbours.{third_tells}
 use Rattle.cip_unit.proofs.centres.has_three_drawn.Goals as goal
