@@ -8,7 +8,7 @@ use Rattle.std.proofs.lemmas.List.Elements.{All-append, All-replicate}
 use Rattle.std.proofs.lemmas.List.FromFn.{length-map-range_with_len, get_or-map-range_with_len, map-range_with_len_more}
 use Rattle.cip_mol.specs.Bonds.{cause_of, IsSound}
 use Rattle.cip_mol.specs.Drawing.{Drawing}
-use Rattle.cip_mol.specs.Neighbours.{neighbours}
+use Rattle.cip_mol.specs.Neighbours.{bonds_at, neighbours}
 use Rattle.cip_mol.specs.Points.{no_atom}
 use Rattle.cip_mol.specs.Ranges.{IsInRange, IsAtom}
 use Rattle.cip_mol.specs.declared.molecule.Atom.{Atom}
@@ -24,15 +24,18 @@ use Rattle.cip_digraph.specs.graph.Hydrogens.{atom_at, bond_orders, hydrogens}
 use Rattle.cip_digraph.specs.graph.LonePairs.{lone_pair}
 use Rattle.cip_digraph.specs.graph.Neglected.{neglects, neglects_at}
 use Rattle.cip_hydro.specs.Carriers.{carriers_from}
-use Rattle.cip_hydro.specs.OrderSums.{JoinsAtoms}
-use Rattle.cip_hydro.specs.Surroundings.{surroundings_at, surroundings_of, counted_by, neglected_in}
+use Rattle.cip_hydro.specs.Surroundings.{JoinsAtoms, surroundings_at, surroundings_of, counted_by, neglected_in}
 use Rattle.cip_hydro.specs.declared.surroundings.Surroundings.{Surroundings}
 use Rattle.cip_hydro.proofs.Around.{carriers_are, surroundings_count, surroundings_read}
-use Rattle.cip_hydro.proofs.Sums.{orders_few}
+use Rattle.cip_hydro.proofs.Sums.{fewer_at, orders_few}
 
 pub orders_small : (drawing : Drawing) → IsInRange drawing → (atom : ℕ) → bond_orders atom drawing.bonds ≤ 98304
 orders_small drawing range atom = let few = orders_few atom drawing.bonds range.bonds in
     omega (arith, few, range.few_bonds)
+
+pub bonds_few : (drawing : Drawing) → IsInRange drawing → (atom : ℕ) → length (bonds_at atom drawing.bonds) ≤ 32768
+bonds_few drawing range atom = let fewer = fewer_at atom drawing.bonds in
+    omega (arith, fewer, range.few_bonds)
 
 faultless : (atoms : ℕ) (before : List Bond) (bond : Bond) → cause_of atoms before bond ≡ None → JoinsAtoms atoms bond
 unfolding cause_of

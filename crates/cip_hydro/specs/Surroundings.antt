@@ -1,5 +1,5 @@
 -- What is around each atom of a drawing: its hydrogens, its lone pair, whether its multiple bonds are neglected. Own.
-use Rattle.std.specs.Prelude.{ℕ, Bool, false, ◌&&◌, ◌||◌, not, List, map, length, nat_le, slice_index_or}
+use Rattle.std.specs.Prelude.{◌<◌, ◌≢◌, ℕ, Bool, false, ◌&&◌, ◌||◌, not, List, map, length, nat_le, slice_index_or}
 use Rattle.std.specs.List.{range_with_len}
 use Rattle.cip_mol.specs.Drawing.{Drawing}
 use Rattle.cip_mol.specs.declared.molecule.Bond.{Bond}
@@ -25,3 +25,9 @@ neglected_in all atom = (slice_index_or all atom (record { hydrogens = 0; lone =
 -- whether a bond is multiple and neglected at neither end
 abbrev pub counted_by : List Surroundings → Bond → Bool
 counted_by all bond = nat_le 2 bond.order && not (neglected_in all bond.a || neglected_in all bond.b)
+
+-- a bond joins two of so many atoms
+pub record JoinsAtoms (atoms : ℕ) (bond : Bond) : Type 0 where
+  pub a : bond.a < atoms
+  pub b : bond.b < atoms
+  pub differ : bond.a ≢ bond.b

@@ -2,9 +2,8 @@
 ghost use Rattle.std.specs.Prelude.{◌≡◌, IfOk};
 ghost use Rattle.cip_digraph.specs.graph.DrawnGraph.{graph_of};
 
-use crate::carriers::carriers_of;
 use crate::edges::edges_of;
-use crate::surroundings::surroundings_of;
+use crate::surroundings::{hydrogen_count, surroundings_of};
 use crate::vertices::vertices_of;
 use cip_digraph::Graph;
 use cip_mol::Molecule;
@@ -16,8 +15,8 @@ pub fn graph_of(alloc: Global, molecule: &Molecule) -> Result<Graph, AllocError>
 {
     let drawn = molecule.atoms().len();
     let surroundings = surroundings_of(alloc, molecule)?;
-    let carriers = carriers_of(alloc, &surroundings)?;
-    let vertices = vertices_of(alloc, molecule, &surroundings, &carriers)?;
-    let edges = edges_of(alloc, molecule, &surroundings, &carriers)?;
+    let further = hydrogen_count(&surroundings);
+    let vertices = vertices_of(alloc, molecule, &surroundings, further)?;
+    let edges = edges_of(alloc, molecule, &surroundings, further)?;
     Graph::new(alloc, vertices, edges, drawn as u32)
 }

@@ -1,12 +1,10 @@
 // What is around each atom of a molecule.
-ghost use Rattle.std.specs.Prelude.{◌≡◌, ◌<◌, All, IfOk, length};
-ghost use Rattle.cip_digraph.specs.graph.Hydrogens.{bond_orders};
-ghost use Rattle.cip_hydro.specs.Carriers.{HasFew};
+ghost use Rattle.std.specs.Prelude.{◌≡◌, ◌<◌, ◌≤◌, ◌*◌, All, IfOk, length, map, sum};
+ghost use Rattle.cip_hydro.specs.Carriers.{carriers_from, HasFew};
 ghost use Rattle.cip_hydro.specs.Surroundings.{surroundings_at, surroundings_of};
 
-use crate::order_sums::order_sums;
 use crate::valence::{has_lone_pair, hydrogens, neglects};
-use cip_mol::Molecule;
+use cip_mol::{Bond, Molecule};
 use std::alloc::{AllocError, Global};
 
 /// What is around an atom.
@@ -25,21 +23,21 @@ pub fn surroundings_of(alloc: Global, molecule: &Molecule) -> Result<Vec<Surroun
     ensures value { IfOk result (λ all. all.items ≡ surroundings_of molecule.now) }
     ensures few { IfOk result (λ all. All HasFew all.items) }
 {
-    let sums = order_sums(alloc, molecule.atoms().len(), molecule.bonds())?;
-    let mut all = Vec::with_capacity(alloc, sums.len())?;
-    for (atom, orders) in sums.iter().enumerate() {
-        all.push(surroundings_at(molecule, atom as u32, *orders))?;
+    let count = molecule.atoms().len();
+    let mut all = Vec::with_capacity(alloc, count)?;
+    for atom in 0..count as u32 {
+        all.push_reserved(surroundings_at(molecule, atom));
     }
     Ok(all)
 }
 
-fn surroundings_at(molecule: &Molecule, number: u32, orders: u32) -> Surroundings
-    requires within { number < length molecule.now.atoms }
-    requires orders { orders ≡ bond_orders number molecule.now.bonds }
+fn surroundings_at(molecule: &Molecule, number: u32) -> Surroundings
+    requires { number < length molecule.now.atoms }
     ensures value { result ≡ surroundings_at molecule.now number }
     ensures few { HasFew result }
 {
     let atom = &molecule.atoms()[number as usize];
+    let orders = order_sum(molecule.bonds_at(number));
     let degree = molecule.neighbours(number).len() as u32;
     let hydrogens = hydrogens(atom, orders);
     let lone = has_lone_pair(atom, orders, hydrogens);
@@ -48,4 +46,29 @@ fn surroundings_at(molecule: &Molecule, number: u32, orders: u32) -> Surrounding
         lone,
         neglects: neglects(atom.z, degree + hydrogens, lone),
     }
+}
+
+fn order_sum(bonds: &[Bond]) -> u32
+    requires { length bonds.now ≤ 32768 }
+    ensures { result ≡ sum (map (λ bond. bond.order) bonds.now) }
+{
+    let mut orders = 0;
+    for bond in bonds {
+        orders += u32::from(bond.order);
+    }
+    orders
+}
+
+/// How many hydrogens atoms with these surroundings carry.
+pub fn hydrogen_count(surroundings: &[Surroundings]) -> usize
+    requires atoms { length surroundings.now ≤ 16384 }
+    requires each { All HasFew surroundings.now }
+    ensures value { result ≡ length (carriers_from 0 surroundings.now) }
+    ensures few { result ≤ 255 * length surroundings.now }
+{
+    let mut count = 0;
+    for around in surroundings {
+        count += around.hydrogens as usize;
+    }
+    count
 }

@@ -1,5 +1,5 @@
 // The vertices of a molecule's graph.
-ghost use Rattle.std.specs.Prelude.{◌≡◌, ◌++◌, IfOk, OnOk, length, map, replicate};
+ghost use Rattle.std.specs.Prelude.{◌≡◌, ◌<◌, ◌≤◌, ◌+◌, ◌^◌, ◌++◌, [], IfOk, length, map, replicate, vec_capacity, vec_len};
 ghost use Rattle.std.specs.List.{range_with_len};
 ghost use Rattle.cip_digraph.specs.graph.DrawnGraph.{atom_vertex, hydrogen};
 ghost use Rattle.cip_hydro.specs.Surroundings.{surroundings_of};
@@ -17,41 +17,40 @@ const HYDROGEN: Vertex = Vertex {
     lone: false,
 };
 
-/// The atoms of a molecule, and the hydrogens that these atoms carry.
+/// The atoms of a molecule, and so many hydrogens.
 pub fn vertices_of(
-    alloc: Global,
-    molecule: &Molecule,
-    surroundings: &[Surroundings],
-    carriers: &[u32],
-) -> Result<Vec<Vertex>, AllocError>
-    requires { surroundings.now ≡ surroundings_of molecule.now }
-    ensures { IfOk result
-        (λ vertices. vertices.items
-        ≡ map (atom_vertex molecule.now) (range_with_len 0 (length molecule.now.atoms))
-        ++ replicate (length carriers.now) hydrogen) }
-{
-    let mut vertices = atom_vertices(alloc, molecule, surroundings, carriers.len())?;
-    push_hydrogens(&mut vertices, carriers.len())?;
-    Ok(vertices)
-}
-
-// With room for so many further vertices.
-fn atom_vertices(
     alloc: Global,
     molecule: &Molecule,
     surroundings: &[Surroundings],
     further: usize,
 ) -> Result<Vec<Vertex>, AllocError>
-    requires { surroundings.now ≡ surroundings_of molecule.now }
+    requires around { surroundings.now ≡ surroundings_of molecule.now }
+    requires few { length surroundings.now + further < 2 ^ 32 }
     ensures { IfOk result
-        (λ vertices. vertices.items ≡ map (atom_vertex molecule.now) (range_with_len 0 (length molecule.now.atoms))) }
+        (λ vertices. vertices.items
+        ≡ map (atom_vertex molecule.now) (range_with_len 0 (length molecule.now.atoms))
+        ++ replicate further hydrogen) }
 {
-    let count = surroundings.len().saturating_add(further);
-    let mut vertices = Vec::with_capacity(alloc, count)?;
-    for (number, atom) in molecule.atoms().iter().enumerate() {
-        vertices.push(atom_vertex(atom, surroundings[number].lone))?;
-    }
+    let mut vertices = Vec::with_capacity(alloc, surroundings.len() + further)?;
+    push_atoms(&mut vertices, molecule, surroundings);
+    push_hydrogens(&mut vertices, further);
     Ok(vertices)
+}
+
+// There is room for the atoms.
+fn push_atoms(vertices: &mut Vec<Vertex>, molecule: &Molecule, surroundings: &[Surroundings])
+    requires around { surroundings.now ≡ surroundings_of molecule.now }
+    requires none { vertices.old.items ≡ [] }
+    requires empty { vec_len vertices.old ≡ 0 }
+    requires room { length surroundings.now ≤ vec_capacity vertices.old }
+    ensures value { vertices.new.items
+        ≡ map (atom_vertex molecule.now) (range_with_len 0 (length molecule.now.atoms)) }
+    ensures count { vec_len vertices.new ≡ length surroundings.now }
+    ensures room { vec_capacity vertices.new ≡ vec_capacity vertices.old }
+{
+    for (number, atom) in molecule.atoms().iter().enumerate() {
+        vertices.push_reserved(atom_vertex(atom, surroundings[number].lone));
+    }
 }
 
 fn atom_vertex(atom: &Atom, lone: bool) -> Vertex
@@ -65,11 +64,12 @@ fn atom_vertex(atom: &Atom, lone: bool) -> Vertex
     }
 }
 
-fn push_hydrogens(vertices: &mut Vec<Vertex>, count: usize) -> Result<(), AllocError>
-    ensures { OnOk result (vertices.new.items ≡ vertices.old.items ++ replicate count hydrogen) }
+// There is room for so many.
+fn push_hydrogens(vertices: &mut Vec<Vertex>, count: usize)
+    requires { vec_len vertices.old + count ≤ vec_capacity vertices.old }
+    ensures { vertices.new.items ≡ vertices.old.items ++ replicate count hydrogen }
 {
     for _ in 0..count {
-        vertices.push(HYDROGEN)?;
+        vertices.push_reserved(HYDROGEN);
     }
-    Ok(())
 }

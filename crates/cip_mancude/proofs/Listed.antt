@@ -1,15 +1,15 @@
 -- The lists of positions: an edge or a vertex more, and that they ascend and are short.
-use Rattle.std.proofs.Common.{◌≡◌, ◌<◌, ◌≤◌, ◌+◌, ◌-◌, ℕ, suc, Bool, true, false, cond, ◌==◌, ◌||◌, Some, None, List, [], ◌∷◌, ◌++◌, append_assoc, length, length-append, map, replicate, set, take, get_or, refl, sym, ap, ◌∙◌, arith}
+use Rattle.std.proofs.Common.{◌≡◌, ◌<◌, ◌≤◌, ◌+◌, ◌-◌, ℕ, zero, suc, Bool, true, false, cond, ◌==◌, ◌||◌, Some, None, List, [], ◌∷◌, ◌++◌, append_assoc, length, length-append, map, replicate, set, take, get_or, refl, sym, ap, ◌∙◌, arith}
 use Rattle.std.specs.Prelude.{filter}
 use Rattle.std.specs.declared.option.Option.{Option}
-use Rattle.std.specs.List.{range_with_len}
-use Rattle.std.proofs.lemmas.Bool.{and_parts, leb-true}
+use Rattle.std.specs.List.{list_any, range_with_len}
+use Rattle.std.proofs.lemmas.Bool.{and_parts, and_right, leb-true, or_from, or_parts}
 use Rattle.std.proofs.lemmas.List.{append-nil, get_or_append_left, get_or_at, length-map, map_more, set_at, take_all}
 use Rattle.std.proofs.lemmas.List.Elements.{filter-append}
 use Rattle.std.proofs.lemmas.List.FromFn.{get_or-map-range_with_len, length-map-range_with_len, map-range_with_len_more}
 use Rattle.std.proofs.lemmas.List.Sums.{count_by-le-length, length-filter}
 use Rattle.cip_digraph.specs.rings.Alternating.{closes_ring, counted_at, is_alternating, is_one_double, partner}
-use Rattle.cip_digraph.specs.graph.Graph.{Graph, edges_at, neighbours, other_end}
+use Rattle.cip_digraph.specs.graph.Graph.{Graph, edges_at, neighbours, other_end, touches}
 use Rattle.cip_digraph.specs.rings.PositionLists.{IsPositionList}
 use Rattle.cip_digraph.specs.rings.Positions.{listed_positions, positions_at, positions_of}
 use Rattle.cip_digraph.specs.graph.SoundGraphs.{IsSound}
@@ -17,7 +17,8 @@ use Rattle.cip_digraph.specs.declared.graph.Edge.{Edge}
 use Rattle.cip_digraph.proofs.Listed.{none_listed}
 use Rattle.cip_digraph.proofs.Lists.{pairs_from_pairwise, pairwise_filtered}
 use Rattle.cip_digraph.proofs.NeighbourOrder.{neighbours_ascend}
-use Rattle.cip_mancude.specs.Partners.{alternating_partner, AreListedBelow, positions_along}
+use Rattle.cip_mancude.specs.Partners.{alternating_partner, AreListedBelow, counts_at, positions_along}
+use Rattle.cip_mancude.proofs.Noted.{no_partner}
 
 abbrev is_position : Graph → ℕ → ℕ → Bool
 is_position graph vertex other = (other == partner graph vertex) || closes_ring graph vertex other
@@ -68,6 +69,28 @@ none_at graph vertex e =
     rests_by : (b : Bool) → ◌≡◌ {A = Option ℕ} (cond b (Some (partner graph vertex)) None) None → b ≡ false
     rests_by true e = cc
     rests_by false e = refl
+
+-- no vertex has any where no edge is counted
+
+none_counted : (vertex : ℕ) (edges : List Edge) → list_any (λ edge. edge.counted) edges ≡ false
+    → list_any (counts_at vertex) edges ≡ false
+none_counted vertex [] e = refl
+none_counted vertex (edge ∷ edges) e =
+    let p = or_parts edge.counted (list_any (λ other. other.counted) edges) e in
+    or_from (counts_at vertex edge) (list_any (counts_at vertex) edges)
+    (and_right (touches vertex edge) edge.counted p.0) (none_counted vertex edges p.1)
+
+none_from : (graph : Graph) → list_any (λ edge. edge.counted) graph.edges ≡ false → (from count : ℕ)
+    → map (positions_at graph) (range_with_len from count) ≡ replicate count []
+none_from graph e from zero = refl
+none_from graph e from (suc count) =
+    let here = none_at graph from (no_partner graph from (none_counted from graph.edges e)) in
+    rw (here, none_from graph e (from + 1) count) refl
+
+pub all_none : (graph : Graph) → list_any (λ edge. edge.counted) graph.edges ≡ false
+    → positions_of graph ≡ replicate (length graph.vertices) []
+unfolding positions_of
+all_none graph e = none_from graph e 0 (length graph.vertices)
 
 -- the lists of the vertices below one, and none behind them
 abbrev pub listed_below : Graph → ℕ → ℕ → List (List ℕ)

@@ -36,7 +36,7 @@ none_kept : (edges : List Edge) → AllByRecursion IsUncounted edges → filter 
 none_kept [] all = refl
 none_kept (edge ∷ edges) all = rw (all.0) (none_kept edges all.1)
 
-no_partner : (graph : Graph) (vertex : ℕ) → list_any (counts_at vertex) graph.edges ≡ false
+pub no_partner : (graph : Graph) (vertex : ℕ) → list_any (counts_at vertex) graph.edges ≡ false
     → ◌≡◌ {A = Option ℕ} (alternating_partner graph vertex) None
 no_partner graph vertex e =
     let none : counted_at graph vertex ≡ [] =

@@ -1,5 +1,6 @@
 // The positions of every vertex.
 ghost use Rattle.std.specs.Prelude.{◌≡◌, ◌==◌, ◌<◌, ◌||◌, ◌++◌, ◌∷◌, [], cond, IfOk, OnOk, Some, true, length, slice_set};
+ghost use Rattle.std.specs.List.{list_any};
 ghost use Rattle.cip_digraph.specs.rings.Alternating.{closes_ring, is_in};
 ghost use Rattle.cip_digraph.specs.graph.Graph.{neighbours};
 ghost use Rattle.cip_digraph.specs.graph.SoundGraphs.{IsSound};
@@ -22,8 +23,25 @@ struct Double {
 }
 
 /// Where the double bonds of alternating atoms can stand.
-#[tactic(auto, unfolding(cip_digraph::specs::rings::Positions::positions_of))]
 pub fn positions(alloc: Global, graph: &Graph) -> Result<Positions, AllocError>
+    ensures { IfOk result (λ positions. positions ≡ positions_of graph.now) }
+{
+    // No atom alternates without counted bonds.
+    if !has_counted(graph) {
+        return Positions::none(alloc, graph.vertices().len());
+    }
+    set_all(alloc, graph)
+}
+
+fn has_counted(graph: &Graph) -> bool
+    ensures { result ≡ list_any (λ edge. edge.counted) graph.now.edges }
+{
+    graph.edges().iter().any(|edge| edge.counted)
+}
+
+// Sets the positions of each vertex.
+#[tactic(auto, unfolding(cip_digraph::specs::rings::Positions::positions_of))]
+fn set_all(alloc: Global, graph: &Graph) -> Result<Positions, AllocError>
     ensures { IfOk result (λ positions. positions ≡ positions_of graph.now) }
 {
     let count = graph.vertices().len();
@@ -50,10 +68,28 @@ fn set_positions(
     ensures { OnOk result (positions.new ≡ slice_set positions.old vertex (positions_at alternation.now vertex)) }
 {
     if let Some(partner) = alternation.partner(vertex) {
-        let double = Double { vertex, partner };
-        let list = positions_at(alloc, alternation, double, positions, reached)?;
-        positions.set(vertex, list.as_slice());
+        set_list(alloc, alternation, Double { vertex, partner }, reached, positions)?;
     }
+    Ok(())
+}
+
+// Most vertices don't alternate: what makes a list stands aside, so that passing them over takes few steps.
+#[inline(never)]
+fn set_list(
+    alloc: Global,
+    alternation: &Alternation,
+    double: Double,
+    reached: &mut VertexSet,
+    positions: &mut Positions,
+) -> Result<(), AllocError>
+    requires partner { alternating_partner alternation.now double.vertex ≡ Some double.partner }
+    requires within { double.vertex < length positions.old }
+    requires below { AreListedBelow alternation.now double.vertex positions.old }
+    ensures { OnOk result
+        (positions.new ≡ slice_set positions.old double.vertex (positions_at alternation.now double.vertex)) }
+{
+    let list = positions_at(alloc, alternation, double, positions, reached)?;
+    positions.set(double.vertex, list.as_slice());
     Ok(())
 }
 

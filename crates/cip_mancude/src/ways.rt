@@ -1,5 +1,5 @@
 // The search for ways by turns over a single and a double bond, as alternating rings go.
-ghost use Rattle.std.specs.Prelude.{◌≡◌, ◌≤◌, ◌+◌, ◌*◌, length, true};
+ghost use Rattle.std.specs.Prelude.{◌≡◌, ◌==◌, ◌&&◌, ◌≤◌, ◌+◌, ◌*◌, length, not, true};
 ghost use Rattle.cip_digraph.specs.graph.Graph.{edges_at};
 ghost use Rattle.cip_mancude.specs.SharedRings.{passes_along, passes_through, reaches_by};
 
@@ -97,6 +97,9 @@ fn passes_through(
     let Some(other) = alternation.partner(next) else {
         return false;
     };
+    if misses(aim, more, other) {
+        return false;
+    }
     if !alternation.alternates(other) || path.contains(next) || path.contains(other) {
         return false;
     }
@@ -106,4 +109,11 @@ fn passes_through(
     path.pop();
     path.pop();
     found
+}
+
+// Whether a way ends at an atom, and not at its aim.
+fn misses(aim: Aim, more: u32, at: u32) -> bool
+    ensures { result ≡ ((more == 0) && not (at == aim.target)) }
+{
+    more == 0 && at != aim.target
 }

@@ -1,1 +1,3 @@
 pub mod BondsAtAtoms
+mod FirstPlaces
+mod NoMarks

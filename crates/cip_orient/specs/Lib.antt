@@ -1,2 +1,3 @@
 pub mod DrawnEnds
+pub mod OrderedMarks
 pub mod PairSigns

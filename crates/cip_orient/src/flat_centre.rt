@@ -4,8 +4,9 @@ ghost use Rattle.cip_num.specs.Around.{places};
 ghost use Rattle.cip_num.specs.Plane.{IsSmall};
 ghost use Rattle.cip_mol.specs.FlatCentres.{by_votes, common, has_minus, has_plus, in_plane, inversions, is_left, is_marked_inside, is_reentrant, lies_between, turned, turned_by_place, votes};
 ghost use Rattle.cip_mol.specs.Senses.{sense_of};
+ghost use Rattle.cip_orient.specs.OrderedMarks.{by_order};
 
-use crate::marks::opposite;
+use crate::marks::{has_mark, opposite};
 use cip_mol::{AtMostFour, Cause, Geometry, Sense};
 use cip_num::{Sign, Vec2, has_clash, place_of, side};
 use std::alloc::Global;
@@ -21,6 +22,21 @@ pub(crate) fn show_in_plane(alloc: Global, directions: &[Vec2], marks: &[Sign]) 
     if has_clash(directions) {
         return Geometry::Unknown(Cause::Coincident);
     }
+    // Most centres have no mark: the order of their directions isn't looked for.
+    if !has_mark(marks) {
+        return Geometry::Unknown(Cause::NoMark);
+    }
+    show_by_order(alloc, directions, marks)
+}
+
+// By the marks in the counterclockwise order of the directions.
+fn show_by_order(alloc: Global, directions: &[Vec2], marks: &[Sign]) -> Geometry
+    requires small { All IsSmall directions.now }
+    requires few { length directions.now ≤ 4 }
+    requires some { 0 < length directions.now }
+    requires marks { length marks.now ≡ length directions.now }
+    ensures { result ≡ by_order directions.now marks.now }
+{
     let places = places(alloc, directions);
     let reentrant = is_reentrant(directions, marks);
     if directions.len() == 4 {
@@ -32,13 +48,16 @@ pub(crate) fn show_in_plane(alloc: Global, directions: &[Vec2], marks: &[Sign]) 
 
 // The places of directions in their counterclockwise order.
 fn places(alloc: Global, directions: &[Vec2]) -> AtMostFour<usize>
+    requires some { 0 < length directions.now }
     requires few { length directions.now ≤ 4 }
     requires small { All IsSmall directions.now }
     ensures { result ≡ places directions.now }
 {
     let mut places = AtMostFour::new(alloc);
-    for direction in directions {
-        places.push(place_of(directions, *direction));
+    // The first is met first.
+    places.push(0);
+    for number in 1..directions.len() {
+        places.push(place_of(directions, directions[number]));
     }
     places
 }

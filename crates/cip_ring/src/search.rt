@@ -68,6 +68,7 @@ fn start(from: u32, reached: &mut VertexSet) -> Result<(), AllocError>
     ensures { OnOk result (reached.new ≡ from ∷ []) }
 {
     reached.clear();
+    reached.reserve()?;
     reached.insert_if(true, from)
 }
 

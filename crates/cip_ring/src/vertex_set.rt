@@ -7,6 +7,9 @@ ghost use Rattle.cip_ring.specs.Marks.{AreMarks};
 use std::alloc::{AllocError, Global};
 use std::marker::Model;
 
+/// How many vertices most searches meet at most.
+const USUAL_VERTICES: usize = 32;
+
 /// Vertices in the order in which they were added, none twice. Contracts see the list of them. It is asked in one step
 /// about a vertex that its marks reach, and emptied at the cost of what it holds, so it can serve many searches.
 #[derive(Drop)]
@@ -71,6 +74,13 @@ impl VertexSet {
             set_mark(&mut self.marks, vertex, true);
         }
         Ok(())
+    }
+
+    /// Makes room for as many vertices as most searches meet, at once.
+    pub(crate) fn reserve(&mut self) -> Result<(), AllocError>
+        ensures { self.new ≡ self.old }
+    {
+        self.vertices.reserve(USUAL_VERTICES)
     }
 
     /// Takes all vertices out. The memory stays.

@@ -33,7 +33,7 @@ pub kept_each : {X Y : Type 0} (f : X → Y) (test : X → Bool) (xs : List X)
 kept_each f test [] = refl
 kept_each f test (x ∷ xs) = map_kept f (test x) x (filter test xs) ∙ kept_by f (test x) x _ _ (kept_each f test xs)
 
-range_more : (n : ℕ) → range_with_len 0 (n + 1) ≡ range_with_len 0 n ++ n ∷ []
+pub range_more : (n : ℕ) → range_with_len 0 (n + 1) ≡ range_with_len 0 n ++ n ∷ []
 range_more n =
     sym (map-id (range_with_len 0 (n + 1))) ∙ map-range_with_len_more (λ (k : ℕ). k) 0 n n (omega arith)
     ∙ ap (λ ns. ns ++ n ∷ []) (map-id (range_with_len 0 n))

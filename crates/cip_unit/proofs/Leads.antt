@@ -39,20 +39,24 @@ drawn_leads drawing sound =
           (hydrogens_lead atoms atoms (carriers drawing)));
     }
 
-other_by : (drawn vertex : ℕ) (edge : Edge) → LeadsToAtom drawn edge → edge.order ≡ 2 → (b : Bool)
+pub other_by : (drawn vertex : ℕ) (edge : Edge) → LeadsToAtom drawn edge → edge.order ≡ 2 → (b : Bool)
     → cond b edge.b edge.a < drawn
 other_by drawn vertex edge leads e true = leads.b e
 other_by drawn vertex edge leads e false = leads.a e
+
+pub all_lead : (graph : Graph) → LeadsToAtoms graph → (vertex : ℕ)
+    → AllByRecursion (LeadsToAtom graph.drawn) (edges_at graph vertex)
+all_lead graph leads vertex =
+    let P = LeadsToAtom graph.drawn in
+    sorted_all P vertex (filter (touches vertex) graph.edges)
+    (all_filtered P (touches vertex) graph.edges (by_recursion P graph.edges leads.each))
 
 pub leads_on : (graph : Graph) → LeadsToAtoms graph → (vertex : ℕ) (items : List Edge) (k : ℕ) (d : Edge)
     → items ≡ edges_at graph vertex → k < length items
     → (get_or items k d).order ≡ 2 → other_end vertex (get_or items k d) < graph.drawn
 leads_on graph leads vertex items k d same lt order =
     let P = LeadsToAtom graph.drawn in
-    let all : AllByRecursion P (edges_at graph vertex) =
-    sorted_all P vertex (filter (touches vertex) graph.edges)
-    (all_filtered P (touches vertex) graph.edges (by_recursion P graph.edges leads.each)) in
     let here : P (get_or (edges_at graph vertex) k d) =
-    All-from_recursion P (edges_at graph vertex) all k d (rw (← same) lt) in
+    All-from_recursion P (edges_at graph vertex) (all_lead graph leads vertex) k d (rw (← same) lt) in
     let there : P (get_or items k d) = rw same here in
     other_by graph.drawn vertex (get_or items k d) there order ((get_or items k d).a == vertex)

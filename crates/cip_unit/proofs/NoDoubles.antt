@@ -24,12 +24,12 @@ none_double (edge ∷ edges) e =
     let p = or_parts (edge.order == 2) (list_any (λ edge. edge.order == 2) edges) e in
     (p.0, none_double edges p.1)
 
-none_pass : (test : Edge → Bool) (edges : List Edge) → AllByRecursion (λ edge. test edge ≡ false) edges
+pub none_pass : (test : Edge → Bool) (edges : List Edge) → AllByRecursion (λ edge. test edge ≡ false) edges
     → filter test edges ≡ []
 none_pass test [] all = refl
 none_pass test (edge ∷ edges) all = rw (all.0) (none_pass test edges all.1)
 
-flat_none : {X : Type 0} (f : ℕ → List X) → ((n : ℕ) → f n ≡ []) → (ns : List ℕ) → flat_map f ns ≡ []
+pub flat_none : {X : Type 0} (f : ℕ → List X) → ((n : ℕ) → f n ≡ []) → (ns : List ℕ) → flat_map f ns ≡ []
 flat_none f none [] = refl
 flat_none f none (n ∷ ns) = rw (none n) (flat_none f none ns)
 

@@ -1,5 +1,5 @@
 -- The sites of units, one atom or bond at a time. Own.
-use Rattle.std.specs.Prelude.{◌≡◌, ◌<◌, ℕ, Bool, cond, ◌==◌, ◌&&◌, ◌||◌, List, [], ◌∷◌, ◌++◌, map, filter, flat_map, is_some, nat_lt, not, All}
+use Rattle.std.specs.Prelude.{◌≡◌, ◌<◌, ℕ, Bool, cond, ◌==◌, ◌&&◌, ◌||◌, List, [], ◌∷◌, ◌++◌, map, filter, flat_map, is_some, length, nat_lt, not, All}
 use Rattle.std.specs.List.{list_any, range_with_len}
 use Rattle.cip_elem.specs.Electrons.{outer_of}
 use Rattle.cip_mol.specs.Drawing.{Drawing}
@@ -8,10 +8,10 @@ use Rattle.cip_mol.specs.declared.site.Ligand.{Ligand}
 use Rattle.cip_mol.specs.declared.site.Ligand.TheVariants.{LonePair}
 use Rattle.cip_mol.specs.declared.site.Site.{Site}
 use Rattle.cip_mol.specs.declared.site.Unit as units
-use Rattle.cip_digraph.specs.units.Allenes.{axis_site, axis_sites, doubles, is_axis_unit}
+use Rattle.cip_digraph.specs.units.Allenes.{axis_site, axis_sites, doubles, is_allene_middle, is_axis_unit}
 use Rattle.cip_digraph.specs.units.Centres.{is_centre, is_quadriligant}
-use Rattle.cip_digraph.specs.units.DoubleBonds.{bond_site, bond_sites, is_bond_end, is_bond_unit, outer_neighbours}
-use Rattle.cip_digraph.specs.graph.Graph.{Graph, other_end}
+use Rattle.cip_digraph.specs.units.DoubleBonds.{bond_site, bond_sites, is_bond_end, is_bond_unit, is_double_end, outer_neighbours}
+use Rattle.cip_digraph.specs.graph.Graph.{Graph, edges_at, other_end, vertex_at}
 use Rattle.cip_digraph.specs.rings.Positions.{is_delocalised}
 use Rattle.cip_digraph.specs.units.Units.{centre_site}
 use Rattle.cip_digraph.specs.declared.graph.Edge.{Edge}
@@ -36,6 +36,12 @@ centre_sites graph atom = cond (is_centre graph atom) (centre_site graph atom �
 abbrev pub has_drawn_outside : Graph → List ℕ → ℕ → Bool
 has_drawn_outside graph unit atom = list_any (λ other. nat_lt other graph.drawn) (outer_neighbours graph unit atom)
 
+-- an atom can be the first end of a bond unit, by its positions, its element and its number of bonds
+abbrev pub can_begin : Graph → List (List ℕ) → ℕ → Bool
+can_begin graph positions a =
+    not (is_delocalised positions a)
+    && is_double_end (vertex_at graph a).z (vertex_at graph a).charge (length (edges_at graph a))
+
 -- a bond unit but for small rings
 abbrev pub can_be_bond_unit : Graph → List (List ℕ) → ℕ → Edge → Bool
 can_be_bond_unit graph positions a edge =
@@ -56,6 +62,10 @@ one_axis_site graph a middle b = cond (is_axis_unit graph a middle b) (axis_site
 
 abbrev pub has_double : Graph → Bool
 has_double graph = list_any (λ edge. edge.order == 2) graph.edges
+
+-- one of the first atoms can be the middle one of an allene
+abbrev pub has_allene : Graph → ℕ → Bool
+has_allene graph atoms = list_any (is_allene_middle graph) (range_with_len 0 atoms)
 
 -- further units: the bonds, or the axes, of the first atoms
 abbrev pub with_bonds : Drawing → Graph → List (List ℕ) → ℕ → List units.Unit → List units.Unit

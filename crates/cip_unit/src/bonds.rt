@@ -3,9 +3,9 @@ ghost use Rattle.std.specs.Prelude.{◌≡◌, ◌==◌, ◌<◌, ◌&&◌, ◌+
 ghost use Rattle.cip_digraph.specs.units.DoubleBonds.{bond_site, bond_sites, is_bond_unit};
 ghost use Rattle.cip_digraph.specs.graph.Graph.{other_end};
 ghost use Rattle.cip_digraph.specs.rings.Positions.{is_delocalised};
-ghost use Rattle.cip_unit.specs.Sites.{can_be_bond_unit, LeadsToAtoms, one_bond_site, units_at};
+ghost use Rattle.cip_unit.specs.Sites.{can_be_bond_unit, can_begin, LeadsToAtoms, one_bond_site, units_at};
 
-use crate::ends::{end_ligands, is_bond_end};
+use crate::ends::{end_ligands, is_bond_end, is_double_end, vertex_at};
 use crate::sketch::Sketch;
 use crate::unit::push_unit;
 use cip_digraph::{Edge, Graph, Positions, Units};
@@ -15,6 +15,33 @@ use std::alloc::{AllocError, Global};
 
 /// Adds the bond units of a first end, by the second one. The set serves the search for rings.
 pub fn push_bonds(
+    alloc: Global,
+    sketch: &Sketch<'_>,
+    a: u32,
+    reached: &mut VertexSet,
+    units: &mut Units,
+) -> Result<(), AllocError>
+    requires drawn { sketch.now.graph.now.drawn ≡ length sketch.now.molecule.now.atoms }
+    requires within { a < sketch.now.graph.now.drawn }
+    requires leads { LeadsToAtoms sketch.now.graph.now }
+    ensures { OnOk result (units.new ≡ units.old
+        ++ units_at sketch.now.molecule.now (bond_sites sketch.now.graph.now sketch.now.positions.now a)) }
+{
+    // Most atoms are no first end: their bonds aren't looked at.
+    if !can_begin(sketch, a) {
+        return Ok(());
+    }
+    push_bonds_from(alloc, sketch, a, reached, units)
+}
+
+fn can_begin(sketch: &Sketch<'_>, a: u32) -> bool
+    ensures { result ≡ can_begin sketch.now.graph.now sketch.now.positions.now a }
+{
+    sketch.positions.of(a).len() <= 1
+        && is_double_end(vertex_at(sketch.graph, a), sketch.graph.edges_at(a).len())
+}
+
+fn push_bonds_from(
     alloc: Global,
     sketch: &Sketch<'_>,
     a: u32,

@@ -1,15 +1,16 @@
 // Centres: the atoms that can be chirality centres.
-ghost use Rattle.std.specs.Prelude.{◌≡◌, ◌<◌, ◌≤◌, ◌++◌, ◌&&◌, ◌||◌, ◌==◌, OnOk, filter, is_some, length, map};
+ghost use Rattle.std.specs.Prelude.{◌≡◌, ◌<◌, ◌≤◌, ◌++◌, ◌&&◌, ◌||◌, ◌==◌, OnOk, drop, filter, is_some, length, map, nat_le, true};
 ghost use Rattle.cip_elem.specs.Electrons.{outer_of};
 ghost use Rattle.cip_mol.specs.declared.site.Ligand.TheVariants as variants;
 ghost use Rattle.cip_digraph.specs.units.Centres.{centre_ligands, drawn_neighbours, is_centre, is_quadriligant};
 ghost use Rattle.cip_digraph.specs.graph.Graph.{edges_at, neighbours};
 ghost use Rattle.cip_digraph.specs.graph.GraphRanges.{IsElement};
+ghost use Rattle.cip_digraph.specs.graph.Incidence.{leads_lower};
 ghost use Rattle.cip_digraph.specs.graph.SoundGraphs.{IsSound};
 ghost use Rattle.cip_unit.specs.Sites.{centre_sites, fourth, has_centre_bonds, units_at};
 
 use crate::unit::push_unit;
-use cip_digraph::{Graph, Units, Vertex};
+use cip_digraph::{Edge, Graph, Units, Vertex};
 use cip_elem::outer;
 use cip_mol::{Ligand, Ligands, Molecule, Site};
 use std::alloc::{AllocError, Global};
@@ -27,13 +28,30 @@ pub fn push_centre(
     ensures { OnOk result (units.new ≡ units.old ++ units_at molecule.now (centre_sites graph.now atom)) }
 {
     if is_centre(graph, atom) {
-        let site = Site::Centre {
-            at: atom,
-            ligands: centre_ligands(alloc, graph, atom),
-        };
-        push_unit(alloc, molecule, site, units)?;
+        push_site(alloc, molecule, graph, atom, units)?;
     }
     Ok(())
+}
+
+// Most atoms are no centre: what makes a site stands aside, so that looking for them takes few steps.
+#[inline(never)]
+fn push_site(
+    alloc: Global,
+    molecule: &Molecule,
+    graph: &Graph,
+    atom: u32,
+    units: &mut Units,
+) -> Result<(), AllocError>
+    requires drawn { graph.now.drawn ≡ length molecule.now.atoms }
+    requires within { atom < graph.now.drawn }
+    requires centre { is_centre graph.now atom ≡ true }
+    ensures { OnOk result (units.new ≡ units.old ++ units_at molecule.now (centre_sites graph.now atom)) }
+{
+    let site = Site::Centre {
+        at: atom,
+        ligands: centre_ligands(alloc, graph, atom),
+    };
+    push_unit(alloc, molecule, site, units)
 }
 
 fn is_centre(graph: &Graph, atom: u32) -> bool
@@ -42,20 +60,24 @@ fn is_centre(graph: &Graph, atom: u32) -> bool
 {
     // Most atoms have other bonds: their neighbours aren't counted.
     has_centre_bonds(&graph.vertices()[atom as usize], graph.edges_at(atom).len())
-        && drawn_count(graph, atom) >= 3
+        && has_three_drawn(graph, atom)
 }
 
-fn drawn_count(graph: &Graph, atom: u32) -> usize
-    ensures { result ≡ length (drawn_neighbours graph.now atom) }
+// Edges ascend, and drawn atoms come first: the third edge tells.
+fn has_three_drawn(graph: &Graph, atom: u32) -> bool
+    ensures { result ≡ nat_le 3 (length (drawn_neighbours graph.now atom)) }
 {
-    let drawn = graph.drawn();
-    let mut count = 0;
-    for edge in graph.edges_at(atom) {
-        if edge.other_end(atom) < drawn {
-            count += 1;
-        }
+    leads_to_drawn(graph.edges_at(atom), 2, atom, graph.drawn())
+}
+
+// Whether there is an edge at a place that leads from an atom to one of the drawn ones.
+fn leads_to_drawn(edges: &[Edge], place: usize, atom: u32, drawn: u32) -> bool
+    ensures { result ≡ leads_lower atom drawn (drop place edges.now) }
+{
+    match edges.get(place) {
+        Some(edge) => edge.other_end(atom) < drawn,
+        None => false,
     }
-    count
 }
 
 // Whether an atom with so many bonds can be a centre.

@@ -36,7 +36,8 @@ pub fn is_bond_end(graph: &Graph, unit: &[u32], atom: u32) -> bool
         && has_end_bonds(graph, unit, atom)
 }
 
-fn is_double_end(vertex: Vertex, edges: usize) -> bool
+/// Whether an atom with so many bonds can be an end of a double bond that is a unit.
+pub(crate) fn is_double_end(vertex: Vertex, edges: usize) -> bool
     ensures { result ≡ is_double_end vertex.z vertex.charge edges }
 {
     match edges {

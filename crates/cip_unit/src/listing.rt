@@ -4,9 +4,9 @@ ghost use Rattle.std.specs.List.{range_with_len};
 ghost use Rattle.cip_mol.specs.Geometry.{geometry_of};
 ghost use Rattle.cip_digraph.specs.graph.DrawnGraph.{graph_of};
 ghost use Rattle.cip_digraph.specs.units.Units.{units_of};
-ghost use Rattle.cip_unit.specs.Sites.{centre_sites, has_double, LeadsToAtoms, units_at, with_axes, with_bonds};
+ghost use Rattle.cip_unit.specs.Sites.{centre_sites, has_allene, has_double, LeadsToAtoms, units_at, with_axes, with_bonds};
 
-use crate::axes::push_axes;
+use crate::axes::{is_allene_middle, push_axes};
 use crate::bonds::push_bonds;
 use crate::centres::push_centre;
 use crate::sketch::Sketch;
@@ -101,7 +101,36 @@ fn push_all_bonds(
     Ok(())
 }
 
+// Few molecules have an allene, so axes are looked for where there is one.
 fn push_all_axes(
+    alloc: Global,
+    sketch: &Sketch<'_>,
+    atoms: u32,
+    units: &mut Units,
+) -> Result<(), AllocError>
+    requires drawn { sketch.now.graph.now.drawn ≡ length sketch.now.molecule.now.atoms }
+    requires atoms { atoms ≡ sketch.now.graph.now.drawn }
+    requires leads { LeadsToAtoms sketch.now.graph.now }
+    ensures { OnOk result (units.new ≡ with_axes sketch.now.molecule.now sketch.now.graph.now atoms units.old) }
+{
+    if !has_allene(sketch.graph, atoms) {
+        return Ok(());
+    }
+    push_each_axis(alloc, sketch, atoms, units)
+}
+
+fn has_allene(graph: &Graph, atoms: u32) -> bool
+    ensures { result ≡ has_allene graph.now atoms }
+{
+    for atom in 0..atoms {
+        if is_allene_middle(graph, atom) {
+            return true;
+        }
+    }
+    false
+}
+
+fn push_each_axis(
     alloc: Global,
     sketch: &Sketch<'_>,
     atoms: u32,

@@ -5,8 +5,8 @@ use Rattle.cip_hydro.proofs.edges.edges_of.Goals as goal
 pub returns : goal.returns
 returns c =
     rw (
-      c.in_ok-push_hydrogens.ensures,
-      c.in_ok-edges.ensures,
+      c.push_hydrogens.ensures,
+      c.push_bonds.ensures.value,
       ← surroundings_count c.args.molecule.now,
       ← c.requires.around,
     ) refl

@@ -1,0 +1,11 @@
+use Rattle.std.proofs.Common.{◌∙◌, ap, length}
+use Rattle.cip_orient.proofs.FirstPlaces.{first_listed}
+use Rattle.cip_orient.proofs.flat_centre.places.Goals as goal
+
+pub loop-number-init : goal.loop-number-init
+loop-number-init c =
+    let first = rw c.new-places.ensures at c.push.ensures in
+    record {
+      so_far = first ∙ first_listed c.args.directions.now c.requires.some;
+      counted = ap length first;
+    }

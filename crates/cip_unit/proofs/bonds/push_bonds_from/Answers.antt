@@ -1,0 +1,20 @@
+use Rattle.std.proofs.Common.{◌++◌, ap, sym}
+use Rattle.cip_digraph.specs.units.DoubleBonds.{bond_site, is_bond_unit}
+use Rattle.cip_digraph.specs.graph.Graph.{edges_at}
+use Rattle.cip_unit.specs.Sites.{units_at}
+use Rattle.cip_unit.proofs.Kept.{kept_each}
+use Rattle.cip_unit.proofs.Leads.{leads_on}
+use Rattle.cip_unit.proofs.bonds.push_bonds_from.Goals as goal
+
+pub loop-edge-init : goal.loop-edge-init
+loop-edge-init c =
+    ap (λ sites. c.args.units.now ++ units_at c.args.sketch.now.molecule.now sites)
+    (sym (kept_each (bond_site c.args.sketch.now.graph.now c.args.a)
+    (is_bond_unit c.args.sketch.now.graph.now c.args.sketch.now.positions.now c.args.a)
+    (edges_at c.args.sketch.now.graph.now c.args.a)))
+
+pub push_bond-requires-clause-leads : goal.push_bond-requires-clause-leads
+push_bond-requires-clause-leads c = λ order.
+    leads_on c.args.sketch.now.graph.now c.requires.leads c.args.a
+    c.edges_at-edge-items.result.now c.loop-edge.edge-index _
+    c.edges_at-edge-items.ensures.value c.loop-edge-test.true order

@@ -1,8 +1,0 @@
-use Rattle.std.proofs.Common.{sym}
-use Rattle.cip_unit.proofs.Shown.{centre_shown}
-use Rattle.cip_unit.proofs.centres.push_centre.Goals as goal
-
-pub push_unit-requires : goal.push_unit-requires
-push_unit-requires c =
-    rw c.centre_ligands.ensures
-    (centre_shown c.args.graph.now _ c.args.atom c.requires.drawn c.requires.within (sym c.if-is_centre.ensures))
