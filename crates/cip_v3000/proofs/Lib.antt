@@ -1,6 +1,7 @@
 pub mod BlockRows
 pub mod Counted
 pub mod FirstWords
+pub mod FrameWords
 pub mod InOrder
 pub mod Joined
 pub mod JoinedInOrder
