@@ -1,4 +1,5 @@
 pub mod BlockRows
+pub mod Continued
 pub mod Counted
 pub mod FirstWords
 pub mod FrameWords
@@ -6,6 +7,7 @@ pub mod InOrder
 pub mod Joined
 pub mod JoinedInOrder
 pub mod LineCauses
+pub mod NumberWords
 pub mod PlacedWords
 pub mod Soundness
 pub mod Tables
