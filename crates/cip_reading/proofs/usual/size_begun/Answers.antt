@@ -1,4 +1,4 @@
-use Rattle.std.proofs.Common.{◌≡◌, ◌≤◌, ◌<◌, ◌+◌, ◌-◌, drop, length, take, slice_index, arith}
+use Rattle.std.proofs.Common.{◌≡◌, ◌<◌, ◌+◌, drop, length, slice_index, arith}
 use Rattle.std.proofs.lemmas.List.{take_rest}
 use Rattle.cip_reading.proofs.UsualDecimals.{size_front}
 use Rattle.cip_reading.proofs.usual.size_begun.Goals.{else-end-text-via-then-end-text+else-text-end-ne32, else-end-text-via-else-end-text}
