@@ -11,7 +11,7 @@ use Rattle.cip_reading.specs.Usual.{trimmed, Spells}
 no_space : (b : ℕ) → is_digit b ≡ true → (b == 32) ≡ false
 no_space b h = grind (arith, nat_tests)
 
-none_behind : (front : List ℕ) (b : ℕ) → (b == 32) ≡ false
+pub none_behind : (front : List ℕ) (b : ℕ) → (b == 32) ≡ false
     → without_spaces_behind (front ++ b ∷ []) ≡ front ++ b ∷ []
 none_behind front b e =
     ap (λ bytes. reverse (without_spaces_before bytes)) (reverse-append front (b ∷ []))

@@ -1,9 +1,9 @@
--- Numbers as most programs write them into columns. Own.
-use Rattle.std.specs.Prelude.{◌≡◌, ◌≤◌, ◌<◌, ℕ, List, ◌+◌, ◌*◌, true, length, drop, if◌then◌else◌}
+-- Numbers as most programs write them. Own.
+use Rattle.std.specs.Prelude.{◌≡◌, ◌≤◌, ◌<◌, ℕ, ℤ, List, ◌+◌, ◌*◌, Bool, true, nat_lt, length, drop, slice_index, take, Some, Ok, if◌then◌else◌}
 use Rattle.std.specs.List.{list_all}
 use Rattle.cip_text.specs.Columns.{without_spaces_before, without_spaces_behind}
 use Rattle.cip_text.specs.Lines.{begins_with}
-use Rattle.cip_text.specs.Numbers.{is_digit, value, digit}
+use Rattle.cip_text.specs.Numbers.{is_digit, value, digit, decimal, decimal4_of}
 
 -- a text without the spaces around it
 abbrev pub trimmed : List ℕ → List ℕ
@@ -26,3 +26,34 @@ pub record ArePlaces (text : List ℕ) (number : ℕ) : Type 0 where
   pub some : 0 < length text
   pub value : 1000 * digit text 0 + (100 * digit text 1 + (10 * digit text 2 + digit text 3)) ≡ number
   pub few : number ≤ 9999
+
+-- the number before the first point of a text, digits alone, and the place of that point
+pub record IsWholePart (text : List ℕ) (part : ℕ × ℕ) : Type 0 where
+  pub within : part.1 < length text
+  pub point : slice_index text part.1 ≡ 46
+  pub spells : Spells (take part.1 text) part.0
+
+-- a decimal that begins with a digit, in ten-thousandths
+pub record IsDecimal (text : List ℕ) (size : ℕ) : Type 0 where
+  pub some : 0 < length text
+  pub begun : is_digit (slice_index text 0) ≡ true
+  pub spelt : decimal text ≡ Some size
+
+-- none of the bytes that part words, or begin or end a part of one, stands above the closing bracket
+abbrev pub is_high : ℕ → Bool
+is_high b = nat_lt 41 b
+
+-- a decimal without a sign is the word that begins a text and ends at this place
+pub record IsSizeBegun (text : List ℕ) (found : ℕ × ℕ) : Type 0 where
+  pub decimal : IsDecimal (take found.1 text) found.0
+  pub plain : list_all is_high (take found.1 text) ≡ true
+  pub within : found.1 ≤ length text
+  pub space : found.1 < length text → slice_index text found.1 ≡ 32
+
+-- the same with a minus at most
+pub record IsDecimalBegun (text : List ℕ) (found : ℤ × ℕ) : Type 0 where
+  pub decimal : decimal4_of (take found.1 text) ≡ Ok found.0
+  pub plain : list_all is_high (take found.1 text) ≡ true
+  pub some : 0 < found.1
+  pub within : found.1 ≤ length text
+  pub space : found.1 < length text → slice_index text found.1 ≡ 32

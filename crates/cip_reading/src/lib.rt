@@ -13,4 +13,4 @@ pub use column_numbers::{coordinate_at, number_at, place_at};
 pub use fields::{number, number_stated, place_named, signed, signed_stated};
 pub use places::{numbered, short};
 pub use spaces::spaced_words;
-pub use usual::behind_spaces;
+pub use usual::{behind_spaces, decimal_begun};

@@ -1,10 +1,11 @@
-// Numbers as most programs write them: a few digits behind spaces, and coordinates with four places behind their point.
-// What is written in another way has no number here, and is read in the general way.
-ghost use Rattle.std.specs.Prelude.{◌≡◌, ◌≤◌, ◌+◌, ◌-◌, ◌*◌, ◌∷◌, [], pos, true, length, unsigned_abs, if◌then◌else◌, drop, IfSome, Ok, Some};
+// Numbers as most programs write them: a few digits behind spaces, and coordinates with four places or more behind
+// their point. What is written in another way has no number here, and is read in the general way.
+ghost use Rattle.std.specs.Prelude.{◌≡◌, ◌≤◌, ◌+◌, ◌-◌, ◌*◌, ◌∷◌, [], pos, true, length, unsigned_abs, if◌then◌else◌, drop, take, IfSome, Ok, Some};
+ghost use Rattle.std.specs.List.{list_all};
 ghost use Rattle.cip_text.specs.Columns.{without_spaces_before};
 ghost use Rattle.cip_text.specs.Lines.{begins_with};
 ghost use Rattle.cip_text.specs.Numbers.{is_digit, signed, integer_of, decimal4_of};
-ghost use Rattle.cip_reading.specs.Usual.{trimmed, unsigned, Spells, ArePlaces};
+ghost use Rattle.cip_reading.specs.Usual.{trimmed, unsigned, Spells, ArePlaces, IsWholePart, IsSizeBegun, IsDecimalBegun};
 
 use cip_text::begins_with;
 
@@ -38,6 +39,64 @@ pub fn usual_decimal(columns: &[u8]) -> Option<i64>
     let front = behind_spaces(&columns[..5]);
     let whole = few_digits(without_minus(front))?;
     with_sign(begins_with(front, b'-'), ten_thousandths(whole, places))
+}
+
+// The number before the first point of a text, digits alone and one at least, and the place of that point.
+fn whole_part(text: &[u8]) -> Option<(u32, usize)>
+    ensures { IfSome result (IsWholePart text.now) }
+{
+    let mut sum: u32 = 0;
+    for (place, byte) in text.iter().enumerate() {
+        if *byte == b'.' && place > 0 {
+            return Some((sum, place));
+        }
+        if sum > 99_999 {
+            return None;
+        }
+        sum = 10 * sum + digit_of(*byte)?;
+    }
+    None
+}
+
+/// The decimal of the word that begins a text, with four digits at least behind its point, in ten-thousandths, and the
+/// place behind that word, at a space or the end.
+pub fn decimal_begun(text: &[u8]) -> Option<(i64, usize)>
+    ensures value { IfSome result (IsDecimalBegun text.now) }
+    ensures small { IfSome result (λ found. unsigned_abs found.0 ≤ 500000000) }
+{
+    let bare = without_minus(text);
+    let (size, end) = size_begun(bare)?;
+    let number = with_sign(begins_with(text, b'-'), size)?;
+    Some((number, text.len() - bare.len() + end))
+}
+
+// The same without a minus.
+fn size_begun(text: &[u8]) -> Option<(u64, usize)>
+    ensures { IfSome result (IsSizeBegun text.now) }
+{
+    let (whole, point) = whole_part(text)?;
+    let behind = &text[point + 1..];
+    if behind.len() < 4 {
+        return None;
+    }
+    let places = four_digits(&behind[..4])?;
+    let end = point + 5 + digits_end(&behind[4..]);
+    if end < text.len() && text[end] != b' ' {
+        return None;
+    }
+    Some((ten_thousandths(whole, places), end))
+}
+
+// How many digits begin a text.
+fn digits_end(text: &[u8]) -> usize
+    ensures within { result ≤ length text.now }
+    ensures digits { list_all is_digit (take result text.now) ≡ true }
+{
+    let mut end = 0;
+    while end < text.len() && text[end].is_ascii_digit() {
+        end += 1;
+    }
+    end
 }
 
 /// The number that a text of digits alone, one at least, spells, where it is below a million.

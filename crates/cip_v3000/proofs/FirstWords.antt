@@ -1,11 +1,12 @@
 -- The first word of a text, and the words behind it.
-use Rattle.std.proofs.Common.{◌≡◌, ◌==◌, ◌≤◌, ◌<◌, ◌+◌, ◌-◌, ◌++◌, ℕ, zero, suc, List, [], ◌∷◌, Bool, true, false, refl, sym, ◌∙◌, ap, arith, length, take, drop, get_or, append-nil}
+use Rattle.std.proofs.Common.{◌≡◌, ◌==◌, ◌≤◌, ◌<◌, ◌+◌, ◌-◌, ◌++◌, ℕ, zero, suc, List, [], ◌∷◌, Bool, true, false, refl, sym, ◌∙◌, ap, subst, arith, length, take, drop, get_or, append-nil}
 use Rattle.std.proofs.lemmas.Bool.Decides.{nat_tests}
 use Rattle.std.proofs.lemmas.List.{take_more, take_all, take_rest, drop_more, drop_all, length-take-le, length-drop, nil_from_length}
 use Rattle.cip_text.specs.Columns.{without_spaces_before}
 use Rattle.cip_v3000.specs.declared.splitting.Within.{Within}
 use Rattle.cip_v3000.specs.declared.splitting.Within.TheVariants.{Plain, Bracket, Quote}
 use Rattle.cip_v3000.specs.Words.{after, ends_word, ended, words_from, words_of}
+use Rattle.cip_v3000.proofs.WordSteps.{state_stays}
 
 -- spaces before it
 
@@ -58,6 +59,15 @@ begun_goes_on total within text at lt stays is =
     ≡ words_from (after within (get_or text at 0)) (take (at + 1) text) (drop (at + 1) text)
     = rw (drop_more text at 0 lt, stays, take_more text at 0 lt) refl in
     sym one ∙ is
+
+-- such a byte that ends no word, and begins and ends no part
+pub plain_goes_on : (total : List (List ℕ)) (text : List ℕ) (at : ℕ) → at < length text → 41 < get_or text at 0
+    → words_from Plain (take at text) (drop at text) ≡ total
+    → words_from Plain (take (at + 1) text) (drop (at + 1) text) ≡ total
+plain_goes_on total text at lt high is =
+    let stays : ends_word Plain (get_or text at 0) ≡ false = grind (arith, nat_tests, high) in
+    subst (λ (within : Within). words_from within (take (at + 1) text) (drop (at + 1) text) ≡ total)
+    (sym (state_stays Plain (get_or text at 0) high)) (begun_goes_on total Plain text at lt stays is)
 
 -- its end
 

@@ -1,10 +1,13 @@
 pub mod BlockRows
+pub mod Continued
 pub mod Counted
 pub mod FirstWords
+pub mod FrameWords
 pub mod InOrder
 pub mod Joined
 pub mod JoinedInOrder
 pub mod LineCauses
+pub mod NumberWords
 pub mod PlacedWords
 pub mod Soundness
 pub mod Tables

@@ -10,6 +10,7 @@ pub mod Joining
 pub mod Keys
 pub mod Laws
 pub mod LineWords
+pub mod NumberWords
 pub mod Soundness
 pub mod Tables
 pub mod Words

@@ -5,13 +5,13 @@ ghost use Rattle.cip_v3000.specs.AtomLine.{isotope_of, is_number, atom_of, IsAto
 ghost use Rattle.cip_v3000.specs.LineWords.{AreAtomWords};
 ghost use Rattle.cip_v3000.specs.Words.{words_of};
 
-use crate::indices::{Indices, new_index};
+use crate::indices::{GREATEST, Indices, new_index};
 use crate::keys::{AtomKeys, atom_keys};
+use crate::number_words::{next_coordinate, next_number};
 use crate::splitting::next_word;
 use cip_elem::number_of;
 use cip_mol::{Atom, ReadCause};
 use cip_num::Vec3;
-use cip_reading::coordinate;
 use cip_text::{NumberFault, integer};
 
 /// An atom without any key.
@@ -29,20 +29,20 @@ pub struct AtomLine {
     pub atom: Atom,
 }
 
-// The six words that an atom line has at least, and the text behind them.
+// What the six words say that an atom line has at least, and the text behind them.
 #[derive(Clone, Copy)]
 struct AtomWords<'a> {
-    index: &'a [u8],
+    index: Option<u32>,
     symbol: &'a [u8],
-    x: &'a [u8],
-    y: &'a [u8],
-    z: &'a [u8],
+    x: Result<i64, ReadCause>,
+    y: Result<i64, ReadCause>,
+    z: Result<i64, ReadCause>,
     mapping: &'a [u8],
     keys: &'a [u8],
 }
 
 /// What the words of an atom line say, behind lines of these indices.
-#[tactic(auto, unfolding(crate::specs::AtomLine::atom_of))]
+#[tactic(auto, unfolding(crate::specs::AtomLine::atom_of, crate::specs::AtomLine::new_index))]
 pub fn atom_in(known: &Indices, text: &[u8]) -> Result<AtomLine, ReadCause>
     ensures value { result ≡ atom_of known.now (words_of text.now) }
     ensures range { IfOk result (IsAtomLine known.now) }
@@ -50,9 +50,9 @@ pub fn atom_in(known: &Indices, text: &[u8]) -> Result<AtomLine, ReadCause>
     let words = atom_words(text).ok_or(ReadCause::Frame)?;
     let index = new_index(known, words.index)?;
     let element = number_of(words.symbol).ok_or(ReadCause::Symbol)?;
-    let x = coordinate(words.x)?;
-    let y = coordinate(words.y)?;
-    let z = coordinate(words.z)?;
+    let x = words.x?;
+    let y = words.y?;
+    let z = words.z?;
     if !is_number(words.mapping) {
         return Err(ReadCause::KeyValue);
     }
@@ -73,11 +73,11 @@ fn atom_words(text: &[u8]) -> Option<AtomWords<'_>>
     ensures some { IfSome result (AreAtomWords (words_of text.now)) }
     ensures none { IsNone result → nat_lt 5 (length (words_of text.now)) ≡ false }
 {
-    let (index, rest) = next_word(text)?;
+    let (_, index, rest) = next_number(GREATEST, text)?;
     let (symbol, rest) = next_word(rest)?;
-    let (x, rest) = next_word(rest)?;
-    let (y, rest) = next_word(rest)?;
-    let (z, rest) = next_word(rest)?;
+    let (_, x, rest) = next_coordinate(rest)?;
+    let (_, y, rest) = next_coordinate(rest)?;
+    let (_, z, rest) = next_coordinate(rest)?;
     let (mapping, keys) = next_word(rest)?;
     Some(AtomWords {
         index,

@@ -2,12 +2,13 @@
 ghost use Rattle.std.specs.Prelude.{◌≡◌, ◌≤◌, ◌<◌, false, length, nat_lt, IfOk, IfSome, IsNone};
 ghost use Rattle.cip_mol.specs.declared.molecule.Mark.TheVariants.{Plain};
 ghost use Rattle.cip_reading.specs.Fields.{number_stated};
-ghost use Rattle.cip_v3000.specs.BondLine.{mark_of, marked, with_mark, place_named, bond_of, IsBondLine, IsMark};
+ghost use Rattle.cip_v3000.specs.BondLine.{mark_of, marked, with_mark, place_of, place_named, bond_of, IsBondLine, IsMark};
 ghost use Rattle.cip_v3000.specs.LineWords.{AreBondWords};
 ghost use Rattle.cip_v3000.specs.Words.{words_of};
 ghost use Rattle.cip_reading.specs.Turns.{over};
 
 use crate::indices::{GREATEST, Indices, new_index};
+use crate::number_words::next_number;
 use crate::splitting::{key_and_value, next_word};
 use cip_mol::{Bond, BondList, Mark, ReadCause};
 use cip_reading::{checked, number_stated, order};
@@ -19,18 +20,19 @@ pub struct BondLine {
     pub bond: Bond,
 }
 
-// The four words that a bond line has at least, and the text behind them.
+// The numbers of the four words that a bond line has at least, none where a word is no such number, and the text behind
+// them.
 #[derive(Clone, Copy)]
 struct BondWords<'a> {
-    index: &'a [u8],
-    order: &'a [u8],
-    a: &'a [u8],
-    b: &'a [u8],
+    index: Option<u32>,
+    order: Option<u32>,
+    a: Option<u32>,
+    b: Option<u32>,
     keys: &'a [u8],
 }
 
 /// What the words of a bond line say, among atoms of these indices and behind these bonds.
-#[tactic(auto, unfolding(crate::specs::BondLine::bond_of))]
+#[tactic(auto, unfolding(crate::specs::BondLine::bond_of, crate::specs::BondLine::place_named, crate::specs::AtomLine::new_index))]
 pub fn bond_in(
     atoms: &Indices,
     known: &Indices,
@@ -44,9 +46,9 @@ pub fn bond_in(
 {
     let words = bond_words(text).ok_or(ReadCause::Frame)?;
     let index = new_index(known, words.index)?;
-    let order = order(number_stated(3, words.order)).ok_or(ReadCause::BondType)?;
-    let a = place_named(atoms, words.a).ok_or(ReadCause::BondEnd)?;
-    let b = place_named(atoms, words.b).ok_or(ReadCause::BondEnd)?;
+    let order = order(words.order).ok_or(ReadCause::BondType)?;
+    let a = place_of(atoms, words.a).ok_or(ReadCause::BondEnd)?;
+    let b = place_of(atoms, words.b).ok_or(ReadCause::BondEnd)?;
     let mark = mark_in(order, words.keys)?;
     let bond = checked(before, Bond { a, b, order, mark })?;
     Ok(BondLine { index, bond })
@@ -57,10 +59,10 @@ fn bond_words(text: &[u8]) -> Option<BondWords<'_>>
     ensures some { IfSome result (AreBondWords (words_of text.now)) }
     ensures none { IsNone result → nat_lt 3 (length (words_of text.now)) ≡ false }
 {
-    let (index, rest) = next_word(text)?;
-    let (order, rest) = next_word(rest)?;
-    let (a, rest) = next_word(rest)?;
-    let (b, keys) = next_word(rest)?;
+    let (_, index, rest) = next_number(GREATEST, text)?;
+    let (_, order, rest) = next_number(3, rest)?;
+    let (_, a, rest) = next_number(GREATEST, rest)?;
+    let (_, b, keys) = next_number(GREATEST, rest)?;
     Some(BondWords {
         index,
         order,
@@ -77,7 +79,16 @@ pub fn place_named(indices: &Indices, word: &[u8]) -> Option<u32>
     ensures value { result ≡ place_named indices.now word.now }
     ensures within { IfSome result (λ place. place < length indices.now) }
 {
-    let index = number_stated(GREATEST, word)?;
+    place_of(indices, number_stated(GREATEST, word))
+}
+
+// The place, from 0, of the atom of an index.
+fn place_of(indices: &Indices, index: Option<u32>) -> Option<u32>
+    requires { length indices.now ≤ 1000000000 }
+    ensures value { result ≡ place_of indices.now index }
+    ensures within { IfSome result (λ place. place < length indices.now) }
+{
+    let index = index?;
     let place = indices.place(index)?;
     Some(place as u32)
 }

@@ -1,11 +1,10 @@
 // Indices of atoms or bonds, in order of appearance.
 ghost use Rattle.std.specs.Prelude.{◌≡◌, false, nat_eq, IfOk};
 ghost use Rattle.std.specs.List.{list_any};
-ghost use Rattle.cip_v3000.specs.AtomLine.{new_index};
+ghost use Rattle.cip_v3000.specs.AtomLine.{unless_known};
 ghost use Rattle.cip_v3000.specs.Counted.{is_counted};
 
 use cip_mol::ReadCause;
-use cip_reading::number_stated;
 use indexmap::IndexSet;
 use std::alloc::{AllocError, Global};
 use std::marker::Model;
@@ -97,13 +96,12 @@ fn is_counted(counted: u32, index: u32) -> bool
     1 <= index && index <= counted
 }
 
-/// The index that a word states, which is none of those known.
-#[tactic(auto, unfolding(crate::specs::AtomLine::new_index))]
-pub fn new_index(known: &Indices, word: &[u8]) -> Result<u32, ReadCause>
-    ensures value { result ≡ new_index known.now word.now }
+/// The index that was read, which is none of those known.
+pub fn new_index(known: &Indices, index: Option<u32>) -> Result<u32, ReadCause>
+    ensures value { result ≡ unless_known known.now index }
     ensures fresh { IfOk result (λ index. list_any (nat_eq index) known.now ≡ false) }
 {
-    let index = number_stated(GREATEST, word).ok_or(ReadCause::Index)?;
+    let index = index.ok_or(ReadCause::Index)?;
     if index == 0 || known.contains(index) {
         return Err(ReadCause::Index);
     }

@@ -144,9 +144,14 @@ fn begins_v30(line: &[u8]) -> bool
     line.len() >= 7 && &line[..7] == b"M  V30 ".as_slice()
 }
 
+#[tactic(auto, using(crate::proofs::Continued::other_end))]
 fn is_continued(line: &[u8]) -> bool
     ensures { result ≡ is_continued line.now }
 {
+    // Most lines end in another byte.
+    if !line.is_empty() && line[line.len() - 1] > b'-' {
+        return false;
+    }
     match without_spaces_behind(body(line)) {
         [.., b'-'] => true,
         _ => false,

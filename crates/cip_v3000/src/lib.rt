@@ -10,6 +10,7 @@ mod indices;
 mod joining;
 mod keys;
 mod laws;
+mod number_words;
 mod reading;
 mod rows;
 mod splitting;

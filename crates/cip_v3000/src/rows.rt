@@ -11,7 +11,7 @@ ghost use Rattle.cip_v3000.specs.Joining.{seen, seen_all};
 use crate::atoms::{AtomLine, atom_in};
 use crate::bonds::{BondLine, bond_in};
 use crate::counts::{CountsLine, counts_in};
-use crate::frames::{FrameLine, is_frame};
+use crate::frames::{FrameLine, is_frame_text};
 use crate::indices::Indices;
 use crate::joining::{JoinedLine, JoinedLines, text_of};
 use crate::splitting::words;
@@ -93,6 +93,5 @@ pub fn is_framed(alloc: Global, line: &JoinedLine<'_>, due: FrameLine) -> Result
     ensures { IfOk result (λ is. is ≡ is_frame due (words_in (seen line.now))) }
 {
     let text = text_of(alloc, line)?;
-    let words = words(alloc, text.bytes())?;
-    Ok(is_frame(due, &words))
+    Ok(is_frame_text(due, text.bytes()))
 }
