@@ -3,6 +3,7 @@ pub mod Begun
 pub mod DecidedBranches
 pub mod Doubled
 pub mod Ending
+pub mod EvenSpheres
 pub mod FewKids
 pub mod Filled
 pub mod Followed

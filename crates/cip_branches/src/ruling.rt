@@ -25,7 +25,8 @@ impl Spheres {
         self.note_rows(from, to);
     }
 
-    // Takes a rule to the sphere behind `far`. Says whether that reached the first one.
+    // Takes a rule to the sphere behind `far`. Says whether that reached the first one. Where places that tie have the
+    // same keys, as most do in later rules, all spheres stand.
     fn deepen<K: Keyed>(&mut self, keys: &K, far: u32, last: u32) -> bool
         requires ranked { AreRanked self.old last }
         requires far { far < last }
@@ -38,6 +39,11 @@ impl Spheres {
             self.new.ranked.numbers }
     {
         let _count = self.starts.len();
+        let from = self.starts.as_slice()[far as usize + 1];
+        let to = self.starts.as_slice()[far as usize + 2];
+        if self.stands_by(keys, from, to) {
+            return false;
+        }
         self.pass(keys, far, last) == 0
     }
 }

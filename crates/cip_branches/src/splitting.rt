@@ -1,15 +1,15 @@
 // One sphere split by keys.
-ghost use Rattle.std.specs.Prelude.{◌≡◌, ◌≤◌, length};
+ghost use Rattle.std.specs.Prelude.{◌≡◌, ◌≤◌, ◌↔◌, true, length};
 ghost use Rattle.std.specs.Ordering.{int_cmp, then_cmp, on};
 ghost use Rattle.cip_rank.specs.Ranking.{by_number};
-ghost use Rattle.cip_rows.specs.Parting.{FlagClasses, KeepsSphere};
+ghost use Rattle.cip_rows.specs.Parting.{FlagClasses, KeepsSphere, TieAlike};
 ghost use Rattle.cip_rows.specs.Keys.{AreKeyed, key_of};
 ghost use Rattle.cip_rows.specs.Rows.{IsRow, AreClassed, OrdersPlaces};
 ghost use Rattle.cip_rows.specs.Stirring.{NoFlags};
 
 use crate::spheres::Spheres;
 use cip_rank::Keyed;
-use cip_rows::{ByKeys, Order, clear_flags, part_sphere, set_flag_if};
+use cip_rows::{ByKeys, Order, clear_flags, part_sphere, set_flag_if, tie_alike};
 
 // Sets the flag of each class of two places and more.
 fn flag_classes(order: &Order, from: u32, to: u32, flags: &mut [bool])
@@ -26,6 +26,20 @@ fn flag_classes(order: &Order, from: u32, to: u32, flags: &mut [bool])
 }
 
 impl Spheres {
+    /// Whether the places that tie in the rows `from` to `to` of a sphere have the same keys.
+    pub(crate) fn stands_by<K: Keyed>(&self, keys: &K, from: u32, to: u32) -> bool
+        requires ordered { from ≤ to }
+        requires within { to ≤ length self.now.ranked.rows }
+        requires classed { AreClassed self.now.ranked.rows self.now.ranked.numbers from to }
+        requires keyed { AreKeyed (K.nodes keys.now) self.now.kin }
+        ensures { result ≡ true ↔ TieAlike (on (key_of (K.key keys.now) self.now.kin) int_cmp) self.now.ranked.rows
+            self.now.ranked.numbers from to }
+    {
+        let family = &self.family;
+        let by = ByKeys { family, keys };
+        tie_alike(&by, &self.order, from, to)
+    }
+
     /// Splits the classes of the sphere in the rows `from` to `to` by keys.
     pub(crate) fn split_sphere<K: Keyed>(&mut self, keys: &K, from: u32, to: u32)
         requires ordered { from ≤ to }

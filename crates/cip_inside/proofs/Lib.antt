@@ -8,6 +8,7 @@ pub mod EarlySides
 pub mod FlaggedNodes
 pub mod FollowedViews
 pub mod HangingPlaces
+pub mod KnownSteps
 pub mod Meeting
 pub mod NodeKeys
 pub mod Sources

@@ -80,7 +80,7 @@ module _ (sight : Sight) (shows : Shows sight) where
   ]
 
   -- the path of a real node has its sphere's length
-  length_is : (n : ℕ) → IsReal sight.nodes n → length (path n) ≡ sphere n + 1
+  pub length_is : (n : ℕ) → IsReal sight.nodes n → length (path n) ≡ sphere n + 1
   length_is n r = length_by (n + 1) n (omega arith) (low n r) r.real
 
   -- seen from the root the ways to all nodes begin there

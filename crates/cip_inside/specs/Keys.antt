@@ -1,7 +1,7 @@
 -- The keys of Rules 1b and 2 by the numbers of nodes, seen from one of them. Own.
 use Rattle.std.specs.Prelude.{◌≡◌, ◌<◌, ◌≤◌, ◌+◌, ℕ, ℤ, pos, Bool, List, length, map, slice_index}
 use Rattle.std.specs.List.{range_with_len}
-use Rattle.cip_aux.specs.Sights.{Sight, path_at}
+use Rattle.cip_aux.specs.Sights.{IsReal, Sight, path_at}
 use Rattle.cip_rows.specs.Parting.{has_flag}
 use Rattle.cip_digraph.specs.declared.nodes.Told.{Told}
 use Rattle.cip_digraph.specs.digraph.Telling.{node_at}
@@ -21,6 +21,13 @@ distance_at sight from node = distance_key sight.rules (apart (path_at sight.nod
 abbrev pub distance_keys : Sight → ℕ → List ℤ
 distance_keys sight from =
     map (λ node. lower_precedes (distance_at sight from node)) (range_with_len 0 (length sight.told))
+
+-- of so many nodes, by number: of the real ones, how many steps each is away from one
+pub record KnowSteps (sight : Sight) (from count : ℕ) (steps : List ℕ) : Type 0 where
+  pub len : length steps ≡ count
+  pub each : (node : ℕ) → node < count → IsReal sight.nodes node
+      → slice_index steps node ≡ apart (path_at sight.nodes from) (path_at sight.nodes node)
+  pub few : (node : ℕ) → node < count → slice_index steps node ≤ length sight.told + node
 
 abbrev pub mass_keys : List Told → List ℤ
 mass_keys all = map (λ told. pos told.mass) all

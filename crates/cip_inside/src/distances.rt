@@ -7,7 +7,7 @@ ghost use Rattle.cip_digraph.specs.digraph.NodeList.{parents_of, told_at};
 ghost use Rattle.cip_digraph.specs.digraph.View.{apart};
 ghost use Rattle.cip_digraph.specs.rules.Keys.{lower_precedes};
 ghost use Rattle.cip_views.specs.Sources.{carrier_of, distance_node};
-ghost use Rattle.cip_inside.specs.Keys.{IsFlagged, IsMeet, distance_at, distance_keys};
+ghost use Rattle.cip_inside.specs.Keys.{IsFlagged, IsMeet, KnowSteps, distance_at, distance_keys};
 
 use cip_aux::Whole;
 use cip_digraph::{NodeKind, Nodes};
@@ -15,19 +15,21 @@ use cip_rank::{Keyed, Rules};
 use cip_reroot::marks::parent_of;
 use std::cmp::Ordering;
 
-/// The distances of a digraph's nodes from one of them, by flags of the nodes on the way to it from the root: how many
-/// steps the real node is away that tells them.
+/// The distances of a digraph's nodes from one of them: how many steps the real node is away that tells them. Those of
+/// the first nodes may be known; for others it is climbed, by flags of the nodes on the way from the root.
 #[derive(Drop)]
 pub struct Distances<'a, N: Nodes> {
     pub whole: &'a Whole<'a, N>,
     pub way: &'a [bool],
+    pub known: &'a [u32],
     pub from: u32,
     ghost real: { IsReal (sight_of whole.now).nodes from },
     ghost flagged: { IsFlagged (parents_of whole.now.told) from way.now },
+    ghost counted: { KnowSteps (sight_of whole.now) from (length known.now) known.now },
 }
 
-// Whether a node isn't on the way, whose flags these are, and not the root.
-fn is_off(way: &[bool], node: u32) -> bool
+/// Whether a node isn't on the way, whose flags these are, and not the root.
+pub fn is_off(way: &[bool], node: u32) -> bool
     ensures some { result ≡ true → 0 < node }
     ensures off { result ≡ true → has_flag way.now node ≡ false }
     ensures on { result ≡ false → 0 < node → has_flag way.now node ≡ true }
@@ -124,12 +126,24 @@ impl<N: Nodes> Distances<'_, N> {
         (here - meet) + (there - meet)
     }
 
+    // The same, where it may be known.
+    fn away(&self, node: u32) -> u64
+        requires real { IsReal (sight_of self.now.whole.now).nodes node }
+        ensures { result ≡ apart (path_at (sight_of self.now.whole.now).nodes self.now.from)
+            (path_at (sight_of self.now.whole.now).nodes node) }
+    {
+        match self.known.get(node as usize) {
+            Some(steps) => u64::from(*steps),
+            None => self.steps(node),
+        }
+    }
+
     fn distance(&self, node: u32) -> u64
         requires { node < length self.now.whole.now.told }
         ensures { result ≡ distance_at (sight_of self.now.whole.now) self.now.from node }
     {
         let nodes = self.whole.nodes();
-        self.steps(source(nodes, self.whole.rules(), node))
+        self.away(source(nodes, self.whole.rules(), node))
     }
 }
 

@@ -11,6 +11,7 @@ mod marks_inside;
 mod masses;
 mod near;
 mod sights;
+mod stepping;
 mod tops;
 
 pub use distances::Distances;

@@ -50,8 +50,10 @@ impl Marked for MarksInside<'_> {
 
     #[tactic(auto, using(crate::proofs::CountedMarks::mark_is))]
     fn mark(&self, node: u32) -> Option<Descriptor> {
-        if is_below(self.table, self.from, node) {
-            self.marks.get(node)
+        // Few nodes have a descriptor, and only for these is the way up looked at.
+        let mark = self.marks.get(node);
+        if mark.is_some() && is_below(self.table, self.from, node) {
+            mark
         } else {
             None
         }

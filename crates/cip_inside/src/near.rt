@@ -20,6 +20,7 @@ ghost use Rattle.cip_inside.specs.Near.{LeadsElsewhere};
 
 use crate::constituting::constitute;
 use crate::flagging::are_behind;
+use crate::stepping::SeenFrom;
 use crate::tops::{branch_of, fill_tops};
 use cip_aux::Whole;
 use cip_branches::Branches;
@@ -40,6 +41,8 @@ pub struct Near {
     tops: Column<u32>,
     // the nodes on the way from the root to the one that is looked from: none is set between looks
     way: Vec<bool>,
+    // how many steps each node is away from that one
+    steps: Column<u32>,
 }
 
 impl Model for Near {
@@ -62,12 +65,14 @@ impl Near {
     {
         let way = Vec::with_capacity(alloc, bound as usize)?;
         let columns = both(way, Column::reserve(alloc, bound + 1))?;
-        let ((way, tops), branches) = both(columns, Branches::reserve(alloc, bound))?;
+        let columns = both(columns, Column::reserve(alloc, bound))?;
+        let (((way, tops), steps), branches) = both(columns, Branches::reserve(alloc, bound))?;
         Ok(Near {
             bound,
             branches,
             tops,
             way,
+            steps,
         })
     }
 
@@ -117,11 +122,15 @@ impl Near {
         let table = whole.nodes().table();
         cover(&mut self.way, table.len());
         mark_way(table, node, &mut self.way);
+        let from = SeenFrom {
+            node,
+            way: &self.way,
+        };
         let done = constitute(
             &mut self.branches,
             whole,
-            &self.way,
-            node,
+            &from,
+            &mut self.steps,
             self.tops.as_slice(),
             asked,
         );

@@ -22,11 +22,13 @@ use Rattle.cip_ligands.specs.Taking.{TakesRule}
 pub record Readied : Type 0 where
   pub bound : ℕ
 
-pub record KeepReadings (bound : ℕ) (twins : Branched) (saved : Saved) (sides : Reserved Asked) : Type 0 where
+pub record KeepReadings (bound : ℕ) (twins : Branched) (saved : Saved) (sides : Reserved Asked) (values : Reserved ℕ) :
+    Type 0 where
   pub few : bound + bound < 2 ^ 32
   pub twins_room : twins.layers.kin.room ≡ bound + bound
   pub saved_room : saved.room ≡ bound + bound
   pub sides_room : sides.room ≡ bound
+  pub values_room : values.room ≡ bound + bound
 
 -- the other reading of a branch that is wanted; of one that was let go there is none
 abbrev pub twin_of : Branched → ℕ → ℕ

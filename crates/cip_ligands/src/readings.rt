@@ -43,6 +43,8 @@ pub struct Readings {
     pub(crate) saved: SavedRanks,
     // of each branch, which of its readings is the higher one
     sides: Column<Asked>,
+    // what is like the reference at each place and at its twin
+    values: Column<u8>,
 }
 
 impl Model for Readings {
@@ -52,7 +54,8 @@ impl Model for Readings {
 
     ghost view = { λ readings. record { bound = readings.bound } };
 
-    ghost invariant = { λ readings. KeepReadings readings.bound readings.twins readings.saved readings.sides };
+    ghost invariant = { λ readings. KeepReadings readings.bound readings.twins readings.saved readings.sides
+        readings.values };
 }
 
 impl Readings {
@@ -65,12 +68,17 @@ impl Readings {
             Branches::reserve(alloc, bound + bound)?,
             SavedRanks::reserve(alloc, bound + bound),
         )?;
-        let ((twins, saved), sides) = both(ranks, Column::reserve(alloc, bound))?;
+        let columns = both(ranks, Column::reserve(alloc, bound))?;
+        let (((twins, saved), sides), values) = both(
+            columns,
+            Column::reserve(alloc, bound + bound),
+        )?;
         Ok(Readings {
             bound,
             twins,
             saved,
             sides,
+            values,
         })
     }
 }
@@ -85,24 +93,43 @@ fn base_of(count: u32, reading: u32) -> u32
     }
 }
 
-/// What is like the reference, of the nodes at places and at their twins.
+// What is like the reference at a place, or at the twin of one.
+fn reading_value<M: Marked>(branches: &Branches, marks: &M, place: u32) -> u8
+    requires keyed { AreKeyed (length (M.marks marks.now)) branches.now.layers.kin }
+    requires place { place < length branches.now.layers.kin.ups + length branches.now.layers.kin.ups }
+    ensures { pos result ≡ reading_key (M.marks marks.now) branches.now.layers.kin.nodes
+        (length branches.now.layers.kin.ups) place }
+{
+    let count = branches.len();
+    let node = branches.node(base_of(count, place));
+    like_value(marks.mark(node), count <= place)
+}
+
+// The same at all of them.
+fn write_values<M: Marked>(branches: &Branches, marks: &M, values: &mut Column<u8>)
+    requires keyed { AreKeyed (length (M.marks marks.now)) branches.now.layers.kin }
+    requires few { length branches.now.layers.kin.ups + length branches.now.layers.kin.ups < 2 ^ 32 }
+    requires room { length branches.now.layers.kin.ups + length branches.now.layers.kin.ups ≤ values.old.room }
+    ensures len { length values.new.items ≡ length branches.now.layers.kin.ups + length branches.now.layers.kin.ups }
+    ensures values { map pos values.new.items ≡ reading_keys (M.marks marks.now) branches.now }
+    ensures room { values.new.room ≡ values.old.room }
+{
+    values.clear();
+    let count = branches.len();
+    for place in 0..count + count {
+        values.push(reading_value(branches, marks, place));
+    }
+}
+
+// What is like the reference, of the nodes at places and at their twins, put down once: the rule is taken up to three
+// times.
 #[derive(Drop)]
 struct ReadingKeys<'a, M: Marked> {
     branches: &'a Branches,
     marks: &'a M,
-    ghost keyed: { AreKeyed (length (M.marks marks.now)) branches.now.layers.kin },
-}
-
-impl<M: Marked> ReadingKeys<'_, M> {
-    fn value(&self, place: u32) -> u8
-        requires { place < length self.now.branches.now.layers.kin.ups + length self.now.branches.now.layers.kin.ups }
-        ensures { pos result ≡ reading_key (M.marks self.now.marks.now) self.now.branches.now.layers.kin.nodes
-            (length self.now.branches.now.layers.kin.ups) place }
-    {
-        let count = self.branches.len();
-        let node = self.branches.node(base_of(count, place));
-        like_value(self.marks.mark(node), count <= place)
-    }
+    values: &'a [u8],
+    ghost len: { length values.now ≡ length branches.now.layers.kin.ups + length branches.now.layers.kin.ups },
+    ghost told: { map pos values.now ≡ reading_keys (M.marks marks.now) branches.now },
 }
 
 impl<M: Marked> Keyed for ReadingKeys<'_, M> {
@@ -111,7 +138,7 @@ impl<M: Marked> Keyed for ReadingKeys<'_, M> {
     ghost key = { λ keys. reading_keys (M.marks keys.marks.now) keys.branches.now };
 
     fn compare(&self, a: u32, b: u32) -> Ordering {
-        compare_values(self.value(a), self.value(b))
+        compare_values(self.values[a as usize], self.values[b as usize])
     }
 }
 
@@ -294,36 +321,35 @@ fn take_sides<K: Keyed>(
 
 // Takes the rule over both readings of branches.
 fn take_with<M: Marked>(
-    branches: &Branches,
+    keys: &ReadingKeys<'_, M>,
     twins: &mut Branches,
     saved: &mut SavedRanks,
     sides: &mut Column<Asked>,
-    marks: &M,
     asked: &mut [Asked],
 )
-    requires followed { AreFollowed branches.now }
-    requires keyed { AreKeyed (length (M.marks marks.now)) branches.now.layers.kin }
-    requires some { 0 < length branches.now.layers.kin.ups }
-    requires few { length branches.now.layers.kin.ups + length branches.now.layers.kin.ups < 2 ^ 32 }
-    requires room { length branches.now.layers.kin.ups + length branches.now.layers.kin.ups
+    requires followed { AreFollowed keys.now.branches.now }
+    requires some { 0 < length keys.now.branches.now.layers.kin.ups }
+    requires few { length keys.now.branches.now.layers.kin.ups + length keys.now.branches.now.layers.kin.ups < 2 ^ 32 }
+    requires room { length keys.now.branches.now.layers.kin.ups + length keys.now.branches.now.layers.kin.ups
         ≤ twins.old.layers.kin.room }
-    requires saved_room { length branches.now.layers.kin.ups + length branches.now.layers.kin.ups ≤ saved.old.room }
-    requires sides_room { length branches.now.wanted ≤ sides.old.room }
-    ensures taken { TakesReadings branches.now (M.marks marks.now) asked.old asked.new }
+    requires saved_room { length keys.now.branches.now.layers.kin.ups + length keys.now.branches.now.layers.kin.ups
+        ≤ saved.old.room }
+    requires sides_room { length keys.now.branches.now.wanted ≤ sides.old.room }
+    ensures taken { TakesReadings keys.now.branches.now (M.marks keys.now.marks.now) asked.old asked.new }
     ensures room { twins.new.layers.kin.room ≡ twins.old.layers.kin.room }
     ensures saved_room { saved.new.room ≡ saved.old.room }
     ensures sides_room { sides.new.room ≡ sides.old.room }
-    ensures may { MayDouble branches.now }
+    ensures may { MayDouble keys.now.branches.now }
 {
+    let branches = keys.branches;
     twins.fill_twins(branches);
     twins.save(saved);
     ask_sides(branches, sides);
-    let keys = ReadingKeys { branches, marks };
-    take_sides(branches, twins, saved, &keys, sides);
+    take_sides(branches, twins, saved, keys, sides);
     read_all(branches, sides.as_slice(), false, asked);
-    take_again(branches, twins, saved, &keys, asked);
+    take_again(branches, twins, saved, keys, asked);
     read_all(branches, sides.as_slice(), true, asked);
-    take_open(branches, twins, saved, &keys, asked);
+    take_open(branches, twins, saved, keys, asked);
     name_all(branches.len(), asked);
 }
 
@@ -376,12 +402,17 @@ pub(crate) fn take_both<M: Marked>(
         return;
     }
     let _branches = branches.branch_count();
-    take_with(
+    write_values(branches, marks, &mut readings.values);
+    let keys = ReadingKeys {
         branches,
+        marks,
+        values: readings.values.as_slice(),
+    };
+    take_with(
+        &keys,
         &mut readings.twins,
         &mut readings.saved,
         &mut readings.sides,
-        marks,
         asked,
     );
 }

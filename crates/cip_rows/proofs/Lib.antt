@@ -7,6 +7,7 @@ pub mod PartedPair
 pub mod PartedSphere
 pub mod RefinedSphere
 pub mod Stirred
+pub mod TiedPlaces
 pub mod TwinLists
 pub mod TwinPlaces
 pub mod WrittenSets

@@ -36,6 +36,11 @@ pub record PartsClass (compare : ℕ → ℕ → Ordering) (first : ℕ) (nodes 
 pub record AreAlike (compare : ℕ → ℕ → Ordering) (nodes : List ℕ) : Type 0 where
   pub each : (k : ℕ) → k < length nodes → compare (slice_index nodes 0) (slice_index nodes k) ≡ Equal
 
+-- places of a sphere that tie compare alike
+pub record TieAlike (compare : ℕ → ℕ → Ordering) (rows numbers : List ℕ) (from to : ℕ) : Type 0 where
+  pub each : (a b : ℕ) → IsRow rows from to a → IsRow rows from to b → slice_index numbers a ≡ slice_index numbers b
+      → compare a b ≡ Equal
+
 -- the rows from the first one to `past` are those of one number
 pub record EndsClass (rows numbers : List ℕ) (first to past : ℕ) : Type 0 where
   pub some : first < past

@@ -12,6 +12,7 @@ mod place;
 mod refining;
 mod stirring;
 mod twins;
+mod tying;
 
 pub use column::Column;
 pub use family::Family;
@@ -21,3 +22,4 @@ pub use parting::part_sphere;
 pub use place::Place;
 pub use refining::refine_sphere;
 pub use stirring::{clear_flags, set_flag_if, stir_above};
+pub use tying::tie_alike;

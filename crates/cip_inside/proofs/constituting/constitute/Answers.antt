@@ -16,7 +16,7 @@ use Rattle.cip_inside.proofs.constituting.constitute.Goals as goal
 pub returns-then-are_decided-clause-constituted : goal.returns-then-are_decided-clause-constituted
 returns-then-are_decided-clause-constituted g c =
     let tops = c.args.tops.now in
-    constituted_early (sight_of c.args.whole.now) c.args.node tops c.args.asked.now
+    constituted_early (sight_of c.args.whole.now) c.args.from.now.node tops c.args.asked.now
     (by_recursion (AreWithin (length tops)) c.args.asked.now c.requires.within) c.follow_all.new.branches
     c.follow_all.new.asked c.follow_all.ensures.followed (sym c.are_decided.ensures ∙ c.if-are_decided.true)
 
@@ -35,7 +35,7 @@ pub returns-clause-constituted : goal.returns-clause-constituted
 returns-clause-constituted g c =
     let sight = sight_of c.args.whole.now in
     let tops = c.args.tops.now in
-    let node = c.args.node in
+    let node = c.args.from.now.node in
     let begin = c.args.asked.now in
     let within = by_recursion (AreWithin (length tops)) begin c.requires.within in
     let old = c.follow_all.new.branches in

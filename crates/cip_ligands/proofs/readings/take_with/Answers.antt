@@ -15,13 +15,13 @@ use Rattle.cip_ligands.proofs.readings.take_with.Goals as goal
 
 pub take_sides-requires-clause-keyed : goal.take_sides-requires-clause-keyed
 take_sides-requires-clause-keyed g c =
-    let from = c.args.branches.now in
+    let from = c.args.keys.now.branches.now in
     subst (λ (t : Branched). AreKeyed (length from.layers.kin.ups + length from.layers.kin.ups) t.layers.kin)
     (sym c.fill_twins.ensures.twins) (twins_keyed c.args.twins.now.layers.kin.room from.layers.kin)
 
 pub take_again-requires-clause-keyed : goal.take_again-requires-clause-keyed
 take_again-requires-clause-keyed g c =
-    let from = c.args.branches.now in
+    let from = c.args.keys.now.branches.now in
     let first = subst (λ (t : Branched). AreKeyed (length from.layers.kin.ups + length from.layers.kin.ups)
     t.layers.kin)
     (sym c.fill_twins.ensures.twins) (twins_keyed c.args.twins.now.layers.kin.room from.layers.kin) in
@@ -30,7 +30,7 @@ take_again-requires-clause-keyed g c =
 
 pub take_open-requires-clause-keyed : goal.take_open-requires-clause-keyed
 take_open-requires-clause-keyed g c =
-    let from = c.args.branches.now in
+    let from = c.args.keys.now.branches.now in
     let first = subst (λ (t : Branched). AreKeyed (length from.layers.kin.ups + length from.layers.kin.ups)
     t.layers.kin)
     (sym c.fill_twins.ensures.twins) (twins_keyed c.args.twins.now.layers.kin.room from.layers.kin) in
@@ -39,9 +39,9 @@ take_open-requires-clause-keyed g c =
 
 pub returns-clause-taken : goal.returns-clause-taken
 returns-clause-taken g c =
-    let from = c.args.branches.now in
+    let from = c.args.keys.now.branches.now in
     let room = c.args.twins.now.layers.kin.room in
-    let keys = reading_keys (g.M.Marked.marks c.args.marks.now) from in
+    let keys = reading_keys (g.M.Marked.marks c.args.keys.now.marks.now) from in
     let room_one = ap (λ (t : Branched). t.layers.kin.room) c.fill_twins.ensures.twins in
     let room_two = ap (λ (k : Kin). k.room) c.take_sides.ensures.kin ∙ room_one in
     let room_three = ap (λ (k : Kin). k.room) c.take_again.ensures.kin ∙ room_two in

@@ -1,17 +1,47 @@
-use Rattle.std.proofs.Common.{sym, subst}
+use Rattle.std.proofs.Common.{◌≡◌, ◌+◌, ◌∙◌, suc, slice_index, sym, ap, subst, arith}
+use Rattle.std.specs.Ordering.{int_cmp, on}
+use Rattle.cip_rows.specs.Keys.{key_of}
+use Rattle.cip_rows.specs.Parting.{TieAlike}
 use Rattle.cip_branches.specs.Following.{AreRanked}
 use Rattle.cip_branches.specs.Layers.{Layers}
 use Rattle.cip_branches.specs.Taking.{Deepens}
 use Rattle.cip_branches.specs.Turning.{IsInnermost}
+use Rattle.cip_branches.proofs.EvenSpheres.{deeper_even}
 use Rattle.cip_branches.proofs.StirredSpheres.{first_is}
 use Rattle.cip_branches.proofs.TakenSpheres.{deeper_is, deeper_ranked, deeper_noted, deeper_steady}
+use Rattle.cip_branches.proofs.Turns.{read_at}
 use Rattle.cip_branches.proofs.spheres.Spheres.deepen.Goals as goal
+use Rattle.cip_branches.proofs.spheres.Spheres.deepen.Goals.{After-stands_by}
 
 pub pass-requires-clause-noted : goal.pass-requires-clause-noted
 pass-requires-clause-noted g c = deeper_noted c.args.self.now c.args.last c.requires.ranked c.args.far
 
 pub pass-requires-clause-steady : goal.pass-requires-clause-steady
 pass-requires-clause-steady g c = deeper_steady c.args.self.now c.args.last c.requires.ranked c.args.far c.requires.far
+
+-- what the code reads of the starts
+from_is : (g : _) (c : After-stands_by g) → slice_index c.as_slice.result.now (c.args.far + 1)
+    ≡ slice_index c.args.self.now.starts (suc c.args.far)
+from_is g c = sym (read_at c.args.self.now.starts c.as_slice.result.now (c.args.far + 1) (suc c.args.far)
+    (c.as_slice.ensures ∙ ap (λ (s : Layers). s.starts) c.self.view_is) (omega arith))
+
+to_is : (g : _) (c : After-stands_by g) → slice_index c.as_slice-2.result.now (c.args.far + 2)
+    ≡ slice_index c.args.self.now.starts (suc (suc c.args.far))
+to_is g c = sym (read_at c.args.self.now.starts c.as_slice-2.result.now (c.args.far + 2) (suc (suc c.args.far))
+    (c.as_slice-2.ensures ∙ ap (λ (s : Layers). s.starts) c.self.view_is) (omega arith))
+
+pub returns-then-stands_by-clause-deeper : goal.returns-then-stands_by-clause-deeper
+returns-then-stands_by-clause-deeper g c =
+    let at = (goal.at.returns-then-stands_by-clause-deeper g c).After-stands_by in
+    let all = c.args.self.now in
+    let keys = g.K.Keyed.key c.args.keys.now in
+    let compare = on (key_of keys all.kin) int_cmp in
+    let alike = c.stands_by.ensures.0 c.if-stands_by.true in
+    deeper_even all c.args.last c.requires.ranked c.args.far c.requires.far keys
+    (subst (λ n. TieAlike compare all.ranked.rows all.ranked.numbers (slice_index all.starts (suc c.args.far)) n)
+    (to_is g at)
+    (subst (λ n. TieAlike compare all.ranked.rows all.ranked.numbers n
+    (slice_index c.as_slice-2.result.now (c.args.far + 2))) (from_is g at) alike))
 
 pub returns-clause-deeper : goal.returns-clause-deeper
 returns-clause-deeper g c =

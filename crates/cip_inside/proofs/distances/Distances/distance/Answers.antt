@@ -7,8 +7,8 @@ use Rattle.cip_aux.proofs.Told.{whole_shows}
 use Rattle.cip_inside.proofs.Sources.{source_is}
 use Rattle.cip_inside.proofs.distances.Distances.distance.Goals as goal
 
-pub steps-requires : goal.steps-requires
-steps-requires g c =
+pub away-requires : goal.away-requires
+away-requires g c =
     let self = c.args.self.now in
     let whole = self.whole.now in
     let sight = sight_of whole in
@@ -32,5 +32,5 @@ returns g c =
     let low = c.requires in
     let same : c.source.result ≡ distance_node whole.rules whole.told c.args.node =
     c.source.ensures ∙ (λ i. distance_node (c.rules.ensures i) (c.nodes-nodes.ensures.told i) c.args.node) in
-    c.steps.ensures ∙ ap (λ n. apart (path_at sight.nodes self.from) (path_at sight.nodes n)) same
+    c.away.ensures ∙ ap (λ n. apart (path_at sight.nodes self.from) (path_at sight.nodes n)) same
     ∙ (source_is sight shows self.from c.args.node (omega (arith, len, low, parents_len whole.told))).far

@@ -8,8 +8,8 @@ is_below-requires c =
     let low = c.requires in
     omega (arith, low, marks_len self.table.now.parents self.from self.marks.now.marks)
 
-pub get-requires : goal.get-requires
-get-requires c =
+pub get-mark-requires : goal.get-mark-requires
+get-mark-requires c =
     let self = c.args.self.now in
     let low = c.requires in
     let len = self.len in

@@ -1,0 +1,42 @@
+use Rattle.std.proofs.Common.{◌≡◌, ◌<◌, ◌+◌, ◌-◌, ◌∙◌, ℕ, List, length, slice_index, sym, ap, subst, arith}
+use Rattle.cip_rank.specs.Tree.{spheres_of}
+use Rattle.cip_digraph.specs.digraph.NodeList.{parents_of}
+use Rattle.cip_aux.specs.Sights.{IsReal, sight_of}
+use Rattle.cip_aux.proofs.Told.{whole_shows}
+use Rattle.cip_inside.proofs.KnownSteps.{apart_from, off_way_is, on_way_is}
+use Rattle.cip_inside.proofs.stepping.next_steps.Goals as goal
+
+pub returns-then-is_off-clause-steps : goal.returns-then-is_off-clause-steps
+returns-then-is_off-clause-steps g c = λ here.
+    let whole = c.args.whole.now in
+    let from = c.args.from.now in
+    let known = c.args.known.now in
+    let sight = sight_of whole in
+    let shows = whole_shows whole c.nodes-nodes.ensures.whole in
+    let parents = parents_of whole.told in
+    let node = length known in
+    let tables = c.table-table.ensures ∙ ap parents_of c.nodes-nodes.ensures.told in
+    let low : node < length parents = let lt = here.within in let len = shows.told.len in omega (arith, lt, len) in
+    let up = off_way_is sight shows from.node c.requires.real from.way.now c.requires.way node here
+    (c.is_off.ensures.some c.if-is_off.true) low (c.is_off.ensures.off c.if-is_off.true) in
+    let parent : c.parent_of.result ≡ slice_index parents node =
+    c.parent_of.ensures.parent ∙ ap (λ (ps : List ℕ). slice_index ps node) tables in
+    let earlier = c.parent_of.ensures.earlier in
+    let is = c.requires.known.each c.parent_of.result earlier (subst (IsReal sight.nodes) (sym parent) up.0) in
+    let same = ap (λ n. apart_from sight from.node n) parent in
+    ap (λ n. n + 1) (is ∙ same) ∙ up.1
+
+pub returns-else-is_off-clause-steps : goal.returns-else-is_off-clause-steps
+returns-else-is_off-clause-steps g c = λ here.
+    let whole = c.args.whole.now in
+    let from = c.args.from.now in
+    let node = length c.args.known.now in
+    let sight = sight_of whole in
+    let shows = whole_shows whole c.nodes-nodes.ensures.whole in
+    let tables = c.table-table.ensures ∙ ap parents_of c.nodes-nodes.ensures.told in
+    let one = c.sphere.ensures.sphere ∙ ap (λ (ps : List ℕ). slice_index (spheres_of ps) from.node) tables in
+    let other = c.sphere-else-is_off.ensures.sphere
+    ∙ ap (λ (ps : List ℕ). slice_index (spheres_of ps) node) tables in
+    c.saturating_sub.ensures ∙ (λ i. one i - other i)
+    ∙ on_way_is sight shows from.node c.requires.real from.way.now c.requires.way node here
+    (c.is_off.ensures.on c.if-is_off.false)

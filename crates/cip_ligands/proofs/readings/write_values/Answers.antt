@@ -1,0 +1,24 @@
+use Rattle.std.proofs.Common.{◌∷◌, ◌∙◌, [], ℕ, length, map, pos, ap, arith}
+use Rattle.std.proofs.lemmas.List.{length-append}
+use Rattle.cip_rows.specs.Reserved.{Reserved}
+use Rattle.cip_ligands.specs.Readings.{reading_key}
+use Rattle.cip_ligands.proofs.ReadingKeys.{values_more}
+use Rattle.cip_ligands.proofs.readings.write_values.Goals as goal
+
+pub loop-place-preserved : goal.loop-place-preserved
+loop-place-preserved g c =
+    let from = c.args.branches.now in
+    let key = reading_key (g.M.Marked.marks c.args.marks.now) from.layers.kin.nodes (length from.layers.kin.ups) in
+    let before = c.loop-place.invariant in
+    let items = c.loop-place.values.items in
+    let value = c.reading_value.result in
+    let pushed = ap (λ (r : Reserved ℕ). r.items) c.push.ensures in
+    let len = before.len in
+    let sum = length-append items (value ∷ []) in
+    let now = ap length pushed in
+    record {
+      len = omega (arith, len, sum, now);
+      values = ap (map pos) pushed
+          ∙ values_more key items c.loop-place.place value before.values c.reading_value.ensures;
+      room = ap (λ (r : Reserved ℕ). r.room) c.push.ensures ∙ before.room;
+    }
