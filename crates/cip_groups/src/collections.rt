@@ -1,8 +1,10 @@
 // Collections, line after line.
-ghost use Rattle.std.specs.Prelude.{◌≡◌, ◌≤◌, ◌<◌, ◌-◌, ◌^◌, IfOk, Ok, Some, length, map};
+ghost use Rattle.std.specs.Prelude.{◌≡◌, ◌≤◌, ◌<◌, ◌-◌, ◌^◌, IfOk, Ok, Some, length, map, if◌then◌else◌};
 ghost use Rattle.cip_text.specs.Bodies.{body_contents};
 ghost use Rattle.cip_text.specs.Slices.{texts};
-ghost use Rattle.cip_v3000.specs.Grammar.{molecule_of};
+ghost use Rattle.cip_v3000.specs.declared.frames.FrameLine.TheVariants.{EndTable};
+ghost use Rattle.cip_v3000.specs.Frames.{is_frame};
+ghost use Rattle.cip_v3000.specs.Grammar.{molecule_of, words_in};
 ghost use Rattle.cip_v3000.specs.Joining.{seen};
 ghost use Rattle.cip_v3000.specs.Tables.{seen_table};
 ghost use Rattle.cip_groups.specs.Collections.{nothing, with_atoms, with_kind, with_words, with_joined, ended, groups_from, groups_of, answer_by, IsAnswer};
@@ -92,14 +94,47 @@ fn groups_from(
 {
     let mut found = nothing(alloc);
     for line in lines {
-        let text = text_of(alloc, line)?;
-        let words = words(alloc, text.bytes())?;
-        if is_frame(FrameLine::EndTable, &words) {
+        if read_line(alloc, indices, line, &mut found)? {
             return Ok(ended(line.number, found)?);
         }
-        found = with_joined(alloc, indices, line.number, found, &words)?;
     }
     Ok(found.groups)
+}
+
+// Reads a line behind those before it, and says whether the table ends there.
+fn read_line(
+    alloc: Global,
+    indices: &Indices,
+    line: &JoinedLine<'_>,
+    found: &mut Found,
+) -> Result<bool, GroupRefusal>
+    requires few { length indices.now ≤ 1000000000 }
+    ensures end { IfOk result (λ end. end ≡ is_frame EndTable (words_in (seen line.now))) }
+    ensures found { Gives (λ _. found.new) result (if is_frame EndTable (words_in (seen line.now)) then Ok found.old
+        else with_joined indices.now line.now.number found.old (words_in (seen line.now))) }
+{
+    let text = text_of(alloc, line)?;
+    let words = words(alloc, text.bytes())?;
+    read_line_words(alloc, indices, line.number, found, &words)
+}
+
+fn read_line_words(
+    alloc: Global,
+    indices: &Indices,
+    number: u32,
+    found: &mut Found,
+    words: &[&[u8]],
+) -> Result<bool, GroupRefusal>
+    requires few { length indices.now ≤ 1000000000 }
+    ensures end { IfOk result (λ end. end ≡ is_frame EndTable (texts words.now)) }
+    ensures found { Gives (λ _. found.new) result (if is_frame EndTable (texts words.now) then Ok found.old
+        else with_joined indices.now number found.old (texts words.now)) }
+{
+    if is_frame(FrameLine::EndTable, words) {
+        return Ok(true);
+    }
+    read_joined(alloc, indices, number, found, words)?;
+    Ok(false)
 }
 
 fn nothing(alloc: Global) -> Found
@@ -122,21 +157,6 @@ fn ended(number: u32, found: Found) -> Result<Groups, GroupFault>
         });
     }
     Ok(found.groups)
-}
-
-// A line behind those before it.
-fn with_joined(
-    alloc: Global,
-    indices: &Indices,
-    number: u32,
-    mut found: Found,
-    words: &[&[u8]],
-) -> Result<Found, GroupRefusal>
-    requires few { length indices.now ≤ 1000000000 }
-    ensures { Gives (λ now. now) result (with_joined indices.now number found (texts words.now)) }
-{
-    read_joined(alloc, indices, number, &mut found, words)?;
-    Ok(found)
 }
 
 // Reads a line behind those before it; lines outside collections are passed over.

@@ -44,8 +44,15 @@ pub fn all_lines(
     ensures kept { labeller.new ≡ labeller.old }
 {
     let centres = Centres::of(alloc, setting)?;
-    let turned = units.copy(alloc)?;
-    count_lines::<Brand>(alloc, labeller, &centres, turned, groups, Blank::new(1))
+    let mut turned = units.copy(alloc)?;
+    count_lines::<Brand>(
+        alloc,
+        labeller,
+        &centres,
+        &mut turned,
+        groups,
+        Blank::new(1),
+    )
 }
 
 // The same with a counter of steps, and units that are turned for each group, and back.
@@ -53,22 +60,21 @@ fn count_lines<L: Ledger>(
     alloc: Global,
     labeller: &mut Labeller<Desk>,
     centres: &Centres<'_>,
-    units: Units,
+    units: &mut Units,
     groups: &[Group],
     blank: Blank,
 ) -> Result<Vec<GroupLine>, AllocError>
     requires name { blank.name ≡ L.name }
     requires parts { blank.parts ≡ L.parts }
     requires one { 0 < blank.parts }
-    requires same { units ≡ centres.now.units }
+    requires same { units.old ≡ centres.now.units }
     ensures lines { IfOk result (λ lines. lines.items ≡ all_lines labeller.old centres.now groups.now) }
     ensures kept { labeller.new ≡ labeller.old }
 {
     let mut steps = Steps::<L>::open(blank);
-    let mut units = units;
     let mut lines = Vec::new(alloc);
     for group in groups {
-        let mut more = group_lines(alloc, labeller, centres, &mut units, group, &mut steps)?;
+        let mut more = group_lines(alloc, labeller, centres, units, group, &mut steps)?;
         lines.append(&mut more)?;
     }
     Ok(lines)

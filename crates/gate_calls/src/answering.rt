@@ -1,4 +1,8 @@
 // What each call answers.
+use crate::calls::{
+    Call, ChangeCall, DrawCall, ElementCall, PrintCall, ReadCall, TellCall, TextCall, WordCall,
+    call_named,
+};
 use crate::carbons::{fault, lattice, renumbered};
 use crate::changing::{letter_set, marked, mirrored, not_mirrored};
 use crate::command_lines::readers_agree;
@@ -11,111 +15,168 @@ use crate::printing::{explained, lines_of, tally};
 use crate::records::changed_record;
 use crate::row::Row;
 use crate::senses::sense;
+use crate::sink::Text;
 use crate::texts::{
     contents, decimal, field, halves, items, kind, labelled, listed, place, prepared, whole,
 };
 use crate::words::{asked, asked_by_no_words, help_lines};
-use std::alloc::{AllocError, Global};
+use std::alloc::Global;
 use std::rt::Files;
 use std::{fs, io};
 
-/// What the call of a row answers.
-pub fn answer<R: Files + AllocGlobal>(rt: &R, row: &Row) -> io::Result<String> {
-    match row.call() {
-        "v2000" | "v3000" | "first atom" | "second atom" => of_changed(rt, row, 3),
-        "labels" | "undefined" => of_changed(rt, row, 4),
-        "mirror" | "not mirrored" | "marked" | "set" => of_words(rt, row),
-        "groups" | "axes" | "group" => of_bytes(rt, row),
-        _ => Ok(without_record(rt.alloc(), row)?),
+/// Writes what the call of a row answers.
+pub fn answer<R: Files + AllocGlobal>(rt: &R, out: &mut Text, row: &Row) -> io::Result<()> {
+    match call_named(row.call()) {
+        Some(Call::Read(call)) => of_changed(rt, out, call, row),
+        Some(Call::Change(call)) => of_text_file(rt, out, call, row),
+        Some(Call::Tell(call)) => of_file(rt, out, call, row),
+        Some(call) => {
+            without_record(rt.alloc(), out, call, row);
+            Ok(())
+        }
+        None => {
+            out.push_str("there is no such call");
+            Ok(())
+        }
     }
 }
 
-// Of the row's record, whose lines are changed as the fields from this one on say.
-fn of_changed<R: Files + AllocGlobal>(rt: &R, row: &Row, place: usize) -> io::Result<String> {
-    let record = changed_record(rt, row, place)?;
-    Ok(read(rt.alloc(), row, &record)?)
-}
-
-fn of_words<R: Files + AllocGlobal>(rt: &R, row: &Row) -> io::Result<String> {
-    let record = fs::read_to_string(rt, row.field(2))?;
-    Ok(change(rt.alloc(), row, record.as_str())?)
-}
-
-fn of_bytes<R: Files + AllocGlobal>(rt: &R, row: &Row) -> io::Result<String> {
+fn of_changed<R: Files + AllocGlobal>(
+    rt: &R,
+    out: &mut Text,
+    call: ReadCall,
+    row: &Row,
+) -> io::Result<()> {
     let record = fs::read(rt, row.field(2))?;
-    Ok(told(rt.alloc(), row, &record)?)
+    read_changed(rt.alloc(), out, call, row, &record);
+    Ok(())
 }
 
-fn read(alloc: Global, row: &Row, record: &[u8]) -> Result<String, AllocError> {
-    match row.call() {
-        "v2000" => refusal_of_v2000(alloc, record),
-        "v3000" => refusal_of_v3000(alloc, record),
-        "first atom" => first_atom(alloc, record),
-        "second atom" => second_atom(alloc, record),
-        "labels" => labels(alloc, record, row.number(3)),
-        _ => undefined_told(alloc, record, row.number(3)),
+fn of_text_file<R: Files + AllocGlobal>(
+    rt: &R,
+    out: &mut Text,
+    call: ChangeCall,
+    row: &Row,
+) -> io::Result<()> {
+    let record = fs::read_to_string(rt, row.field(2))?;
+    change(rt.alloc(), out, call, row, record.as_str());
+    Ok(())
+}
+
+fn of_file<R: Files + AllocGlobal>(
+    rt: &R,
+    out: &mut Text,
+    call: TellCall,
+    row: &Row,
+) -> io::Result<()> {
+    let record = fs::read(rt, row.field(2))?;
+    tell(rt.alloc(), out, call, &record);
+    Ok(())
+}
+
+// From which field on a row says how lines are changed.
+fn first_change(call: ReadCall) -> usize {
+    match call {
+        ReadCall::Labels | ReadCall::Undefined => 4,
+        _ => 3,
     }
 }
 
-fn change(alloc: Global, row: &Row, record: &str) -> Result<String, AllocError> {
-    match row.call() {
-        "mirror" => mirrored(alloc, row, record),
-        "not mirrored" => not_mirrored(alloc, row, record),
-        "marked" => marked(alloc, row, record),
-        _ => letter_set(alloc, row, record),
+fn read_changed(alloc: Global, out: &mut Text, call: ReadCall, row: &Row, record: &[u8]) {
+    let Ok(changed) = changed_record(alloc, row, record, first_change(call)) else {
+        return out.miss();
+    };
+    read(alloc, out, call, row, &changed)
+}
+
+fn read(alloc: Global, out: &mut Text, call: ReadCall, row: &Row, record: &[u8]) {
+    match call {
+        ReadCall::V2000 => refusal_of_v2000(alloc, out, record),
+        ReadCall::V3000 => refusal_of_v3000(alloc, out, record),
+        ReadCall::FirstAtom => first_atom(alloc, out, record),
+        ReadCall::SecondAtom => second_atom(alloc, out, record),
+        ReadCall::Labels => labels(alloc, out, record, row.number(3)),
+        ReadCall::Undefined => undefined_told(alloc, out, record, row.number(3)),
     }
 }
 
-fn told(alloc: Global, row: &Row, record: &[u8]) -> Result<String, AllocError> {
-    match row.call() {
-        "groups" => groups_told(alloc, record),
-        "axes" => axes_told(alloc, record),
-        _ => group_told(alloc, record),
+fn change(alloc: Global, out: &mut Text, call: ChangeCall, row: &Row, record: &str) {
+    match call {
+        ChangeCall::Mirror => mirrored(alloc, out, row, record),
+        ChangeCall::NotMirrored => not_mirrored(alloc, out, row, record),
+        ChangeCall::Marked => marked(alloc, out, row, record),
+        ChangeCall::Set => letter_set(alloc, out, row, record),
     }
 }
 
-fn without_record(alloc: Global, row: &Row) -> Result<String, AllocError> {
-    match row.call() {
-        "words" => asked(alloc, row.field(2)),
-        "no words" => asked_by_no_words(alloc),
-        "both readers" => readers_agree(alloc, row.field(2)),
-        "help" => help_lines(alloc),
-        "values" => lines_of(alloc, row.field(2), row.number(3), row.number(4)),
-        "explained" => explained(alloc, row.field(2), row.field(3).parse().unwrap_or(0)),
-        "tally" => tally(alloc),
-        _ => of_text(alloc, row),
+fn tell(alloc: Global, out: &mut Text, call: TellCall, record: &[u8]) {
+    match call {
+        TellCall::Groups => groups_told(alloc, out, record),
+        TellCall::Axes => axes_told(alloc, out, record),
+        TellCall::Group => group_told(alloc, out, record),
     }
 }
 
-fn of_text(alloc: Global, row: &Row) -> Result<String, AllocError> {
-    match row.call() {
-        "field" => field(alloc, row),
-        "whole" => whole(alloc, row),
-        "decimal" => decimal(alloc, row),
-        "lines" => contents(alloc, row),
-        "line" => place(alloc, row),
-        "halves" => halves(alloc, row),
-        "kind" => kind(alloc, row),
-        "list" => listed(alloc),
-        "with item" => labelled(alloc, row),
-        "without labels" => prepared(alloc, row),
-        "items" => items(alloc, row),
-        _ => of_drawing(alloc, row),
+fn without_record(alloc: Global, out: &mut Text, call: Call, row: &Row) {
+    match call {
+        Call::Word(call) => of_words(alloc, out, call, row),
+        Call::Print(call) => of_built(alloc, out, call, row),
+        Call::Text(call) => of_text(alloc, out, call, row),
+        Call::Draw(call) => of_drawing(alloc, out, call, row),
+        Call::Element(call) => of_element(out, call, row),
+        Call::Read(_) | Call::Change(_) | Call::Tell(_) => {}
     }
 }
 
-fn of_drawing(alloc: Global, row: &Row) -> Result<String, AllocError> {
-    match row.call() {
-        "sense" => sense(alloc, row),
-        "bonds" => fault(alloc, row),
-        "lattice" => lattice(alloc),
-        "renumbered" => renumbered(alloc),
-        "around" => around(alloc, row),
-        "volume" => sign_of_volume(alloc, row),
-        "same side" => sign_of_side(alloc, row),
-        "element" => element(alloc, row),
-        "valences" => valences_told(alloc, row),
-        "masses" => masses(alloc),
-        _ => format!(in alloc; "there is no such call"),
+fn of_words(alloc: Global, out: &mut Text, call: WordCall, row: &Row) {
+    match call {
+        WordCall::Words => asked(alloc, out, row.field(2)),
+        WordCall::NoWords => asked_by_no_words(out),
+        WordCall::BothReaders => readers_agree(alloc, out, row.field(2)),
+        WordCall::Help => help_lines(out),
+    }
+}
+
+fn of_built(alloc: Global, out: &mut Text, call: PrintCall, row: &Row) {
+    match call {
+        PrintCall::Values => lines_of(alloc, out, row),
+        PrintCall::Explained => explained(alloc, out, row),
+        PrintCall::Tally => tally(alloc, out),
+    }
+}
+
+fn of_text(alloc: Global, out: &mut Text, call: TextCall, row: &Row) {
+    match call {
+        TextCall::Field => field(out, row),
+        TextCall::Whole => whole(out, row),
+        TextCall::Decimal => decimal(out, row),
+        TextCall::Lines => contents(alloc, out, row),
+        TextCall::Line => place(alloc, out, row),
+        TextCall::Halves => halves(out, row),
+        TextCall::Kind => kind(out, row),
+        TextCall::List => listed(alloc, out),
+        TextCall::WithItem => labelled(alloc, out, row),
+        TextCall::WithoutLabels => prepared(alloc, out, row),
+        TextCall::Items => items(alloc, out, row),
+    }
+}
+
+fn of_drawing(alloc: Global, out: &mut Text, call: DrawCall, row: &Row) {
+    match call {
+        DrawCall::Sense => sense(alloc, out, row),
+        DrawCall::Bonds => fault(alloc, out, row),
+        DrawCall::Lattice => lattice(alloc, out),
+        DrawCall::Renumbered => renumbered(alloc, out),
+        DrawCall::Around => around(alloc, out, row),
+        DrawCall::Volume => sign_of_volume(alloc, out, row),
+        DrawCall::SameSide => sign_of_side(alloc, out, row),
+    }
+}
+
+fn of_element(out: &mut Text, call: ElementCall, row: &Row) {
+    match call {
+        ElementCall::Element => element(out, row),
+        ElementCall::Valences => valences_told(out, row),
+        ElementCall::Masses => masses(out),
     }
 }

@@ -9,16 +9,12 @@ use std::alloc::{AllocError, Global};
 
 /// The answer of a name.
 pub fn built(alloc: Global, name: &str) -> Result<Answer, AllocError> {
-    match name {
-        "acid" => acid(alloc),
-        "sulfoxide" => sulfoxide(alloc),
-        "reentrant" => reentrant(alloc),
-        "ends" => ends(alloc),
-        "further" => further(alloc),
-        "unlabelled" => Ok(Answer::Labelled(units_without_a_line(alloc)?)),
-        "empty" => Ok(Answer::Labelled(UnitAnswers::new(alloc))),
-        _ => Ok(refused()),
+    if name == "refused" {
+        return Ok(refused());
     }
+    let mut units = UnitAnswers::new(alloc);
+    add_units(alloc, &mut units, name)?;
+    Ok(Answer::Labelled(units))
 }
 
 fn refused() -> Answer {
@@ -28,9 +24,23 @@ fn refused() -> Answer {
     })
 }
 
-fn reentrant(alloc: Global) -> Result<Answer, AllocError> {
-    let outcome = Outcome::NoGeometry(Cause::Reentrant);
-    one_unit(alloc, centre(alloc, 0), outcome)
+// Adds the units of a name, none for that of an answer without units.
+fn add_units(alloc: Global, units: &mut UnitAnswers, name: &str) -> Result<(), AllocError>
+    requires few { length units.old < 90 }
+{
+    match name {
+        "acid" => acid(alloc, units),
+        "sulfoxide" => sulfoxide(alloc, units),
+        "reentrant" => add(
+            units,
+            centre(alloc, 0),
+            Outcome::NoGeometry(Cause::Reentrant),
+        ),
+        "ends" => ends(alloc, units),
+        "further" => further(alloc, units),
+        "unlabelled" => without_a_line(alloc, units),
+        _ => Ok(()),
+    }
 }
 
 fn centre(alloc: Global, at: u32) -> Site {
@@ -75,15 +85,11 @@ fn add_named(
     })
 }
 
-fn units_without_a_line(alloc: Global) -> Result<UnitAnswers, AllocError> {
-    let mut units = UnitAnswers::new(alloc);
-    add(&mut units, centre(alloc, 0), Outcome::Tie)?;
-    add(
-        &mut units,
-        bond(alloc, 1, 2),
-        Outcome::NoGeometry(Cause::Either),
-    )?;
-    Ok(units)
+fn without_a_line(alloc: Global, units: &mut UnitAnswers) -> Result<(), AllocError>
+    requires few { length units.old < 90 }
+{
+    add(units, centre(alloc, 0), Outcome::Tie)?;
+    add(units, bond(alloc, 1, 2), Outcome::NoGeometry(Cause::Either))
 }
 
 const HYDROGEN: Ligand = Ligand::Vertex(12);
@@ -102,6 +108,11 @@ fn four(alloc: Global, ligands: (u32, u32, u32, Ligand)) -> Ligands {
     list.push(Ligand::Vertex(ligands.2));
     list.push(ligands.3);
     list
+}
+
+fn centre_of(alloc: Global, at: u32, ligands: (u32, u32, u32, Ligand)) -> Site {
+    let ligands = four(alloc, ligands);
+    Site::Centre { at, ligands }
 }
 
 fn ordered(
@@ -124,119 +135,111 @@ fn ordered(
     })
 }
 
-fn one_unit(alloc: Global, site: Site, outcome: Outcome) -> Result<Answer, AllocError> {
-    let mut units = UnitAnswers::new(alloc);
-    add(&mut units, site, outcome)?;
-    Ok(Answer::Labelled(units))
-}
-
 // Meso trihydroxyglutaric acid, whose middle atom rests on its neighbours.
-fn acid(alloc: Global) -> Result<Answer, AllocError> {
-    let mut units = UnitAnswers::new(alloc);
-    let second = Site::Centre {
-        at: 1,
-        ligands: four(alloc, (0, 2, 5, HYDROGEN)),
-    };
-    let third = Site::Centre {
-        at: 2,
-        ligands: four(alloc, (1, 3, 6, HYDROGEN)),
-    };
-    let fourth = Site::Centre {
-        at: 3,
-        ligands: four(alloc, (2, 4, 7, HYDROGEN)),
-    };
+fn acid(alloc: Global, units: &mut UnitAnswers) -> Result<(), AllocError>
+    requires few { length units.old < 90 }
+{
     let order = (2, 0, 1, 3);
     add(
-        &mut units,
-        second,
+        units,
+        centre_of(alloc, 1, (0, 2, 5, HYDROGEN)),
         ordered(alloc, Descriptor::R, Rule::R1a, 2, order),
     )?;
     add(
-        &mut units,
-        third,
+        units,
+        centre_of(alloc, 2, (1, 3, 6, HYDROGEN)),
         ordered(alloc, Descriptor::SmallS, Rule::R5, 1, order),
     )?;
     add(
-        &mut units,
-        fourth,
+        units,
+        centre_of(alloc, 3, (2, 4, 7, HYDROGEN)),
         ordered(alloc, Descriptor::S, Rule::R1a, 2, (2, 1, 0, 3)),
-    )?;
-    Ok(Answer::Labelled(units))
+    )
 }
 
 // Ethyl methyl sulfoxide, with a lone pair.
-fn sulfoxide(alloc: Global) -> Result<Answer, AllocError> {
-    let sulfur = Site::Centre {
-        at: 0,
-        ligands: four(alloc, (1, 2, 3, Ligand::LonePair)),
-    };
-    one_unit(
-        alloc,
-        sulfur,
+fn sulfoxide(alloc: Global, units: &mut UnitAnswers) -> Result<(), AllocError>
+    requires few { length units.old < 90 }
+{
+    add(
+        units,
+        centre_of(alloc, 0, (1, 2, 3, Ligand::LonePair)),
         ordered(alloc, Descriptor::S, Rule::R1a, 2, (0, 2, 1, 3)),
     )
 }
 
 // Hexa-2,3,4-triene, drawn as a double bond is, and a biaryl axis.
-fn further(alloc: Global) -> Result<Answer, AllocError> {
-    let mut units = UnitAnswers::new(alloc);
-    let chain = Site::Bond {
+fn further(alloc: Global, units: &mut UnitAnswers) -> Result<(), AllocError>
+    requires few { length units.old < 90 }
+{
+    let order = (0, 1, 0, 1);
+    add_named(
+        units,
+        UnitName::Cumulene(1, 4),
+        chain(alloc),
+        ordered(alloc, Descriptor::Z, Rule::R1a, 1, order),
+    )?;
+    add_named(
+        units,
+        UnitName::Biaryl(6, 0),
+        biaryl(alloc),
+        ordered(alloc, Descriptor::P, Rule::R1a, 2, order),
+    )
+}
+
+fn chain(alloc: Global) -> Site {
+    Site::Bond {
         a: 1,
         b: 4,
         first: two(alloc, (Ligand::Vertex(0), HYDROGEN)),
         second: two(alloc, (Ligand::Vertex(5), HYDROGEN)),
-    };
-    let axis = Site::Axis {
+    }
+}
+
+fn biaryl(alloc: Global) -> Site {
+    Site::Axis {
         a: 0,
         middle: 0,
         b: 6,
         first: two(alloc, (Ligand::Vertex(1), Ligand::Vertex(5))),
         second: two(alloc, (Ligand::Vertex(7), Ligand::Vertex(11))),
-    };
-    let order = (0, 1, 0, 1);
-    add_named(
-        &mut units,
-        UnitName::Cumulene(1, 4),
-        chain,
-        ordered(alloc, Descriptor::Z, Rule::R1a, 1, order),
-    )?;
-    add_named(
-        &mut units,
-        UnitName::Biaryl(6, 0),
-        axis,
-        ordered(alloc, Descriptor::P, Rule::R1a, 2, order),
-    )?;
-    Ok(Answer::Labelled(units))
+    }
 }
 
 // But-2-ene, and 1,3-dichloropropadiene.
-fn ends(alloc: Global) -> Result<Answer, AllocError> {
-    let mut units = UnitAnswers::new(alloc);
-    let double = Site::Bond {
+fn ends(alloc: Global, units: &mut UnitAnswers) -> Result<(), AllocError>
+    requires few { length units.old < 90 }
+{
+    let order = (0, 1, 0, 1);
+    add(
+        units,
+        butene(alloc),
+        ordered(alloc, Descriptor::Z, Rule::R1a, 1, order),
+    )?;
+    add(
+        units,
+        allene(alloc),
+        ordered(alloc, Descriptor::M, Rule::R1a, 1, order),
+    )?;
+    add(units, centre(alloc, 3), Outcome::Tie)?;
+    add(units, centre(alloc, 4), Outcome::Over)
+}
+
+fn butene(alloc: Global) -> Site {
+    Site::Bond {
         a: 1,
         b: 2,
         first: two(alloc, (Ligand::Vertex(0), HYDROGEN)),
         second: two(alloc, (Ligand::Vertex(3), HYDROGEN)),
-    };
-    let allene = Site::Axis {
+    }
+}
+
+fn allene(alloc: Global) -> Site {
+    Site::Axis {
         a: 0,
         middle: 1,
         b: 2,
         first: two(alloc, (Ligand::Vertex(3), HYDROGEN)),
         second: two(alloc, (Ligand::Vertex(4), HYDROGEN)),
-    };
-    let order = (0, 1, 0, 1);
-    add(
-        &mut units,
-        double,
-        ordered(alloc, Descriptor::Z, Rule::R1a, 1, order),
-    )?;
-    add(
-        &mut units,
-        allene,
-        ordered(alloc, Descriptor::M, Rule::R1a, 1, order),
-    )?;
-    add(&mut units, centre(alloc, 3), Outcome::Tie)?;
-    add(&mut units, centre(alloc, 4), Outcome::Over)?;
-    Ok(Answer::Labelled(units))
+    }
 }

@@ -1,27 +1,38 @@
 // Molecules of carbon atoms and single bonds, which are checked.
-ghost use Rattle.std.specs.Prelude.{◌≡◌, ◌≤◌, All, IfOk, IfSome, length};
+ghost use Rattle.std.specs.Prelude.{◌≡◌, ◌<◌, ◌≤◌, All, IfOk, IfSome, length};
 ghost use Rattle.cip_mol.specs.Ranges.{IsAtom, IsBond};
 
 use crate::lists::lines;
 use crate::row::Row;
+use crate::sink::Text;
 use cip_mol::{Atom, Bond, Mark, MolFault, Molecule};
 use cip_num::Vec3;
 use std::alloc::{AllocError, Global};
 
 /// Why the molecule of a row is none; nothing where it is one.
-pub fn fault(alloc: Global, row: &Row) -> Result<String, AllocError> {
-    let atoms = row.number(2) as usize;
+pub fn fault(alloc: Global, out: &mut Text, row: &Row) {
     let mut ends = Vec::new(alloc);
-    for other in 1..=row.number(3) {
+    if push_ends(alloc, &mut ends, row).is_err() {
+        return out.miss();
+    }
+    push_fault(alloc, out, row.number(2) as usize, &ends)
+}
+
+// Adds the ends of the bonds of a row: so many of the first atom, and those that are listed.
+fn push_ends(alloc: Global, ends: &mut Vec<(u32, u32)>, row: &Row) -> Result<(), AllocError> {
+    push_ends_at_first(ends, row.number(3))?;
+    let listed = lines(alloc, row.field(4))?;
+    for (a, b, _) in &listed {
+        ends.push((*a, *b))?;
+    }
+    Ok(())
+}
+
+fn push_ends_at_first(ends: &mut Vec<(u32, u32)>, others: u32) -> Result<(), AllocError> {
+    for other in 1..=others {
         ends.push((0, other))?;
     }
-    for (a, b, _) in lines(alloc, row.field(4))? {
-        ends.push((a, b))?;
-    }
-    if atoms > 16_384 || ends.len() > 32_768 {
-        return format!(in alloc; "out of range");
-    }
-    told(alloc, atoms, &ends)
+    Ok(())
 }
 
 fn carbon() -> Atom
@@ -79,38 +90,57 @@ fn molecule(
 }
 
 // What is said of such a molecule: nothing where it is sound.
-fn told(alloc: Global, atoms: usize, ends: &[(u32, u32)]) -> Result<String, AllocError>
-    requires atoms { atoms ≤ 16384 }
-    requires bonds { length ends.now ≤ 32768 }
-{
-    match molecule(alloc, atoms, ends)? {
-        Ok(_) => Ok(String::new(alloc)),
-        Err(fault) => format!(in alloc; "{fault}"),
+fn push_fault(alloc: Global, out: &mut Text, atoms: usize, ends: &[(u32, u32)]) {
+    if atoms > 16_384 || ends.len() > 32_768 {
+        return out.push_str("out of range");
+    }
+    match molecule(alloc, atoms, ends) {
+        Ok(Ok(_)) => {}
+        Ok(Err(fault)) => write!(out, "{fault}"),
+        Err(_) => out.miss(),
     }
 }
 
 /// Of a molecule with as many atoms and bonds as are allowed, each atom joined to the next one and to one farther on: how
 /// many bonds it has, whether it lies in the plane, and of one atom its neighbours and how many bonds. Behind them, what
 /// is said of a want of memory.
-pub fn lattice(alloc: Global) -> Result<String, AllocError> {
-    let ends = lattice_ends(alloc)?;
-    if ends.len() > 32_768 {
-        return format!(in alloc; "out of range");
-    }
-    let Ok(molecule) = molecule(alloc, 16_384, &ends)? else {
-        return format!(in alloc; "no molecule");
+pub fn lattice(alloc: Global, out: &mut Text) {
+    let Ok(ends) = lattice_ends(alloc) else {
+        return out.miss();
     };
-    if molecule.atoms().len() <= 200 {
-        return format!(in alloc; "few atoms");
+    if ends.len() > 32_768 {
+        return out.push_str("out of range");
     }
-    format!(in alloc;
-        "{} {} {:?} {} {}",
-        molecule.bonds().len(),
-        !molecule.is_spatial(),
-        molecule.neighbours(200),
-        molecule.bonds_at(200).len(),
-        MolFault::Memory
-    )
+    let Ok(lattice) = molecule(alloc, 16_384, &ends) else {
+        return out.miss();
+    };
+    push_lattice(out, &lattice)
+}
+
+fn push_lattice(out: &mut Text, lattice: &Result<Molecule, MolFault>) {
+    let Ok(lattice) = lattice else {
+        return out.push_str("no molecule");
+    };
+    if lattice.atoms().len() <= 200 {
+        return out.push_str("few atoms");
+    }
+    push_counts(out, lattice);
+    push_at_200(out, lattice);
+    write!(out, " {}", MolFault::Memory)
+}
+
+fn push_counts(out: &mut Text, lattice: &Molecule) {
+    let bonds = lattice.bonds().len();
+    let plane = !lattice.is_spatial();
+    write!(out, "{bonds} {plane}")
+}
+
+fn push_at_200(out: &mut Text, lattice: &Molecule)
+    requires { 200 < length lattice.now.atoms }
+{
+    let neighbours = lattice.neighbours(200);
+    let bonds = lattice.bonds_at(200).len();
+    write!(out, " {neighbours:?} {bonds}")
 }
 
 fn lattice_ends(alloc: Global) -> Result<Vec<(u32, u32)>, AllocError> {
@@ -124,16 +154,50 @@ fn lattice_ends(alloc: Global) -> Result<Vec<(u32, u32)>, AllocError> {
 
 /// The neighbours of an atom in a row of three that is renumbered once, and of one where it is renumbered twice and
 /// mirrored twice.
-pub fn renumbered(alloc: Global) -> Result<String, AllocError> {
-    let Some(row) = row_of_three(alloc)? else {
-        return format!(in alloc; "no molecule");
-    };
-    let once = one_on(alloc, &row)?;
-    let again = one_on(alloc, &once)?.mirror(alloc)?.mirror(alloc)?;
-    if once.atoms().len() <= 2 || again.atoms().len() <= 2 {
-        return format!(in alloc; "few atoms");
+pub fn renumbered(alloc: Global, out: &mut Text) {
+    match row_of_three(alloc) {
+        Ok(Some(row)) => push_renumbered(alloc, out, &row),
+        Ok(None) => out.push_str("no molecule"),
+        Err(_) => out.miss(),
     }
-    format!(in alloc; "{:?} {:?}", once.neighbours(0), again.neighbours(1))
+}
+
+fn push_renumbered(alloc: Global, out: &mut Text, row: &Molecule)
+    requires atoms { length row.now.atoms ≡ 3 }
+    requires bonds { length row.now.bonds ≡ 2 }
+{
+    let Ok(once) = one_on(alloc, row) else {
+        return out.miss();
+    };
+    push_neighbours(out, &once, 0);
+    out.push_str(" ");
+    push_again(alloc, out, &once)
+}
+
+fn push_again(alloc: Global, out: &mut Text, once: &Molecule)
+    requires atoms { length once.now.atoms ≡ 3 }
+    requires bonds { length once.now.bonds ≡ 2 }
+{
+    let Ok(again) = one_on(alloc, once) else {
+        return out.miss();
+    };
+    let Ok(again) = mirrored_twice(alloc, &again) else {
+        return out.miss();
+    };
+    push_neighbours(out, &again, 1)
+}
+
+fn mirrored_twice(alloc: Global, molecule: &Molecule) -> Result<Molecule, AllocError> {
+    let mirrored = molecule.mirror(alloc)?;
+    mirrored.mirror(alloc)
+}
+
+fn push_neighbours(out: &mut Text, molecule: &Molecule, atom: u32) {
+    if molecule.atoms().len() <= atom as usize {
+        return out.push_str("few atoms");
+    }
+    let neighbours = molecule.neighbours(atom);
+    write!(out, "{neighbours:?}")
 }
 
 // Three atoms in a row, the middle one last.

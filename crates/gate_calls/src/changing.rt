@@ -1,7 +1,8 @@
 // Records that are changed: a centre that is to have a letter, and the mirrored record.
 use crate::row::Row;
+use crate::sink::Text;
 use cip_mirror::{MirrorAnswer, MirrorRefusal, mirror_record};
-use cip_mol::CentreLetter;
+use cip_mol::{CentreLetter, ReadFault};
 use cip_rank::Rules;
 use cip_set::{SetAnswer, SetRefusal, set_letter};
 use std::alloc::{AllocError, Global};
@@ -16,20 +17,42 @@ const UP: &str = "  1  4  1  1";
 const DOWN: &str = "  1  4  1  6";
 
 /// What a row wants where the mirrored record has it in the right place, with either line end; else what is told.
-pub fn mirrored(alloc: Global, row: &Row, record: &str) -> Result<String, AllocError> {
-    let given = record.replace(alloc, row.field(3), row.field(4))?;
-    let wanted = mirror_wanted(alloc, row, record)?;
-    let found = mirror_told(alloc, given.as_str())?;
-    if found.as_str() != wanted.as_str() {
-        return Ok(found);
+pub fn mirrored(alloc: Global, out: &mut Text, row: &Row, record: &str) {
+    let Ok(given) = record.replace(alloc, row.field(3), row.field(4)) else {
+        return out.miss();
+    };
+    let Ok(wanted) = mirror_wanted(alloc, row, record) else {
+        return out.miss();
+    };
+    push_mirrored(alloc, out, row, (given.as_str(), wanted.as_str()))
+}
+
+fn push_mirrored(alloc: Global, out: &mut Text, row: &Row, records: (&str, &str)) {
+    let (given, wanted) = records;
+    if is_mirrored(alloc, out, given, wanted) && is_returned(alloc, out, given, wanted) {
+        out.clear();
+        return out.push_str(row.wanted());
     }
-    let given = given.replace(alloc, "\n", "\r\n")?;
-    let wanted = wanted.replace(alloc, "\n", "\r\n")?;
-    let found = mirror_told(alloc, given.as_str())?;
-    if found.as_str() != wanted.as_str() {
-        return Ok(found);
-    }
-    String::from_str(alloc, row.wanted())
+}
+
+// Whether a record is mirrored as wanted; what is told of it is written.
+fn is_mirrored(alloc: Global, out: &mut Text, given: &str, wanted: &str) -> bool {
+    out.clear();
+    push_mirror(alloc, out, given);
+    out.as_str() == wanted
+}
+
+// The same with the other line ends.
+fn is_returned(alloc: Global, out: &mut Text, given: &str, wanted: &str) -> bool {
+    let Ok(given) = given.replace(alloc, "\n", "\r\n") else {
+        out.miss();
+        return false;
+    };
+    let Ok(wanted) = wanted.replace(alloc, "\n", "\r\n") else {
+        out.miss();
+        return false;
+    };
+    is_mirrored(alloc, out, given.as_str(), wanted.as_str())
 }
 
 // The mirrored record with a text in place of another one, or of its marked bond.
@@ -42,9 +65,11 @@ fn mirror_wanted(alloc: Global, row: &Row, record: &str) -> Result<String, Alloc
 }
 
 /// Why the record isn't mirrored that has a text in the place of another one.
-pub fn not_mirrored(alloc: Global, row: &Row, record: &str) -> Result<String, AllocError> {
-    let given = replaced(alloc, record, row.field(3), row.field(4))?;
-    mirror_told(alloc, given.as_str())
+pub fn not_mirrored(alloc: Global, out: &mut Text, row: &Row, record: &str) {
+    let Ok(given) = replaced(alloc, record, row.field(3), row.field(4)) else {
+        return out.miss();
+    };
+    push_mirror(alloc, out, given.as_str())
 }
 
 // The record with a text in place of another one, if there is one.
@@ -56,18 +81,28 @@ fn replaced(alloc: Global, record: &str, old: &str, new: &str) -> Result<String,
 }
 
 // What is written for a record, or why it isn't mirrored.
-fn mirror_told(alloc: Global, record: &str) -> Result<String, AllocError> {
+fn push_mirror(alloc: Global, out: &mut Text, record: &str) {
     if record.len() > MOST_BYTES {
-        return Ok(String::new(alloc));
+        return;
     }
-    match mirror_record(alloc, record.as_bytes())? {
-        MirrorAnswer::Written(text) => String::from_utf8_lossy(alloc, text.as_slice()),
-        MirrorAnswer::Refused(MirrorRefusal::Grammar(fault)) => {
-            format!(in alloc; "refused {} {}", fault.line, fault.cause)
-        }
-        MirrorAnswer::Refused(MirrorRefusal::OnlyV2000) => format!(in alloc; "OnlyV2000"),
-        MirrorAnswer::Refused(MirrorRefusal::Width) => format!(in alloc; "Width"),
+    let Ok(answer) = mirror_record(alloc, record.as_bytes()) else {
+        return out.miss();
+    };
+    push_mirror_answer(out, &answer)
+}
+
+fn push_mirror_answer(out: &mut Text, answer: &MirrorAnswer) {
+    match answer {
+        MirrorAnswer::Written(text) => out.push_bytes(text.as_slice()),
+        MirrorAnswer::Refused(MirrorRefusal::Grammar(fault)) => push_fault(out, *fault),
+        MirrorAnswer::Refused(MirrorRefusal::OnlyV2000) => out.push_str("OnlyV2000"),
+        MirrorAnswer::Refused(MirrorRefusal::Width) => out.push_str("Width"),
     }
+}
+
+fn push_fault(out: &mut Text, fault: ReadFault) {
+    let ReadFault { line, cause } = fault;
+    write!(out, "refused {line} {cause}")
 }
 
 // The bonds of the record that is marked, up to that of its fluorine and from that of its bromine on.
@@ -79,14 +114,23 @@ const UNMARKED: &str = "  1  4  1  0\n";
 
 /// What a row wants where the bond to fluorine is so marked, and no other one, for the letter to stand; else what is
 /// told.
-pub fn marked(alloc: Global, row: &Row, record: &str) -> Result<String, AllocError> {
-    let given = with_bonds(alloc, record, row.field(4), row.field(5))?;
-    let wanted = with_bonds(alloc, record, row.wanted(), UNMARKED)?;
-    let found = set_told(alloc, given.as_str(), 1, letter(row.field(3)), 1_000)?;
-    if found.as_str() != wanted.as_str() {
-        return Ok(found);
+pub fn marked(alloc: Global, out: &mut Text, row: &Row, record: &str) {
+    let Ok(given) = with_bonds(alloc, record, row.field(4), row.field(5)) else {
+        return out.miss();
+    };
+    let Ok(wanted) = with_bonds(alloc, record, row.wanted(), UNMARKED) else {
+        return out.miss();
+    };
+    push_marked(alloc, out, row, (given.as_str(), wanted.as_str()))
+}
+
+fn push_marked(alloc: Global, out: &mut Text, row: &Row, records: (&str, &str)) {
+    let (given, wanted) = records;
+    push_set(alloc, out, given, 1, letter(row.field(3)), 1_000);
+    if out.as_str() == wanted {
+        out.clear();
+        return out.push_str(row.wanted());
     }
-    String::from_str(alloc, row.wanted())
 }
 
 fn with_bonds(
@@ -100,46 +144,56 @@ fn with_bonds(
 }
 
 /// What is told of the letter of an atom, within so many nodes, in the record that has a text in the place of another.
-pub fn letter_set(alloc: Global, row: &Row, record: &str) -> Result<String, AllocError> {
-    let given = replaced(alloc, record, row.field(6), row.field(7))?;
-    set_told(
+pub fn letter_set(alloc: Global, out: &mut Text, row: &Row, record: &str) {
+    let Ok(given) = replaced(alloc, record, row.field(6), row.field(7)) else {
+        return out.miss();
+    };
+    let letter = letter(row.field(4));
+    push_set(
         alloc,
+        out,
         given.as_str(),
         row.number(3),
-        letter(row.field(4)),
+        letter,
         row.number(5),
     )
 }
 
 fn letter(name: &str) -> CentreLetter {
-    match name {
-        "R" => CentreLetter::R,
-        "S" => CentreLetter::S,
-        "r" => CentreLetter::SmallR,
+    match name.as_bytes() {
+        [b'R'] => CentreLetter::R,
+        [b'S'] => CentreLetter::S,
+        [b'r'] => CentreLetter::SmallR,
         _ => CentreLetter::SmallS,
     }
 }
 
 // What is written for a record, or why nothing is.
-fn set_told(
+fn push_set(
     alloc: Global,
+    out: &mut Text,
     record: &str,
     atom: u32,
     letter: CentreLetter,
     nodes: u32,
-) -> Result<String, AllocError> {
+) {
     if record.len() > MOST_BYTES || nodes == 0 || nodes > MOST_NODES {
-        return format!(in alloc; "out of range");
+        return out.push_str("out of range");
     }
     let rules = Rules::Wording2013;
-    match set_letter(alloc, record.as_bytes(), atom, letter, nodes, rules)? {
-        SetAnswer::Written(text) => String::from_utf8_lossy(alloc, text.as_slice()),
-        SetAnswer::Refused(SetRefusal::Grammar(fault)) => {
-            format!(in alloc; "refused {} {}", fault.line, fault.cause)
-        }
+    let Ok(answer) = set_letter(alloc, record.as_bytes(), atom, letter, nodes, rules) else {
+        return out.miss();
+    };
+    push_set_answer(out, &answer)
+}
+
+fn push_set_answer(out: &mut Text, answer: &SetAnswer) {
+    match answer {
+        SetAnswer::Written(text) => out.push_bytes(text.as_slice()),
+        SetAnswer::Refused(SetRefusal::Grammar(fault)) => push_fault(out, *fault),
         SetAnswer::Refused(SetRefusal::OtherKind { small }) => {
-            format!(in alloc; "OtherKind small {small}")
+            write!(out, "OtherKind small {small}")
         }
-        SetAnswer::Refused(refusal) => format!(in alloc; "{refusal}"),
+        SetAnswer::Refused(refusal) => write!(out, "{refusal}"),
     }
 }

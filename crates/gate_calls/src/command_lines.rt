@@ -1,26 +1,48 @@
 // Another reader of command lines.
+use crate::sink::Text;
 use crate::words::{asked, words};
-use clap::{Arg, ArgAction, ArgMatches, Command};
+use clap::{Arg, ArgAction, ArgMatches, Command, Error};
 use std::alloc::{AllocError, Global};
 
 /// Whether it takes a line of words as the program does.
-pub fn readers_agree(alloc: Global, line: &str) -> Result<String, AllocError> {
-    let other = read_otherwise(alloc, line)?;
-    let own = asked(alloc, line)?;
-    if own.as_str() == other.as_str() {
-        return format!(in alloc; "alike");
-    }
-    format!(in alloc; "{other}, and by the program {own}")
+pub fn readers_agree(alloc: Global, out: &mut Text, line: &str) {
+    let mut own = Text::new(alloc);
+    compare(alloc, out, line, &mut own)
 }
 
-fn read_otherwise(alloc: Global, line: &str) -> Result<String, AllocError> {
-    let mut all = vec![in alloc; String::from_str(alloc, "cip")?]?;
-    for word in &words(alloc, line)? {
-        all.push(String::from_str(alloc, word.as_str())?)?;
+fn compare(alloc: Global, out: &mut Text, line: &str, own: &mut Text) {
+    asked(alloc, own, line);
+    read_otherwise(alloc, out, line);
+    let own = own.as_str();
+    if out.as_str() == own {
+        out.clear();
+        return out.push_str("alike");
     }
-    match program(alloc)?.try_get_matches_from(&all) {
-        Ok(matches) => seen(alloc, &matches),
-        Err(_) => format!(in alloc; "refused"),
+    write!(out, ", and by the program {own}")
+}
+
+fn read_otherwise(alloc: Global, out: &mut Text, line: &str) {
+    let Ok(line) = format!(in alloc; "cip {line}") else {
+        return out.miss();
+    };
+    let Ok(words) = words(alloc, line.as_str()) else {
+        return out.miss();
+    };
+    push_read(alloc, out, &words)
+}
+
+fn push_read(alloc: Global, out: &mut Text, words: &[String]) {
+    let Ok(program) = program(alloc) else {
+        return out.miss();
+    };
+    let read = program.try_get_matches_from(words);
+    push_matches(out, &read)
+}
+
+fn push_matches(out: &mut Text, read: &Result<ArgMatches<'_>, Error>) {
+    match read {
+        Ok(matches) => push_subcommand(out, matches),
+        Err(_) => out.push_str("refused"),
     }
 }
 
@@ -59,44 +81,86 @@ fn making<'a>(alloc: Global, command: Command<'a>) -> Result<Command<'a>, AllocE
         .arg(given(alloc, "records", 1, 100_000))
 }
 
+fn trial<'a>(alloc: Global) -> Result<Command<'a>, AllocError> {
+    making(alloc, labelling(alloc, "trial")?)
+}
+
 // A command over a centre of a record.
-fn setting<'a>(alloc: Global, command: Command<'a>) -> Result<Command<'a>, AllocError> {
-    command
+fn setting<'a>(alloc: Global) -> Result<Command<'a>, AllocError> {
+    labelling(alloc, "set")?
         .arg(given(alloc, "record", 1, 1_000_000_000))?
         .arg(given(alloc, "atom", 1, 1_000_000_000))?
         .arg(option(alloc, "letter").required(true))
 }
 
 fn program<'a>(alloc: Global) -> Result<Command<'a>, AllocError> {
-    Command::new(alloc, "cip")
-        .subcommand(labelling(alloc, "annotate")?)?
-        .subcommand(labelling(alloc, "explain")?)?
-        .subcommand(making(alloc, Command::new(alloc, "make"))?)?
-        .subcommand(making(alloc, labelling(alloc, "trial")?)?)?
-        .subcommand(setting(alloc, labelling(alloc, "set")?)?)?
-        .subcommand(labelling(alloc, "mirror")?)?
-        .subcommand(labelling(alloc, "groups")?)?
-        .subcommand(labelling(alloc, "axes")?)
+    let program = labelling_commands(alloc)?;
+    let program = with(program, making(alloc, Command::new(alloc, "make")))?;
+    let program = with(program, trial(alloc))?;
+    with(program, setting(alloc))
+}
+
+fn labelling_commands<'a>(alloc: Global) -> Result<Command<'a>, AllocError> {
+    let program = Command::new(alloc, "cip");
+    let program = with(program, labelling(alloc, "annotate"))?;
+    let program = with(program, labelling(alloc, "explain"))?;
+    let program = with(program, labelling(alloc, "mirror"))?;
+    let program = with(program, labelling(alloc, "groups"))?;
+    with(program, labelling(alloc, "axes"))
+}
+
+// A program with a command more. Nothing but this lets a program go, so that only one proof has to give it back.
+fn with<'a>(
+    program: Command<'a>,
+    command: Result<Command<'a>, AllocError>,
+) -> Result<Command<'a>, AllocError> {
+    program.subcommand(command?)
 }
 
 // The subcommand with the numbers of its options, in the order of the help text.
-fn seen(alloc: Global, matches: &ArgMatches<'_>) -> Result<String, AllocError> {
-    let mut line = String::new(alloc);
-    if let Some((name, inner)) = matches.subcommand() {
-        line.push_str(name)?;
-        for option in [
-            "start", "records", "record", "atom", "letter", "nodes", "workers", "rule1b",
-        ] {
-            if option == "letter" && inner.contains_id(option) {
-                if let Some(letter) = inner.get_str(option) {
-                    line.push_str(format!(in alloc; " {letter}")?.as_str())?;
-                }
-            } else if inner.contains_id(option) {
-                if let Some(number) = inner.get_one::<u32>(option) {
-                    line.push_str(format!(in alloc; " {number}")?.as_str())?;
-                }
-            }
-        }
+fn push_subcommand(out: &mut Text, matches: &ArgMatches<'_>) {
+    let Some((name, options)) = matches.subcommand() else {
+        return;
+    };
+    out.push_str(name);
+    push_made(out, options);
+    push_set(out, options);
+    push_labelled(out, options)
+}
+
+fn push_made(out: &mut Text, options: &ArgMatches<'_>) {
+    push_number(out, options, "start");
+    push_number(out, options, "records")
+}
+
+fn push_set(out: &mut Text, options: &ArgMatches<'_>) {
+    push_number(out, options, "record");
+    push_number(out, options, "atom");
+    push_letter(out, options)
+}
+
+fn push_labelled(out: &mut Text, options: &ArgMatches<'_>) {
+    push_number(out, options, "nodes");
+    push_number(out, options, "workers");
+    push_number(out, options, "rule1b")
+}
+
+fn push_number(out: &mut Text, options: &ArgMatches<'_>, name: &str) {
+    if !options.contains_id(name) {
+        return;
     }
-    Ok(line)
+    match options.get_one::<u32>(name) {
+        Some(number) => write!(out, " {number}"),
+        None => {}
+    }
+}
+
+fn push_letter(out: &mut Text, options: &ArgMatches<'_>) {
+    if !options.contains_id("letter") {
+        return;
+    }
+    match options.get_str("letter") {
+        Some(letter) => write!(out, " {letter}"),
+        None => {}
+    }
 }

@@ -5,50 +5,68 @@ ghost use Rattle.cip_num.specs.Space.{IsSmall3};
 
 use crate::lists::{Point, points};
 use crate::row::Row;
+use crate::sink::Text;
 use cip_num::{Sign, Vec2, Vec3, circular, same_side, volume};
 use std::alloc::{AllocError, Global};
 
 /// In which order the directions of a row are met counterclockwise from the first.
-pub fn around(alloc: Global, row: &Row) -> Result<String, AllocError> {
-    let mut directions = Vec::new(alloc);
-    for (x, y, _) in points(alloc, row.field(2))? {
-        directions.push(Vec2 { x, y })?;
-    }
-    if !are_small(&directions) || directions.len() > 4 {
-        return format!(in alloc; "out of range");
-    }
-    let Some(numbers) = circular(alloc, &directions) else {
-        return format!(in alloc; "none");
+pub fn around(alloc: Global, out: &mut Text, row: &Row) {
+    let Ok(points) = points(alloc, row.field(2)) else {
+        return out.miss();
     };
-    let mut text = String::new(alloc);
-    for number in numbers.as_slice() {
-        let space = if text.is_empty() { "" } else { " " };
-        text.push_str(format!(in alloc; "{space}{number}")?.as_str())?;
+    let Ok(directions) = in_plane(alloc, &points) else {
+        return out.miss();
+    };
+    push_order(alloc, out, &directions)
+}
+
+fn in_plane(alloc: Global, points: &[Point]) -> Result<Vec<Vec2>, AllocError> {
+    points.iter().map(|&(x, y, _)| Vec2 { x, y }).collect(alloc)
+}
+
+fn push_order(alloc: Global, out: &mut Text, directions: &[Vec2]) {
+    if !are_small(directions) || directions.len() > 4 {
+        return out.push_str("out of range");
     }
-    Ok(text)
+    match circular(alloc, directions) {
+        Some(numbers) => push_places(out, numbers.as_slice()),
+        None => out.push_str("none"),
+    }
+}
+
+fn push_places(out: &mut Text, numbers: &[u8]) {
+    for number in numbers {
+        out.push_number(i64::from(*number));
+    }
 }
 
 /// The sign of the volume of the three directions of a row.
-pub fn sign_of_volume(alloc: Global, row: &Row) -> Result<String, AllocError> {
-    match points(alloc, row.field(2))?.as_slice() {
-        [a, b, c] => named(alloc, volume(space(*a), space(*b), space(*c))),
-        _ => format!(in alloc; "not three"),
+pub fn sign_of_volume(alloc: Global, out: &mut Text, row: &Row) {
+    let Ok(points) = points(alloc, row.field(2)) else {
+        return out.miss();
+    };
+    match points.as_slice() {
+        [a, b, c] => out.push_str(named(volume(space(*a), space(*b), space(*c)))),
+        _ => out.push_str("not three"),
     }
 }
 
 /// Whether the second and the third direction of a row lie on the same side of the first.
-pub fn sign_of_side(alloc: Global, row: &Row) -> Result<String, AllocError> {
-    match points(alloc, row.field(2))?.as_slice() {
-        [u, a, b] => named(alloc, same_side(space(*u), space(*a), space(*b))),
-        _ => format!(in alloc; "not three"),
+pub fn sign_of_side(alloc: Global, out: &mut Text, row: &Row) {
+    let Ok(points) = points(alloc, row.field(2)) else {
+        return out.miss();
+    };
+    match points.as_slice() {
+        [u, a, b] => out.push_str(named(same_side(space(*u), space(*a), space(*b)))),
+        _ => out.push_str("not three"),
     }
 }
 
-fn named(alloc: Global, sign: Sign) -> Result<String, AllocError> {
+fn named(sign: Sign) -> &'static str {
     match sign {
-        Sign::Plus => format!(in alloc; "Plus"),
-        Sign::Minus => format!(in alloc; "Minus"),
-        Sign::Zero => format!(in alloc; "Zero"),
+        Sign::Plus => "Plus",
+        Sign::Minus => "Minus",
+        Sign::Zero => "Zero",
     }
 }
 

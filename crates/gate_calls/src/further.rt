@@ -1,8 +1,12 @@
 // Stereo groups, further units and undefined units of a record that is told without a desk of the caller's.
-ghost use Rattle.std.specs.Prelude.{◌<◌, ◌≤◌, ◌-◌, ◌^◌, length};
+ghost use Rattle.std.specs.Prelude.{◌≡◌, ◌<◌, ◌≤◌, ◌-◌, ◌^◌, Ok, length};
+ghost use Rattle.cip_text.specs.Bodies.{body_contents};
+ghost use Rattle.cip_v3000.specs.Grammar.{molecule_of};
 
+use crate::sink::Text;
 use cip_axis_text::axes_text;
 use cip_groups::{Group, GroupsAnswer, group_text, read_groups};
+use cip_mol::Molecule;
 use cip_rank::Rules;
 use cip_record::RecordLabeller;
 use cip_text::RecordLines;
@@ -15,31 +19,61 @@ const MOST_BYTES: usize = 1_000_000;
 const MOST_NODES: u32 = 1_000_000;
 
 /// What is told of the groups of a first record, and whether it is flagged.
-pub fn groups_told(alloc: Global, record: &[u8]) -> Result<String, AllocError> {
+pub fn groups_told(alloc: Global, out: &mut Text, record: &[u8]) {
     if record.len() > MOST_BYTES {
-        return format!(in alloc; "out of range");
+        return out.push_str("out of range");
     }
-    let told = group_text(alloc, record, 1, 100, Rules::Wording2018)?;
-    shown(alloc, told.text.as_slice(), told.flagged)
+    let Ok(told) = group_text(alloc, record, 1, 100, Rules::Wording2018) else {
+        return out.miss();
+    };
+    push_told(out, told.text.as_slice(), told.flagged)
 }
 
 /// What is told of the further units of a first record, and whether it is flagged.
-pub fn axes_told(alloc: Global, record: &[u8]) -> Result<String, AllocError> {
+pub fn axes_told(alloc: Global, out: &mut Text, record: &[u8]) {
     if record.len() > MOST_BYTES {
-        return format!(in alloc; "out of range");
+        return out.push_str("out of range");
     }
-    let told = axes_text(alloc, record, 1, 100, Rules::Wording2018)?;
-    shown(alloc, told.text.as_slice(), told.flagged)
+    let Ok(told) = axes_text(alloc, record, 1, 100, Rules::Wording2018) else {
+        return out.miss();
+    };
+    push_told(out, told.text.as_slice(), told.flagged)
+}
+
+fn push_told(out: &mut Text, text: &[u8], flagged: bool) {
+    out.push_bytes(text);
+    if flagged {
+        return out.push_str(" flagged");
+    }
 }
 
 /// What is told of the undefined units of a record, within so many nodes.
-pub fn undefined_told(alloc: Global, record: &[u8], nodes: u32) -> Result<String, AllocError> {
+pub fn undefined_told(alloc: Global, out: &mut Text, record: &[u8], nodes: u32) {
     if nodes == 0 || nodes > MOST_NODES || record.len() > MOST_BYTES {
-        return format!(in alloc; "out of range");
+        return out.push_str("out of range");
     }
-    let lines = RecordLines::new(alloc, record)?;
-    let text = undefined_text(alloc, &undefined_of(alloc, &lines, nodes)?)?;
-    String::from_utf8_lossy(alloc, &text)
+    let Ok(lines) = RecordLines::new(alloc, record) else {
+        return out.miss();
+    };
+    push_undefined(alloc, out, &lines, nodes)
+}
+
+fn push_undefined(alloc: Global, out: &mut Text, lines: &RecordLines, nodes: u32)
+    requires few { length lines.now < 2 ^ 32 - 1 }
+    requires some { 1 ≤ nodes }
+    requires bounded { nodes ≤ 1000000 }
+{
+    let Ok(answer) = undefined_of(alloc, lines, nodes) else {
+        return out.miss();
+    };
+    push_undefined_text(alloc, out, &answer)
+}
+
+fn push_undefined_text(alloc: Global, out: &mut Text, answer: &UndefinedAnswer) {
+    let Ok(text) = undefined_text(alloc, answer) else {
+        return out.miss();
+    };
+    out.push_bytes(&text)
 }
 
 fn undefined_of(
@@ -58,40 +92,39 @@ fn undefined_of(
     answer
 }
 
-fn shown(alloc: Global, text: &[u8], flagged: bool) -> Result<String, AllocError> {
-    let text = String::from_utf8_lossy(alloc, text)?;
-    if flagged {
-        return format!(in alloc; "{text} flagged");
-    }
-    Ok(text)
-}
-
 /// The groups of a record: the kind of each, its first line, its atoms.
-pub fn group_told(alloc: Global, record: &[u8]) -> Result<String, AllocError> {
+pub fn group_told(alloc: Global, out: &mut Text, record: &[u8]) {
     if record.len() > MOST_BYTES {
-        return format!(in alloc; "out of range");
+        return out.push_str("out of range");
     }
-    let Ok(molecule) = cip_v3000::read(alloc, record) else {
-        return format!(in alloc; "not read");
+    match cip_v3000::read(alloc, record) {
+        Ok(molecule) => push_groups_of(alloc, out, record, &molecule),
+        Err(_) => out.push_str("not read"),
+    }
+}
+
+fn push_groups_of(alloc: Global, out: &mut Text, record: &[u8], molecule: &Molecule)
+    requires few { length record.now < 2 ^ 32 - 1 }
+    requires read { molecule_of (body_contents record.now) ≡ Ok molecule.now }
+{
+    let Ok(answer) = read_groups(alloc, record, molecule) else {
+        return out.miss();
     };
-    match read_groups(alloc, record, &molecule)? {
-        GroupsAnswer::Groups(groups) => listed(alloc, groups.as_slice()),
-        GroupsAnswer::Refused(_) => format!(in alloc; "groups not read"),
+    push_groups(out, &answer)
+}
+
+fn push_groups(out: &mut Text, answer: &GroupsAnswer) {
+    let GroupsAnswer::Groups(groups) = answer else {
+        return out.push_str("groups not read");
+    };
+    for group in groups.as_slice() {
+        push_group(out, group);
     }
 }
 
-fn listed(alloc: Global, groups: &[Group]) -> Result<String, AllocError> {
-    let mut text = String::new(alloc);
-    for group in groups {
-        text.push_str(group_text_of(alloc, group)?.as_str())?;
-    }
-    Ok(text)
-}
-
-fn group_text_of(alloc: Global, group: &Group) -> Result<String, AllocError> {
-    let mut text = format!(in alloc; "{} {}", group.kind, group.line)?;
+fn push_group(out: &mut Text, group: &Group) {
+    write!(out, "{} {}", group.kind, group.line);
     for atom in group.atoms.as_slice() {
-        text.push_str(format!(in alloc; " {atom}")?.as_str())?;
+        write!(out, " {atom}");
     }
-    Ok(text)
 }

@@ -1,46 +1,85 @@
 // What is printed of answers.
-ghost use Rattle.std.specs.Prelude.{◌≡◌, true};
+ghost use Rattle.std.specs.Prelude.{◌≡◌, ◌<◌, ◌+◌, ◌^◌, OnOk, true};
 ghost use Rattle.cip_print.specs.Values.{HasRoom};
 
 use crate::built::built;
+use crate::row::Row;
+use crate::sink::Text;
 use cip_print::{Answer, Tally, explain_text, item_values};
 use cip_rank::Rules;
 use std::alloc::{AllocError, Global};
 
-/// The value lines of an answer, a bar behind each.
-pub fn lines_of(alloc: Global, name: &str, nodes: u32, year: u32) -> Result<String, AllocError> {
-    let answer = built(alloc, name)?;
-    if !has_room(&answer) {
-        return format!(in alloc; "too many units");
-    }
-    let rules = match year {
+/// The value lines of an answer, a bar behind each, within a row's bound and by its wording.
+pub fn lines_of(alloc: Global, out: &mut Text, row: &Row) {
+    let Ok(answer) = built(alloc, row.field(2)) else {
+        return out.miss();
+    };
+    push_lines(alloc, out, &answer, row.number(3), wording(row.number(4)))
+}
+
+fn wording(year: u32) -> Rules {
+    match year {
         2013 => Rules::Wording2013,
         _ => Rules::Wording2018,
-    };
-    let values = item_values(alloc, &answer, nodes, rules)?;
-    let mut text: Vec<u8> = Vec::new(alloc);
-    for place in 0..values.len() {
-        text.extend_from_slice(values.get(place).as_slice())?;
-        text.push(b'|')?;
     }
-    String::from_utf8_lossy(alloc, text.as_slice())
+}
+
+fn push_lines(alloc: Global, out: &mut Text, answer: &Answer, nodes: u32, rules: Rules) {
+    if !has_room(answer) {
+        return out.push_str("too many units");
+    }
+    let Ok(values) = item_values(alloc, answer, nodes, rules) else {
+        return out.miss();
+    };
+    out.push_texts(&values)
 }
 
 /// An answer, explained as that of the record of a number.
-pub fn explained(alloc: Global, name: &str, number: u64) -> Result<String, AllocError> {
-    let text = explain_text(alloc, &built(alloc, name)?, number)?;
-    String::from_utf8_lossy(alloc, text.as_slice())
+pub fn explained(alloc: Global, out: &mut Text, row: &Row) {
+    let Ok(answer) = built(alloc, row.field(2)) else {
+        return out.miss();
+    };
+    push_explained(alloc, out, &answer, row.field(3).parse().unwrap_or(0))
+}
+
+fn push_explained(alloc: Global, out: &mut Text, answer: &Answer, number: u64) {
+    let Ok(text) = explain_text(alloc, answer, number) else {
+        return out.miss();
+    };
+    out.push_bytes(text.as_slice())
 }
 
 /// The counts of outcomes of four answers.
-pub fn tally(alloc: Global) -> Result<String, AllocError> {
+pub fn tally(alloc: Global, out: &mut Text) {
+    match four_counted(alloc) {
+        Ok(tally) => push_tally(alloc, out, &tally),
+        Err(_) => out.miss(),
+    }
+}
+
+fn four_counted(alloc: Global) -> Result<Tally, AllocError> {
     let mut tally = Tally::new();
-    tally.count(&built(alloc, "acid")?);
-    tally.count(&built(alloc, "refused")?);
-    tally.count(&built(alloc, "reentrant")?);
-    tally.count(&built(alloc, "ends")?);
-    let line = tally.line(alloc)?;
-    String::from_utf8_lossy(alloc, line.as_slice())
+    count(alloc, &mut tally, "acid")?;
+    count(alloc, &mut tally, "refused")?;
+    count(alloc, &mut tally, "reentrant")?;
+    count(alloc, &mut tally, "ends")?;
+    Ok(tally)
+}
+
+fn count(alloc: Global, tally: &mut Tally, name: &str) -> Result<(), AllocError>
+    requires few { tally.old.records < 2 ^ 31 }
+    ensures one { OnOk result (tally.new.records ≡ tally.old.records + 1) }
+{
+    let answer = built(alloc, name)?;
+    tally.count(&answer);
+    Ok(())
+}
+
+fn push_tally(alloc: Global, out: &mut Text, tally: &Tally) {
+    let Ok(line) = tally.line(alloc) else {
+        return out.miss();
+    };
+    out.push_bytes(line.as_slice())
 }
 
 // Whether there is room for the lines of all units behind a first line.

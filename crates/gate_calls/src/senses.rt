@@ -6,35 +6,43 @@ ghost use Rattle.cip_mol.specs.Sites.{IsSite};
 
 use crate::lists::{Line, Point, lines, numbers, points};
 use crate::row::Row;
+use crate::sink::Text;
 use cip_mol::{Atom, Bond, Cause, Geometry, Ligand, Ligands, Mark, Molecule, Sense, Site};
 use cip_num::Vec3;
 use cip_orient::{drawn_of, orient};
 use std::alloc::{AllocError, Global};
 
 /// What the drawing of a row shows.
-pub fn sense(alloc: Global, row: &Row) -> Result<String, AllocError> {
-    let points = points(alloc, row.field(5))?;
-    let lines = lines(alloc, row.field(6))?;
-    let Some(molecule) = molecule(alloc, &points, &lines)? else {
-        return format!(in alloc; "no molecule");
-    };
-    let firsts = numbers(alloc, row.field(3))?;
-    let seconds = numbers(alloc, row.field(4))?;
-    String::from_str(
-        alloc,
-        shown(alloc, &molecule, row.field(2), &firsts, &seconds),
-    )
+pub fn sense(alloc: Global, out: &mut Text, row: &Row) {
+    match drawing(alloc, row) {
+        Ok(Some(molecule)) => push_sense(alloc, out, row, &molecule),
+        Ok(None) => out.push_str("no molecule"),
+        Err(_) => out.miss(),
+    }
 }
 
-fn shown(
-    alloc: Global,
-    molecule: &Molecule,
-    kind: &str,
-    firsts: &[u32],
-    seconds: &[u32],
-) -> &'static str {
-    match site(alloc, molecule, kind, firsts, seconds) {
-        Some(site) => name_of(orient(alloc, molecule, &site)),
+fn drawing(alloc: Global, row: &Row) -> Result<Option<Molecule>, AllocError> {
+    let points = points(alloc, row.field(5))?;
+    let lines = lines(alloc, row.field(6))?;
+    molecule(alloc, &points, &lines)
+}
+
+fn push_sense(alloc: Global, out: &mut Text, row: &Row, molecule: &Molecule) {
+    let Ok(firsts) = numbers(alloc, row.field(3)) else {
+        return out.miss();
+    };
+    let Ok(seconds) = numbers(alloc, row.field(4)) else {
+        return out.miss();
+    };
+    let site = site(alloc, molecule, row.field(2), &firsts, &seconds);
+    out.push_str(shown(alloc, molecule, &site))
+}
+
+fn shown(alloc: Global, molecule: &Molecule, site: &Option<Site>) -> &'static str
+    requires { IfSome site.now (IsSite (length molecule.now.atoms)) }
+{
+    match site {
+        Some(site) => name_of(orient(alloc, molecule, site)),
         None => "no site",
     }
 }
@@ -151,36 +159,48 @@ fn site(
 ) -> Option<Site>
     ensures { IfSome result (IsSite (length molecule.now.atoms)) }
 {
-    match kind {
-        "centre" => {
-            let at = 0;
-            let ligands = ligands_at(alloc, molecule, at, firsts, 3)?;
-            Some(Site::Centre { at, ligands })
-        }
-        "bond" => {
-            let (a, b) = (0, 1);
-            let first = ligands_at(alloc, molecule, a, firsts, 1)?;
-            let second = ligands_at(alloc, molecule, b, seconds, 1)?;
-            Some(Site::Bond {
-                a,
-                b,
-                first,
-                second,
-            })
-        }
-        _ => {
-            let (a, middle, b) = (0, 1, 2);
-            let first = ligands_at(alloc, molecule, a, firsts, 1)?;
-            let second = ligands_at(alloc, molecule, b, seconds, 1)?;
-            Some(Site::Axis {
-                a,
-                middle,
-                b,
-                first,
-                second,
-            })
-        }
+    match kind.as_bytes() {
+        [b'c', ..] => centre(alloc, molecule, firsts),
+        [b'b', ..] => bond_site(alloc, molecule, firsts, seconds),
+        _ => axis(alloc, molecule, firsts, seconds),
     }
+}
+
+fn centre(alloc: Global, molecule: &Molecule, numbers: &[u32]) -> Option<Site>
+    ensures { IfSome result (IsSite (length molecule.now.atoms)) }
+{
+    let at = 0;
+    let ligands = ligands_at(alloc, molecule, at, numbers, 3)?;
+    Some(Site::Centre { at, ligands })
+}
+
+fn bond_site(alloc: Global, molecule: &Molecule, firsts: &[u32], seconds: &[u32]) -> Option<Site>
+    ensures { IfSome result (IsSite (length molecule.now.atoms)) }
+{
+    let (a, b) = (0, 1);
+    let first = ligands_at(alloc, molecule, a, firsts, 1)?;
+    let second = ligands_at(alloc, molecule, b, seconds, 1)?;
+    Some(Site::Bond {
+        a,
+        b,
+        first,
+        second,
+    })
+}
+
+fn axis(alloc: Global, molecule: &Molecule, firsts: &[u32], seconds: &[u32]) -> Option<Site>
+    ensures { IfSome result (IsSite (length molecule.now.atoms)) }
+{
+    let (a, middle, b) = (0, 1, 2);
+    let first = ligands_at(alloc, molecule, a, firsts, 1)?;
+    let second = ligands_at(alloc, molecule, b, seconds, 1)?;
+    Some(Site::Axis {
+        a,
+        middle,
+        b,
+        first,
+        second,
+    })
 }
 
 fn name_of(geometry: Geometry) -> &'static str {

@@ -1,26 +1,31 @@
 // Words of a command line, and what they ask for.
+use crate::sink::Text;
 use cip_mol::CentreLetter;
 use cip_rank::Rules;
 use cip_words::{Settings, help_text, read_words};
 use std::alloc::{AllocError, Global};
 
 /// The settings that a line of words asks for.
-pub fn asked(alloc: Global, line: &str) -> Result<String, AllocError> {
-    shown(alloc, read_words(&words(alloc, line)?))
+pub fn asked(alloc: Global, out: &mut Text, line: &str) {
+    let Ok(words) = words(alloc, line) else {
+        return out.miss();
+    };
+    push_settings(out, read_words(&words))
 }
 
 /// The settings that no words at all ask for.
-pub fn asked_by_no_words(alloc: Global) -> Result<String, AllocError> {
-    shown(alloc, read_words(&[]))
+pub fn asked_by_no_words(out: &mut Text) {
+    push_settings(out, read_words(&[]))
 }
 
 /// How many lines the help text has, where a terminal of 80 columns shows each on one line.
-pub fn help_lines(alloc: Global) -> Result<String, AllocError> {
+pub fn help_lines(out: &mut Text) {
     let help = help_text();
     if help.lines().all(|line| line.len() <= 80) {
-        return format!(in alloc; "{}", help.lines().count());
+        let lines = help.lines().count();
+        return write!(out, "{lines}");
     }
-    format!(in alloc; "a line of more than 80 columns")
+    out.push_str("a line of more than 80 columns")
 }
 
 /// The words of a line, which one space each parts.
@@ -32,6 +37,43 @@ pub fn words(alloc: Global, line: &str) -> Result<Vec<String>, AllocError> {
     Ok(words)
 }
 
+// The settings as a line: the command, and the values of its options in the order of the help text.
+fn push_settings(out: &mut Text, settings: Option<Settings>) {
+    let Some(settings) = settings else {
+        return out.push_str("refused");
+    };
+    out.push_str(name_of(settings));
+    push_own_options(out, settings);
+    push_labelling(out, labelling(settings))
+}
+
+fn push_own_options(out: &mut Text, settings: Settings) {
+    match settings {
+        Settings::Make { start, records } => write!(out, " {start} {records}"),
+        Settings::Trial { start, records, .. } => write!(out, " {start} {records}"),
+        Settings::Set {
+            number,
+            atom,
+            letter,
+            ..
+        } => push_setting(out, number, atom, letter),
+        _ => {}
+    }
+}
+
+fn push_setting(out: &mut Text, number: u32, atom: u32, letter: CentreLetter) {
+    let letter = spelled(letter);
+    write!(out, " {number} {atom} {letter}")
+}
+
+fn push_labelling(out: &mut Text, labelling: Option<(u32, u8, Rules)>) {
+    let Some((nodes, workers, rules)) = labelling else {
+        return;
+    };
+    let year = year(rules);
+    write!(out, " {nodes} {workers} {year}")
+}
+
 fn year(rules: Rules) -> u32 {
     match rules {
         Rules::Wording2013 => 2013,
@@ -39,42 +81,16 @@ fn year(rules: Rules) -> u32 {
     }
 }
 
-fn spelled(letter: CentreLetter) -> &'static str {
+fn spelled(letter: CentreLetter) -> char {
     match letter {
-        CentreLetter::R => "R",
-        CentreLetter::S => "S",
-        CentreLetter::SmallR => "r",
-        CentreLetter::SmallS => "s",
+        CentreLetter::R => 'R',
+        CentreLetter::S => 'S',
+        CentreLetter::SmallR => 'r',
+        CentreLetter::SmallS => 's',
     }
 }
 
-// The settings as a line: the command, and the values of its options in the order of the help text.
-fn shown(alloc: Global, settings: Option<Settings>) -> Result<String, AllocError> {
-    let Some(settings) = settings else {
-        return String::from_str(alloc, "refused");
-    };
-    let own = with_own_options(alloc, &settings)?;
-    match labelling(&settings) {
-        Some((nodes, workers, year)) => format!(in alloc; "{own} {nodes} {workers} {year}"),
-        None => Ok(own),
-    }
-}
-
-fn with_own_options(alloc: Global, settings: &Settings) -> Result<String, AllocError> {
-    match settings {
-        Settings::Make { start, records } => format!(in alloc; "make {start} {records}"),
-        Settings::Trial { start, records, .. } => format!(in alloc; "trial {start} {records}"),
-        Settings::Set {
-            number,
-            atom,
-            letter,
-            ..
-        } => format!(in alloc; "set {number} {atom} {}", spelled(*letter)),
-        _ => String::from_str(alloc, name_of(settings)),
-    }
-}
-
-fn name_of(settings: &Settings) -> &'static str {
+fn name_of(settings: Settings) -> &'static str {
     match settings {
         Settings::Annotate { .. } => "annotate",
         Settings::Explain { .. } => "explain",
@@ -89,46 +105,45 @@ fn name_of(settings: &Settings) -> &'static str {
 }
 
 // The bound, the workers and the wording of a command that labels.
-fn labelling(settings: &Settings) -> Option<(u32, u8, u32)> {
-    let (nodes, workers, rules) = match settings {
+fn labelling(settings: Settings) -> Option<(u32, u8, Rules)> {
+    match settings {
         Settings::Annotate {
             nodes,
             workers,
             rules,
-        } => (nodes, workers, rules),
-        Settings::Explain {
+        }
+        | Settings::Explain {
             nodes,
             workers,
             rules,
-        } => (nodes, workers, rules),
-        Settings::Mirror {
+        }
+        | Settings::Mirror {
             nodes,
             workers,
             rules,
-        } => (nodes, workers, rules),
-        Settings::Groups {
+        }
+        | Settings::Groups {
             nodes,
             workers,
             rules,
-        } => (nodes, workers, rules),
-        Settings::Axes {
+        }
+        | Settings::Axes {
             nodes,
             workers,
             rules,
-        } => (nodes, workers, rules),
-        Settings::Trial {
-            nodes,
-            workers,
-            rules,
-            ..
-        } => (nodes, workers, rules),
-        Settings::Set {
+        }
+        | Settings::Trial {
             nodes,
             workers,
             rules,
             ..
-        } => (nodes, workers, rules),
-        Settings::Make { .. } | Settings::Help => return None,
-    };
-    Some((*nodes, *workers, year(*rules)))
+        }
+        | Settings::Set {
+            nodes,
+            workers,
+            rules,
+            ..
+        } => Some((nodes, workers, rules)),
+        Settings::Make { .. } | Settings::Help => None,
+    }
 }

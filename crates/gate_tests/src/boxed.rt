@@ -60,38 +60,64 @@ fn stand(
     plain_order(alloc, tree, rules, a, b)
 }
 
-// How many nodes there are, and how two neighbours of the root stand.
-fn told(
+// Writes how many nodes there are, and how two neighbours of the root stand.
+fn tell(
     alloc: Global,
+    text: &mut String,
     tree: &PlainTree,
     rules: Rules,
     vertices: (u32, u32),
-) -> Result<String, AllocError> {
+) -> Result<(), AllocError> {
     let Some(count) = tree.node_count() else {
-        return format!(in alloc; "too many nodes");
+        return text.push_str("too many nodes");
     };
+    write!(text, "{count} nodes, ")?;
+    push_order(alloc, text, tree, rules, vertices)
+}
+
+fn push_order(
+    alloc: Global,
+    text: &mut String,
+    tree: &PlainTree,
+    rules: Rules,
+    vertices: (u32, u32),
+) -> Result<(), AllocError>
+    requires few { node_count tree.now < 2 ^ 32 }
+{
     let nodes = tree.flat()?;
-    let (Some(a), Some(b)) = (place_of(&nodes, vertices.0), place_of(&nodes, vertices.1)) else {
-        return format!(in alloc; "no neighbours");
-    };
+    match (place_of(&nodes, vertices.0), place_of(&nodes, vertices.1)) {
+        (Some(a), Some(b)) => push_stand(alloc, text, tree, rules, (a, b)),
+        _ => text.push_str("no neighbours"),
+    }
+}
+
+fn push_stand(
+    alloc: Global,
+    text: &mut String,
+    tree: &PlainTree,
+    rules: Rules,
+    places: (u32, u32),
+) -> Result<(), AllocError>
+    requires few { node_count tree.now < 2 ^ 32 }
+{
+    let (a, b) = places;
     let neighbours = tree.children().len();
     if a as usize >= neighbours || b as usize >= neighbours {
-        return format!(in alloc; "no children");
+        return text.push_str("no children");
     }
     match stand(alloc, tree, rules, a, b)? {
-        None => format!(in alloc; "{count} nodes, a tie"),
-        Some(decision) => {
-            let side = if decision.side == Ordering::Greater {
-                "higher"
-            } else {
-                "lower"
-            };
-            format!(in alloc;
-                "{count} nodes, {side} by Rule {} in sphere {}",
-                decision.rule, decision.sphere
-            )
-        }
+        None => text.push_str("a tie"),
+        Some(decision) => push_decision(text, decision),
     }
+}
+
+fn push_decision(text: &mut String, decision: Decision) -> Result<(), AllocError> {
+    let Decision { side, rule, sphere } = decision;
+    let side = match side {
+        Ordering::Greater => "higher",
+        _ => "lower",
+    };
+    write!(text, "{side} by Rule {rule} in sphere {sphere}")
 }
 
 // The atom keys of the root's children, ascending, each six times an atomic number.
@@ -177,12 +203,14 @@ fn digraphs_in_boxes_decide_by_constitution(rt: HostRuntime) -> Result<(), Fail>
         (b"CCCC", &TETRAHEDRANE, 4, (1, 2), "50 nodes, a tie"),
         (b"C", &[], 1, (1, 2), "5 nodes, a tie"),
     ];
+    let mut text = String::new(alloc);
     for (symbols, ends, sphere, vertices, want) in cases {
         let Some(tree) = boxed(alloc, symbols, ends, sphere)? else {
             panic!(rt; "no molecule");
         };
-        let answer = told(alloc, &tree, Rules::Wording2013, vertices)?;
-        assert_eq!(rt; answer.as_str(), want, "{want}");
+        text.clear();
+        tell(alloc, &mut text, &tree, Rules::Wording2013, vertices)?;
+        assert_eq!(rt; text.as_str(), want, "{want}");
     }
     Ok(())
 }

@@ -34,14 +34,15 @@ struct Bonding<'a> {
     units: &'a MarkedUnits<'a>,
 }
 
-// How the ligands of atom 0 are settled, and what the arena then holds.
+// Writes how the ligands of atom 0 are settled, and what the arena then holds.
 fn settled<L: Ledger>(
     alloc: Global,
+    text: &mut String,
     blank: Blank,
     bonding: &Bonding<'_>,
     ligands: &[Ligand],
     bound: u32,
-) -> Result<String, AllocError>
+) -> Result<(), AllocError>
     requires name { blank.name ≡ L.name }
     requires parts { blank.parts ≡ L.parts }
     requires one { 0 < blank.parts }
@@ -65,47 +66,84 @@ fn settled<L: Ledger>(
     );
     // given back by a call of its own: written out at the end of this function it takes minutes to prove
     drop(work);
-    format!(in alloc;
-        "{settled:?}, sphere {}, {} nodes",
-        arena.sphere(),
-        arena.len()
-    )
+    write!(text, "{settled:?}, ")?;
+    push_arena(text, &arena)
+}
+
+fn push_arena(text: &mut String, arena: &Arena) -> Result<(), AllocError> {
+    let sphere = arena.sphere();
+    let nodes = arena.len();
+    write!(text, "sphere {sphere}, {nodes} nodes")
 }
 
 // The same for a molecule with at most one unit, each ligand by its vertex.
-fn told(
+fn tell(
     alloc: Global,
-    symbols: &[u8],
-    ends: Ends<'_>,
+    text: &mut String,
+    drawn: Drawn<'_>,
+    unit: Option<u32>,
+    bound: u32,
+) -> Result<(), AllocError>
+    requires atoms { length drawn.0.now ≤ 16384 }
+    requires bonds { length drawn.1.now ≤ 32768 }
+{
+    let (symbols, ends, vertices) = drawn;
+    match graph(alloc, symbols, ends)? {
+        Some(graph) => tell_graph(alloc, text, &graph, vertices, unit, bound),
+        None => text.push_str("no molecule"),
+    }
+}
+
+fn tell_graph(
+    alloc: Global,
+    text: &mut String,
+    graph: &Graph,
     vertices: &[u32],
     unit: Option<u32>,
     bound: u32,
-) -> Result<String, AllocError>
-    requires atoms { length symbols.now ≤ 16384 }
-    requires bonds { length ends.now ≤ 32768 }
-{
-    let Some(graph) = graph(alloc, symbols, ends)? else {
-        return format!(in alloc; "no molecule");
-    };
+) -> Result<(), AllocError> {
     if graph.vertices().is_empty() || bound == 0 {
-        return format!(in alloc; "no room");
+        return text.push_str("no room");
     }
-    let positions = positions(alloc, &graph)?;
+    let positions = positions(alloc, graph)?;
+    let units = units_at(alloc, unit)?;
+    let marked = MarkedUnits::of(alloc, units.as_slice(), graph.vertices().len() as u32)?;
+    let bonding = Bonding {
+        graph,
+        positions: &positions,
+        units: &marked,
+    };
+    tell_settled(alloc, text, &bonding, vertices, bound)
+}
+
+fn units_at(alloc: Global, unit: Option<u32>) -> Result<Vec<Unit>, AllocError> {
     let mut units = Vec::new(alloc);
     if let Some(atom) = unit {
         units.push(unit_at(alloc, atom))?;
     }
+    Ok(units)
+}
+
+fn tell_settled(
+    alloc: Global,
+    text: &mut String,
+    bonding: &Bonding<'_>,
+    vertices: &[u32],
+    bound: u32,
+) -> Result<(), AllocError>
+    requires root { 0 < length bonding.now.graph.now.vertices }
+    requires bound { 0 < bound }
+{
+    let ligands = ligands_of(alloc, vertices)?;
+    settled::<Brand>(alloc, text, Blank::new(1), bonding, &ligands, bound)
+}
+
+fn ligands_of(alloc: Global, vertices: &[u32]) -> Result<Vec<Ligand>, AllocError> {
     let mut ligands = Vec::new(alloc);
     for vertex in vertices {
         ligands.push(Ligand::Vertex(*vertex))?;
     }
-    let marked = MarkedUnits::of(alloc, units.as_slice(), symbols.len() as u32)?;
-    let bonding = Bonding {
-        graph: &graph,
-        positions: &positions,
-        units: &marked,
-    };
-    settled::<Brand>(alloc, Blank::new(1), &bonding, ligands.as_slice(), bound)
+    Ok(ligands)
 }
 
 // A molecule, and the ligands of its first atom.
@@ -127,9 +165,11 @@ fn digraphs_are_grown_as_far_as_needed(rt: HostRuntime) -> Result<(), Fail> {
         (anion, Some(2), 16, "Over, sphere 2, 12 nodes"),
         (lone, None, 5, "Tied, sphere 1, 5 nodes"),
     ];
-    for ((symbols, ends, ligands), unit, bound, want) in cases {
-        let answer = told(alloc, symbols, ends, ligands, unit, bound)?;
-        assert_eq!(rt; answer.as_str(), want, "{want}");
+    let mut text = String::new(alloc);
+    for (drawn, unit, bound, want) in cases {
+        text.clear();
+        tell(alloc, &mut text, drawn, unit, bound)?;
+        assert_eq!(rt; text.as_str(), want, "{want}");
     }
     Ok(())
 }

@@ -1,8 +1,9 @@
 ghost use Rattle.std.specs.Prelude.{◌≡◌, ◌≤◌, All, IfOk, length};
 ghost use Rattle.cip_mol.specs.Ranges.{IsBond};
+ghost use Rattle.cip_digraph.specs.graph.DrawnGraph.{graph_of};
 
 use crate::molecules::{atoms_of, bond};
-use cip_digraph::{Graph, Positions, Units};
+use cip_digraph::{Graph, Positions};
 use cip_hydro::graph_of;
 use cip_mancude::positions;
 use cip_mol::{Bond, Ligand, Ligands, Molecule, Site, Unit};
@@ -31,52 +32,67 @@ fn bonds_of(alloc: Global, words: &[&str]) -> Result<Vec<Bond>, AllocError>
     words.iter().map(|word| bond_of(word)).collect(alloc)
 }
 
-// How many vertices and edges a molecule's graph has, the positions of an atom, how many atoms the smallest ring
+// Writes how many vertices and edges a molecule's graph has, the positions of an atom, how many atoms the smallest ring
 // through its first bond has, and its units.
-fn told(alloc: Global, symbols: &[u8], words: &[&str], atom: u32) -> Result<String, AllocError>
+fn tell(
+    alloc: Global,
+    text: &mut String,
+    symbols: &[u8],
+    words: &[&str],
+    atom: u32,
+) -> Result<(), AllocError>
     requires atoms { length symbols.now ≤ 16384 }
     requires bonds { length words.now ≤ 32768 }
 {
     let atoms = atoms_of(alloc, symbols)?;
     let bonds = bonds_of(alloc, words)?;
-    let Ok(molecule) = Molecule::new(alloc, atoms, bonds) else {
-        return Ok(String::new(alloc));
-    };
-    let graph = graph_of(alloc, &molecule)?;
+    let made = Molecule::new(alloc, atoms, bonds);
+    match &made {
+        Ok(molecule) => push_molecule(alloc, text, molecule, atom),
+        Err(_) => Ok(()),
+    }
+}
+
+fn push_molecule(
+    alloc: Global,
+    text: &mut String,
+    molecule: &Molecule,
+    atom: u32,
+) -> Result<(), AllocError> {
+    let graph = graph_of(alloc, molecule)?;
     let positions = positions(alloc, &graph)?;
-    let units = units(alloc, &molecule, &graph, &positions)?;
-    format!(in alloc;
-        "{} {}; {}; {}; {}",
-        graph.vertices().len(),
-        graph.edges().len(),
-        positions_text(alloc, &graph, &positions, atom)?,
-        first_ring(alloc, &graph)?,
-        units_text(alloc, &units)?
-    )
+    push_graph(text, &graph)?;
+    push_positions(text, &graph, positions.of(atom))?;
+    push_first_ring(alloc, text, &graph)?;
+    push_units(alloc, text, molecule, &graph, &positions)
+}
+
+fn push_graph(text: &mut String, graph: &Graph) -> Result<(), AllocError> {
+    let vertices = graph.vertices().len();
+    let edges = graph.edges().len();
+    write!(text, "{vertices} {edges}; ")
 }
 
 // The positions of an atom, and six times the mean of their atomic numbers.
-fn positions_text(
-    alloc: Global,
-    graph: &Graph,
-    positions: &Positions,
-    atom: u32,
-) -> Result<String, AllocError> {
-    let mut text = String::new(alloc);
-    let mut sum = 0_u32;
-    let list = positions.of(atom);
-    for position in list {
-        text.push_str(format!(in alloc; "{position} ")?.as_str())?;
+fn push_positions(text: &mut String, graph: &Graph, positions: &[u32]) -> Result<(), AllocError> {
+    let (mut sum, mut count) = (0_u32, 0_u32);
+    for position in positions {
+        count = count.saturating_add(1);
+        write!(text, "{position} ")?;
         if let Some(vertex) = graph.vertices().get(*position as usize) {
             sum = sum.saturating_add(6 * u32::from(vertex.z));
         }
     }
-    let mean = sum.checked_div(list.len() as u32).unwrap_or(0);
-    text.push_str(format!(in alloc; "{mean}")?.as_str())?;
-    Ok(text)
+    let mean = sum.checked_div(count).unwrap_or(0);
+    write!(text, "{mean}; ")
 }
 
 // How many atoms the smallest ring through the first edge has; 0 where there is none.
+fn push_first_ring(alloc: Global, text: &mut String, graph: &Graph) -> Result<(), AllocError> {
+    let ring = first_ring(alloc, graph)?;
+    write!(text, "{ring}; ")
+}
+
 fn first_ring(alloc: Global, graph: &Graph) -> Result<u32, AllocError> {
     if graph.edges().is_empty() {
         return Ok(0);
@@ -84,28 +100,36 @@ fn first_ring(alloc: Global, graph: &Graph) -> Result<u32, AllocError> {
     Ok(smallest_ring(alloc, graph, 0)?.unwrap_or(0))
 }
 
-fn units_text(alloc: Global, units: &Units) -> Result<String, AllocError> {
-    let mut text = String::new(alloc);
+fn push_units(
+    alloc: Global,
+    text: &mut String,
+    molecule: &Molecule,
+    graph: &Graph,
+    positions: &Positions,
+) -> Result<(), AllocError>
+    requires { graph.now ≡ graph_of molecule.now }
+{
+    let units = units(alloc, molecule, graph, positions)?;
     for unit in units.list() {
-        text.push_str(unit_text(alloc, unit)?.as_str())?;
+        push_unit(text, unit)?;
     }
-    Ok(text)
+    Ok(())
 }
 
-fn unit_text(alloc: Global, unit: &Unit) -> Result<String, AllocError> {
+fn push_unit(text: &mut String, unit: &Unit) -> Result<(), AllocError> {
     match &unit.site {
-        Site::Centre { at, ligands } => { format!(in alloc; "{at}({})", listed(alloc, ligands)?) }
+        Site::Centre { at, ligands } => {
+            write!(text, "{at}")?;
+            push_ligands(text, ligands)
+        }
         Site::Bond {
             a,
             b,
             first,
             second,
         } => {
-            format!(in alloc;
-                "{a}={b}({})({})",
-                listed(alloc, first)?,
-                listed(alloc, second)?
-            )
+            write!(text, "{a}={b}")?;
+            push_both(text, first, second)
         }
         Site::Axis {
             a,
@@ -114,24 +138,27 @@ fn unit_text(alloc: Global, unit: &Unit) -> Result<String, AllocError> {
             first,
             second,
         } => {
-            format!(in alloc;
-                "{a}={middle}={b}({})({})",
-                listed(alloc, first)?,
-                listed(alloc, second)?
-            )
+            write!(text, "{a}={middle}={b}")?;
+            push_both(text, first, second)
         }
     }
 }
 
-fn listed(alloc: Global, ligands: &Ligands) -> Result<String, AllocError> {
-    let mut text = String::new(alloc);
+fn push_both(text: &mut String, first: &Ligands, second: &Ligands) -> Result<(), AllocError> {
+    push_ligands(text, first)?;
+    push_ligands(text, second)
+}
+
+// Ligands in brackets, a space behind each.
+fn push_ligands(text: &mut String, ligands: &Ligands) -> Result<(), AllocError> {
+    text.push('(')?;
     for ligand in ligands.as_slice() {
         match ligand {
-            Ligand::Vertex(vertex) => text.push_str(format!(in alloc; "{vertex} ")?.as_str())?,
+            Ligand::Vertex(vertex) => write!(text, "{vertex} ")?,
             Ligand::LonePair => text.push_str("e ")?,
         }
     }
-    Ok(text)
+    text.push(')')
 }
 
 // A molecule by its atoms and bonds, an atom of it, and what is told of them.
@@ -229,11 +256,14 @@ const CASES: &[Case] = &[
 fn small_molecules_have_their_graphs_rings_positions_and_units(
     rt: HostRuntime,
 ) -> Result<(), Fail> {
+    let alloc = rt.alloc();
+    let mut text = String::new(alloc);
     for case in CASES {
         let (atoms, bonds) = (case.atoms.as_bytes(), case.bonds);
         assert!(rt; atoms.len() <= 16_384 && bonds.len() <= 32_768);
-        let told = told(rt.alloc(), atoms, bonds, case.atom)?;
-        assert_eq!(rt; told.as_str(), case.told, "{}", case.name);
+        text.clear();
+        tell(alloc, &mut text, atoms, bonds, case.atom)?;
+        assert_eq!(rt; text.as_str(), case.told, "{}", case.name);
     }
     Ok(())
 }
