@@ -15,7 +15,7 @@ use crate::units::FurtherUnits;
 use cip_digraph::{Edge, Graph, Positions};
 use cip_mol::Molecule;
 use cip_orient::orient;
-use cip_ring::{VertexSet, is_in_ring};
+use cip_ring::{VertexSet, is_in_ring, is_in_small_ring};
 use cip_unit::{end_ligands, has_end_bonds, outer_count};
 use std::alloc::{AllocError, Global};
 
@@ -78,8 +78,9 @@ fn biaryl_unit(alloc: Global, molecule: &Molecule, graph: &Graph, a: u32, b: u32
     FurtherUnit { site, geometry }
 }
 
-// Most bonds between such atoms lie in rings, and a search ends where it closes one. Hindered neighbours, which take
-// walks round alternating rings, are looked for last.
+// Most bonds between such atoms lie in small rings, which are found in a few steps. For others hindered neighbours, which
+// take walks round alternating rings, are looked for before a large ring: that search may go through a whole side of the
+// molecule.
 #[tactic(auto, unfolding(crate::specs::Biaryls::is_biaryl))]
 fn is_biaryl(
     alloc: Global,
@@ -95,6 +96,9 @@ fn is_biaryl(
         return Ok(false);
     }
     let b = edge.other_end(a);
+    if !is_in_small_ring(graph, a, b, reached)? && !are_three_hindered(alloc, graph, a, b) {
+        return Ok(false);
+    }
     if is_in_ring(graph, a, b, reached)? {
         return Ok(false);
     }

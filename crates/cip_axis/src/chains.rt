@@ -29,8 +29,8 @@ pub fn chain_over(alloc: Global, graph: &Graph, a: u32, next: u32) -> Result<Vec
     Ok(chain)
 }
 
-// Whether one double bond leads on.
-fn leads_on(graph: &Graph, before: u32, at: u32) -> bool
+/// Whether one double bond leads on from an atom that a chain comes to.
+pub fn leads_on(graph: &Graph, before: u32, at: u32) -> bool
     ensures { result ≡ leads_on graph.now before at }
 {
     is_allene_middle(graph, at) && onward_count(graph, before, at) == 1

@@ -8,7 +8,7 @@ ghost use Rattle.cip_axis.specs.Further.{cumulene_geometry, cumulene_site, cumul
 ghost use Rattle.cip_axis.specs.Likeness.{like};
 ghost use Rattle.cip_axis.specs.Listing.{IsGraphOf, can_be_cumulene, cumulenes_along, first_in_ring, one_cumulene};
 
-use crate::chains::chain_over;
+use crate::chains::{chain_over, leads_on};
 use crate::likeness::like;
 use crate::site::{FurtherSite, FurtherUnit};
 use crate::source::Source;
@@ -76,6 +76,10 @@ fn push_over(
         (units.new ≡ units.old
         ++ one_cumulene source.now.molecule.now source.now.graph.now (chain_over source.now.graph.now a next)) }
 {
+    // Most double bonds lead no further: for these no chain is made.
+    if !leads_on(source.graph, a, next) {
+        return Ok(());
+    }
     // Reading the vertices tells that there are few.
     let _count = source.graph.vertices().len();
     let chain = chain_over(alloc, source.graph, a, next)?;

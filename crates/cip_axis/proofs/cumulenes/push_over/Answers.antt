@@ -1,5 +1,6 @@
-use Rattle.std.proofs.Common.{◌≡◌, ◌∙◌, ◌<◌, ap, arith, length, subst, sym, true}
+use Rattle.std.proofs.Common.{◌≡◌, ◌∙◌, ◌<◌, ◌++◌, ap, arith, length, subst, sym, true}
 use Rattle.std.specs.List.{All, AllByRecursion}
+use Rattle.std.proofs.lemmas.List.{append-nil}
 use Rattle.std.proofs.lemmas.List.Elements.{All-from_recursion}
 use Rattle.cip_mol.specs.Sites.{IsSite}
 use Rattle.cip_ring.specs.AnyRings.{is_in_ring}
@@ -8,9 +9,18 @@ use Rattle.cip_axis.specs.Further.{cumulene_site}
 use Rattle.cip_axis.specs.Likeness.{like}
 use Rattle.cip_axis.specs.Listing.{first_in_ring}
 use Rattle.cip_axis.proofs.ChainRings.{chain_rings}
+use Rattle.cip_axis.proofs.Chained.{short_none}
 use Rattle.cip_axis.proofs.Drawn.{chain_below, chain_short}
 use Rattle.cip_axis.proofs.Sited.{cumulene_shown}
 use Rattle.cip_axis.proofs.cumulenes.push_over.Goals as goal
+
+pub returns-then-not-leads_on : goal.returns-then-not-leads_on
+returns-then-not-leads_on c =
+    let source = c.args.source.now in
+    let units = c.args.units.now in
+    sym (ap (λ more. units ++ more)
+    (short_none source.molecule.now source.graph.now c.args.a c.args.next (sym c.if-not-leads_on.ensures))
+    ∙ append-nil units)
 
 pub is_cumulene-requires : goal.is_cumulene-requires
 is_cumulene-requires c =
