@@ -68,7 +68,13 @@ fn set_positions(
     ensures { OnOk result (positions.new ≡ slice_set positions.old vertex (positions_at alternation.now vertex)) }
 {
     if let Some(partner) = alternation.partner(vertex) {
-        set_list(alloc, alternation, Double { vertex, partner }, reached, positions)?;
+        set_list(
+            alloc,
+            alternation,
+            Double { vertex, partner },
+            reached,
+            positions,
+        )?;
     }
     Ok(())
 }
