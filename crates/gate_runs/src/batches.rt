@@ -173,7 +173,8 @@ impl<'a> Job for Noted<'a> {
     }
 }
 
-// What four jobs weigh, and who does them: the worker who has the least so far, the first of two who have the same.
+// What four jobs weigh, and who does them: the worker who has the least so far, the first of two who have the same. The
+// last one needs no thread of its own and begins with 0, the other with 5, a quarter of a share.
 #[test]
 fn jobs_are_dealt_by_weight(rt: HostRuntime) -> Result<(), Fail> {
     let desks = [
@@ -183,9 +184,9 @@ fn jobs_are_dealt_by_weight(rt: HostRuntime) -> Result<(), Fail> {
         AtomicU64::new(9),
     ];
     deal_to_two(&rt, rt.alloc(), &desks)?;
-    assert_eq!(rt; desks[0].load(Ordering::SeqCst), 0);
-    assert_eq!(rt; desks[1].load(Ordering::SeqCst), 1);
-    assert_eq!(rt; desks[2].load(Ordering::SeqCst), 1);
+    assert_eq!(rt; desks[0].load(Ordering::SeqCst), 1);
+    assert_eq!(rt; desks[1].load(Ordering::SeqCst), 0);
+    assert_eq!(rt; desks[2].load(Ordering::SeqCst), 0);
     assert_eq!(rt; desks[3].load(Ordering::SeqCst), 0);
     Ok(())
 }
@@ -196,10 +197,10 @@ fn deal_to_two<R: Threads + Sync>(
     desks: &[AtomicU64; 4],
 ) -> Result<(), AllocError> {
     let jobs = [
-        weighing(2, &desks[0]),
-        weighing(1, &desks[1]),
-        weighing(1, &desks[2]),
-        weighing(1, &desks[3]),
+        weighing(20, &desks[0]),
+        weighing(10, &desks[1]),
+        weighing(5, &desks[2]),
+        weighing(10, &desks[3]),
     ];
     let mut workers = [Worker::new(alloc, 0), Worker::new(alloc, 1)];
     map_batch(rt, alloc, &jobs, &mut workers, &Open)?;
