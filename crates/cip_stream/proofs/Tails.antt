@@ -177,3 +177,11 @@ no_read_fault manner number records rest stops.ReadFault old new answers is = an
 no_read_fault manner number records rest stops.Memory old new answers is = absurd (cc)
 no_read_fault manner number records rest stops.WriteFault old new answers is = absurd (cc)
 no_read_fault manner number records rest stops.Limit old new answers is = absurd answers
+
+pub never_read_fault : {N : Type 0} (manner : Manner N) (number : ℕ) (records : List (List ℕ)) (stop : Stop)
+    (old new : Option (List ℕ)) → Answers manner number records (Err stop) old new
+    → failed {N = N} stop ≡ failed {N = N} stops.ReadFault → ⊥
+never_read_fault manner number records stops.ReadFault old new answers is = answers
+never_read_fault manner number records stops.Memory old new answers is = absurd (cc)
+never_read_fault manner number records stops.WriteFault old new answers is = absurd (cc)
+never_read_fault manner number records stops.Limit old new answers is = absurd answers
