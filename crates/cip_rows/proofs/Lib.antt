@@ -4,6 +4,7 @@ pub mod FamilyColumn
 pub mod PartedAlike
 pub mod PartedClass
 pub mod PartedPair
+pub mod PartedRows
 pub mod PartedSphere
 pub mod RefinedSphere
 pub mod Stirred

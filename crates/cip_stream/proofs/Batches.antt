@@ -2,6 +2,7 @@
 use Rattle.std.proofs.Common.{◌≡◌, ◌<◌, ◌+◌, arith, ℕ, zero, suc, List, [], ◌∷◌, ◌++◌, length, map, take, drop, Option, Result, Ok, Err, refl, Bool, ◌||◌, true, false, Some, None, sym, ◌∙◌, ap, add-zero, append_assoc, append-nil, length-append, subst, get_or}
 use Rattle.std.proofs.Math.Seq.{take-length}
 use Rattle.std.proofs.lemmas.List.{length-map, length-take-le, map-append, take_more, take-append-drop}
+use Rattle.std.specs.Result.{OnOk}
 use Rattle.std.specs.Io.KnownBytes.{Appends}
 use Rattle.cip_stream.specs.declared.stop.Stop.{Stop}
 use Rattle.cip_stream.specs.declared.verdict.Verdict.{Verdict}
@@ -9,7 +10,7 @@ use Rattle.cip_stream.specs.Manner.{Manner}
 use Rattle.cip_stream.specs.Verdicts.{clear, first_note, joined}
 use Rattle.cip_stream.specs.Due.{verdict_from, texts_from}
 use Rattle.cip_stream.specs.Endings.{GrewFrom}
-use Rattle.cip_stream.specs.Batches.{Advances, Answers, Telling, telling, told_from}
+use Rattle.cip_stream.specs.Batches.{Advances, Answers, AnswersFirst, Gathered, Telling, telling, told_from}
 use Rattle.cip_io.specs.Growth.{AppendsPrefix, TakesFront}
 use Rattle.cip_io.proofs.Growth.{appends_none, appends_both, prefix_behind, prefix_longer}
 use Rattle.cip_stream.proofs.Growing.{told_both, verdict_both, texts_both, joined_result, answers_longer, answers_behind}
@@ -35,6 +36,30 @@ pub no_memory : {N : Type 0} (manner : Manner N) (number : ℕ) (records : List 
     → GrewFrom manner number records old old
 no_memory manner number records old =
     record { before = []; front = record { more = records; joined = refl }; written = appends_none old }
+
+-- a whole batch was answered, and none waits any more
+all_answered : {N T : Type 0} (tells : T → Manner N) (before now : Gathered T) (result : Result (Verdict N) Stop)
+    (old new : Option (List ℕ))
+    → OnOk result (now ≡ record before { first = before.first + length before.records; records = [] })
+    → Answers (tells before.teller) before.first before.records result old new
+    → AnswersFirst (tells before.teller) before.first before.records now.first now.records result old new
+all_answered {T = T} tells before now (Ok verdict) old new emptied answers = record {
+  answered = before.records;
+  parts = ap (λ (batch : Gathered T). before.records ++ batch.records) emptied ∙ append-nil before.records;
+  next = ap (λ (batch : Gathered T). batch.first) emptied;
+  told = answers.holds;
+  written = answers.written;
+}
+all_answered tells before now (Err stop) old new emptied answers = answers
+
+pub batch_answered : {N T : Type 0} (tells : T → Manner N) (batch before now : Gathered T) (result : Result (Verdict N) Stop)
+    (old new : Option (List ℕ)) → before ≡ batch
+    → OnOk result (now ≡ record before { first = before.first + length before.records; records = [] })
+    → Answers (tells before.teller) before.first before.records result old new
+    → AnswersFirst (tells batch.teller) batch.first batch.records now.first now.records result old new
+batch_answered {T = T} tells batch before now result old new same emptied answers =
+    subst (λ (b : Gathered T). AnswersFirst (tells b.teller) b.first b.records now.first now.records result old new) same
+    (all_answered tells before now result old new emptied answers)
 
 -- one more record came into a batch, whose jobs tell what is due for them
 pub told_pushed : {N : Type 0} {W : Type 0} (manner : Manner N) (first : ℕ) (tells : W → Telling N) (bytes_of : W → List ℕ)

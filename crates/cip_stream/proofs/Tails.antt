@@ -101,6 +101,21 @@ last_answered manner number records rest last result old new is answers =
     (subst (λ xs. Answers manner number xs result old new) all answers)
     (no_blank_by manner rest manner.keeps_blank refl some)
 
+-- nothing
+
+no_blank : {N : Type 0} (manner : Manner N) (k : Bool) → manner.keeps_blank ≡ k → blank_of manner [] ≡ []
+no_blank manner true k = rw k refl
+no_blank manner false k = rw k refl
+
+pub none_behind : {N : Type 0} (manner : Manner N) (number : ℕ) (records : List (List ℕ)) (rest : List ℕ)
+    (result : Result (Verdict N) Stop) (old new : Option (List ℕ)) → Nothing ≡ tail_of rest
+    → Answers manner number records result old new → AnswersTail manner number records rest result old new
+none_behind manner number records rest result old new is answers =
+    subst (λ bytes. AnswersTail manner number records bytes result old new) (ap bytes_of is ∙ bytes_are rest)
+    (answered_so manner number records [] result old new
+    (subst (λ xs. Answers manner number xs result old new) (sym (append-nil records)) answers)
+    (no_blank manner manner.keeps_blank refl))
+
 -- blank lines
 
 blank_lines : (rest bytes : List ℕ) → Blank bytes ≡ tail_of rest → is_blank_text rest ≡ true
@@ -162,3 +177,11 @@ no_read_fault manner number records rest stops.ReadFault old new answers is = an
 no_read_fault manner number records rest stops.Memory old new answers is = absurd (cc)
 no_read_fault manner number records rest stops.WriteFault old new answers is = absurd (cc)
 no_read_fault manner number records rest stops.Limit old new answers is = absurd answers
+
+pub never_read_fault : {N : Type 0} (manner : Manner N) (number : ℕ) (records : List (List ℕ)) (stop : Stop)
+    (old new : Option (List ℕ)) → Answers manner number records (Err stop) old new
+    → failed {N = N} stop ≡ failed {N = N} stops.ReadFault → ⊥
+never_read_fault manner number records stops.ReadFault old new answers is = answers
+never_read_fault manner number records stops.Memory old new answers is = absurd (cc)
+never_read_fault manner number records stops.WriteFault old new answers is = absurd (cc)
+never_read_fault manner number records stops.Limit old new answers is = absurd answers

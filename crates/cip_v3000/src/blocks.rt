@@ -1,12 +1,12 @@
 // The blocks of a molfile.
-ghost use Rattle.std.specs.Prelude.{◌≡◌, ◌≤◌, ◌<◌, ◌+◌, ◌-◌, ◌^◌, [], All, drop, length, map, IfOk};
+ghost use Rattle.std.specs.Prelude.{◌≡◌, ◌≤◌, ◌<◌, ◌+◌, ◌-◌, ◌^◌, [], All, drop, length, map, IfOk, OnOk};
 ghost use Rattle.std.specs.List.{list_any};
 ghost use Rattle.cip_text.specs.Kinds.{is_molecule_end};
 ghost use Rattle.cip_text.specs.Slices.{texts};
 ghost use Rattle.cip_mol.specs.Ranges.{IsAtom, IsBond};
 ghost use Rattle.cip_reading.specs.Reading.{Gives};
 ghost use Rattle.cip_v3000.specs.Blocks.{seen_atoms, seen_bonds};
-ghost use Rattle.cip_v3000.specs.Grammar.{atom_block, bond_rows, framed_bonds, has_bond_block, bond_block, behind_block, table_end, molecule_end};
+ghost use Rattle.cip_v3000.specs.Grammar.{atom_block, atom_row, bond_row, bond_rows, framed_bonds, has_bond_block, bond_block, behind_block, table_end, molecule_end};
 ghost use Rattle.cip_v3000.specs.Joining.{seen, seen_all, IsNumbered};
 
 use crate::frames::FrameLine;
@@ -43,14 +43,33 @@ pub fn atom_block(
     ensures range { IfOk result (λ block. All IsAtom block.atoms.items) }
     ensures counted { IfOk result (λ block. (length block.atoms.items ≡ count) × (length block.indices ≡ count)) }
 {
-    let mut indices = Indices::new(alloc);
-    let mut atoms = Vec::with_capacity(alloc, count as usize)?;
+    let mut block = AtomBlock {
+        indices: Indices::new(alloc),
+        atoms: Vec::with_capacity(alloc, count as usize)?,
+    };
     for row in 0..count as usize {
-        let line = atom_line(alloc, joined, 3 + row, &indices)?;
-        indices.push(line.index)?;
-        atoms.push(line.atom)?;
+        read_atom(alloc, joined, row, &mut block)?;
     }
-    Ok(AtomBlock { indices, atoms })
+    Ok(block)
+}
+
+// Puts the atom of a row behind those before it.
+fn read_atom(
+    alloc: Global,
+    joined: &JoinedLines<'_>,
+    row: usize,
+    block: &mut AtomBlock,
+) -> Result<(), ReadRefusal>
+    requires { row < 16384 }
+    ensures value { Gives (λ _. seen_atoms block.new) result (atom_row (seen_all joined.now) (seen_atoms block.old) row) }
+    ensures range { OnOk result (All IsAtom block.old.atoms.items → All IsAtom block.new.atoms.items) }
+    ensures counted { OnOk result ((length block.new.atoms.items ≡ length block.old.atoms.items + 1)
+        × (length block.new.indices ≡ length block.old.indices + 1)) }
+{
+    let line = atom_line(alloc, joined, 3 + row, &block.indices)?;
+    block.indices.push(line.index)?;
+    block.atoms.push(line.atom)?;
+    Ok(())
 }
 
 /// Whether there is a bond block at a place. It may be missing where there are no bonds.
@@ -209,12 +228,41 @@ fn bond_rows(
     ensures range { IfOk result (λ block. All IsBond block.bonds.bonds) }
     ensures counted { IfOk result (λ block. length block.bonds.bonds ≡ count) }
 {
-    let mut indices = Indices::new(alloc);
-    let mut bonds = BondList::new(alloc, atoms.len())?;
+    let mut block = no_bonds(alloc, atoms)?;
     for row in 0..count as usize {
-        let line = bond_line(alloc, joined, first + row, atoms, &indices, &bonds)?;
-        indices.push(line.index)?;
-        bonds.push(line.bond)?;
+        read_bond(alloc, joined, atoms, first, row, &mut block)?;
     }
-    Ok(BondBlock { indices, bonds })
+    Ok(block)
+}
+
+// Puts the bond of a row behind those before it.
+fn read_bond(
+    alloc: Global,
+    joined: &JoinedLines<'_>,
+    atoms: &Indices,
+    first: usize,
+    row: usize,
+    block: &mut BondBlock,
+) -> Result<(), ReadRefusal>
+    requires few { length atoms.now ≤ 16384 }
+    requires first { first ≤ 16389 }
+    requires row { row < 32768 }
+    requires among { block.old.bonds.atoms ≡ length atoms.now }
+    ensures value { Gives (λ _. seen_bonds block.new) result
+        (bond_row (seen_all joined.now) atoms.now first (seen_bonds block.old) row) }
+    ensures among { OnOk result (block.new.bonds.atoms ≡ length atoms.now) }
+    ensures range { OnOk result (All IsBond block.old.bonds.bonds → All IsBond block.new.bonds.bonds) }
+    ensures counted { OnOk result (length block.new.bonds.bonds ≡ length block.old.bonds.bonds + 1) }
+{
+    let line = bond_line(
+        alloc,
+        joined,
+        first + row,
+        atoms,
+        &block.indices,
+        &block.bonds,
+    )?;
+    block.indices.push(line.index)?;
+    block.bonds.push(line.bond)?;
+    Ok(())
 }

@@ -1,12 +1,13 @@
 // Single lines of a molfile.
 ghost use Rattle.std.specs.Prelude.{◌≡◌, ◌≤◌, length, IfOk};
-ghost use Rattle.cip_reading.specs.Reading.{Gives};
+ghost use Rattle.cip_reading.specs.Reading.{Gives, numbered};
 ghost use Rattle.cip_v3000.specs.AtomLine.{atom_of, IsAtomLine};
 ghost use Rattle.cip_v3000.specs.BondLine.{bond_of, IsBondLine};
 ghost use Rattle.cip_v3000.specs.CountsLine.{counts_of};
 ghost use Rattle.cip_v3000.specs.Frames.{is_frame};
 ghost use Rattle.cip_v3000.specs.Grammar.{words_in, read_at, frame_at};
 ghost use Rattle.cip_v3000.specs.Joining.{seen, seen_all};
+ghost use Rattle.cip_v3000.specs.Words.{words_of};
 
 use crate::atoms::{AtomLine, atom_in};
 use crate::bonds::{BondLine, bond_in};
@@ -27,8 +28,16 @@ pub fn counts_line(alloc: Global, joined: &JoinedLines<'_>) -> Result<CountsLine
 {
     let line = joined.line(1)?;
     let text = text_of(alloc, &line)?;
-    let words = words(alloc, text.bytes())?;
-    Ok(numbered(line.number, counts_in(&words))?)
+    counts_of(alloc, line.number, text.bytes())
+}
+
+// The same of a line's text, which stays with the caller.
+fn counts_of(alloc: Global, number: u32, text: &[u8]) -> Result<CountsLine, ReadRefusal>
+    ensures value { Gives (λ counts. counts) result (numbered number (counts_of (words_of text.now))) }
+    ensures range { IfOk result (λ counts. (counts.atoms ≤ 16384) × (counts.bonds ≤ 32768)) }
+{
+    let words = words(alloc, text)?;
+    Ok(numbered(number, counts_in(&words))?)
 }
 
 /// Reads the atom line at a place, behind atoms of these indices.

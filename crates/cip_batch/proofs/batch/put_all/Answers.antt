@@ -1,11 +1,25 @@
-use Rattle.std.proofs.Common.{rules}
-use Rattle.std.proofs.lemmas.List.Elements.{All-rest}
+use Rattle.std.proofs.Common.{sym}
+use Rattle.std.proofs.lemmas.List.Elements.{All-head, All-rest, All-same}
 use Rattle.cip_batch.specs.Entries.{IsAnswer}
 use Rattle.cip_batch.proofs.batch.put_all.Goals as goal
 
 pub loop-entry-preserved : goal.loop-entry-preserved
 loop-entry-preserved g c = record {
   entries = All-rest (IsAnswer g.J.Job.answer c.args.jobs.now) c.in-Some.entry c.next.new.self.rest.items
-      c.loop-entry.entry-iterator.rest.items (search rules) c.loop-entry.invariant.entries;
-  found = search rules;
+      c.loop-entry.entry-iterator.rest.items c.in-Some.ensures.steps.0 c.loop-entry.invariant.entries;
+  found = c.put.ensures;
 }
+
+pub put-requires : goal.put-requires
+put-requires g c =
+    let is = IsAnswer g.J.Job.answer c.args.jobs.now in (
+      c.type_bounds.send-J-Out,
+      (
+        c.type_bounds.send-J-Desk,
+        (
+          All-head is c.in-Some.entry c.next.new.self.rest.items
+              (All-same is _ c.loop-entry.entry-iterator.rest.items (sym c.in-Some.ensures.steps.0) c.loop-entry.invariant.entries),
+          c.loop-entry.invariant.found,
+        ),
+      ),
+    )

@@ -2,7 +2,7 @@ use Rattle.std.proofs.Common.{rules, refl, ap, ◌≡◌, ◌<◌, ◌+◌, ◌-
 use Rattle.cip_arena.specs.Growth.{Growth}
 use Rattle.cip_arena.specs.declared.arena.Grown.TheVariants.{Grown, Whole, Over}
 use Rattle.cip_constitution.specs.declared.settling.Settled.TheVariants as settled
-use Rattle.cip_constitution.specs.Settling.{setting_of, Kept, one_if_grown}
+use Rattle.cip_constitution.specs.Settling.{setting_of, Kept, SettledAs, one_if_grown}
 use Rattle.cip_constitution.specs.Following.{Trying, Follows, IsFollowed}
 use Rattle.cip_constitution.specs.Noting.{Notes, IsNoted}
 use Rattle.cip_constitution.proofs.NotedPairs.{noted_first, noted_grown}
@@ -20,26 +20,6 @@ use Rattle.cip_constitution.proofs.Rounds.{
   lazily,
 }
 use Rattle.cip_constitution.proofs.settling.settle.Goals as goal
-
-pub returns-then-all_differ-clause-settled : goal.returns-then-all_differ-clause-settled
-returns-then-all_differ-clause-settled g c =
-    let t = setting_of c.args.rules c.args.graph.now c.args.positions.now c.args.units.now c.args.ligands.now in
-    let is : c.loop-grown.grown ≡ Grown = search rules in
-    let kept = subst (Kept t c.args.arena.now c.loop-grown.arena c.args.steps.now c.loop-grown.steps) is
-    c.loop-grown.invariant.kept in
-    ordered t c.vertices-vertices.ensures.sound c.args.arena.now c.loop-grown.arena c.args.steps.now c.loop-grown.steps
-    c.requires.root kept (sym c.all_differ.ensures ∙ c.if-all_differ.true)
-
-pub returns-then-some_alike-clause-settled : goal.returns-then-some_alike-clause-settled
-returns-then-some_alike-clause-settled g c =
-    let t = setting_of c.args.rules c.args.graph.now c.args.positions.now c.args.units.now c.args.ligands.now in
-    let is : c.loop-grown.grown ≡ Grown = search rules in
-    let kept = subst (Kept t c.args.arena.now c.loop-grown.arena c.args.steps.now c.loop-grown.steps) is
-    c.loop-grown.invariant.kept in
-    tied t c.vertices-vertices.ensures.sound c.args.arena.now c.loop-grown.arena c.args.steps.now c.loop-grown.steps
-    c.requires.root kept
-    (sym c.all_differ.ensures ∙ c.if-all_differ.false)
-    (sym c.some_alike.ensures.result ∙ c.if-some_alike.true)
 
 pub follow-requires-clause-grown : goal.follow-requires-clause-grown
 follow-requires-clause-grown g c =
@@ -69,42 +49,6 @@ loop-grown-smaller g c =
     next.new.steps next.result k.fits k.holds next.ensures.holds next.ensures.fits next.ensures.answer in
     subst (λ r. next.new.self.bound - length next.new.self.nodes + one_if_grown next.result < c.loop-grown.arena.bound
     - length c.loop-grown.arena.nodes + one_if_grown r) (sym is) near
-
-pub returns-then-eq-clause-settled : goal.returns-then-eq-clause-settled
-returns-then-eq-clause-settled g c =
-    let t = setting_of c.args.rules c.args.graph.now c.args.positions.now c.args.units.now c.args.ligands.now in
-    let is : c.loop-grown.grown ≡ Over = search rules in
-    let kept = subst (Kept t c.args.arena.now c.loop-grown.arena c.args.steps.now c.loop-grown.steps) is
-    c.loop-grown.invariant.kept in
-    over t c.vertices-vertices.ensures.sound c.args.arena.now c.loop-grown.arena c.args.steps.now c.loop-grown.steps
-    c.requires.root kept
-
-pub returns-else-eq-clause-settled : goal.returns-else-eq-clause-settled
-returns-else-eq-clause-settled g c =
-    let t = setting_of c.args.rules c.args.graph.now c.args.positions.now c.args.units.now c.args.ligands.now in
-    let is : c.loop-grown.grown ≡ Whole = search rules in
-    let kept = subst (Kept t c.args.arena.now c.loop-grown.arena c.args.steps.now c.loop-grown.steps) is
-    c.loop-grown.invariant.kept in
-    whole t c.vertices-vertices.ensures.sound c.args.arena.now c.loop-grown.arena c.args.steps.now c.loop-grown.steps
-    c.requires.root kept
-
-pub returns-else-eq-clause-whole : goal.returns-else-eq-clause-whole
-returns-else-eq-clause-whole g c by_whole some =
-    let t = setting_of c.args.rules c.args.graph.now c.args.positions.now c.args.units.now c.args.ligands.now in
-    let is : c.loop-grown.grown ≡ Whole = search rules in
-    let kept = subst (Kept t c.args.arena.now c.loop-grown.arena c.args.steps.now c.loop-grown.steps) is
-    c.loop-grown.invariant.kept in
-    record {
-      holds = kept.holds;
-      sound = c.vertices-vertices.ensures.sound;
-      low = subst (λ root. root < length c.args.graph.now.vertices) (sym kept.root) c.requires.root;
-      some = some;
-      last = kept.some;
-      none = kept.head;
-      fits = kept.fits;
-      follows = (c.loop-grown.invariant.ended is).from_first some;
-      notes = (c.loop-grown.invariant.ended_noted is).from_first some;
-    }
 
 pub loop-grown-init : goal.loop-grown-init
 loop-grown-init g c =
@@ -188,35 +132,112 @@ some_alike-requires-clause-before g c some =
     c.loop-grown.invariant.kept in
     none_before t c.args.arena.now c.loop-grown.arena c.args.steps.now c.loop-grown.steps kept some
 
-pub returns-then-all_differ-clause-lazy : goal.returns-then-all_differ-clause-lazy
-returns-then-all_differ-clause-lazy g c =
-    let kept = c.loop-grown.invariant.kept in
-    lazily (setting_of c.args.rules c.args.graph.now c.args.positions.now c.args.units.now c.args.ligands.now)
-    c.args.arena.now c.loop-grown.arena
-    c.args.steps.now c.loop-grown.steps settled.Ordered c.requires.holds c.requires.started kept.holds kept.fits
-    kept.cost
-    (returns-then-all_differ-clause-settled g c)
+pub returns-then-all_differ : goal.returns-then-all_differ
+returns-then-all_differ g c =
+    let t = setting_of c.args.rules c.args.graph.now c.args.positions.now c.args.units.now c.args.ligands.now in
+    let is : c.loop-grown.grown ≡ Grown = search rules in
+    let kept = subst (Kept t c.args.arena.now c.loop-grown.arena c.args.steps.now c.loop-grown.steps) is
+    c.loop-grown.invariant.kept in
+    let here : SettledAs t c.loop-grown.arena settled.Ordered =
+    ordered t c.vertices-vertices.ensures.sound c.args.arena.now c.loop-grown.arena c.args.steps.now c.loop-grown.steps
+    c.requires.root kept (sym c.all_differ.ensures ∙ c.if-all_differ.true) in
+    record {
+      settled = here;
+      holds = kept.holds;
+      root = kept.root;
+      bound = kept.bound;
+      fits = kept.fits;
+      cost = kept.cost;
+      lazy = lazily t c.args.arena.now c.loop-grown.arena c.args.steps.now c.loop-grown.steps settled.Ordered c.requires.holds
+          c.requires.started kept.holds kept.fits kept.cost here;
+      work = c.follow.ensures.bound ∙ c.loop-grown.invariant.work;
+      noted = λ is. c.follow.ensures.noted;
+      pairs = c.follow.ensures.pairs ∙ c.loop-grown.invariant.pairs;
+      whole = λ is. absurd cc;
+    }
 
-pub returns-then-some_alike-clause-lazy : goal.returns-then-some_alike-clause-lazy
-returns-then-some_alike-clause-lazy g c =
-    let kept = c.loop-grown.invariant.kept in
-    lazily (setting_of c.args.rules c.args.graph.now c.args.positions.now c.args.units.now c.args.ligands.now)
-    c.args.arena.now c.loop-grown.arena
-    c.args.steps.now c.loop-grown.steps settled.Tied c.requires.holds c.requires.started kept.holds kept.fits kept.cost
-    (returns-then-some_alike-clause-settled g c)
+pub returns-then-some_alike : goal.returns-then-some_alike
+returns-then-some_alike g c =
+    let t = setting_of c.args.rules c.args.graph.now c.args.positions.now c.args.units.now c.args.ligands.now in
+    let is : c.loop-grown.grown ≡ Grown = search rules in
+    let kept = subst (Kept t c.args.arena.now c.loop-grown.arena c.args.steps.now c.loop-grown.steps) is
+    c.loop-grown.invariant.kept in
+    let here : SettledAs t c.loop-grown.arena settled.Tied =
+    tied t c.vertices-vertices.ensures.sound c.args.arena.now c.loop-grown.arena c.args.steps.now c.loop-grown.steps
+    c.requires.root kept
+    (sym c.all_differ.ensures ∙ c.if-all_differ.false)
+    (sym c.some_alike.ensures.result ∙ c.if-some_alike.true) in
+    record {
+      settled = here;
+      holds = kept.holds;
+      root = kept.root;
+      bound = kept.bound;
+      fits = kept.fits;
+      cost = kept.cost;
+      lazy = lazily t c.args.arena.now c.loop-grown.arena c.args.steps.now c.loop-grown.steps settled.Tied c.requires.holds
+          c.requires.started kept.holds kept.fits kept.cost here;
+      work = ap (λ (w : Trying). w.bound) c.some_alike.ensures.kept ∙ c.follow.ensures.bound
+          ∙ c.loop-grown.invariant.work;
+      noted = λ is. absurd cc;
+      pairs = ap (λ (w : Trying). w.pairs) c.some_alike.ensures.kept ∙ c.follow.ensures.pairs
+          ∙ c.loop-grown.invariant.pairs;
+      whole = λ is. absurd cc;
+    }
 
-pub returns-then-eq-clause-lazy : goal.returns-then-eq-clause-lazy
-returns-then-eq-clause-lazy g c =
-    let kept = c.loop-grown.invariant.kept in
-    lazily (setting_of c.args.rules c.args.graph.now c.args.positions.now c.args.units.now c.args.ligands.now)
-    c.args.arena.now c.loop-grown.arena
-    c.args.steps.now c.loop-grown.steps settled.Over c.requires.holds c.requires.started kept.holds kept.fits kept.cost
-    (returns-then-eq-clause-settled g c)
+pub returns-then-eq : goal.returns-then-eq
+returns-then-eq g c =
+    let t = setting_of c.args.rules c.args.graph.now c.args.positions.now c.args.units.now c.args.ligands.now in
+    let is : c.loop-grown.grown ≡ Over = search rules in
+    let kept = subst (Kept t c.args.arena.now c.loop-grown.arena c.args.steps.now c.loop-grown.steps) is
+    c.loop-grown.invariant.kept in
+    let here : SettledAs t c.loop-grown.arena settled.Over =
+    over t c.vertices-vertices.ensures.sound c.args.arena.now c.loop-grown.arena c.args.steps.now c.loop-grown.steps
+    c.requires.root kept in
+    record {
+      settled = here;
+      holds = kept.holds;
+      root = kept.root;
+      bound = kept.bound;
+      fits = kept.fits;
+      cost = kept.cost;
+      lazy = lazily t c.args.arena.now c.loop-grown.arena c.args.steps.now c.loop-grown.steps settled.Over c.requires.holds
+          c.requires.started kept.holds kept.fits kept.cost here;
+      work = c.loop-grown.invariant.work;
+      noted = λ is. absurd cc;
+      pairs = c.loop-grown.invariant.pairs;
+      whole = λ is. absurd cc;
+    }
 
-pub returns-else-eq-clause-lazy : goal.returns-else-eq-clause-lazy
-returns-else-eq-clause-lazy g c =
-    let kept = c.loop-grown.invariant.kept in
-    lazily (setting_of c.args.rules c.args.graph.now c.args.positions.now c.args.units.now c.args.ligands.now)
-    c.args.arena.now c.loop-grown.arena
-    c.args.steps.now c.loop-grown.steps settled.Whole c.requires.holds c.requires.started kept.holds kept.fits kept.cost
-    (returns-else-eq-clause-settled g c)
+pub returns-else-eq : goal.returns-else-eq
+returns-else-eq g c =
+    let t = setting_of c.args.rules c.args.graph.now c.args.positions.now c.args.units.now c.args.ligands.now in
+    let is : c.loop-grown.grown ≡ Whole = search rules in
+    let kept = subst (Kept t c.args.arena.now c.loop-grown.arena c.args.steps.now c.loop-grown.steps) is
+    c.loop-grown.invariant.kept in
+    let here : SettledAs t c.loop-grown.arena settled.Whole =
+    whole t c.vertices-vertices.ensures.sound c.args.arena.now c.loop-grown.arena c.args.steps.now c.loop-grown.steps
+    c.requires.root kept in
+    record {
+      settled = here;
+      holds = kept.holds;
+      root = kept.root;
+      bound = kept.bound;
+      fits = kept.fits;
+      cost = kept.cost;
+      lazy = lazily t c.args.arena.now c.loop-grown.arena c.args.steps.now c.loop-grown.steps settled.Whole c.requires.holds
+          c.requires.started kept.holds kept.fits kept.cost here;
+      work = c.loop-grown.invariant.work;
+      noted = λ is. absurd cc;
+      pairs = c.loop-grown.invariant.pairs;
+      whole = λ by_whole some. record {
+        holds = kept.holds;
+        sound = c.vertices-vertices.ensures.sound;
+        low = subst (λ root. root < length c.args.graph.now.vertices) (sym kept.root) c.requires.root;
+        some = some;
+        last = kept.some;
+        none = kept.head;
+        fits = kept.fits;
+        follows = (c.loop-grown.invariant.ended is).from_first some;
+        notes = (c.loop-grown.invariant.ended_noted is).from_first some;
+      };
+    }

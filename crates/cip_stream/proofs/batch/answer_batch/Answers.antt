@@ -1,7 +1,14 @@
 use Rattle.std.proofs.Common.{◌≡◌, map, ap, ◌∙◌}
 use Rattle.std.proofs.lemmas.Result.{err_from_is_err_and}
 use Rattle.cip_stream.specs.Batches.{telling, told_from}
+use Rattle.cip_stream.proofs.Batches.{no_memory}
 use Rattle.cip_stream.proofs.batch.answer_batch.Goals as goal
+
+pub returns-in_err-found-clause-answered : goal.returns-in_err-found-clause-answered
+returns-in_err-found-clause-answered g c =
+    let p = err_from_is_err_and c.from_residual.result c.from_residual.ensures.1 in
+    let batch = c.args.batch.now in
+    rw (p.1, p.2) (no_memory (g.T.Teller.manner batch.teller) batch.first batch.records (g.K.Sink.taken c.args.sink.now))
 
 pub returns-in_err-verdict-clause-answered : goal.returns-in_err-verdict-clause-answered
 returns-in_err-verdict-clause-answered g c =

@@ -1,9 +1,11 @@
-use Rattle.std.proofs.Common.{rules, ◌≡◌, [], if◌then◌else◌, subst, sym, ap, ◌∙◌}
+use Rattle.std.proofs.Common.{rules, ◌≡◌, ◌++◌, [], if◌then◌else◌, subst, sym, ap, ◌∙◌}
 use Rattle.std.proofs.lemmas.Result.{err_from_is_err_and}
 use Rattle.std.specs.Io.KnownBytes.{Appends}
 use Rattle.cip_io.specs.Growth.{AppendsPrefix}
 use Rattle.cip_stream.specs.Batches.{Answers}
-use Rattle.cip_stream.proofs.Tails.{last_answered, blank_stopped, blank_refused, blank_written}
+use Rattle.cip_frame.specs.Records.{last_of}
+use Rattle.cip_stream.proofs.Batches.{no_memory}
+use Rattle.cip_stream.proofs.Tails.{last_answered, none_behind, blank_stopped, blank_refused, blank_written}
 use Rattle.cip_stream.proofs.batch.answer_tail.Goals as goal
 
 pub returns-in_err-verdict-in-Blank-clause-answered : goal.returns-in_err-verdict-in-Blank-clause-answered
@@ -57,3 +59,17 @@ returns-in_ok-push-in-Last-clause-answered g c =
     (subst (λ b. Answers (g.T.Teller.manner b.teller) b.first b.records c.answer_batch-in-Last.result
     (g.K.Sink.taken c.args.sink.now) (g.K.Sink.taken c.answer_batch-in-Last.new.sink))
     c.in_ok-push-in-Last.ensures.pushed c.answer_batch-in-Last.ensures.answered)
+
+pub returns-in-Nothing-clause-answered : goal.returns-in-Nothing-clause-answered
+returns-in-Nothing-clause-answered g c =
+    let batch = c.args.batch.now in
+    λ rest is. none_behind (g.T.Teller.manner batch.teller) batch.first batch.records rest c.answer_batch.result _ _
+    (sym c.in-Nothing.is ∙ is) c.answer_batch.ensures.answered
+
+pub returns-in_err-push-in-Last-clause-answered : goal.returns-in_err-push-in-Last-clause-answered
+returns-in_err-push-in-Last-clause-answered g c =
+    let p = err_from_is_err_and c.from_residual-in_err-push-in-Last.result
+    c.from_residual-in_err-push-in-Last.ensures.1 in
+    let batch = c.args.batch.now in
+    λ rest is. rw (p.1, p.2) (no_memory (g.T.Teller.manner batch.teller) batch.first (batch.records ++ last_of rest)
+    (g.K.Sink.taken c.args.sink.now))

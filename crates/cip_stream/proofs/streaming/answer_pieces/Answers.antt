@@ -8,7 +8,7 @@ use Rattle.cip_stream.specs.Reading.{Brings}
 use Rattle.cip_stream.specs.Verdicts.{clear}
 use Rattle.cip_stream.proofs.Progressing.{Progress, begun, fed_piece, room_between, room_fed, turned}
 use Rattle.cip_stream.proofs.Ending.{bounded, turn_failed, still_fed, stopped_fed, read_fault, ended, limit_met, room_met, met_further, stopped_at_limit, limited}
-use Rattle.cip_stream.proofs.Tails.{below, no_read_fault}
+use Rattle.cip_stream.proofs.Tails.{below, never_read_fault, no_read_fault}
 use Rattle.cip_stream.proofs.Turning.{as_many}
 use Rattle.cip_stream.proofs.streaming.answer_pieces.Goals as goal
 
@@ -330,3 +330,77 @@ returns-in_err-answer_tail-in-End-clause-source_fault g c =
     c.loop-count.batch.first c.loop-count.batch.records (cut_of before.fed).rest c.in_err-answer_tail-in-End.field-0.0
     (g.K.Sink.taken c.loop-count.sink) (g.K.Sink.taken c.answer_tail.new.sink)
     (c.in_err-answer_tail-in-End.ensures.answered (cut_of before.fed).rest tail) is))
+
+-- nor has answering the records before it
+
+pub returns-in_err-answer_waiting-in-Piece-clause-read_fault : goal.returns-in_err-answer_waiting-in-Piece-clause-read_fault
+returns-in_err-answer_waiting-in-Piece-clause-read_fault g c =
+    let p = err_from_is_err_and c.from_residual-in_err-answer_waiting-in-Piece.result
+    c.from_residual-in_err-answer_waiting-in-Piece.ensures.1 in
+    rw (p.1, p.2) (λ is. absurd (never_read_fault (g.T.Teller.manner c.loop-count.batch.teller) c.loop-count.batch.first
+    (c.loop-count.batch.records ++ c.feed_next.new.framer.waiting) c.in_err-answer_waiting-in-Piece.field-0.0
+    (g.K.Sink.taken c.loop-count.sink) (g.K.Sink.taken c.answer_waiting.new.sink)
+    c.in_err-answer_waiting-in-Piece.ensures.answered is))
+
+pub returns-in_err-answer_waiting-in-Piece-clause-source_fault : goal.returns-in_err-answer_waiting-in-Piece-clause-source_fault
+returns-in_err-answer_waiting-in-Piece-clause-source_fault g c =
+    let p = err_from_is_err_and c.from_residual-in_err-answer_waiting-in-Piece.result
+    c.from_residual-in_err-answer_waiting-in-Piece.ensures.1 in
+    rw (p.1, p.2) (λ is. absurd (never_read_fault (g.T.Teller.manner c.loop-count.batch.teller) c.loop-count.batch.first
+    (c.loop-count.batch.records ++ c.feed_next.new.framer.waiting) c.in_err-answer_waiting-in-Piece.field-0.0
+    (g.K.Sink.taken c.loop-count.sink) (g.K.Sink.taken c.answer_waiting.new.sink)
+    c.in_err-answer_waiting-in-Piece.ensures.answered is))
+
+pub returns-in_err-answer_batch-in-Fault-clause-read_fault : goal.returns-in_err-answer_batch-in-Fault-clause-read_fault
+returns-in_err-answer_batch-in-Fault-clause-read_fault g c =
+    let p = err_from_is_err_and c.from_residual-in_err-answer_batch-in-Fault.result
+    c.from_residual-in_err-answer_batch-in-Fault.ensures.1 in
+    rw (p.1, p.2) (λ is. absurd (never_read_fault (g.T.Teller.manner c.loop-count.batch.teller) c.loop-count.batch.first
+    c.loop-count.batch.records c.in_err-answer_batch-in-Fault.field-0.0
+    (g.K.Sink.taken c.loop-count.sink) (g.K.Sink.taken c.answer_batch.new.sink)
+    c.in_err-answer_batch-in-Fault.ensures.answered is))
+
+pub returns-in_err-answer_batch-in-Fault-clause-source_fault : goal.returns-in_err-answer_batch-in-Fault-clause-source_fault
+returns-in_err-answer_batch-in-Fault-clause-source_fault g c =
+    let p = err_from_is_err_and c.from_residual-in_err-answer_batch-in-Fault.result
+    c.from_residual-in_err-answer_batch-in-Fault.ensures.1 in
+    rw (p.1, p.2) (λ is. absurd (never_read_fault (g.T.Teller.manner c.loop-count.batch.teller) c.loop-count.batch.first
+    c.loop-count.batch.records c.in_err-answer_batch-in-Fault.field-0.0
+    (g.K.Sink.taken c.loop-count.sink) (g.K.Sink.taken c.answer_batch.new.sink)
+    c.in_err-answer_batch-in-Fault.ensures.answered is))
+
+pub returns-in_err-answer_waiting-in-Limit-clause-read_fault : goal.returns-in_err-answer_waiting-in-Limit-clause-read_fault
+returns-in_err-answer_waiting-in-Limit-clause-read_fault g c =
+    let p = err_from_is_err_and c.from_residual-in_err-answer_waiting-in-Limit.result
+    c.from_residual-in_err-answer_waiting-in-Limit.ensures.1 in
+    rw (p.1, p.2) (λ is. absurd (never_read_fault (g.T.Teller.manner c.loop-count.batch.teller) c.loop-count.batch.first
+    (c.loop-count.batch.records ++ c.feed_next.new.framer.waiting) c.in_err-answer_waiting-in-Limit.field-0.0
+    (g.K.Sink.taken c.loop-count.sink) (g.K.Sink.taken c.answer_waiting-in-Limit.new.sink)
+    c.in_err-answer_waiting-in-Limit.ensures.answered is))
+
+pub returns-in_err-answer_waiting-in-Limit-clause-source_fault : goal.returns-in_err-answer_waiting-in-Limit-clause-source_fault
+returns-in_err-answer_waiting-in-Limit-clause-source_fault g c =
+    let p = err_from_is_err_and c.from_residual-in_err-answer_waiting-in-Limit.result
+    c.from_residual-in_err-answer_waiting-in-Limit.ensures.1 in
+    rw (p.1, p.2) (λ is. absurd (never_read_fault (g.T.Teller.manner c.loop-count.batch.teller) c.loop-count.batch.first
+    (c.loop-count.batch.records ++ c.feed_next.new.framer.waiting) c.in_err-answer_waiting-in-Limit.field-0.0
+    (g.K.Sink.taken c.loop-count.sink) (g.K.Sink.taken c.answer_waiting-in-Limit.new.sink)
+    c.in_err-answer_waiting-in-Limit.ensures.answered is))
+
+pub returns-in_err-answer_batch-in-Limit-clause-read_fault : goal.returns-in_err-answer_batch-in-Limit-clause-read_fault
+returns-in_err-answer_batch-in-Limit-clause-read_fault g c =
+    let p = err_from_is_err_and c.from_residual-in_err-answer_batch-in-Limit.result
+    c.from_residual-in_err-answer_batch-in-Limit.ensures.1 in
+    rw (p.1, p.2) (λ is. absurd (never_read_fault (g.T.Teller.manner c.answer_waiting-in-Limit.new.batch.teller) c.answer_waiting-in-Limit.new.batch.first
+    c.answer_waiting-in-Limit.new.batch.records c.in_err-answer_batch-in-Limit.field-0.0
+    (g.K.Sink.taken c.answer_waiting-in-Limit.new.sink) (g.K.Sink.taken c.answer_batch-in-Limit.new.sink)
+    c.in_err-answer_batch-in-Limit.ensures.answered is))
+
+pub returns-in_err-answer_batch-in-Limit-clause-source_fault : goal.returns-in_err-answer_batch-in-Limit-clause-source_fault
+returns-in_err-answer_batch-in-Limit-clause-source_fault g c =
+    let p = err_from_is_err_and c.from_residual-in_err-answer_batch-in-Limit.result
+    c.from_residual-in_err-answer_batch-in-Limit.ensures.1 in
+    rw (p.1, p.2) (λ is. absurd (never_read_fault (g.T.Teller.manner c.answer_waiting-in-Limit.new.batch.teller) c.answer_waiting-in-Limit.new.batch.first
+    c.answer_waiting-in-Limit.new.batch.records c.in_err-answer_batch-in-Limit.field-0.0
+    (g.K.Sink.taken c.answer_waiting-in-Limit.new.sink) (g.K.Sink.taken c.answer_batch-in-Limit.new.sink)
+    c.in_err-answer_batch-in-Limit.ensures.answered is))

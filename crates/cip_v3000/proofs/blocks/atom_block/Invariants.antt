@@ -1,16 +1,16 @@
 use Rattle.std.proofs.Common.{◌≡◌, ◌-◌, length, All}
 use Rattle.cip_mol.specs.Ranges.{IsAtom}
 use Rattle.cip_reading.specs.Reading.{through}
+use Rattle.cip_v3000.specs.Blocks.{seen_atoms}
 use Rattle.cip_v3000.specs.Grammar.{atom_row, atom_block}
 use Rattle.cip_v3000.specs.Joining.{seen_all}
 use Rattle.cip_v3000.proofs.blocks.atom_block.Given as goal
 
 abbrev pub invariant-loop-row : goal.invariant-loop-row
 invariant-loop-row l = record {
-  so_far : through (atom_row (seen_all l.joined)) (record { indices = l.indices; atoms = l.atoms.items })
-      (l.count - l.row) l.row
+  so_far : through (atom_row (seen_all l.joined)) (seen_atoms l.block) (l.count - l.row) l.row
       ≡ atom_block (seen_all l.joined) l.count;
-  range : All IsAtom l.atoms.items;
-  atoms : length l.atoms.items ≡ l.row;
-  indices : length l.indices ≡ l.row;
+  range : All IsAtom l.block.atoms.items;
+  atoms : length l.block.atoms.items ≡ l.row;
+  indices : length l.block.indices ≡ l.row;
 }

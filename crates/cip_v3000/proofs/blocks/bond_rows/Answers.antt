@@ -1,37 +1,31 @@
-use Rattle.std.proofs.Common.{◌+◌}
-use Rattle.std.proofs.lemmas.List.Elements.{All-push}
+use Rattle.std.proofs.Common.{◌+◌, ◌∙◌, ap, sym}
 use Rattle.std.proofs.lemmas.Result.{err_from_is_err_and}
-use Rattle.cip_mol.specs.Ranges.{IsBond}
 use Rattle.cip_reading.proofs.Refusals.{fails_alike}
-use Rattle.cip_reading.proofs.Rows.{step_read, step_refused, steps_read, length-push}
-use Rattle.cip_v3000.specs.BondLine.{bond_of}
-use Rattle.cip_v3000.specs.Grammar.{read_at, bond_row}
+use Rattle.cip_reading.proofs.Rows.{step_read, step_refused, steps_read}
+use Rattle.cip_v3000.specs.Blocks.{seen_bonds}
+use Rattle.cip_v3000.specs.Grammar.{bond_row}
 use Rattle.cip_v3000.specs.Joining.{seen_all}
-use Rattle.cip_v3000.proofs.BlockRows.{bond_row_read, bond_row_refused}
 use Rattle.cip_v3000.proofs.blocks.bond_rows.Goals as goal
 
-pub returns-in_err-line-clause-value : goal.returns-in_err-line-clause-value
-returns-in_err-line-clause-value c =
-    let refused = err_from_is_err_and c.from_residual-in_err-line.result c.from_residual-in_err-line.ensures.1 in
-    let joined = seen_all c.args.joined.now in
-    rw (refused.1, refused.2) (fails_alike c.in_err-line.field-0.0
-    (read_at joined (c.args.first + c.loop-row.row)
-    (bond_of c.args.atoms.now c.loop-row.indices c.loop-row.bonds.bonds)) _ c.in_err-line.ensures.value
-    (λ fault is. step_refused (bond_row joined c.args.atoms.now c.args.first) _ c.args.count c.loop-row.row fault _
-    c.loop-row-test.true
-    (bond_row_refused joined c.args.atoms.now c.args.first _ c.loop-row.row fault is) c.loop-row.invariant.so_far))
+pub returns-in_err-read_bond-clause-value : goal.returns-in_err-read_bond-clause-value
+returns-in_err-read_bond-clause-value c =
+    let refused = err_from_is_err_and c.from_residual-in_err-read_bond.result
+    c.from_residual-in_err-read_bond.ensures.1 in
+    let row = bond_row (seen_all c.args.joined.now) c.args.atoms.now c.args.first in
+    rw (refused.1, refused.2) (fails_alike c.in_err-read_bond.field-0.0
+    (row (seen_bonds c.loop-row.block) c.loop-row.row) _ c.in_err-read_bond.ensures.value
+    (λ fault is. step_refused row _ c.args.count c.loop-row.row fault _ c.loop-row-test.true is
+    c.loop-row.invariant.so_far))
 
 pub loop-row-preserved : goal.loop-row-preserved
-loop-row-preserved c = rw (c.in_ok-push.ensures, c.in_ok-push-2.ensures.added) (record {
-  so_far = step_read (bond_row (seen_all c.args.joined.now) c.args.atoms.now c.args.first) _ _ c.args.count
-      c.loop-row.row _ c.loop-row-test.true
-      (bond_row_read (seen_all c.args.joined.now) c.args.atoms.now c.args.first _ c.loop-row.row c.in_ok-line.line
-      c.in_ok-line.ensures.value)
-      c.loop-row.invariant.so_far;
-  among = c.loop-row.invariant.among;
-  range = All-push IsBond _ _ c.loop-row.invariant.range c.in_ok-line.ensures.range.bond;
-  counted = length-push _ _ _ c.loop-row.invariant.counted;
-})
+loop-row-preserved c = record {
+  so_far = step_read (bond_row (seen_all c.args.joined.now) c.args.atoms.now c.args.first)
+      (seen_bonds c.loop-row.block) (seen_bonds c.read_bond.new.block) c.args.count c.loop-row.row _
+      c.loop-row-test.true (sym c.in_ok-read_bond.ensures.value) c.loop-row.invariant.so_far;
+  among = c.in_ok-read_bond.ensures.among;
+  range = c.in_ok-read_bond.ensures.range c.loop-row.invariant.range;
+  counted = c.in_ok-read_bond.ensures.counted ∙ ap (λ n. n + 1) c.loop-row.invariant.counted;
+}
 
 pub returns-clause-value : goal.returns-clause-value
 returns-clause-value c =

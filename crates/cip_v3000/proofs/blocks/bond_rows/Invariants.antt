@@ -1,16 +1,16 @@
 use Rattle.std.proofs.Common.{◌≡◌, ◌-◌, length, All}
 use Rattle.cip_mol.specs.Ranges.{IsBond}
 use Rattle.cip_reading.specs.Reading.{through}
+use Rattle.cip_v3000.specs.Blocks.{seen_bonds}
 use Rattle.cip_v3000.specs.Grammar.{bond_row, bond_rows}
 use Rattle.cip_v3000.specs.Joining.{seen_all}
 use Rattle.cip_v3000.proofs.blocks.bond_rows.Given as goal
 
 abbrev pub invariant-loop-row : goal.invariant-loop-row
 invariant-loop-row l = record {
-  so_far : through (bond_row (seen_all l.joined) l.atoms l.first)
-      (record { indices = l.indices; bonds = l.bonds.bonds }) (l.count - l.row) l.row
+  so_far : through (bond_row (seen_all l.joined) l.atoms l.first) (seen_bonds l.block) (l.count - l.row) l.row
       ≡ bond_rows (seen_all l.joined) l.atoms l.first l.count;
-  among : l.bonds.atoms ≡ length l.atoms;
-  range : All IsBond l.bonds.bonds;
-  counted : length l.bonds.bonds ≡ l.row;
+  among : l.block.bonds.atoms ≡ length l.atoms;
+  range : All IsBond l.block.bonds.bonds;
+  counted : length l.block.bonds.bonds ≡ l.row;
 }

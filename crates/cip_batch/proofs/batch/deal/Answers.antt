@@ -1,0 +1,17 @@
+use Rattle.std.proofs.Common.{◌<◌, ◌+◌, ◌∙◌, ap, length, length-append, subst}
+use Rattle.std.proofs.lemmas.List.{length-set}
+use Rattle.std.proofs.lemmas.List.Elements.{All-push, All-same}
+use Rattle.cip_batch.proofs.batch.deal.Goals as goal
+
+pub loop-job-preserved : goal.loop-job-preserved
+loop-job-preserved g c =
+    let owner = c.least_place-owner.result in
+    let within = subst (λ n. owner < n) (ap length c.deref.ensures.value ∙ c.loop-job.invariant.loads)
+    c.least_place-owner.ensures.within in
+    record {
+      loads = length-set c.loop-job.loads.items owner c.saturating_add.result ∙ c.loop-job.invariant.loads;
+      all = ap length c.in_ok-push.ensures.items ∙ length-append c.loop-job.owners.items _
+          ∙ ap (λ n. n + 1) c.loop-job.invariant.all;
+      each = All-same (λ load. load < c.args.workers) _ _ c.in_ok-push.ensures.items
+          (All-push (λ load. load < c.args.workers) c.loop-job.owners.items owner c.loop-job.invariant.each within);
+    }

@@ -1,0 +1,9 @@
+use Rattle.std.proofs.Common.{None, IfSome}
+use Rattle.std.proofs.lemmas.List.Elements.{All-push, All-same}
+use Rattle.cip_batch.specs.Entries.{IsAnswer}
+use Rattle.cip_batch.proofs.batch.no_answers.Goals as goal
+
+pub loop-preserved : goal.loop-preserved
+loop-preserved g c =
+    All-same (λ s. IfSome s (IsAnswer g.J.Job.answer c.args.jobs.now)) _ _ c.in_ok-push.ensures.items
+    (All-push (λ s. IfSome s (IsAnswer g.J.Job.answer c.args.jobs.now)) c.loop.found.items None c.loop.invariant tt)

@@ -1,0 +1,28 @@
+use Rattle.std.proofs.Common.{◌+◌, refl, sym}
+use Rattle.std.proofs.lemmas.List.Elements.{All-push}
+use Rattle.std.proofs.lemmas.Result.{err_from_is_err_and}
+use Rattle.cip_mol.specs.Ranges.{IsAtom}
+use Rattle.cip_reading.proofs.Refusals.{fails_alike}
+use Rattle.cip_reading.proofs.Rows.{length-push}
+use Rattle.cip_v3000.specs.AtomLine.{atom_of}
+use Rattle.cip_v3000.specs.Blocks.{seen_atoms}
+use Rattle.cip_v3000.specs.Grammar.{read_at}
+use Rattle.cip_v3000.specs.Joining.{seen_all}
+use Rattle.cip_v3000.proofs.BlockRows.{atom_row_read, atom_row_refused}
+use Rattle.cip_v3000.proofs.blocks.read_atom.Goals as goal
+
+pub returns-in_err-line-clause-value : goal.returns-in_err-line-clause-value
+returns-in_err-line-clause-value c =
+    let refused = err_from_is_err_and c.from_residual.result c.from_residual.ensures.1 in
+    let joined = seen_all c.args.joined.now in
+    rw (refused.1, refused.2) (fails_alike c.in_err-line.field-0.0
+    (read_at joined (3 + c.args.row) (atom_of c.args.block.now.indices)) _ c.in_err-line.ensures.value
+    (λ fault is. sym (atom_row_refused joined (seen_atoms c.args.block.now) c.args.row fault is)))
+
+pub returns : goal.returns
+returns c = rw (c.in_ok-push.ensures, c.in_ok-push-2.ensures.items) (record {
+  value = sym (atom_row_read (seen_all c.args.joined.now) (seen_atoms c.args.block.now) c.args.row c.in_ok-line.line
+      c.in_ok-line.ensures.value);
+  range = λ before. All-push IsAtom _ _ before c.in_ok-line.ensures.range.atom;
+  counted = (length-push _ _ _ refl, length-push _ _ _ refl);
+})
