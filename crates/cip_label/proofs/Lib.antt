@@ -1,4 +1,5 @@
 pub mod PlaceLists
+pub mod PutNumbers
 pub mod LastReason
 pub mod KnownOutcomes
 pub mod LigandNodes

@@ -10,3 +10,4 @@ pub mod Texts
 pub mod Turns
 pub mod UsualDecimals
 pub mod UsualNumbers
+mod PlainZeros

@@ -1,5 +1,5 @@
 // The numbers in the columns of a line, which are counted from 1.
-ghost use Rattle.std.specs.Prelude.{◌≡◌, ◌≤◌, ◌<◌, ◌+◌, pos, unsigned_abs, IfOk, IfSome, Ok};
+ghost use Rattle.std.specs.Prelude.{◌≡◌, ◌≤◌, ◌<◌, ◌+◌, pos, true, unsigned_abs, IfOk, IfSome, Ok};
 ghost use Rattle.cip_text.specs.Columns.{field};
 ghost use Rattle.cip_text.specs.Numbers.{integer_of, decimal4_of};
 ghost use Rattle.cip_reading.specs.Causes.{coordinate};
@@ -7,7 +7,7 @@ ghost use Rattle.cip_reading.specs.Fields.{number_in, place_named};
 
 use crate::causes::coordinate;
 use crate::fields::{number, place_of};
-use crate::usual::{usual_decimal, usual_number};
+use crate::usual::{is_plain_zero, usual_decimal, usual_digit, usual_number};
 use cip_mol::ReadCause;
 use cip_text::columns;
 
@@ -24,6 +24,19 @@ pub fn coordinate_at(line: &[u8], first: u32) -> Result<i64, ReadCause>
     }
 }
 
+/// The same where a zero is usual, which is seen in few steps.
+pub fn height_at(line: &[u8], first: u32) -> Result<i64, ReadCause>
+    requires counted { 0 < first }
+    requires near { first ≤ 1000 }
+    ensures value { result ≡ coordinate (decimal4_of (field first (first + 9) line.now)) }
+    ensures small { IfOk result (λ number. unsigned_abs number ≤ 500000000) }
+{
+    if has_plain_zero(line, first) {
+        return Ok(0);
+    }
+    coordinate_at(line, first)
+}
+
 /// The number in three columns from this one on, from 0 to a most; 0 where they are empty.
 #[tactic(auto, unfolding(crate::specs::Fields::number_in))]
 pub fn number_at(most: u32, line: &[u8], first: u32) -> Option<u32>
@@ -37,6 +50,21 @@ pub fn number_at(most: u32, line: &[u8], first: u32) -> Option<u32>
         Some(number) if number <= most => Some(number),
         Some(_) => None,
         None => number(most, columns(line, first, first + 2)),
+    }
+}
+
+/// The same where a single digit is usual, which is read in few steps.
+#[tactic(auto, unfolding(crate::specs::Fields::number_in))]
+pub fn digit_at(most: u32, line: &[u8], first: u32) -> Option<u32>
+    requires most { most ≤ 1000000000 }
+    requires counted { 0 < first }
+    requires near { first ≤ 1000 }
+    ensures value { result ≡ number_in most (field first (first + 2) line.now) }
+    ensures range { IfSome result (λ number. number ≤ most) }
+{
+    match single_digit(line, first) {
+        Some(number) if number <= most => Some(number),
+        _ => number_at(most, line, first),
     }
 }
 
@@ -62,6 +90,27 @@ fn usual_coordinate(line: &[u8], first: u32) -> Option<i64>
         return None;
     }
     usual_decimal(&line[start..start + 10])
+}
+
+fn has_plain_zero(line: &[u8], first: u32) -> bool
+    requires counted { 0 < first }
+    requires near { first ≤ 1000 }
+    ensures { result ≡ true → decimal4_of (field first (first + 9) line.now) ≡ Ok (pos 0) }
+{
+    let start = first as usize - 1;
+    line.len() >= start + 10 && is_plain_zero(&line[start..start + 10])
+}
+
+fn single_digit(line: &[u8], first: u32) -> Option<u32>
+    requires counted { 0 < first }
+    requires near { first ≤ 1000 }
+    ensures { IfSome result (λ number. integer_of (field first (first + 2) line.now) ≡ Ok (pos number)) }
+{
+    let start = first as usize - 1;
+    if line.len() < start + 3 {
+        return None;
+    }
+    usual_digit(line[start], line[start + 1], line[start + 2])
 }
 
 fn usual_field(line: &[u8], first: u32) -> Option<u32>

@@ -9,7 +9,7 @@ mod spaces;
 mod usual;
 
 pub use causes::{checked, coordinate, order};
-pub use column_numbers::{coordinate_at, number_at, place_at};
+pub use column_numbers::{coordinate_at, digit_at, height_at, number_at, place_at};
 pub use fields::{number, number_stated, place_named, signed, signed_stated};
 pub use places::{numbered, short};
 pub use spaces::spaced_words;

@@ -8,7 +8,7 @@ ghost use Rattle.cip_v2000.specs.AtomLine.{isotope_of, charge_of, radical_of, at
 use cip_elem::{Element, number_of, reference_mass};
 use cip_mol::{Atom, ReadCause};
 use cip_num::Vec3;
-use cip_reading::{coordinate_at, number_at, signed};
+use cip_reading::{coordinate_at, digit_at, height_at, signed};
 use cip_text::columns;
 
 /// An atom, and the isotope that its symbol states: 0 where it states none.
@@ -26,11 +26,11 @@ pub fn atom_in(line: &[u8]) -> Result<AtomLine, ReadCause>
 {
     let x = coordinate_at(line, 1)?;
     let y = coordinate_at(line, 11)?;
-    let z = coordinate_at(line, 21)?;
+    let z = height_at(line, 21)?;
     let element = number_of(symbol(line)).ok_or(ReadCause::Symbol)?;
     let difference = mass_difference(line).ok_or(ReadCause::AtomField)?;
-    let code = number_at(7, line, 37).ok_or(ReadCause::AtomField)?;
-    let valence = number_at(15, line, 49).ok_or(ReadCause::AtomField)?;
+    let code = digit_at(7, line, 37).ok_or(ReadCause::AtomField)?;
+    let valence = digit_at(15, line, 49).ok_or(ReadCause::AtomField)?;
     let atom = Atom {
         z: element.z,
         isotope: isotope(element, difference),

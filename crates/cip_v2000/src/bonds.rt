@@ -5,7 +5,7 @@ ghost use Rattle.cip_reading.specs.Causes.{IsFree};
 ghost use Rattle.cip_v2000.specs.BondLine.{mark_of, bond_of};
 
 use cip_mol::{Bond, BondList, Mark, ReadCause};
-use cip_reading::{checked, number_at, order, place_at};
+use cip_reading::{checked, digit_at, order, place_at};
 
 /// What a bond line says, among so many atoms and behind these bonds.
 #[tactic(auto, unfolding(crate::specs::BondLine::bond_of))]
@@ -18,8 +18,8 @@ pub fn bond_in(atoms: u32, before: &BondList, line: &[u8]) -> Result<Bond, ReadC
 {
     let a = place_at(atoms, line, 1).ok_or(ReadCause::BondEnd)?;
     let b = place_at(atoms, line, 4).ok_or(ReadCause::BondEnd)?;
-    let order = order(number_at(3, line, 7)).ok_or(ReadCause::BondType)?;
-    let mark = mark(order, number_at(6, line, 10)).ok_or(ReadCause::BondMark)?;
+    let order = order(digit_at(3, line, 7)).ok_or(ReadCause::BondType)?;
+    let mark = mark(order, digit_at(6, line, 10)).ok_or(ReadCause::BondMark)?;
     checked(before, Bond { a, b, order, mark })
 }
 
