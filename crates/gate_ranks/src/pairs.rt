@@ -62,19 +62,35 @@ fn decided_between(
     Ok(asked[0].decision)
 }
 
+// The descriptors at nodes 0 to 4, and where the first branch precedes or follows, how and in which sphere.
+const WORKED: &str = "\
+-RRRS higher 2
+-SRSS higher 2
+-SRSR
+-RRSR lower 2
+-----
+";
+
+fn is_told(found: Option<Decision>, wanted: &str) -> bool {
+    let Some(found) = found else {
+        return wanted.is_empty();
+    };
+    let (side, sphere) = wanted.split_once(' ').unwrap_or(("", ""));
+    let is_higher = found.side == Ordering::Greater;
+    let is_lower = found.side == Ordering::Less;
+    sphere.parse() == Ok(found.sphere)
+        && (is_higher && side == "higher" || is_lower && side == "lower")
+}
+
 #[test]
 fn pairs_are_decided_by_both_readings(rt: HostRuntime) -> Result<(), Fail> {
-    // the descriptors at nodes 0 to 4, which branch precedes, and in which sphere they differ
-    let cases: [(&[u8], Option<(Ordering, u32)>); 5] = [
-        (b"-RRRS", Some((Ordering::Greater, 2))),
-        (b"-SRSS", Some((Ordering::Greater, 2))),
-        (b"-SRSR", None),
-        (b"-RRSR", Some((Ordering::Less, 2))),
-        (b"-----", None),
-    ];
-    for (letters, wanted) in cases {
-        let found = decided(&rt, rt.alloc(), letters)?;
-        assert!(rt; found.map(|one| (one.side, one.sphere)) == wanted);
+    let mut count = 0u32;
+    for line in WORKED.lines() {
+        let (letters, wanted) = line.split_once(' ').unwrap_or((line, ""));
+        let found = decided(&rt, rt.alloc(), letters.as_bytes())?;
+        assert!(rt; is_told(found, wanted));
+        count = count.saturating_add(1);
     }
+    assert!(rt; count == 5);
     Ok(())
 }

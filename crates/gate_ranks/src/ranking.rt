@@ -174,67 +174,78 @@ fn assert_stands(rt: &impl Abort, alloc: Global, case: &Case, stands: &[u8]) -> 
     Ok(())
 }
 
+// The parents, the keys and the node that the tree is seen from, and behind a bar how the branches stand.
+const WORKED: &str = "\
+# none, and one
+0 5 0|
+001 123 0|0/0/0 1
+# glyceraldehyde: 1 is CHO, 2 is CH2OH
+00000111222358 66681881811161 0|1120/4260/4260/4260 123456789a
+# a sphere as a whole goes before the next: 1 is above 2, though 3 is below 5
+000112234569 66686861h119 0|11/44/54/54 123456789a
+# sets of unlike length: {8}, {8, 1}, {9} and none
+000001223 666668819 0|1111/3451/3451 12345678
+# told apart in the outermost sphere alone
+0001234 6666618 0|00/00/01 123456
+# glyceraldehyde from 3, its CH2OH: oxygen, twice hydrogen, and the stereocentre's carbon
+000001112333 668618811811 3|3002/3002/3002 9ab0 12
+# from 1, its CHO: oxygen and its duplicate, hydrogen, and the stereocentre, which was the root
+000001112333 668618811811 1|3302/3302 5670 01
+# with equal keys: CHO, OH and hydrogen are next to the stereocentre
+000001112333 000000000000 3|0000/0003 9ab0124 012
+# from a node next to the root, behind which all is as below the node
+000012446 000000000 1|00/00/00/00 40672385 01
+000012446 000100000 1|00/01/01 406723
+000012446 000001002 1|00/00/10 40672385
+# from further out, by a way of two steps
+000113557 000000000 3|00/00/00/00 51674082 01
+000113557 001000000 3|00/00/01 51674082
+# a chain, from inside and from its end
+0012 0000 1|00/10/10 203
+0012 0000 2|00/01/01 310
+0012 0000 3|0/0/0 2
+";
+
+// As lines of a text the worked trees cost next to no proof, as an array of texts a minute.
 #[test]
 fn branches_rank_as_worked_by_hand(rt: HostRuntime) -> Result<(), Fail> {
-    // the parents, the keys and the node that the tree is seen from, and how the branches stand
-    let cases: [(&[u8], &[u8]); 17] = [
-        // none, and one
-        (b"0 5 0", b""),
-        (b"001 123 0", b"0/0/0 1"),
-        // glyceraldehyde: 1 is CHO, 2 is CH2OH
-        (
-            b"00000111222358 66681881811161 0",
-            b"1120/4260/4260/4260 123456789a",
-        ),
-        // a sphere as a whole goes before the next: 1 is above 2, though 3 is below 5
-        (b"000112234569 66686861h119 0", b"11/44/54/54 123456789a"),
-        // sets of unlike length: {8}, {8, 1}, {9} and none
-        (b"000001223 666668819 0", b"1111/3451/3451 12345678"),
-        // told apart in the outermost sphere alone
-        (b"0001234 6666618 0", b"00/00/01 123456"),
-        // glyceraldehyde from 3, its CH2OH: oxygen, twice hydrogen, and the stereocentre's carbon
-        (b"000001112333 668618811811 3", b"3002/3002/3002 9ab0 12"),
-        // from 1, its CHO: oxygen and its duplicate, hydrogen, and the stereocentre, which was the root
-        (b"000001112333 668618811811 1", b"3302/3302 5670 01"),
-        // with equal keys: CHO, OH and hydrogen are next to the stereocentre
-        (b"000001112333 000000000000 3", b"0000/0003 9ab0124 012"),
-        // from a node next to the root, behind which all is as below the node
-        (b"000012446 000000000 1", b"00/00/00/00 40672385 01"),
-        (b"000012446 000100000 1", b"00/01/01 406723"),
-        (b"000012446 000001002 1", b"00/00/10 40672385"),
-        // from further out, by a way of two steps
-        (b"000113557 000000000 3", b"00/00/00/00 51674082 01"),
-        (b"000113557 001000000 3", b"00/00/01 51674082"),
-        // a chain, from inside and from its end
-        (b"0012 0000 1", b"00/10/10 203"),
-        (b"0012 0000 2", b"00/01/01 310"),
-        (b"0012 0000 3", b"0/0/0 2"),
-    ];
-    for (worked, stands) in cases {
-        let case = case_of(rt.alloc(), worked)?;
-        assert_stands(&rt, rt.alloc(), &case, stands)?;
+    let mut count = 0u32;
+    for line in WORKED.lines() {
+        if let Some((worked, stands)) = line.split_once('|') {
+            let case = case_of(rt.alloc(), worked.as_bytes())?;
+            assert_stands(&rt, rt.alloc(), &case, stands.as_bytes())?;
+            count = count.saturating_add(1);
+        }
     }
+    assert!(rt; count == 17);
     Ok(())
 }
 
+// The parents, the keys, the node that the tree is seen from, the later keys, and behind a bar how the branches stand.
+const WORKED_BEHIND: &str = "\
+000 011 0 021|10
+000 012 0 021|01
+# the earlier order goes before keys, that of children too
+0001122 0002121 0 0003981|01
+# a node's own key goes before those of its children
+000012 000000 0 012981|120
+# what lies behind the root, from one step and from two steps away
+000012446 000000000 1 000001002|10
+000113557 000000000 3 001000000|01
+";
+
 #[test]
 fn a_later_rule_parts_what_ties(rt: HostRuntime) -> Result<(), Fail> {
-    // the parents, the keys, the node that the tree is seen from, the later keys, and how the branches stand
-    let cases: [(&[u8], &[u8]); 6] = [
-        (b"000 011 0 021", b"10"),
-        (b"000 012 0 021", b"01"),
-        // the earlier order goes before keys, that of children too
-        (b"0001122 0002121 0 0003981", b"01"),
-        // a node's own key goes before those of its children
-        (b"000012 000000 0 012981", b"120"),
-        // what lies behind the root, from one step and from two steps away
-        (b"000012446 000000000 1 000001002", b"10"),
-        (b"000113557 000000000 3 001000000", b"01"),
-    ];
-    for (worked, order) in cases {
-        let case = case_of(rt.alloc(), worked)?;
-        assert!(rt; order_as(&ranked(&rt, rt.alloc(), &case, None)?, order));
+    let mut count = 0u32;
+    for line in WORKED_BEHIND.lines() {
+        if let Some((worked, order)) = line.split_once('|') {
+            let case = case_of(rt.alloc(), worked.as_bytes())?;
+            let found = ranked(&rt, rt.alloc(), &case, None)?;
+            assert!(rt; order_as(&found, order.as_bytes()));
+            count = count.saturating_add(1);
+        }
     }
+    assert!(rt; count == 6);
     Ok(())
 }
 
