@@ -11,7 +11,8 @@ use Rattle.cip_aux.specs.Inner.{Inner, Ready}
 use Rattle.cip_aux.specs.Marking.{AreRootTurns, AreEndTurns}
 use Rattle.cip_aux.specs.Neighbours.{shape_at}
 use Rattle.cip_letters.specs.TurnsOf.{both_turns, root_turns, roots_turns}
-use Rattle.cip_aux.specs.Joining.{listed, Joins, far_number}
+use Rattle.std.specs.Prelude.{option_to_list}
+use Rattle.cip_aux.specs.Joining.{Joins, far_number}
 use Rattle.cip_aux.specs.Sights.{path_at}
 use Rattle.cip_aux.proofs.FarEnds.{IsFar, far_found, far_none, far_same}
 use Rattle.cip_aux.proofs.RootsAt.{both_are, none_are}
@@ -32,20 +33,20 @@ module _ (inner : Inner) (node : ℕ) (r : Ready inner node) (between : Option �
   pub no_far : (near others : List Ligand) (at : ℕ)
       → Joins inner.sight.graph (node_at inner.sight.nodes node).vertex between far
       → None ≡ far_number (shape_at inner.sight.told) (parents_of inner.sight.told) node between far
-      → AreEndTurns inner node (listed between) (end_at at near ∷ end_at far others ∷ []) None
+      → AreEndTurns inner node (option_to_list between) (end_at at near ∷ end_at far others ∷ []) None
   no_far near others at joins e =
       let none = far_none inner.sight r.shows node between far r.real joins
       (sym (e ∙ far_same inner.sight r.shows node between far)) in
       record {
         each =
             λ mark agrees. sym (none_are inner.sight.rules inner.sight.graph inner.sight.positions mark
-            (path_at inner.sight.nodes node) (listed between) (end_at at near) (end_at far others) none);
+            (path_at inner.sight.nodes node) (option_to_list between) (end_at at near) (end_at far others) none);
       }
 
   pub both_ends : (near others : List Ligand) (at c : ℕ) (one other : Option Turns)
       → Some c ≡ far_number (shape_at inner.sight.told) (parents_of inner.sight.told) node between far
       → AreRootTurns inner node near one → AreRootTurns inner c others other
-      → AreEndTurns inner node (listed between) (end_at at near ∷ end_at far others ∷ []) (both_turns one other)
+      → AreEndTurns inner node (option_to_list between) (end_at at near ∷ end_at far others ∷ []) (both_turns one other)
   both_ends near others at c one other e first second =
       let found = far_is c e in
       record {
@@ -58,23 +59,23 @@ module _ (inner : Inner) (node : ℕ) (r : Ready inner node) (between : Option �
             (λ path. root_turns (root_at inner.sight.rules inner.sight.graph inner.sight.positions mark path others))
             found.path)
             ∙ sym (both_are inner.sight.rules inner.sight.graph inner.sight.positions mark
-            (path_at inner.sight.nodes node) (listed between) (end_at at near) (end_at far others) found.new);
+            (path_at inner.sight.nodes node) (option_to_list between) (end_at at near) (end_at far others) found.new);
       }
 
   -- where the ligands of the near end tie, the far end doesn't matter
   pub near_ties : (near others : List Ligand) (at c : ℕ)
       → Some c ≡ far_number (shape_at inner.sight.told) (parents_of inner.sight.told) node between far
       → AreRootTurns inner node near None
-      → AreEndTurns inner node (listed between) (end_at at near ∷ end_at far others ∷ []) None
+      → AreEndTurns inner node (option_to_list between) (end_at at near ∷ end_at far others ∷ []) None
   near_ties near others at c e first =
       let found = far_is c e in
       record {
         each = λ mark agrees.
             ap (λ t. both_turns t (root_turns
             (root_at inner.sight.rules inner.sight.graph inner.sight.positions mark
-            (far ∷ listed between ++ path_at inner.sight.nodes node) others))) (first.each mark agrees)
+            (far ∷ option_to_list between ++ path_at inner.sight.nodes node) others))) (first.each mark agrees)
             ∙ sym (both_are inner.sight.rules inner.sight.graph inner.sight.positions mark
-            (path_at inner.sight.nodes node) (listed between) (end_at at near) (end_at far others) found.new);
+            (path_at inner.sight.nodes node) (option_to_list between) (end_at at near) (end_at far others) found.new);
       }
 
 -- a centre has one end

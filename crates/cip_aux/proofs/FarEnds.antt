@@ -13,7 +13,8 @@ use Rattle.cip_digraph.specs.digraph.NodeList.{told_at, parents_of}
 use Rattle.cip_digraph.specs.digraph.Telling.{node_at}
 use Rattle.cip_digraph.specs.digraph.View.{real_at}
 use Rattle.cip_aux.specs.Neighbours.{first_where, is_real_of, real_child, shape_at}
-use Rattle.cip_aux.specs.Joining.{listed, Joins, next_child, far_number}
+use Rattle.std.specs.Prelude.{option_to_list}
+use Rattle.cip_aux.specs.Joining.{Joins, next_child, far_number}
 use Rattle.cip_aux.specs.Sights.{Sight, Shows, path_at, IsReal}
 use Rattle.cip_aux.proofs.Paths.{hangs, path_is, real_is, some_path, within_parents}
 use Rattle.cip_letters.proofs.PairTurns.{any_mapped}
@@ -154,8 +155,8 @@ module _ (sight : Sight) (s : Shows sight) where
 
   pub record IsFar (n : ℕ) (between : Option ℕ) (far c : ℕ) : Type 0 where
     pub real : IsReal sight.nodes c
-    pub path : path_at sight.nodes c ≡ far ∷ listed between ++ path_at sight.nodes n
-    pub new : list_all (λ vertex. not (is_in vertex (path_at sight.nodes n))) (far ∷ listed between) ≡ true
+    pub path : path_at sight.nodes c ≡ far ∷ option_to_list between ++ path_at sight.nodes n
+    pub new : list_all (λ vertex. not (is_in vertex (path_at sight.nodes n))) (far ∷ option_to_list between) ≡ true
 
   pub far_found : (n : ℕ) (between : Option ℕ) (far c : ℕ)
       → far_number (node_at sight.nodes) (parents_of sight.told) n between far ≡ Some c → IsFar n between far c
@@ -181,7 +182,7 @@ module _ (sight : Sight) (s : Shows sight) where
   pub far_none : (n : ℕ) (between : Option ℕ) (far : ℕ) → IsReal sight.nodes n
       → Joins sight.graph (node_at sight.nodes n).vertex between far
       → far_number (node_at sight.nodes) (parents_of sight.told) n between far ≡ None
-      → list_all (λ vertex. not (is_in vertex (path_at sight.nodes n))) (far ∷ listed between) ≡ false
+      → list_all (λ vertex. not (is_in vertex (path_at sight.nodes n))) (far ∷ option_to_list between) ≡ false
   far_none n None far r joined e = rw (child_none n far r joined e) refl
   far_none n (Some middle) far r joined e =
       by (real_child (node_at sight.nodes) (parents_of sight.told) n middle) refl e

@@ -9,7 +9,8 @@ use Rattle.cip_mol.specs.declared.site.Geometry.TheVariants.{Known, Unknown}
 use Rattle.cip_mol.specs.declared.site.Site.{Site}
 use Rattle.cip_mol.specs.declared.site.Unit as units
 use Rattle.cip_digraph.specs.rules.Auxiliary.{nearer_first, roots_at, letter_at, unit_letter, first_letter}
-use Rattle.cip_digraph.specs.units.Ends.{End, ends_of, between_of}
+use Rattle.cip_mol.specs.Ends.{between_of}
+use Rattle.cip_digraph.specs.units.Ends.{End, ends_of}
 use Rattle.cip_aux.specs.Sights.{Sight}
 use Rattle.cip_aux.specs.UnitsAt.{ends_at}
 

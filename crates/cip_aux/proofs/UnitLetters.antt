@@ -8,7 +8,8 @@ use Rattle.cip_mol.specs.declared.site.Geometry.TheVariants.{Known, Unknown}
 use Rattle.cip_mol.specs.declared.site.Unit as units
 use Rattle.cip_digraph.specs.rules.Auxiliary.{nearer_first, roots_at, letter_at, unit_letter, first_letter}
 use Rattle.cip_digraph.specs.digraph.Digraph.{Node}
-use Rattle.cip_digraph.specs.units.Ends.{ends_of, between_of}
+use Rattle.cip_mol.specs.Ends.{between_of}
+use Rattle.cip_digraph.specs.units.Ends.{ends_of}
 use Rattle.cip_digraph.specs.digraph.Telling.{node_at}
 use Rattle.cip_digraph.specs.digraph.View.{real_at}
 use Rattle.cip_letters.specs.declared.turns.Turns.{Turns}

@@ -1,17 +1,14 @@
 -- Where the ends of a unit stand. Own.
-use Rattle.std.specs.Prelude.{◌≡◌, ◌≢◌, ℕ, true, List, [], ◌∷◌, None, Some}
+use Rattle.std.specs.Prelude.{◌≡◌, ◌≢◌, ℕ, true, List, None, Some}
 use Rattle.std.specs.declared.option.Option.{Option}
+use Rattle.cip_mol.specs.declared.ends.Ends.{Ends}
+use Rattle.cip_mol.specs.declared.ends.Ends.TheVariants.{One, Two}
 use Rattle.cip_mol.specs.declared.site.Site.{Site}
 use Rattle.cip_mol.specs.declared.site.Site.TheVariants.{Centre, Bond, Axis}
 use Rattle.cip_digraph.specs.rings.Alternating.{is_in}
 use Rattle.cip_digraph.specs.digraph.Digraph.{Node}
 use Rattle.cip_digraph.specs.graph.Graph.{Graph, neighbours}
 use Rattle.cip_aux.specs.Neighbours.{real_child}
-
--- the atom between the ends of an axis
-abbrev pub listed : Option ℕ → List ℕ
-listed None = []
-listed (Some vertex) = vertex ∷ []
 
 -- the way from one end of a unit to the other runs along bonds
 abbrev pub Joins : Graph → ℕ → Option ℕ → ℕ → Type 0
@@ -24,6 +21,12 @@ abbrev pub EndsJoin : Graph → Site → Type 0
 EndsJoin graph (Centre at ligands) = Unit {0}
 EndsJoin graph (Bond a b first second) = Joins graph a None b × Joins graph b None a
 EndsJoin graph (Axis a middle b first second) = Joins graph a (Some middle) b × Joins graph b (Some middle) a
+
+-- the same of ends that are lent
+abbrev pub AreJoined : Graph → Ends → Type 0
+AreJoined graph (One end) = Unit {0}
+AreJoined graph (Two shape two) =
+    Joins graph two.near.at two.between two.far.at × Joins graph two.far.at two.between two.near.at
 
 abbrev pub next_child : (ℕ → Node) → List ℕ → ℕ → Option ℕ → Option ℕ
 next_child nodes parents vertex None = None

@@ -1,11 +1,12 @@
 // The turns of a unit's ends, seen from a node.
-ghost use Rattle.std.specs.Prelude.{◌≡◌, ◌<◌, ◌≤◌, [], ◌∷◌, length, IfOk};
+ghost use Rattle.std.specs.Prelude.{◌≡◌, ◌<◌, ◌≤◌, [], ◌∷◌, length, option_to_list, IfOk};
 ghost use Rattle.cip_digraph.specs.digraph.NodeList.{parents_of};
 ghost use Rattle.cip_digraph.specs.digraph.Telling.{node_at};
 ghost use Rattle.cip_digraph.specs.rules.Auxiliary.{nearer_first};
-ghost use Rattle.cip_digraph.specs.units.Ends.{end_at, ends_of, between_of};
+ghost use Rattle.cip_mol.specs.Ends.{between_in};
+ghost use Rattle.cip_letters.specs.LentEnds.{as_end, ends_in};
 ghost use Rattle.cip_aux.specs.Inner.{Ready};
-ghost use Rattle.cip_aux.specs.Joining.{listed, Joins, EndsJoin, far_number};
+ghost use Rattle.cip_aux.specs.Joining.{AreJoined, Joins, far_number};
 ghost use Rattle.cip_aux.specs.Marking.{AreRootTurns, AreEndTurns};
 ghost use Rattle.cip_aux.specs.Neighbours.{shape_at};
 
@@ -14,7 +15,7 @@ use crate::neighbours::{ligands_at, real_child};
 use crate::viewer::Viewer;
 use cip_digraph::Nodes;
 use cip_letters::{Turns, both, turns_from};
-use cip_mol::{Ligands, Site};
+use cip_mol::{End, Ends, Ligands, TwoEnds};
 use std::alloc::{AllocError, Global};
 
 // The turns of a root's ligands, seen from its node.
@@ -49,60 +50,29 @@ fn far_end<N: Nodes>(nodes: &N, node: u32, between: Option<u32>, far: u32) -> Op
     }
 }
 
-// A unit with two ends, and what lies between them.
-#[derive(Clone, Copy)]
-struct TwoEnds<'a> {
-    a: u32,
-    first: &'a Ligands,
-    between: Option<u32>,
-    b: u32,
-    second: &'a Ligands,
-}
-
-impl<'a> TwoEnds<'a> {
-    // The same from its other end.
-    fn reversed(&self) -> TwoEnds<'a>
-        ensures { result ≡ record {
-          a = self.now.b;
-          first = self.now.second;
-          between = self.now.between;
-          b = self.now.a;
-          second = self.now.first;
-        } }
-    {
-        TwoEnds {
-            a: self.b,
-            first: self.second,
-            between: self.between,
-            b: self.a,
-            second: self.first,
-        }
-    }
-}
-
 // The turns of both ends, the first of which stands at the node whose descriptors count.
 fn ends_turns<N: Nodes, V: Viewer>(
     alloc: Global,
     inner: &Inner<'_, N>,
     viewer: &mut V,
-    unit: &TwoEnds<'_>,
+    ends: &TwoEnds<'_>,
 ) -> Result<Option<Turns>, AllocError>
     requires ready { Ready inner.now inner.now.from }
     requires joins { Joins inner.now.sight.graph (node_at inner.now.sight.nodes inner.now.from).vertex
-        unit.now.between unit.now.b }
+        ends.now.between ends.now.far.at }
     requires room { length inner.now.sight.told ≤ V.room viewer.old }
     ensures room { V.room viewer.new ≡ V.room viewer.old }
-    ensures turns { IfOk result (AreEndTurns inner.now inner.now.from (listed unit.now.between)
-        (end_at unit.now.a unit.now.first.now ∷ end_at unit.now.b unit.now.second.now ∷ [])) }
+    ensures turns { IfOk result (AreEndTurns inner.now inner.now.from (option_to_list ends.now.between)
+        (as_end ends.now.near ∷ as_end ends.now.far ∷ [])) }
 {
     let node = inner.from();
-    let Some(other) = far_end(inner.whole().nodes(), node, unit.between, unit.b) else {
+    let Some(other) = far_end(inner.whole().nodes(), node, ends.between, ends.far.at) else {
         return Ok(None);
     };
-    let Some(one) = turns_at(alloc, inner, viewer, node, unit.first)? else {
+    let Some(one) = turns_at(alloc, inner, viewer, node, ends.near.ligands)? else {
         return Ok(None);
     };
-    let Some(two) = turns_at(alloc, inner, viewer, other, unit.second)? else {
+    let Some(two) = turns_at(alloc, inner, viewer, other, ends.far.ligands)? else {
         return Ok(None);
     };
     Ok(Some(both(one, two)))
@@ -114,95 +84,64 @@ fn two_ends<N: Nodes, V: Viewer>(
     inner: &Inner<'_, N>,
     viewer: &mut V,
     vertex: u32,
-    unit: &TwoEnds<'_>,
+    ends: &TwoEnds<'_>,
 ) -> Result<Option<Turns>, AllocError>
     requires ready { Ready inner.now inner.now.from }
     requires vertex { vertex ≡ (node_at inner.now.sight.nodes inner.now.from).vertex }
-    requires onwards { Joins inner.now.sight.graph unit.now.a unit.now.between unit.now.b }
-    requires back { Joins inner.now.sight.graph unit.now.b unit.now.between unit.now.a }
+    requires onwards { Joins inner.now.sight.graph ends.now.near.at ends.now.between ends.now.far.at }
+    requires back { Joins inner.now.sight.graph ends.now.far.at ends.now.between ends.now.near.at }
     requires room { length inner.now.sight.told ≤ V.room viewer.old }
     ensures room { V.room viewer.new ≡ V.room viewer.old }
-    ensures turns { IfOk result (AreEndTurns inner.now inner.now.from (listed unit.now.between) (nearer_first vertex
-        (end_at unit.now.a unit.now.first.now ∷ end_at unit.now.b unit.now.second.now ∷ []))) }
+    ensures turns { IfOk result (AreEndTurns inner.now inner.now.from (option_to_list ends.now.between) (nearer_first vertex
+        (as_end ends.now.near ∷ as_end ends.now.far ∷ []))) }
 {
-    if unit.a == vertex {
-        ends_turns(alloc, inner, viewer, unit)
-    } else if unit.b == vertex {
-        ends_turns(alloc, inner, viewer, &unit.reversed())
+    if ends.near.at == vertex {
+        ends_turns(alloc, inner, viewer, ends)
+    } else if ends.far.at == vertex {
+        ends_turns(alloc, inner, viewer, &ends.reversed())
     } else {
         Ok(None)
     }
 }
 
-fn centre_turns<N: Nodes, V: Viewer>(
+fn one_end<N: Nodes, V: Viewer>(
     alloc: Global,
     inner: &Inner<'_, N>,
     viewer: &mut V,
     vertex: u32,
-    at: u32,
-    ligands: &Ligands,
+    end: &End<'_>,
 ) -> Result<Option<Turns>, AllocError>
     requires ready { Ready inner.now inner.now.from }
     requires room { length inner.now.sight.told ≤ V.room viewer.old }
     ensures room { V.room viewer.new ≡ V.room viewer.old }
     ensures turns { IfOk result (AreEndTurns inner.now inner.now.from []
-        (nearer_first vertex (end_at at ligands.now ∷ []))) }
+        (nearer_first vertex (as_end end.now ∷ []))) }
 {
-    if at == vertex {
-        turns_at(alloc, inner, viewer, inner.from(), ligands)
+    if end.at == vertex {
+        turns_at(alloc, inner, viewer, inner.from(), end.ligands)
     } else {
         Ok(None)
     }
 }
 
 /// The turns of a unit at the nearer of its ends, seen from the node, whose vertex this is.
-pub fn site_turns<N: Nodes, V: Viewer>(
+pub fn unit_turns<N: Nodes, V: Viewer>(
     alloc: Global,
     inner: &Inner<'_, N>,
     viewer: &mut V,
     vertex: u32,
-    site: &Site,
+    ends: &Ends<'_>,
 ) -> Result<Option<Turns>, AllocError>
     requires ready { Ready inner.now inner.now.from }
     requires vertex { vertex ≡ (node_at inner.now.sight.nodes inner.now.from).vertex }
-    requires joined { EndsJoin inner.now.sight.graph site.now }
+    requires joined { AreJoined inner.now.sight.graph ends.now }
     requires room { length inner.now.sight.told ≤ V.room viewer.old }
     ensures room { V.room viewer.new ≡ V.room viewer.old }
-    ensures turns { IfOk result (AreEndTurns inner.now inner.now.from (between_of site.now)
-        (nearer_first vertex (ends_of site.now))) }
+    ensures turns { IfOk result (AreEndTurns inner.now inner.now.from (between_in ends.now)
+        (nearer_first vertex (ends_in ends.now))) }
 {
-    match site {
-        Site::Centre { at, ligands } => { centre_turns(alloc, inner, viewer, vertex, *at, ligands) }
-        Site::Bond {
-            a,
-            b,
-            first,
-            second,
-        } => {
-            let unit = TwoEnds {
-                a: *a,
-                first,
-                between: None,
-                b: *b,
-                second,
-            };
-            two_ends(alloc, inner, viewer, vertex, &unit)
-        }
-        Site::Axis {
-            a,
-            middle,
-            b,
-            first,
-            second,
-        } => {
-            let unit = TwoEnds {
-                a: *a,
-                first,
-                between: Some(*middle),
-                b: *b,
-                second,
-            };
-            two_ends(alloc, inner, viewer, vertex, &unit)
-        }
+    match ends {
+        Ends::One(end) => one_end(alloc, inner, viewer, vertex, end),
+        Ends::Two(_, two) => two_ends(alloc, inner, viewer, vertex, two),
     }
 }

@@ -5,7 +5,7 @@ ghost use Rattle.cip_aux.specs.Inner.{Ready};
 ghost use Rattle.cip_aux.specs.Marking.{IsUnitLetter, IsFirstLetter, UnitsJoin};
 ghost use Rattle.cip_aux.specs.Joining.{EndsJoin};
 
-use crate::ends::site_turns;
+use crate::ends::unit_turns;
 use crate::inner::Inner;
 use crate::units_at::UnitsAt;
 use crate::viewer::Viewer;
@@ -31,8 +31,9 @@ fn unit_letter<N: Nodes, V: Viewer>(
     match unit.geometry {
         Geometry::Unknown(_) => Ok(None),
         Geometry::Known(sense) => {
-            let turns = site_turns(alloc, inner, viewer, vertex, &unit.site)?;
-            Ok(named(&unit.site, sense, turns))
+            let ends = unit.site.ends();
+            let turns = unit_turns(alloc, inner, viewer, vertex, &ends)?;
+            Ok(named(&ends, sense, turns))
         }
     }
 }

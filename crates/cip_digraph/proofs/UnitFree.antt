@@ -47,7 +47,8 @@ use Rattle.cip_digraph.specs.rules.Auxiliary.{
   auxiliary,
 }
 use Rattle.cip_digraph.specs.digraph.Digraph.{NodeKind, Real, Closure, Multiple, Delocalised, Node, is_real, children}
-use Rattle.cip_digraph.specs.units.Ends.{End, ends_of, between_of, atoms_of}
+use Rattle.cip_mol.specs.Ends.{between_of}
+use Rattle.cip_digraph.specs.units.Ends.{End, ends_of, atoms_of}
 use Rattle.cip_digraph.specs.graph.Graph.{Graph}
 use Rattle.cip_digraph.specs.outcome.Outcomes.{is_in_unit}
 use Rattle.cip_digraph.specs.digraph.View.{parent, is_on_way, view_children, seen_from}

@@ -1,4 +1,4 @@
--- The ends of a site, and that they are fit.
+-- The ends of a site are fit.
 use Rattle.std.proofs.Common.{
   ◌≡◌,
   ◌≤◌,
@@ -6,9 +6,6 @@ use Rattle.std.proofs.Common.{
   ◌∷◌,
   ◌++◌,
   ◌∙◌,
-  ◌⊎◌,
-  inl,
-  inr,
   [],
   ℕ,
   List,
@@ -21,18 +18,10 @@ use Rattle.std.proofs.Common.{
 use Rattle.std.specs.List.{All}
 use Rattle.std.proofs.lemmas.List.{append-nil, length-append}
 use Rattle.std.proofs.lemmas.List.Elements.{All-head, All-tail}
-use Rattle.cip_mol.specs.declared.site.Ligand.{Ligand}
 use Rattle.cip_mol.specs.declared.site.Site.{Site}
-use Rattle.cip_mol.specs.declared.site.Site.TheVariants.{Bond, Axis}
-use Rattle.cip_digraph.specs.units.Ends.{End, end_at, ends_of}
+use Rattle.cip_digraph.specs.units.Ends.{End, ends_of}
 use Rattle.cip_digraph.specs.graph.Graph.{Graph}
 use Rattle.cip_label.specs.Fitting.{IsFit, IsFitSite}
-
-pub two_ends : (site : Site) (a b : ℕ) (first second : List Ligand) →
-    (site ≡ Bond a b first second) ⊎ ((middle : ℕ) × (site ≡ Axis a middle b first second)) →
-    ends_of site ≡ end_at a first ∷ end_at b second ∷ []
-two_ends site a b first second (inl e) = ap ends_of e
-two_ends site a b first second (inr (middle, e)) = ap ends_of e
 
 module _ (graph : Graph) (site : Site) (fit : IsFitSite graph site) where
   abbrev Fit : End → Type 0

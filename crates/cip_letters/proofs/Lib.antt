@@ -1,3 +1,4 @@
+pub mod LentEnds
 pub mod LettersTurn
 pub mod Odd
 pub mod OddTurns

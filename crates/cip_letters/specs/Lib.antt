@@ -1,4 +1,5 @@
 pub mod Falls
+pub mod LentEnds
 pub mod Lettered
 pub mod Marking
 pub mod Sides

@@ -1,10 +1,11 @@
 // The descriptor of a unit from its sense and the turns of its ends.
 ghost use Rattle.std.specs.Prelude.{◌≡◌};
+ghost use Rattle.cip_mol.specs.Ends.{as_site};
 ghost use Rattle.cip_digraph.specs.units.Descriptors.{turned_if, capital, small};
 ghost use Rattle.cip_letters.specs.Lettered.{turned_letter, letter_in};
 
 use crate::turns::Turns;
-use cip_mol::{Descriptor, Sense, Site};
+use cip_mol::{Descriptor, Ends, Sense, Shape};
 
 fn turned(sense: Sense, turn: bool) -> Sense
     ensures { result ≡ turned_if turn sense }
@@ -16,16 +17,16 @@ fn turned(sense: Sense, turn: bool) -> Sense
     }
 }
 
-fn capital(site: &Site, sense: Sense) -> Descriptor
-    ensures { result ≡ capital site.now sense }
+fn capital(ends: &Ends<'_>, sense: Sense) -> Descriptor
+    ensures { result ≡ capital (as_site ends.now) sense }
 {
-    match (site, sense) {
-        (Site::Centre { .. }, Sense::Plus) => Descriptor::S,
-        (Site::Centre { .. }, Sense::Minus) => Descriptor::R,
-        (Site::Bond { .. }, Sense::Plus) => Descriptor::Z,
-        (Site::Bond { .. }, Sense::Minus) => Descriptor::E,
-        (Site::Axis { .. }, Sense::Plus) => Descriptor::P,
-        (Site::Axis { .. }, Sense::Minus) => Descriptor::M,
+    match (ends, sense) {
+        (Ends::One(_), Sense::Plus) => Descriptor::S,
+        (Ends::One(_), Sense::Minus) => Descriptor::R,
+        (Ends::Two(Shape::Flat, _), Sense::Plus) => Descriptor::Z,
+        (Ends::Two(Shape::Flat, _), Sense::Minus) => Descriptor::E,
+        (Ends::Two(Shape::Crossed, _), Sense::Plus) => Descriptor::P,
+        (Ends::Two(Shape::Crossed, _), Sense::Minus) => Descriptor::M,
     }
 }
 
@@ -44,10 +45,10 @@ fn small(letter: Descriptor) -> Descriptor
 }
 
 /// The descriptor by the turns: small where the last rule, turned, gives the opposite.
-pub fn letter(site: &Site, sense: Sense, turns: Turns) -> Descriptor
-    ensures { result ≡ letter_in site.now sense turns }
+pub fn letter(ends: &Ends<'_>, sense: Sense, turns: Turns) -> Descriptor
+    ensures { result ≡ letter_in (as_site ends.now) sense turns }
 {
-    let letter = capital(site, turned(sense, turns.natural));
+    let letter = capital(ends, turned(sense, turns.natural));
     if turns.natural == turns.turned {
         letter
     } else {
@@ -56,8 +57,8 @@ pub fn letter(site: &Site, sense: Sense, turns: Turns) -> Descriptor
 }
 
 /// The descriptor by the turns; none where ligands tie.
-pub fn named(site: &Site, sense: Sense, turns: Option<Turns>) -> Option<Descriptor>
-    ensures { result ≡ turned_letter site.now sense turns }
+pub fn named(ends: &Ends<'_>, sense: Sense, turns: Option<Turns>) -> Option<Descriptor>
+    ensures { result ≡ turned_letter (as_site ends.now) sense turns }
 {
-    Some(letter(site, sense, turns?))
+    Some(letter(ends, sense, turns?))
 }

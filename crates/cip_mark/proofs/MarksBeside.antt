@@ -22,7 +22,8 @@ use Rattle.cip_digraph.specs.rings.Alternating.{is_in}
 use Rattle.cip_digraph.specs.rules.Auxiliary.{stands_for, ligand_node, nearer_first, root_at, roots_at, letter_at, unit_letter, first_letter, node_letter, inside, marks_within, auxiliary}
 use Rattle.cip_digraph.specs.rules.Decisions.{order}
 use Rattle.cip_digraph.specs.units.Descriptors.{letter}
-use Rattle.cip_digraph.specs.units.Ends.{End, end_at, ends_of, between_of}
+use Rattle.cip_mol.specs.Ends.{between_of}
+use Rattle.cip_digraph.specs.units.Ends.{End, end_at, ends_of}
 use Rattle.cip_digraph.specs.units.Ranked.{Root, has_tie}
 use Rattle.cip_digraph.proofs.Lists.{all_filtered}
 use Rattle.cip_ligands.specs.Moving.{Moves}

@@ -9,27 +9,22 @@ use crate::drawn::drawn_of;
 use crate::flat_axis::show_by_marks;
 use crate::marks::{has_either, marks_to};
 use crate::pairs::{PairSign, show_pairs};
-use cip_mol::{AtMostFour, Cause, Geometry, Ligands, Molecule};
+use cip_mol::{AtMostFour, Cause, Geometry, Molecule, TwoEnds};
 use std::alloc::Global;
 
-/// What is shown of an axis between `a` and `b` with these ligands at its ends.
-pub(crate) fn show_axis(
-    alloc: Global,
-    molecule: &Molecule,
-    a: u32,
-    b: u32,
-    first: &Ligands,
-    second: &Ligands,
-) -> Geometry
-    requires a { IsEnd (length molecule.now.atoms) a first.now }
-    requires b { IsEnd (length molecule.now.atoms) b second.now }
-    ensures { result ≡ axis_geometry molecule.now a b first.now second.now }
+/// What is shown of an axis between two ends.
+pub(crate) fn show_axis(alloc: Global, molecule: &Molecule, ends: &TwoEnds<'_>) -> Geometry
+    requires near { IsEnd (length molecule.now.atoms) ends.now.near.at ends.now.near.ligands.now }
+    requires far { IsEnd (length molecule.now.atoms) ends.now.far.at ends.now.far.ligands.now }
+    ensures { result ≡ axis_geometry molecule.now ends.now.near.at ends.now.far.at ends.now.near.ligands.now
+        ends.now.far.ligands.now }
 {
+    let (a, b) = (ends.near.at, ends.far.at);
     if has_either(molecule, a) || has_either(molecule, b) {
         return Geometry::Unknown(Cause::Either);
     }
-    let first = drawn_of(alloc, molecule, first);
-    let second = drawn_of(alloc, molecule, second);
+    let first = drawn_of(alloc, molecule, ends.near.ligands);
+    let second = drawn_of(alloc, molecule, ends.far.ligands);
     if molecule.is_spatial() {
         return show_in_space(alloc, molecule, a, b, &first, &second);
     }

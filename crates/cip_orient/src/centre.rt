@@ -10,24 +10,20 @@ use crate::drawn::drawn_of;
 use crate::flat_centre::show_in_plane;
 use crate::marks::{has_either, marks_to};
 use crate::pairs::shown_by;
-use cip_mol::{Cause, Geometry, Ligands, Molecule};
+use cip_mol::{Cause, End, Geometry, Molecule};
 use cip_num::{Vec3, volume};
 use std::alloc::Global;
 
-/// What is shown of a centre with these ligands.
-pub(crate) fn show_centre(
-    alloc: Global,
-    molecule: &Molecule,
-    at: u32,
-    ligands: &Ligands,
-) -> Geometry
-    requires { IsCentre (length molecule.now.atoms) at ligands.now }
-    ensures { result ≡ centre_geometry molecule.now at ligands.now }
+/// What is shown of a centre.
+pub(crate) fn show_centre(alloc: Global, molecule: &Molecule, centre: &End<'_>) -> Geometry
+    requires { IsCentre (length molecule.now.atoms) centre.now.at centre.now.ligands.now }
+    ensures { result ≡ centre_geometry molecule.now centre.now.at centre.now.ligands.now }
 {
+    let at = centre.at;
     if has_either(molecule, at) {
         return Geometry::Unknown(Cause::Either);
     }
-    let drawn = drawn_of(alloc, molecule, ligands);
+    let drawn = drawn_of(alloc, molecule, centre.ligands);
     if molecule.is_spatial() {
         let points = points(alloc, molecule, &drawn);
         return show_in_space(point(molecule, at), points.as_slice());

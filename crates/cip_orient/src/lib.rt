@@ -14,4 +14,4 @@ mod site;
 
 pub use drawn::drawn_of;
 pub use marks::is_crossed;
-pub use site::orient;
+pub use site::{orient, orient_ends};

@@ -17,7 +17,8 @@ use Rattle.cip_digraph.specs.rings.Alternating.{is_in}
 use Rattle.cip_digraph.specs.graph.Graph.{Graph}
 use Rattle.cip_digraph.specs.digraph.Digraph.{NodeKind, Real, Closure, Multiple, Delocalised, Node}
 use Rattle.cip_digraph.specs.rules.Decisions.{order}
-use Rattle.cip_digraph.specs.units.Ends.{End, ends_of, between_of}
+use Rattle.cip_mol.specs.Ends.{between_of}
+use Rattle.cip_digraph.specs.units.Ends.{End, ends_of}
 use Rattle.cip_digraph.specs.units.Ranked.{Root, has_tie}
 use Rattle.cip_digraph.specs.units.Descriptors.{letter}
 use Rattle.cip_digraph.specs.digraph.View.{is_end_of, real_at, view_children, seen_from}

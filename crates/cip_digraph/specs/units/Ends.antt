@@ -2,6 +2,7 @@
 -- IUPAC 2013, P-93.
 use Rattle.std.specs.Prelude.{ℕ, List, [], ◌∷◌, ◌++◌, map}
 use Rattle.cip_mol.specs.declared.site.Ligand.{Ligand}
+use Rattle.cip_mol.specs.Ends.{between_of}
 use Rattle.cip_mol.specs.declared.site.Site.{Site}
 use Rattle.cip_mol.specs.declared.site.Site.TheVariants.{Centre, Bond, Axis}
 
@@ -16,12 +17,6 @@ abbrev pub ends_of : Site → List End
 ends_of (Centre at ligands) = end_at at ligands ∷ []
 ends_of (Bond a b first second) = end_at a first ∷ end_at b second ∷ []
 ends_of (Axis a middle b first second) = end_at a first ∷ end_at b second ∷ []
-
--- the atoms between the ends
-abbrev pub between_of : Site → List ℕ
-between_of (Centre at ligands) = []
-between_of (Bond a b first second) = []
-between_of (Axis a middle b first second) = middle ∷ []
 
 abbrev pub atoms_of : Site → List ℕ
 atoms_of site = map (λ end. end.at) (ends_of site) ++ between_of site

@@ -1,3 +1,7 @@
+use Rattle.std.proofs.Common.{◌≡◌, IfOk, subst}
+use Rattle.cip_digraph.specs.units.Ends.{ends_of}
+use Rattle.cip_label.specs.Settings.{known_in}
+use Rattle.cip_label.specs.Steps.{Rises}
 use Rattle.cip_label.proofs.StepsRise.{known_rises, unknown_rises}
 use Rattle.cip_label.proofs.UnitOutcomes.{known_at, unknown_at}
 use Rattle.cip_label.proofs.labels.label.Goals as goal
@@ -10,9 +14,12 @@ returns-in-Unknown-clause-outcome g c = λ u at.
 
 pub returns-in-Known-clause-outcome : goal.returns-in-Known-clause-outcome
 returns-in-Known-clause-outcome g c =
-    known_at c.args.setting.now (g.D.Digraphs.bound c.args.digraphs.now) c.args.unit c.unit-unit.result.now
-    c.in-Known.sense c.label_site.result
-    c.unit-unit.ensures.at c.in-Known.is c.label_site.ensures.outcome
+    let bound = g.D.Digraphs.bound c.args.digraphs.now in
+    known_at c.args.setting.now bound c.args.unit c.unit-unit.result.now c.in-Known.sense c.label_ends.result
+    c.unit-unit.ensures.at c.in-Known.is
+    (subst
+    (λ site. IfOk c.label_ends.result (λ outcome. outcome ≡ known_in c.args.setting.now bound site c.in-Known.sense))
+    c.ends.ensures.site c.label_ends.ensures.outcome)
 
 pub returns-in-Unknown-clause-cost : goal.returns-in-Unknown-clause-cost
 returns-in-Unknown-clause-cost g c = λ u at.
@@ -22,6 +29,8 @@ returns-in-Unknown-clause-cost g c = λ u at.
 
 pub returns-in-Known-clause-cost : goal.returns-in-Known-clause-cost
 returns-in-Known-clause-cost g c = λ u at.
-    known_rises c.args.setting.now (g.D.Digraphs.bound c.args.digraphs.now) c.args.unit c.unit-unit.result.now u
-    c.in-Known.sense c.args.steps.now c.label_site.new.steps
-    c.unit-unit.ensures.at c.in-Known.is at c.label_site.ensures.cost
+    let bound = g.D.Digraphs.bound c.args.digraphs.now in
+    known_rises c.args.setting.now bound c.args.unit c.unit-unit.result.now u c.in-Known.sense c.args.steps.now
+    c.label_ends.new.steps c.unit-unit.ensures.at c.in-Known.is at
+    (subst (λ site. Rises c.args.setting.now bound (ends_of site) c.args.steps.now c.label_ends.new.steps)
+    c.ends.ensures.site c.label_ends.ensures.cost)
