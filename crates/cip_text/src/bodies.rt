@@ -84,6 +84,7 @@ pub fn body_contents(alloc: Global, bytes: &[u8]) -> Result<Vec<&[u8]>, AllocErr
 }
 
 // The contents of the lines before the terminator line, and what stands from it on.
+#[tactic(auto, using(crate::proofs::Halves::closing_itself))]
 fn split_record(alloc: Global, bytes: &[u8]) -> Result<(Vec<&[u8]>, &[u8]), AllocError>
     ensures contents { IfOk result (λ parts. texts parts.0.items ≡ body_contents bytes.now) }
     ensures closing { IfOk result (λ parts. parts.1.now ≡ closing bytes.now) }
@@ -91,8 +92,12 @@ fn split_record(alloc: Global, bytes: &[u8]) -> Result<(Vec<&[u8]>, &[u8]), Allo
 {
     let mut contents = Vec::with_capacity(alloc, bytes.len() / 16)?;
     let mut rest = bytes;
-    while let Some((line, behind)) = split_body_line(rest) {
-        contents.push(without_end(line))?;
+    while let Some((line, behind)) = split_line(rest) {
+        let content = without_end(line);
+        if begins_with(line, b'$') && is_terminator(content) {
+            return Ok((contents, rest));
+        }
+        contents.push(content)?;
         rest = behind;
     }
     Ok((contents, rest))
