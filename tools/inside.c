@@ -10,13 +10,20 @@
 
 #define TRY(number, holds) if (!(holds)) return number
 
-static const char record[] =
-    "bromochlorofluoromethane\n\n\n"
-    "  5  4  0  0  0  0  0  0  0  0999 V2000\n"
-    "    0.0000    0.0000    0.0000 C\n    0.0000    1.0000    0.0000 F\n    1.0000    0.0000    0.0000 Cl\n"
-    "    0.0000   -1.0000    0.0000 Br\n   -1.0000    0.0000    0.0000 H\n"
-    "  1  2  1  0\n  1  3  1  0\n  1  4  1  1\n  1  5  1  0\nM  END\n";
-static const char values[] = "cip 2 rule1b 2018 nodes 100000\na1 S 1a 1 order 4 3 2 5\n";
+#define RECORD \
+    "bromochlorofluoromethane\n\n\n" \
+    "  5  4  0  0  0  0  0  0  0  0999 V2000\n" \
+    "    0.0000    0.0000    0.0000 C\n    0.0000    1.0000    0.0000 F\n    1.0000    0.0000    0.0000 Cl\n" \
+    "    0.0000   -1.0000    0.0000 Br\n   -1.0000    0.0000    0.0000 H\n" \
+    "  1  2  1  0\n  1  3  1  0\n  1  4  1  1\n  1  5  1  0\nM  END\n"
+#define SETTINGS "cip 2 rule1b 2018 nodes 100000\n"
+#define LABEL "a1 S 1a 1 order 4 3 2 5\n"
+
+static const char record[] = RECORD;
+static const char values[] = SETTINGS LABEL;
+static const char annotated[] = RECORD "> <CIP_LABELS>\n" SETTINGS LABEL "\n";
+static const char explained[] = "record 7\n" LABEL;
+static const char values_of_nothing[] = SETTINGS "refused 1 Short\n";
 
 enum { ROOM = 4096 };
 
@@ -95,10 +102,19 @@ static int conditions(void) {
     }
     /* a record of no byte */
     memset(text, '#', ROOM);
-    TRY(22, cip_values(&around[1], bytes, 0, text, ROOM) == 47 && memcmp(text + 31, "refused 1 Short\n", 16) == 0);
-    TRY(23, cip_release(&around[1]) == 0);
+    TRY(22, cip_values(&around[1], bytes, 0, text, ROOM) == 47 && is_written(values_of_nothing, 47));
     memset(text, '#', ROOM);
-    TRY(24, cip_annotate(&around[1], bytes, length, text, ROOM) == CIP_NOT_MADE && is_written("", 0));
+    TRY(23, cip_undefined(&around[1], bytes, 0, text, ROOM) == 16 && is_written(values_of_nothing + 31, 16));
+    /* the other texts of the record, whose one centre has a label */
+    size_t with_item = sizeof annotated - 1, told = sizeof explained - 1;
+    memset(text, '#', ROOM);
+    TRY(24, cip_undefined(&around[1], bytes, length, text, ROOM) == 0 && is_written("", 0));
+    TRY(25, cip_annotate(&around[1], bytes, length, text, ROOM) == (int64_t)with_item && is_written(annotated, with_item));
+    memset(text, '#', ROOM);
+    TRY(26, cip_explain(&around[1], 7, bytes, length, text, ROOM) == (int64_t)told && is_written(explained, told));
+    TRY(27, cip_release(&around[1]) == 0);
+    memset(text, '#', ROOM);
+    TRY(28, cip_annotate(&around[1], bytes, length, text, ROOM) == CIP_NOT_MADE && is_written("", 0));
     return 0;
 }
 
@@ -113,19 +129,19 @@ static int memory(void) {
         met = 0;
         int64_t told = cip_make(&labeller, CIP_NODES, CIP_WORDING);
         if (told != 0) {
-            TRY(25, told == CIP_NO_MEMORY && cip_values(&labeller, bytes, length, text, ROOM) == CIP_NOT_MADE);
-            TRY(26, cip_release(&labeller) == 0 && cip_make(&labeller, CIP_NODES, CIP_WORDING) == 0);
+            TRY(29, told == CIP_NO_MEMORY && cip_values(&labeller, bytes, length, text, ROOM) == CIP_NOT_MADE);
+            TRY(30, cip_release(&labeller) == 0 && cip_make(&labeller, CIP_NODES, CIP_WORDING) == 0);
         }
         for (int which = 0; which < 4; which++) {
             memset(text, '#', ROOM);
             told = call(which, &labeller, bytes, length, text, ROOM);
-            TRY(27, told >= 0 || (told == CIP_NO_MEMORY && is_written("", 0)));
+            TRY(31, told >= 0 || (told == CIP_NO_MEMORY && is_written("", 0)));
         }
         int is_met = met >= number;
         refused = 0;
         memset(text, '#', ROOM);
-        TRY(28, cip_values(&labeller, bytes, length, text, ROOM) == (int64_t)whole && is_written(values, whole));
-        TRY(29, cip_release(&labeller) == 0);
+        TRY(32, cip_values(&labeller, bytes, length, text, ROOM) == (int64_t)whole && is_written(values, whole));
+        TRY(33, cip_release(&labeller) == 0);
         if (!is_met) return fprintf(stderr, "%ld\n", number - 1) < 0;
     }
 }

@@ -47,3 +47,14 @@ class Library(unittest.TestCase):
         self.assertEqual(done.returncode, 0, done.stderr.decode())
         for record in self.records[-LAST:]:
             self.assertEqual(trying.ran(made, given=record).stdout, trying.annotated(record))
+
+    def test_its_answers_to_worked_calls_and_to_a_want_of_memory(self):
+        made = os.path.join(self.prefix, "inside")
+        command = ["cc", "-std=c11", "-o", made, trying.path("tools", "inside.c"),
+                   "-I", os.path.join(self.prefix, "include"), os.path.join(self.prefix, "lib", "libcip.a"),
+                   "-Wl,--wrap=malloc,--wrap=realloc"]
+        done = trying.ran(*command)
+        self.assertEqual(done.returncode, 0, done.stderr.decode())
+        # the status is the number of the first try that went wrong
+        for tries in ("conditions", "memory"):
+            self.assertEqual(trying.ran(made, tries).returncode, 0, tries)

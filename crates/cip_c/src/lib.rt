@@ -6,6 +6,4 @@ mod crossing;
 mod labeller;
 mod settings;
 mod slot;
-#[cfg(test)]
-mod tests;
 mod writing;

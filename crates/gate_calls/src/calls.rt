@@ -1,68 +1,34 @@
 // The calls, by their words in the table.
 
-/// A call, by what it is made of.
+/// A call.
 #[derive(Clone, Copy)]
 pub enum Call {
-    /// Of a record, whose lines are changed as the row says.
-    Read(ReadCall),
-    /// Of a record, in which the row has a text put in the place of another one.
-    Change(ChangeCall),
-    /// Of a record as it is.
-    Tell(TellCall),
-    /// Of words of a command line.
-    Word(WordCall),
-    /// Of an answer that is built.
-    Print(PrintCall),
-    /// Of a text that stands in the row.
-    Text(TextCall),
-    /// Of a drawing, or of atoms, that stand in the row.
-    Draw(DrawCall),
-    /// Of elements.
-    Element(ElementCall),
-}
-
-#[derive(Clone, Copy)]
-pub enum ReadCall {
+    // of a record, whose lines are changed as the row says.
     V2000,
     V3000,
     FirstAtom,
     SecondAtom,
     Labels,
     Undefined,
-}
-
-#[derive(Clone, Copy)]
-pub enum ChangeCall {
+    // of a record, in which the row has a text put in the place of another one.
     Mirror,
     NotMirrored,
     Marked,
     Set,
-}
-
-#[derive(Clone, Copy)]
-pub enum TellCall {
+    // of a record as it is.
     Groups,
     Axes,
     Group,
-}
-
-#[derive(Clone, Copy)]
-pub enum WordCall {
+    // of words of a command line.
     Words,
     NoWords,
     BothReaders,
     Help,
-}
-
-#[derive(Clone, Copy)]
-pub enum PrintCall {
+    // of an answer that is built.
     Values,
     Explained,
     Tally,
-}
-
-#[derive(Clone, Copy)]
-pub enum TextCall {
+    // of a text that stands in the row.
     Field,
     Whole,
     Decimal,
@@ -74,10 +40,7 @@ pub enum TextCall {
     WithItem,
     WithoutLabels,
     Items,
-}
-
-#[derive(Clone, Copy)]
-pub enum DrawCall {
+    // of a drawing, or of atoms, that stand in the row.
     Sense,
     Bonds,
     Lattice,
@@ -85,66 +48,59 @@ pub enum DrawCall {
     Around,
     Volume,
     SameSide,
-}
-
-#[derive(Clone, Copy)]
-pub enum ElementCall {
+    // of elements.
     Element,
     Valences,
     Masses,
 }
 
-const CALLS: [(&str, Call); 41] = [
-    ("v2000", Call::Read(ReadCall::V2000)),
-    ("v3000", Call::Read(ReadCall::V3000)),
-    ("first atom", Call::Read(ReadCall::FirstAtom)),
-    ("second atom", Call::Read(ReadCall::SecondAtom)),
-    ("labels", Call::Read(ReadCall::Labels)),
-    ("undefined", Call::Read(ReadCall::Undefined)),
-    ("mirror", Call::Change(ChangeCall::Mirror)),
-    ("not mirrored", Call::Change(ChangeCall::NotMirrored)),
-    ("marked", Call::Change(ChangeCall::Marked)),
-    ("set", Call::Change(ChangeCall::Set)),
-    ("groups", Call::Tell(TellCall::Groups)),
-    ("axes", Call::Tell(TellCall::Axes)),
-    ("group", Call::Tell(TellCall::Group)),
-    ("words", Call::Word(WordCall::Words)),
-    ("no words", Call::Word(WordCall::NoWords)),
-    ("both readers", Call::Word(WordCall::BothReaders)),
-    ("help", Call::Word(WordCall::Help)),
-    ("values", Call::Print(PrintCall::Values)),
-    ("explained", Call::Print(PrintCall::Explained)),
-    ("tally", Call::Print(PrintCall::Tally)),
-    ("field", Call::Text(TextCall::Field)),
-    ("whole", Call::Text(TextCall::Whole)),
-    ("decimal", Call::Text(TextCall::Decimal)),
-    ("lines", Call::Text(TextCall::Lines)),
-    ("line", Call::Text(TextCall::Line)),
-    ("halves", Call::Text(TextCall::Halves)),
-    ("kind", Call::Text(TextCall::Kind)),
-    ("list", Call::Text(TextCall::List)),
-    ("with item", Call::Text(TextCall::WithItem)),
-    ("without labels", Call::Text(TextCall::WithoutLabels)),
-    ("items", Call::Text(TextCall::Items)),
-    ("sense", Call::Draw(DrawCall::Sense)),
-    ("bonds", Call::Draw(DrawCall::Bonds)),
-    ("lattice", Call::Draw(DrawCall::Lattice)),
-    ("renumbered", Call::Draw(DrawCall::Renumbered)),
-    ("around", Call::Draw(DrawCall::Around)),
-    ("volume", Call::Draw(DrawCall::Volume)),
-    ("same side", Call::Draw(DrawCall::SameSide)),
-    ("element", Call::Element(ElementCall::Element)),
-    ("valences", Call::Element(ElementCall::Valences)),
-    ("masses", Call::Element(ElementCall::Masses)),
+const CALLS: &[(&str, Call)] = &[
+    ("v2000", Call::V2000),
+    ("v3000", Call::V3000),
+    ("first atom", Call::FirstAtom),
+    ("second atom", Call::SecondAtom),
+    ("labels", Call::Labels),
+    ("undefined", Call::Undefined),
+    ("mirror", Call::Mirror),
+    ("not mirrored", Call::NotMirrored),
+    ("marked", Call::Marked),
+    ("set", Call::Set),
+    ("groups", Call::Groups),
+    ("axes", Call::Axes),
+    ("group", Call::Group),
+    ("words", Call::Words),
+    ("no words", Call::NoWords),
+    ("both readers", Call::BothReaders),
+    ("help", Call::Help),
+    ("values", Call::Values),
+    ("explained", Call::Explained),
+    ("tally", Call::Tally),
+    ("field", Call::Field),
+    ("whole", Call::Whole),
+    ("decimal", Call::Decimal),
+    ("lines", Call::Lines),
+    ("line", Call::Line),
+    ("halves", Call::Halves),
+    ("kind", Call::Kind),
+    ("list", Call::List),
+    ("with item", Call::WithItem),
+    ("without labels", Call::WithoutLabels),
+    ("items", Call::Items),
+    ("sense", Call::Sense),
+    ("bonds", Call::Bonds),
+    ("lattice", Call::Lattice),
+    ("renumbered", Call::Renumbered),
+    ("around", Call::Around),
+    ("volume", Call::Volume),
+    ("same side", Call::SameSide),
+    ("element", Call::Element),
+    ("valences", Call::Valences),
+    ("masses", Call::Masses),
 ];
 
 /// The call of a word, or of several.
 pub fn call_named(name: &str) -> Option<Call> {
-    call_of(name, &CALLS)
-}
-
-fn call_of(name: &str, calls: &[(&str, Call)]) -> Option<Call> {
-    for (word, call) in calls {
+    for (word, call) in CALLS {
         if *word == name {
             return Some(*call);
         }

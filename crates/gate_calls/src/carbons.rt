@@ -3,10 +3,9 @@ ghost use Rattle.std.specs.Prelude.{◌≡◌, ◌<◌, ◌≤◌, All, IfOk, If
 ghost use Rattle.cip_mol.specs.Ranges.{IsAtom, IsBond};
 
 use crate::lists::lines;
-use crate::row::Row;
-use crate::sink::Text;
 use cip_mol::{Atom, Bond, Mark, MolFault, Molecule};
 use cip_num::Vec3;
+use gate_rows::{Row, Text};
 use std::alloc::{AllocError, Global};
 
 /// Why the molecule of a row is none; nothing where it is one.

@@ -1,10 +1,9 @@
 // Records that are changed: a centre that is to have a letter, and the mirrored record.
-use crate::row::Row;
-use crate::sink::Text;
 use cip_mirror::{MirrorAnswer, MirrorRefusal, mirror_record};
 use cip_mol::{CentreLetter, ReadFault};
 use cip_rank::Rules;
 use cip_set::{SetAnswer, SetRefusal, set_letter};
+use gate_rows::{Row, Text};
 use std::alloc::{AllocError, Global};
 
 // More bytes than any of the records has.

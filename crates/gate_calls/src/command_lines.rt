@@ -1,7 +1,7 @@
 // Another reader of command lines.
-use crate::sink::Text;
 use crate::words::{asked, words};
 use clap::{Arg, ArgAction, ArgMatches, Command, Error};
+use gate_rows::Text;
 use std::alloc::{AllocError, Global};
 
 /// Whether it takes a line of words as the program does.
@@ -46,121 +46,102 @@ fn push_matches(out: &mut Text, read: &Result<ArgMatches<'_>, Error>) {
     }
 }
 
-// An option with one value.
-fn option<'a>(alloc: Global, name: &'a str) -> Arg<'a> {
-    Arg::new(alloc, name).long(name).action(ArgAction::Set)
-}
+// An option with one value: its name, the least and the most number, 0 where it is a word, and the value that it has where
+// it isn't given; none where it has to be.
+type Taken = (&'static str, i64, i64, &'static str);
 
-// An option of a number in a range.
-fn ranged<'a>(alloc: Global, name: &'a str, least: i64, most: i64) -> Arg<'a> {
-    option(alloc, name).value_parser(clap::value_parser!(u32).range(least..=most))
-}
+const START: Taken = ("start", 0, 4_294_967_295, "");
 
-// One that has to be given.
-fn given<'a>(alloc: Global, name: &'a str, least: i64, most: i64) -> Arg<'a> {
-    ranged(alloc, name, least, most).required(true)
-}
+const RECORDS: Taken = ("records", 1, 100_000, "");
 
-// One that has a value where it isn't given.
-fn defaulted<'a>(alloc: Global, name: &'a str, least: i64, most: i64, default: &'a str) -> Arg<'a> {
-    ranged(alloc, name, least, most).default_value(default)
-}
+const RECORD: Taken = ("record", 1, 1_000_000_000, "");
 
-// A command that labels.
-fn labelling<'a>(alloc: Global, name: &'a str) -> Result<Command<'a>, AllocError> {
-    Command::new(alloc, name)
-        .arg(defaulted(alloc, "nodes", 1, 1_000_000, "100000"))?
-        .arg(defaulted(alloc, "workers", 1, 16, "1"))?
-        .arg(defaulted(alloc, "rule1b", 2013, 2018, "2018"))
-}
+const ATOM: Taken = ("atom", 1, 1_000_000_000, "");
 
-// A command over made records.
-fn making<'a>(alloc: Global, command: Command<'a>) -> Result<Command<'a>, AllocError> {
-    command
-        .arg(given(alloc, "start", 0, 4_294_967_295))?
-        .arg(given(alloc, "records", 1, 100_000))
-}
+const LETTER: Taken = ("letter", 0, 0, "");
 
-fn trial<'a>(alloc: Global) -> Result<Command<'a>, AllocError> {
-    making(alloc, labelling(alloc, "trial")?)
-}
+const NODES: Taken = ("nodes", 1, 1_000_000, "100000");
 
-// A command over a centre of a record.
-fn setting<'a>(alloc: Global) -> Result<Command<'a>, AllocError> {
-    labelling(alloc, "set")?
-        .arg(given(alloc, "record", 1, 1_000_000_000))?
-        .arg(given(alloc, "atom", 1, 1_000_000_000))?
-        .arg(option(alloc, "letter").required(true))
-}
+const WORKERS: Taken = ("workers", 1, 16, "1");
+
+const WORDING: Taken = ("rule1b", 2013, 2018, "2018");
+
+// The commands with their options, each in the order of the help text.
+const COMMANDS: &[(&str, &[Taken])] = &[
+    ("annotate", &[NODES, WORKERS, WORDING]),
+    ("explain", &[NODES, WORKERS, WORDING]),
+    ("mirror", &[NODES, WORKERS, WORDING]),
+    ("groups", &[NODES, WORKERS, WORDING]),
+    ("axes", &[NODES, WORKERS, WORDING]),
+    ("make", &[START, RECORDS]),
+    ("trial", &[START, RECORDS, NODES, WORKERS, WORDING]),
+    ("set", &[RECORD, ATOM, LETTER, NODES, WORKERS, WORDING]),
+];
 
 fn program<'a>(alloc: Global) -> Result<Command<'a>, AllocError> {
-    let program = labelling_commands(alloc)?;
-    let program = with(program, making(alloc, Command::new(alloc, "make")))?;
-    let program = with(program, trial(alloc))?;
-    with(program, setting(alloc))
+    let mut program = Command::new(alloc, "cip");
+    for (name, options) in COMMANDS {
+        program = program.subcommand(command(alloc, *name, *options)?)?;
+    }
+    Ok(program)
 }
 
-fn labelling_commands<'a>(alloc: Global) -> Result<Command<'a>, AllocError> {
-    let program = Command::new(alloc, "cip");
-    let program = with(program, labelling(alloc, "annotate"))?;
-    let program = with(program, labelling(alloc, "explain"))?;
-    let program = with(program, labelling(alloc, "mirror"))?;
-    let program = with(program, labelling(alloc, "groups"))?;
-    with(program, labelling(alloc, "axes"))
-}
-
-// A program with a command more. Nothing but this lets a program go, so that only one proof has to give it back.
-fn with<'a>(
-    program: Command<'a>,
-    command: Result<Command<'a>, AllocError>,
+fn command<'a>(
+    alloc: Global,
+    name: &'static str,
+    options: &[Taken],
 ) -> Result<Command<'a>, AllocError> {
-    program.subcommand(command?)
+    let mut command = Command::new(alloc, name);
+    for option in options {
+        command = command.arg(argument(alloc, *option))?;
+    }
+    Ok(command)
 }
 
-// The subcommand with the numbers of its options, in the order of the help text.
+fn argument<'a>(alloc: Global, option: Taken) -> Arg<'a> {
+    let (name, least, most, otherwise) = option;
+    let argument = Arg::new(alloc, name).long(name).action(ArgAction::Set);
+    if most == 0 {
+        return argument.required(true);
+    }
+    let ranged = argument.value_parser(clap::value_parser!(u32).range(least..=most));
+    if otherwise.is_empty() {
+        return ranged.required(true);
+    }
+    ranged.default_value(otherwise)
+}
+
+// The subcommand with its options, in the order of the help text.
 fn push_subcommand(out: &mut Text, matches: &ArgMatches<'_>) {
     let Some((name, options)) = matches.subcommand() else {
         return;
     };
     out.push_str(name);
-    push_made(out, options);
-    push_set(out, options);
-    push_labelled(out, options)
-}
-
-fn push_made(out: &mut Text, options: &ArgMatches<'_>) {
-    push_number(out, options, "start");
-    push_number(out, options, "records")
-}
-
-fn push_set(out: &mut Text, options: &ArgMatches<'_>) {
-    push_number(out, options, "record");
-    push_number(out, options, "atom");
-    push_letter(out, options)
-}
-
-fn push_labelled(out: &mut Text, options: &ArgMatches<'_>) {
-    push_number(out, options, "nodes");
-    push_number(out, options, "workers");
-    push_number(out, options, "rule1b")
-}
-
-fn push_number(out: &mut Text, options: &ArgMatches<'_>, name: &str) {
-    if !options.contains_id(name) {
-        return;
-    }
-    match options.get_one::<u32>(name) {
-        Some(number) => write!(out, " {number}"),
-        None => {}
+    for (command, taken) in COMMANDS {
+        if *command == name {
+            push_options(out, options, *taken);
+        }
     }
 }
 
-fn push_letter(out: &mut Text, options: &ArgMatches<'_>) {
-    if !options.contains_id("letter") {
-        return;
+fn push_options(out: &mut Text, options: &ArgMatches<'_>, taken: &[Taken]) {
+    for (name, _, most, _) in taken {
+        if *most == 0 {
+            push_word(out, options.get_str(name));
+        } else {
+            push_number(out, options.get_one::<u32>(name));
+        }
     }
-    match options.get_str("letter") {
-        Some(letter) => write!(out, " {letter}"),
-        None => {}
+}
+
+fn push_word(out: &mut Text, word: Option<&str>) {
+    if let Some(word) = word {
+        write!(out, " {word}");
+    }
+}
+
+fn push_number(out: &mut Text, number: Option<u32>) {
+    if let Some(number) = number {
+        write!(out, " {number}");
     }
 }

@@ -1,6 +1,4 @@
 // Elements, by their symbols and numbers.
-use crate::row::Row;
-use crate::sink::Text;
 use cip_elem::{natural_half, number_of, outer, reference_mass, valences};
 
 /// The atomic number and isotope of a symbol.
@@ -28,3 +26,5 @@ pub fn masses(out: &mut Text) {
     write!(out, " {:?} {:?}", reference_mass(35), reference_mass(2));
     write!(out, " {:?} {:?} {:?}", outer(15), outer(34), outer(8))
 }
+
+use gate_rows::{Row, Text};

@@ -3,7 +3,6 @@ ghost use Rattle.std.specs.Prelude.{◌≡◌, ◌<◌, ◌≤◌, ◌-◌, ◌^
 ghost use Rattle.cip_text.specs.Bodies.{body_contents};
 ghost use Rattle.cip_v3000.specs.Grammar.{molecule_of};
 
-use crate::sink::Text;
 use cip_axis_text::axes_text;
 use cip_groups::{Group, GroupsAnswer, group_text, read_groups};
 use cip_mol::Molecule;
@@ -11,6 +10,7 @@ use cip_rank::Rules;
 use cip_record::RecordLabeller;
 use cip_text::RecordLines;
 use cip_undefined::{UndefinedAnswer, undefined_text, undefined_within};
+use gate_rows::Text;
 use std::alloc::{AllocError, Global};
 
 // More bytes than any of the records has.

@@ -1,9 +1,9 @@
 // Records and their labels.
-use crate::sink::Text;
 use cip_item::Texts;
 use cip_print::{Answer, item_values};
 use cip_rank::Rules;
 use cip_record::{is_flagged, label_record};
+use gate_rows::Text;
 use std::alloc::Global;
 
 // More bytes than any of the records has.

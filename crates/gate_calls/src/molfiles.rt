@@ -1,9 +1,9 @@
 // Molfiles of both versions, which are read or refused.
-use crate::sink::Text;
 use bstr::ByteSlice;
 use cip_mol::{Atom, Molecule, ReadRefusal};
 use cip_text::body_contents;
 use cip_v2000::is_v3000;
+use gate_rows::Text;
 use std::alloc::Global;
 
 // More bytes than any of the molfiles has.

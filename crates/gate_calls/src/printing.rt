@@ -3,10 +3,9 @@ ghost use Rattle.std.specs.Prelude.{◌≡◌, ◌<◌, ◌+◌, ◌^◌, OnOk, 
 ghost use Rattle.cip_print.specs.Values.{HasRoom};
 
 use crate::built::built;
-use crate::row::Row;
-use crate::sink::Text;
 use cip_print::{Answer, Tally, explain_text, item_values};
 use cip_rank::Rules;
+use gate_rows::{Row, Text};
 use std::alloc::{AllocError, Global};
 
 /// The value lines of an answer, a bar behind each, within a row's bound and by its wording.
@@ -31,7 +30,9 @@ fn push_lines(alloc: Global, out: &mut Text, answer: &Answer, nodes: u32, rules:
     let Ok(values) = item_values(alloc, answer, nodes, rules) else {
         return out.miss();
     };
-    out.push_texts(&values)
+    for value in values.as_slice() {
+        out.push_barred(value.as_slice());
+    }
 }
 
 /// An answer, explained as that of the record of a number.

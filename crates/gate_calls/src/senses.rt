@@ -5,11 +5,10 @@ ghost use Rattle.cip_mol.specs.Ranges.{IsAtom, IsBond, IsPlace};
 ghost use Rattle.cip_mol.specs.Sites.{IsSite};
 
 use crate::lists::{Line, Point, lines, numbers, points};
-use crate::row::Row;
-use crate::sink::Text;
 use cip_mol::{Atom, Bond, Cause, Geometry, Ligand, Ligands, Mark, Molecule, Sense, Site};
 use cip_num::Vec3;
 use cip_orient::{drawn_of, orient};
+use gate_rows::{Row, Text};
 use std::alloc::{AllocError, Global};
 
 /// What the drawing of a row shows.

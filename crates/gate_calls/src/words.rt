@@ -1,8 +1,8 @@
 // Words of a command line, and what they ask for.
-use crate::sink::Text;
 use cip_mol::CentreLetter;
 use cip_rank::Rules;
 use cip_words::{Settings, help_text, read_words};
+use gate_rows::Text;
 use std::alloc::{AllocError, Global};
 
 /// The settings that a line of words asks for.

@@ -54,6 +54,16 @@ impl Sink for Called {
     }
 }
 
+// Each piece, how many calls were made behind it, and how many bytes were written.
+const PIECES: &str = "\
+ab;0;0
+;0;0
+cde;0;0
+f;1;5
+longer;3;12
+end;3;12
+";
+
 // Pieces wait until the next one doesn't fit into the room; one that is longer than the room is written at once.
 #[test]
 fn pieces_are_written_together(rt: HostRuntime) -> Result<(), Fail> {
@@ -64,19 +74,12 @@ fn pieces_are_written_together(rt: HostRuntime) -> Result<(), Fail> {
         faults: 0,
     };
     let mut joined = Joined::with_room(alloc, 5)?;
-    // each piece, how many calls were made behind it, and how many bytes were written
-    let pieces: [(&[u8], u64, usize); 6] = [
-        (b"ab", 0, 0),
-        (b"", 0, 0),
-        (b"cde", 0, 0),
-        (b"f", 1, 5),
-        (b"longer", 3, 12),
-        (b"end", 3, 12),
-    ];
-    for (piece, calls, written) in pieces {
-        assert_eq!(rt; joined.push(piece, &mut sink), Ok(()));
-        assert_eq!(rt; sink.calls, calls);
-        assert_eq!(rt; sink.bytes.len(), written);
+    for line in PIECES.lines() {
+        let mut fields = line.split(';');
+        let piece = fields.next().unwrap_or("");
+        assert_eq!(rt; joined.push(piece.as_bytes(), &mut sink), Ok(()));
+        assert_eq!(rt; fields.next().unwrap_or("").parse(), Ok(sink.calls));
+        assert_eq!(rt; fields.next().unwrap_or("").parse(), Ok(sink.bytes.len()));
     }
     for _ in 0..2 {
         assert_eq!(rt; joined.flush(&mut sink), Ok(()));

@@ -6,6 +6,7 @@ ghost use Rattle.cip_frame.specs.Framing.{Holds, Passed, all_fit, fits};
 use cip_frame::{FrameFault, Framer, Tail};
 use cip_text::Bytes;
 use std::alloc::{AllocError, Global};
+use std::process::Abort;
 use std::test::Fail;
 
 // Hands out every record of a stream, whatever pieces it comes in, up to one that is too long. What it promises speaks
@@ -81,62 +82,101 @@ fn kind_of(tail: &Tail) -> (&str, &[u8]) {
     }
 }
 
+// Between slashes a stream, with a bar behind each closed record, and behind a semicolon what follows the last one. In
+// one text they cost next to no proof.
+const CUT: &str = "\
+a\r\n$$$$\r\n|b\n$$$$\n|c\r\n$$$$\n|;nothing/\
+a\n$$$$  \n|\n$$$$ \r\n|c\n$$$$\t\n;open/\
+a\n$$$$\n|b\n$$$$;closed/\
+a\n$$$$\n| \t\r\n\n  ;blank/\
+a$$$$\n $$$$\n$$$\n$$$$$\n;open/\
+;nothing";
+
 #[test]
 fn records_end_behind_terminator_lines_however_the_stream_is_cut(
     rt: HostRuntime,
 ) -> Result<(), Fail> {
-    let alloc = rt.alloc();
-    // the stream, with a bar behind each closed record, and what follows the last one
-    let cases: [(&[u8], &str); 6] = [
-        (b"a\r\n$$$$\r\n|b\n$$$$\n|c\r\n$$$$\n|", "nothing"),
-        (b"a\n$$$$  \n|\n$$$$ \r\n|c\n$$$$\t\n", "open"),
-        (b"a\n$$$$\n|b\n$$$$", "closed"),
-        (b"a\n$$$$\n| \t\r\n\n  ", "blank"),
-        (b"a$$$$\n $$$$\n$$$\n$$$$$\n", "open"),
-        (b"", "nothing"),
-    ];
-    for (marked, kind) in cases {
-        let stream = without_bars(alloc, marked)?;
+    let mut count = 0u32;
+    for case in CUT.split('/') {
+        let (marked, kind) = case.split_once(';').unwrap_or(("", ""));
         for size in [1, 100] {
-            let pieces = pieces_of(alloc, &stream, size)?;
-            let mut records = Vec::new(alloc);
-            let tail = records_of_pieces(alloc, 100, &pieces, &mut records)?;
-            let mut parts = marked.split(|byte| *byte == b'|');
-            for record in &records {
-                assert_eq!(rt; parts.next(), Some(record.as_slice()));
-            }
-            let (found, rest) = kind_of(&tail);
-            assert_eq!(rt; found, kind, "in pieces of {size}");
-            assert_eq!(rt; parts.next(), Some(rest));
-            assert_eq!(rt; parts.next(), None);
+            assert_cut(&rt, rt.alloc(), marked.as_bytes(), kind, size)?;
         }
+        count = count.saturating_add(1);
     }
+    assert!(rt; count == 6);
     Ok(())
 }
 
-#[test]
-fn no_record_is_longer_than_the_limit(rt: HostRuntime) -> Result<(), Fail> {
-    let alloc = rt.alloc();
-    // the stream, the limit, how many records come out, and whether one is too long
-    let cases: [(&[u8], u64, usize, bool); 3] = [
-        (b"ab\n$$$$\nabc\n$$$$\nab\n$$$$\n", 9, 3, false),
-        (b"ab\n$$$$\nabc\n$$$$\nab\n$$$$\n", 8, 1, true),
-        (b"ab\n$$$$\n123456789", 8, 1, true),
-    ];
-    for (text, limit, count, is_too_long) in cases {
-        for size in [1, 100] {
-            let pieces = pieces_of(alloc, text, size)?;
-            let mut records = Vec::new(alloc);
-            let end = records_of_pieces(alloc, limit, &pieces, &mut records);
-            assert_eq!(rt; records.len(), count, "at {limit} in pieces of {size}");
-            match end {
-                Ok(_) => assert!(rt; !is_too_long),
-                Err(fault) => {
-                    assert!(rt; is_too_long);
-                    assert_eq!(rt; fault, FrameFault::RecordTooLong);
-                }
-            }
+// Whether a stream in pieces of a size gives the records before its bars, and behind them this.
+fn assert_cut(
+    rt: &impl Abort,
+    alloc: Global,
+    marked: &[u8],
+    kind: &str,
+    size: usize,
+) -> Result<(), Fail>
+    requires { 0 < size }
+{
+    let stream = without_bars(alloc, marked)?;
+    let pieces = pieces_of(alloc, &stream, size)?;
+    let mut records = Vec::new(alloc);
+    let tail = records_of_pieces(alloc, 100, &pieces, &mut records)?;
+    assert!(rt; are_parts(marked, &records, kind_of(&tail), kind));
+    Ok(())
+}
+
+fn are_parts(marked: &[u8], records: &[Bytes], found: (&str, &[u8]), kind: &str) -> bool {
+    let mut parts = marked.split(|byte| *byte == b'|');
+    for record in records {
+        if parts.next() != Some(record.as_slice()) {
+            return false;
         }
     }
+    let (name, rest) = found;
+    let ends_so = parts.next() == Some(rest);
+    let is_all = parts.next().is_none();
+    name == kind && ends_so && is_all
+}
+
+// Between slashes a stream, the limit, how many records come out, and whether one is too long.
+const LIMITED: &str = "\
+ab\n$$$$\nabc\n$$$$\nab\n$$$$\n;9;3;whole/\
+ab\n$$$$\nabc\n$$$$\nab\n$$$$\n;8;1;too long/\
+ab\n$$$$\n123456789;8;1;too long";
+
+#[test]
+fn no_record_is_longer_than_the_limit(rt: HostRuntime) -> Result<(), Fail> {
+    let mut count = 0u32;
+    for case in LIMITED.split('/') {
+        for size in [1, 100] {
+            assert_limited(&rt, rt.alloc(), case, size)?;
+        }
+        count = count.saturating_add(1);
+    }
+    assert!(rt; count == 3);
     Ok(())
+}
+
+fn assert_limited(rt: &impl Abort, alloc: Global, case: &str, size: usize) -> Result<(), Fail>
+    requires { 0 < size }
+{
+    let mut fields = case.split(';');
+    let text = fields.next().unwrap_or("");
+    let limit: u64 = fields.next().unwrap_or("").parse()?;
+    let count: usize = fields.next().unwrap_or("").parse()?;
+    let pieces = pieces_of(alloc, text.as_bytes(), size)?;
+    let mut records = Vec::new(alloc);
+    let end = records_of_pieces(alloc, limit, &pieces, &mut records);
+    assert_eq!(rt; records.len(), count, "at {limit} in pieces of {size}");
+    assert!(rt; fields.next() == Some(end_of(&end)));
+    Ok(())
+}
+
+fn end_of(end: &Result<Tail, FrameFault>) -> &'static str {
+    match end {
+        Ok(_) => "whole",
+        Err(FrameFault::RecordTooLong) => "too long",
+        Err(_) => "another fault",
+    }
 }

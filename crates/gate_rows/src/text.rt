@@ -1,6 +1,5 @@
 // What answers are written to: one text, which each call adds to.
 use bstr::ByteSlice;
-use cip_item::Texts;
 use std::alloc::{AllocError, Global};
 use std::fmt::Display;
 
@@ -69,13 +68,6 @@ impl Text {
     pub fn push_barred(&mut self, bytes: &[u8]) {
         self.push_bytes(bytes);
         self.push_str("|");
-    }
-
-    /// Adds texts, a bar behind each.
-    pub fn push_texts(&mut self, texts: &Texts) {
-        for text in texts.as_slice() {
-            self.push_barred(text.as_slice());
-        }
     }
 
     /// Adds a number, and a space before it where the text isn't empty.

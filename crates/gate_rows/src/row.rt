@@ -42,7 +42,7 @@ impl Row {
 }
 
 /// Whether a line has a row.
-pub fn is_row(line: &str) -> bool {
+pub(crate) fn is_row(line: &str) -> bool {
     !line.is_empty() && !line.starts_with('#')
 }
 

@@ -1,9 +1,9 @@
 use Rattle.std.proofs.Common.{◌≡◌}
 use Rattle.cip_arena.specs.Growth.{Holds}
-use Rattle.gate_tests.proofs.inside.grow_whole.Given as goal
+use Rattle.gate_twice.proofs.inside.grow_whole.Given as goal
 
 abbrev pub invariant-loop : goal.invariant-loop
 invariant-loop g l = record {
-  holds : Holds l.graph l.positions l.arena;
+  holds : Holds l.drawn.graph l.drawn.positions l.arena;
   root : l.arena.root ≡ l.fn.arena.root;
 }
