@@ -8,13 +8,12 @@ ghost use Rattle.cip_axis.specs.Likeness.{like};
 ghost use Rattle.cip_axis.specs.Listing.{IsGraphOf, are_three_hindered, can_be_biaryl, one_biaryl};
 
 use crate::hindrance::hindered_count;
-use crate::likeness::like;
 use crate::site::{FurtherSite, FurtherUnit};
 use crate::source::Source;
 use crate::units::FurtherUnits;
 use cip_digraph::{Edge, Graph, Positions};
 use cip_mol::Molecule;
-use cip_orient::orient;
+use cip_orient::orient_ends;
 use cip_ring::{VertexSet, is_in_ring, is_in_small_ring};
 use cip_unit::{end_ligands, has_end_bonds, outer_count};
 use std::alloc::{AllocError, Global};
@@ -74,7 +73,7 @@ fn biaryl_unit(alloc: Global, molecule: &Molecule, graph: &Graph, a: u32, b: u32
         first: end_ligands(alloc, graph, &unit, a),
         second: end_ligands(alloc, graph, &unit, b),
     };
-    let geometry = orient(alloc, molecule, &like(alloc, &site));
+    let geometry = orient_ends(alloc, molecule, &site.ends());
     FurtherUnit { site, geometry }
 }
 

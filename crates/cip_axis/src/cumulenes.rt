@@ -9,13 +9,12 @@ ghost use Rattle.cip_axis.specs.Likeness.{like};
 ghost use Rattle.cip_axis.specs.Listing.{IsGraphOf, can_be_cumulene, cumulenes_along, first_in_ring, one_cumulene};
 
 use crate::chains::{chain_over, leads_on};
-use crate::likeness::like;
 use crate::site::{FurtherSite, FurtherUnit};
 use crate::source::Source;
 use crate::units::FurtherUnits;
 use cip_digraph::Graph;
 use cip_mol::{Cause, Geometry, Molecule};
-use cip_orient::{is_crossed, orient};
+use cip_orient::{is_crossed, orient_ends};
 use cip_ring::{VertexSet, is_in_ring};
 use cip_unit::{end_ligands, is_axis_end};
 use std::alloc::{AllocError, Global};
@@ -156,7 +155,7 @@ fn cumulene_geometry(
     if has_crossed(molecule, chain) {
         return Geometry::Unknown(Cause::Either);
     }
-    orient(alloc, molecule, &like(alloc, site))
+    orient_ends(alloc, molecule, &site.ends())
 }
 
 // Whether a double bond of a chain is itself marked as undecided.

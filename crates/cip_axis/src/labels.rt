@@ -4,7 +4,6 @@ ghost use Rattle.cip_label.specs.Fitting.{IsFitSite};
 ghost use Rattle.cip_axis.specs.FurtherOutcomes.{further_outcome};
 ghost use Rattle.cip_axis.specs.Likeness.{like};
 
-use crate::likeness::like;
 use crate::site::FurtherUnit;
 use cip_label::{Digraphs, Labeller, Setting};
 use cip_mol::{Geometry, Outcome};
@@ -27,7 +26,7 @@ pub fn label_further<D: Digraphs, L: Ledger>(
     match unit.geometry {
         Geometry::Unknown(cause) => Ok(Outcome::NoGeometry(cause)),
         Geometry::Known(sense) => {
-            labeller.label_site(alloc, setting, &like(alloc, &unit.site), sense, steps)
+            labeller.label_ends(alloc, setting, &unit.site.ends(), sense, steps)
         }
     }
 }

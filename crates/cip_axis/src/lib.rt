@@ -8,7 +8,6 @@ mod cumulenes;
 mod hindrance;
 mod labels;
 mod laws;
-mod likeness;
 mod listing;
 mod site;
 mod source;
@@ -16,7 +15,6 @@ mod units;
 
 pub use labels::label_further;
 pub use laws::{further_units_are_fit, worked_further_is_found};
-pub use likeness::like;
 pub use listing::further;
-pub use site::{FurtherSite, FurtherUnit};
+pub use site::{FurtherSite, FurtherUnit, like};
 pub use units::FurtherUnits;

@@ -12,8 +12,8 @@ returns-in-Unknown-clause-outcome g c =
 
 pub returns-in-Known-clause-outcome : goal.returns-in-Known-clause-outcome
 returns-in-Known-clause-outcome g c =
-    IfOk-weaker c.label_site.result _ _
+    IfOk-weaker c.label_ends.result _ _
     (λ outcome is.
-    is ∙ ap (λ site. known_in c.args.setting.now c.args.labeller.now site c.in-Known.sense) c.like.ensures
+    is ∙ ap (λ site. known_in c.args.setting.now c.args.labeller.now site c.in-Known.sense) c.ends.ensures
     ∙ known_unit c.args.setting.now c.args.labeller.now (like c.args.unit.now.site) c.args.unit.now.geometry
-    c.in-Known.sense c.in-Known.is) c.label_site.ensures.outcome
+    c.in-Known.sense c.in-Known.is) c.label_ends.ensures.outcome
