@@ -14,3 +14,13 @@ pub mod SitesJoin
 pub mod Subtrees
 pub mod Told
 pub mod UnitLetters
+pub mod BelowNodes
+pub mod KeyOrders
+pub mod Members
+pub mod PathEnds
+pub mod Reaching
+pub mod SeenChildren
+pub mod SeenSpheres
+pub mod Spheres
+pub mod Standing
+pub mod WholeTold

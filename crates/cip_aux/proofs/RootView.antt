@@ -14,7 +14,7 @@ use Rattle.cip_digraph.specs.digraph.View.{is_end_of, is_on_way, parent, real_at
 use Rattle.cip_aux.specs.Sights.{Sight, Shows, path_at, IsReal}
 use Rattle.cip_aux.specs.Neighbours.{parent_of, neighbours_of, first_where, ligand_number, ligand_at}
 use Rattle.cip_digraph.specs.digraph.NodeList.{parents_of}
-use Rattle.cip_views.proofs.PathEnds.{end_itself, end_long}
+use Rattle.cip_aux.proofs.PathEnds.{end_itself, end_long}
 use Rattle.cip_aux.proofs.Paths.{IsBelow, children_below, within_parents, parent_real, path_is, some_path, real_is}
 
 child_off_by : (kind_real : Bool) (child_path path : List ℕ) → (kind_real ≡ true → length path < length child_path)

@@ -9,8 +9,8 @@ use Rattle.cip_digraph.specs.digraph.Digraph.{is_real}
 use Rattle.cip_digraph.specs.digraph.NodeList.{parents_of}
 use Rattle.cip_digraph.specs.digraph.Telling.{node_at}
 use Rattle.cip_digraph.specs.rules.Auxiliary.{inside, auxiliary}
-use Rattle.cip_views.specs.Below.{is_below}
-use Rattle.cip_views.proofs.BelowNodes.{inside_is, below_behind, next_below}
+use Rattle.cip_aux.specs.Below.{is_below}
+use Rattle.cip_aux.proofs.BelowNodes.{inside_is, below_behind, next_below}
 use Rattle.cip_aux.specs.Inner.{Inner, AgreesInside, mark_at}
 use Rattle.cip_aux.specs.Marking.{flag_at, AreInner, AreWanted}
 use Rattle.cip_aux.specs.Sights.{Sight, Shows, path_at, IsReal}

@@ -5,7 +5,7 @@ use Rattle.cip_mol.specs.declared.descriptor.Descriptor.{Descriptor}
 use Rattle.cip_digraph.specs.digraph.Digraph.{is_real}
 use Rattle.cip_digraph.specs.digraph.NodeList.{parents_of}
 use Rattle.cip_digraph.specs.digraph.Telling.{node_at}
-use Rattle.cip_views.specs.Below.{mark_below}
+use Rattle.cip_aux.specs.Below.{mark_below}
 use Rattle.cip_aux.specs.Sights.{Sight, Shows, path_at, IsReal}
 
 abbrev pub mark_at : List (Option Descriptor) → ℕ → Option Descriptor

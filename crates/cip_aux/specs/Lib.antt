@@ -5,3 +5,7 @@ pub mod Marking
 pub mod Neighbours
 pub mod Sights
 pub mod UnitsAt
+pub mod Below
+pub mod RootKeys
+pub mod Sources
+pub mod Whole

@@ -9,7 +9,7 @@ use Rattle.cip_digraph.specs.digraph.NodeList.{parents_of}
 use Rattle.cip_digraph.specs.digraph.Telling.{node_at}
 use Rattle.cip_digraph.specs.rules.Auxiliary.{root_at, roots_at, unit_letter, first_letter, auxiliary}
 use Rattle.cip_digraph.specs.units.Ends.{End}
-use Rattle.cip_views.specs.Below.{is_below}
+use Rattle.cip_aux.specs.Below.{is_below}
 use Rattle.cip_letters.specs.declared.turns.Turns.{Turns}
 use Rattle.cip_letters.specs.TurnsOf.{root_turns, roots_turns}
 use Rattle.cip_aux.specs.Inner.{Inner, AgreesInside, mark_at}

@@ -7,7 +7,7 @@ ghost use Rattle.cip_axis.specs.Likeness.{like};
 use crate::site::FurtherUnit;
 use cip_label::{Digraphs, Labeller, Setting};
 use cip_mol::{Geometry, Outcome};
-use cip_steps::Steps;
+use cip_rank::Steps;
 use std::alloc::{AllocError, Global};
 use std::sync::ledger::Ledger;
 

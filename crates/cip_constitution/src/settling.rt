@@ -11,8 +11,7 @@ use cip_arena::{Arena, Grown};
 use cip_digraph::{Graph, Positions};
 use cip_letters::MarkedUnits;
 use cip_mol::Ligand;
-use cip_rank::Rules;
-use cip_steps::Steps;
+use cip_rank::{Rules, Steps};
 use std::sync::ledger::Ledger;
 
 /// How the ligands of a root were settled.

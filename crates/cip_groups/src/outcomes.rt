@@ -10,7 +10,7 @@ use cip_desk::Desk;
 use cip_digraph::Units;
 use cip_label::{Labeller, Setting};
 use cip_mol::Outcome;
-use cip_steps::Steps;
+use cip_rank::Steps;
 use std::alloc::{AllocError, Global};
 use std::marker::Brand;
 use std::sync::ledger::{Blank, Ledger};

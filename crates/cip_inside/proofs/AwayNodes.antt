@@ -11,13 +11,13 @@ use Rattle.cip_digraph.specs.graph.SoundGraphs.{IsSound}
 use Rattle.cip_digraph.specs.outcome.Deciding.{nodes_below}
 use Rattle.cip_reroot.specs.View.{children_seen}
 use Rattle.cip_reroot.proofs.ChildrenSeen.{view_below}
-use Rattle.cip_views.specs.Whole.{IsWhole}
-use Rattle.cip_views.proofs.Members.{all_images}
-use Rattle.cip_views.proofs.PathEnds.{apart_itself}
-use Rattle.cip_views.proofs.Reaching.{all_each, at_least}
-use Rattle.cip_views.proofs.SeenChildren.{seen_are}
-use Rattle.cip_views.proofs.SeenSpheres.{IsNext, all_next}
-use Rattle.cip_views.proofs.Standing.{real_is, few}
+use Rattle.cip_aux.specs.Whole.{IsWhole}
+use Rattle.cip_aux.proofs.Members.{all_images}
+use Rattle.cip_aux.proofs.PathEnds.{apart_itself}
+use Rattle.cip_aux.proofs.Reaching.{all_each, at_least}
+use Rattle.cip_aux.proofs.SeenChildren.{seen_are}
+use Rattle.cip_aux.proofs.SeenSpheres.{IsNext, all_next}
+use Rattle.cip_aux.proofs.Standing.{real_is, few}
 
 -- so many steps lead there, each to one of the nodes that are told of the one before
 abbrev pub IsAway : (ℕ → List ℕ) → ℕ → ℕ → ℕ → Type 0

@@ -19,8 +19,8 @@ use Rattle.cip_ligands.specs.declared.asked.Asked.{Asked}
 use Rattle.cip_ligands.specs.Asking.{AreWithin, with_found}
 use Rattle.cip_ligands.specs.Marked.{AreMarksOf}
 use Rattle.cip_digraph.proofs.Lists.{all_by}
-use Rattle.cip_views.specs.Below.{is_below}
-use Rattle.cip_views.proofs.WholeTold.{parents_len}
+use Rattle.cip_aux.specs.Below.{is_below}
+use Rattle.cip_aux.proofs.WholeTold.{parents_len}
 use Rattle.cip_aux.specs.Inner.{Inner, AgreesInside, Ready}
 use Rattle.cip_aux.specs.Sights.{Sight}
 use Rattle.cip_inside.specs.Marks.{marks_below}

@@ -39,9 +39,9 @@ use Rattle.cip_digraph.specs.rules.Orders.{all_tie, rule_1a}
 use Rattle.cip_mol.specs.declared.descriptor.Descriptor.{Descriptor}
 use Rattle.cip_mol.specs.declared.outcome.Rule.TheVariants.{R1a}
 use Rattle.cip_digraph.proofs.ExchangedOrders.{all_tie_total}
-use Rattle.cip_views.specs.RootKeys.{root_keys}
-use Rattle.cip_views.proofs.KeyOrders.{root_key_is}
-use Rattle.cip_views.proofs.SeenChildren.{seen_are}
+use Rattle.cip_aux.specs.RootKeys.{root_keys}
+use Rattle.cip_aux.proofs.KeyOrders.{root_key_is}
+use Rattle.cip_aux.proofs.SeenChildren.{seen_are}
 use Rattle.cip_aux.specs.Sights.{Sight, Shows, IsReal, path_at}
 use Rattle.cip_inside.specs.Near.{AreTops, AreFollowedFrom, seen_at, top_node}
 use Rattle.cip_inside.proofs.AwayNodes.{IsAway, away_below, height_away}

@@ -6,8 +6,8 @@ use Rattle.cip_rank.specs.Tree.{spheres_of}
 use Rattle.cip_rows.specs.Parting.{has_flag}
 use Rattle.cip_digraph.specs.digraph.NodeList.{parents_of}
 use Rattle.cip_digraph.specs.digraph.View.{apart}
-use Rattle.cip_views.proofs.PathEnds.{common_low, common_short}
-use Rattle.cip_views.proofs.Spheres.{sphere_next}
+use Rattle.cip_aux.proofs.PathEnds.{common_low, common_short}
+use Rattle.cip_aux.proofs.Spheres.{sphere_next}
 use Rattle.cip_aux.specs.Sights.{Sight, Shows, IsReal, path_at}
 use Rattle.cip_inside.specs.Keys.{IsFlagged, KnowSteps}
 use Rattle.cip_inside.proofs.Meeting.{comes_first, comes_next, length_is, meets_there, steps_are}

@@ -9,10 +9,10 @@ use Rattle.cip_digraph.specs.digraph.Digraph.{is_real}
 use Rattle.cip_digraph.specs.digraph.NodeList.{parents_of}
 use Rattle.cip_digraph.specs.digraph.Telling.{node_at}
 use Rattle.cip_digraph.specs.digraph.View.{is_end_of, common, apart}
-use Rattle.cip_views.proofs.PathEnds.{common_end, common_off, end_itself, end_long, end_short}
-use Rattle.cip_views.proofs.SeenChildren.{way_is}
-use Rattle.cip_views.proofs.Spheres.{sphere_root, sphere_next}
-use Rattle.cip_views.proofs.Standing.{hangs, long, path_below, root_path}
+use Rattle.cip_aux.proofs.PathEnds.{common_end, common_off, end_itself, end_long, end_short}
+use Rattle.cip_aux.proofs.SeenChildren.{way_is}
+use Rattle.cip_aux.proofs.Spheres.{sphere_root, sphere_next}
+use Rattle.cip_aux.proofs.Standing.{hangs, long, path_below, root_path}
 use Rattle.cip_aux.specs.Sights.{Sight, Shows, IsReal, path_at}
 use Rattle.cip_inside.specs.Keys.{IsFlagged, IsMeet}
 

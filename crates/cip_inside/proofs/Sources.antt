@@ -12,9 +12,9 @@ use Rattle.cip_digraph.specs.digraph.NodeList.{told_at, parents_of}
 use Rattle.cip_digraph.specs.digraph.Telling.{node_at, Stands, IsCounterpart}
 use Rattle.cip_digraph.specs.digraph.View.{apart}
 use Rattle.cip_digraph.specs.rules.Keys.{counterpart, distance_key}
-use Rattle.cip_views.specs.Sources.{node_by, carrier_of, distance_node}
-use Rattle.cip_views.proofs.Standing.{real_path, real_kind}
-use Rattle.cip_views.proofs.Standing.{hangs}
+use Rattle.cip_aux.specs.Sources.{node_by, carrier_of, distance_node}
+use Rattle.cip_aux.proofs.Standing.{real_path, real_kind}
+use Rattle.cip_aux.proofs.Standing.{hangs}
 use Rattle.cip_aux.specs.Sights.{Sight, Shows, IsReal, path_at}
 use Rattle.cip_inside.specs.Keys.{distance_at}
 

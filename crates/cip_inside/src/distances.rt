@@ -6,7 +6,7 @@ ghost use Rattle.cip_rows.specs.Parting.{has_flag};
 ghost use Rattle.cip_digraph.specs.digraph.NodeList.{parents_of, told_at};
 ghost use Rattle.cip_digraph.specs.digraph.View.{apart};
 ghost use Rattle.cip_digraph.specs.rules.Keys.{lower_precedes};
-ghost use Rattle.cip_views.specs.Sources.{carrier_of, distance_node};
+ghost use Rattle.cip_aux.specs.Sources.{carrier_of, distance_node};
 ghost use Rattle.cip_inside.specs.Keys.{IsFlagged, IsMeet, KnowSteps, distance_at, distance_keys};
 
 use cip_aux::Whole;

@@ -7,12 +7,11 @@ ghost use Rattle.cip_ligands.specs.Asking.{AreWithin};
 ghost use Rattle.cip_inside.specs.Keys.{IsFlagged};
 ghost use Rattle.cip_inside.specs.Near.{AreTops, AreFollowedFrom};
 
-use cip_aux::Whole;
+use cip_aux::{RootKeys, Whole};
 use cip_branches::{Around, Branches};
 use cip_digraph::Nodes;
 use cip_ligands::{Asked, note};
 use cip_mol::Rule;
-use cip_views::RootKeys;
 
 // Whether some branches tie and go on.
 fn goes_on(branches: &Branches) -> bool

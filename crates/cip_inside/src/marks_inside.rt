@@ -1,7 +1,7 @@
 // The descriptors that count at a node: those of the nodes strictly below it.
 ghost use Rattle.std.specs.Prelude.{◌≡◌, ◌<◌, ◌≤◌, length};
 ghost use Rattle.cip_reroot.specs.View.{on_way};
-ghost use Rattle.cip_views.specs.Below.{is_below};
+ghost use Rattle.cip_aux.specs.Below.{is_below};
 ghost use Rattle.cip_inside.specs.Marks.{marks_below};
 
 use cip_ligands::{Descriptors, Marked};

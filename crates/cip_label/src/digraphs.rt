@@ -9,7 +9,7 @@ ghost use Rattle.cip_label.specs.Steps.{Rises};
 use crate::setting::Setting;
 use cip_digraph::Decision;
 use cip_mol::Ligands;
-use cip_steps::Steps;
+use cip_rank::Steps;
 use std::alloc::{AllocError, Global};
 use std::sync::ledger::Ledger;
 

@@ -13,7 +13,7 @@ use crate::reasons::reason_along;
 use crate::setting::Setting;
 use cip_digraph::Decision;
 use cip_mol::{Ligands, Places, Rule};
-use cip_steps::Steps;
+use cip_rank::Steps;
 use std::alloc::{AllocError, Global};
 use std::sync::ledger::Ledger;
 

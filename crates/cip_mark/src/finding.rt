@@ -8,8 +8,7 @@ ghost use Rattle.cip_mark.specs.Marking.{has_centre};
 
 use cip_label::{Digraphs, Labeller, Setting};
 use cip_mol::{Molecule, Outcome, Site, Unit};
-use cip_rank::Rules;
-use cip_steps::Steps;
+use cip_rank::{Rules, Steps};
 use cip_unit::Drawn;
 use std::alloc::{AllocError, Global};
 use std::marker::Brand;

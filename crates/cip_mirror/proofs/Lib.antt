@@ -8,3 +8,13 @@ pub mod Rewriting
 pub mod Mirrored
 pub mod MirrorReads
 pub mod ReplacedBonds
+pub mod Fields
+pub mod Contents
+pub mod RowKinds
+pub mod EditedLines
+pub mod EditedItems
+pub mod Numbers
+pub mod CopiedColumns
+pub mod Written
+pub mod Lengths
+pub mod ColumnsStay

@@ -18,10 +18,10 @@ use Rattle.cip_item.proofs.Walking.{itself}
 use Rattle.cip_item.proofs.NoLabels.{no_label_item}
 use Rattle.cip_v2000.specs.Grammar as v2000
 use Rattle.cip_v2000.specs.Version.{is_v3000}
-use Rattle.cip_edit.specs.Edits.{edited_contents}
-use Rattle.cip_edit.specs.Laws.{IsEdited}
-use Rattle.cip_edit.proofs.EditedItems.{edits_keep_records}
-use Rattle.cip_edit.proofs.Lengths.{edits_grow_little}
+use Rattle.cip_mirror.specs.Edits.{edited_contents}
+use Rattle.cip_mirror.specs.EditLaws.{IsEdited}
+use Rattle.cip_mirror.proofs.EditedItems.{edits_keep_records}
+use Rattle.cip_mirror.proofs.Lengths.{edits_grow_little}
 use Rattle.cip_molfile.specs.Molecules.{read_molecule}
 use Rattle.cip_mirror.specs.Answers.{molecule_in, is_too_high, answer_read, answer_without_items, mirror_answer, IsFew, IsMirrored, GivesReflected}
 use Rattle.cip_mirror.specs.Laws.{GivesRows}

@@ -17,12 +17,12 @@ use Rattle.cip_reading.specs.Fields.{number_in, place_named, up_to, or_zero}
 use Rattle.cip_v2000.specs.declared.atoms.AtomLine.{AtomLine}
 use Rattle.cip_v2000.specs.AtomLine.{atom_of}
 use Rattle.cip_v2000.specs.BondLine.{bond_of, mark_of}
-use Rattle.cip_edit.specs.Columns.{with_columns, Fits}
-use Rattle.cip_edit.specs.Rows.{IsContentFor}
+use Rattle.cip_mirror.specs.Columns.{with_columns, Fits}
+use Rattle.cip_mirror.specs.EditedRows.{IsContentFor}
 use Rattle.cip_text.specs.Writing.{coordinate}
-use Rattle.cip_edit.proofs.Fields.{field_written, field_before, field_behind}
-use Rattle.cip_edit.proofs.Numbers.{decimal_number, integer_read, digits_printed, coordinate_read, coordinate_printed, coordinate_long, coordinate_some, FitsTen, decimal_small}
-use Rattle.cip_edit.proofs.Written.{written_content, same_content}
+use Rattle.cip_mirror.proofs.Fields.{field_written, field_before, field_behind}
+use Rattle.cip_mirror.proofs.Numbers.{decimal_number, integer_read, digits_printed, coordinate_read, coordinate_printed, coordinate_long, coordinate_some, FitsTen, decimal_small}
+use Rattle.cip_mirror.proofs.Written.{written_content, same_content}
 use Rattle.cip_mirror.specs.Mirror.{mirrored_atom_line, other_code, mirrored_bond_line}
 use Rattle.cip_mirror.specs.Laws.{MovesAtom, ChangesBond}
 use Rattle.cip_mirror.proofs.AtomLines as atom_lines

@@ -22,15 +22,15 @@ use Rattle.cip_reading.specs.Causes.{order_of}
 use Rattle.cip_reading.specs.Fields.{number_in, place_named}
 use Rattle.cip_v2000.specs.BondLine.{bond_of, mark_of}
 use Rattle.cip_v2000.specs.Version.{is_v3000}
-use Rattle.cip_edit.specs.Columns.{with_columns, Fits}
-use Rattle.cip_edit.specs.Edits.{edited_contents}
-use Rattle.cip_edit.specs.Laws.{IsEdited}
-use Rattle.cip_edit.specs.Rows.{IsContentFor}
-use Rattle.cip_edit.proofs.EditedItems.{edits_keep_records}
-use Rattle.cip_edit.proofs.Lengths.{edits_grow_little}
-use Rattle.cip_edit.proofs.Fields.{field_written, field_before, field_behind, written_long}
-use Rattle.cip_edit.proofs.Numbers.{decimal_number, digits_printed}
-use Rattle.cip_edit.proofs.Written.{written_content, same_content}
+use Rattle.cip_mirror.specs.Columns.{with_columns, Fits}
+use Rattle.cip_mirror.specs.Edits.{edited_contents}
+use Rattle.cip_mirror.specs.EditLaws.{IsEdited}
+use Rattle.cip_mirror.specs.EditedRows.{IsContentFor}
+use Rattle.cip_mirror.proofs.EditedItems.{edits_keep_records}
+use Rattle.cip_mirror.proofs.Lengths.{edits_grow_little}
+use Rattle.cip_mirror.proofs.Fields.{field_written, field_before, field_behind, written_long}
+use Rattle.cip_mirror.proofs.Numbers.{decimal_number, digits_printed}
+use Rattle.cip_mirror.proofs.Written.{written_content, same_content}
 use Rattle.cip_molfile.specs.Molecules.{read_molecule}
 use Rattle.cip_mirror.specs.Answers.{}
 use Rattle.cip_mirror.specs.Changed.{stereo_of, with_bond, are_drawn_alike, changed_line, changed_by, change_edit, changed_record, ChangesAreRead}

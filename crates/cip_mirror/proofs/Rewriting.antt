@@ -18,10 +18,10 @@ use Rattle.cip_v2000.specs.BondLine.{bond_of}
 use Rattle.cip_v2000.specs.CountsLine.{counts_of}
 use Rattle.cip_v2000.specs.Grammar.{atom_row, bond_row, pairs_from, pairs_behind, molecule_of}
 use Rattle.cip_v2000.specs.Version.{is_v3000, line_is_v3000}
-use Rattle.cip_edit.specs.Edits.{Edit, edited_contents}
-use Rattle.cip_edit.specs.Rows.{IsRow, IsRowFor, KeepsKind}
-use Rattle.cip_edit.specs.Laws.{KeepsKinds, GrowsLittle}
-use Rattle.cip_edit.proofs.RowKinds.{integer_row, decimal_row}
+use Rattle.cip_mirror.specs.Edits.{Edit, edited_contents}
+use Rattle.cip_mirror.specs.EditedRows.{IsRow, IsRowFor, KeepsKind}
+use Rattle.cip_mirror.specs.EditLaws.{KeepsKinds, GrowsLittle}
+use Rattle.cip_mirror.proofs.RowKinds.{integer_row, decimal_row}
 use Rattle.cip_mirror.specs.Rows.{row_edit}
 use Rattle.cip_mirror.specs.Laws.{moved, moved_line, MovesAtom, GivesRows, rewritten}
 use Rattle.cip_mirror.proofs.FewRows.{AreFew, few_rows}

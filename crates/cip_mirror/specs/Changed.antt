@@ -9,8 +9,8 @@ use Rattle.cip_mol.specs.declared.molecule.Mark.{Mark}
 use Rattle.cip_mol.specs.declared.molecule.Mark.TheVariants.{Plain, Up, Down, Either}
 use Rattle.cip_item.specs.Parts.{without_label_items, has_label_item}
 use Rattle.cip_v2000.specs.Version.{is_v3000}
-use Rattle.cip_edit.specs.Columns.{with_columns}
-use Rattle.cip_edit.specs.Edits.{Edit, edited}
+use Rattle.cip_mirror.specs.Columns.{with_columns}
+use Rattle.cip_mirror.specs.Edits.{Edit, edited}
 use Rattle.cip_mirror.specs.Answers.{molecule_in}
 use Rattle.cip_mol.specs.Joins.{JoinAlike}
 use Rattle.cip_mirror.specs.Rows.{row_edit}

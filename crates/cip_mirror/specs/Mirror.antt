@@ -7,8 +7,8 @@ use Rattle.cip_text.specs.declared.numbers.NumberFault.{NumberFault}
 use Rattle.cip_mol.specs.Drawing.{Drawing}
 use Rattle.cip_mol.specs.Points.{is_nought}
 use Rattle.cip_reading.specs.Fields.{number_in}
-use Rattle.cip_edit.specs.Columns.{with_columns}
-use Rattle.cip_edit.specs.Edits.{Edit, edited}
+use Rattle.cip_mirror.specs.Columns.{with_columns}
+use Rattle.cip_mirror.specs.Edits.{Edit, edited}
 use Rattle.cip_text.specs.Writing.{coordinate}
 use Rattle.cip_mirror.specs.Rows.{row_edit}
 

@@ -5,8 +5,8 @@ ghost use Rattle.cip_mirror.specs.Answers.{answer_without_items, mirror_answer, 
 ghost use Rattle.cip_mirror.specs.Mirror.{mirrored_record};
 
 use crate::answers::{MirrorAnswer, MirrorRefusal};
+use crate::edit_record;
 use crate::rows::Mirror;
-use cip_edit::edit_record;
 use cip_item::without_label_items;
 use cip_mol::{Atom, Molecule, ReadRefusal};
 use cip_molfile::read_molecule;

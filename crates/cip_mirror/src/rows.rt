@@ -1,10 +1,10 @@
 // The rows of the two blocks of a V2000 record, and how those of the mirror image are written.
 ghost use Rattle.std.specs.Prelude.{◌≡◌, ◌≤◌, ◌<◌, ◌++◌, ℕ, List, length, IfOk, OnOk};
 ghost use Rattle.cip_mol.specs.Drawing.{Drawing};
-ghost use Rattle.cip_edit.specs.Edits.{Edit};
+ghost use Rattle.cip_mirror.specs.Edits.{Edit};
 ghost use Rattle.cip_mirror.specs.Mirror.{mirrored_atom_line, mirrored_bond_line, other_mark, other_code, with_mark, mirror_edit};
 
-use cip_edit::{LineEdit, with_columns};
+use crate::{LineEdit, with_columns};
 use cip_mol::Molecule;
 use cip_reading::number;
 use cip_text::{columns, coordinate, decimal4};

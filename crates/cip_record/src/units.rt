@@ -5,7 +5,7 @@ ghost use Rattle.cip_record.specs.Answers.{unit_answers};
 use crate::answering::RecordLabeller;
 use cip_label::Setting;
 use cip_print::{UnitAnswer, UnitAnswers, name_of};
-use cip_steps::Steps;
+use cip_rank::Steps;
 use std::alloc::{AllocError, Global};
 use std::marker::Brand;
 use std::sync::ledger::{Blank, Ledger};

@@ -8,7 +8,7 @@ use crate::unit::{State, UndefinedUnit};
 use cip_label::{Digraphs, Labeller, Setting};
 use cip_mol::{Cause, Geometry, Outcome, Sense, Unit};
 use cip_print::name_of;
-use cip_steps::Steps;
+use cip_rank::Steps;
 use std::alloc::{AllocError, Global};
 use std::sync::ledger::Ledger;
 

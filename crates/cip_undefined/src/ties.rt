@@ -22,7 +22,7 @@ use crate::pairs::{Pair, pairs_of};
 use crate::unit::{State, UndefinedUnit};
 use cip_label::{Digraphs, Labeller, Ranked, Setting};
 use cip_mol::Site;
-use cip_steps::Steps;
+use cip_rank::Steps;
 use std::alloc::{AllocError, Global};
 use std::sync::ledger::Ledger;
 

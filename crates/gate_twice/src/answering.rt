@@ -6,7 +6,7 @@ use crate::boxes::{child_keys, two_stand};
 use crate::growing::{settled, spheres};
 use crate::inside::inside;
 use crate::units::units_told;
-use cip_steps::Steps;
+use cip_rank::Steps;
 use gate_rows::{Caller, Row, Text};
 use std::alloc::Global;
 use std::marker::Brand;

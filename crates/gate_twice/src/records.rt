@@ -6,7 +6,7 @@ use crate::molecules::{read_drawn, title};
 use crate::roots::compare_roots;
 use cip_frame::Framer;
 use cip_make::record;
-use cip_steps::Steps;
+use cip_rank::Steps;
 use std::rt::Files;
 use std::sync::ledger::{Blank, Ledger};
 use std::{fs, io};

@@ -8,7 +8,7 @@ use crate::settled::{COMPARED, compare_settled};
 use crate::tables::Tables;
 use crate::twice::{Difference, Extent, compare_sphere};
 use cip_arena::Grown;
-use cip_steps::Steps;
+use cip_rank::Steps;
 use std::alloc::{AllocError, Global};
 use std::fmt;
 use std::sync::ledger::Ledger;

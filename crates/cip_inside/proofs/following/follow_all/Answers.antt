@@ -8,7 +8,7 @@ use Rattle.cip_digraph.proofs.Lists.{by_recursion}
 use Rattle.cip_ligands.specs.Asking.{AreWithin, found_between, with_found}
 use Rattle.cip_ligands.proofs.FoundWithin.{nothing_found}
 use Rattle.cip_digraph.specs.digraph.NodeList.{parents_of}
-use Rattle.cip_views.specs.RootKeys.{root_keys}
+use Rattle.cip_aux.specs.RootKeys.{root_keys}
 use Rattle.cip_aux.specs.Sights.{sight_of}
 use Rattle.cip_aux.proofs.Told.{whole_shows}
 use Rattle.cip_inside.proofs.FollowedViews.{IsNoted, told_len, tops_few, tops_keyed, around_first, around_room, around_last, around_next, around_followed, more_noted}

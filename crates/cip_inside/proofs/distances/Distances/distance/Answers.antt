@@ -1,7 +1,7 @@
 use Rattle.std.proofs.Common.{◌≡◌, ◌∙◌, sym, ap, subst, arith}
 use Rattle.cip_digraph.specs.digraph.View.{apart}
-use Rattle.cip_views.specs.Sources.{distance_node}
-use Rattle.cip_views.proofs.WholeTold.{parents_len}
+use Rattle.cip_aux.specs.Sources.{distance_node}
+use Rattle.cip_aux.proofs.WholeTold.{parents_len}
 use Rattle.cip_aux.specs.Sights.{IsReal, path_at, sight_of}
 use Rattle.cip_aux.proofs.Told.{whole_shows}
 use Rattle.cip_inside.proofs.Sources.{source_is}

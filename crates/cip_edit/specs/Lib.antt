@@ -1,4 +1,0 @@
-pub mod Columns
-pub mod Edits
-pub mod Laws
-pub mod Rows

@@ -1,7 +1,0 @@
-mod JoinedGroups
-mod LineSteps
-mod LinesJoined
-mod OtherCauses
-mod RepeatedLines
-mod Repeating
-mod TakenAtoms

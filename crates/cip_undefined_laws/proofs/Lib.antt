@@ -1,4 +1,0 @@
-mod GivenMarks
-mod KeptMarks
-mod MarkedLigands
-mod TurnedDrawings
