@@ -1,11 +1,11 @@
 -- A record is its body with its closing behind it.
-use Rattle.std.proofs.Common.{◌≡◌, ◌≤◌, ◌+◌, ◌-◌, ◌++◌, ℕ, List, [], ◌∷◌, Bool, true, false, refl, sym, ◌∙◌, ap, arith, length, take, drop, append_assoc, length-append}
+use Rattle.std.proofs.Common.{◌≡◌, ◌≤◌, ◌+◌, ◌-◌, ◌++◌, ℕ, List, [], ◌∷◌, Bool, true, false, refl, sym, ◌∙◌, ap, arith, length, map, take, drop, append_assoc, length-append}
 use Rattle.std.specs.List.{concat}
 use Rattle.std.proofs.Math.Seq.{take-append_seam, drop-append_seam}
 use Rattle.cip_text.specs.Lines.{lines_of, content_of}
 use Rattle.cip_text.specs.Kinds.{is_terminator}
 use Rattle.cip_text.proofs.Firsts.{lines_join}
-use Rattle.cip_text.specs.Bodies.{body_lines, body, closing, closing_lines}
+use Rattle.cip_text.specs.Bodies.{body_lines, body, body_contents, closing, closing_lines}
 
 -- from the terminator line on all is closing
 pub closing_itself : (bytes line behind : List ℕ) → lines_of bytes ≡ line ∷ lines_of behind
@@ -47,3 +47,26 @@ short_closing bytes =
     let whole : length bytes ≡ length (body bytes) + length (closing bytes) =
     ap length (sym (body_closing bytes)) ∙ length-append (body bytes) (closing bytes) in
     omega (arith, whole)
+
+-- a line that isn't the terminator line
+pub body_on : (bytes line behind : List ℕ) → lines_of bytes ≡ line ∷ lines_of behind
+    → is_terminator (content_of line) ≡ false → body_lines (lines_of bytes) ≡ line ∷ body_lines (lines_of behind)
+body_on bytes line behind l e = rw (l, e) refl
+
+pub closing_on : (bytes line behind : List ℕ) → lines_of bytes ≡ line ∷ lines_of behind
+    → is_terminator (content_of line) ≡ false → closing bytes ≡ closing behind
+closing_on bytes line behind l e = rw (l, e) refl
+
+-- nothing stands before the terminator line
+pub body_none : (bytes line behind : List ℕ) → lines_of bytes ≡ line ∷ lines_of behind
+    → is_terminator (content_of line) ≡ true → body_contents bytes ≡ []
+body_none bytes line behind l e = rw (l, e) refl
+
+-- the content of a line more
+pub content_more : (rest line behind : List ℕ) (contents now total : List (List ℕ))
+    → body_lines (lines_of rest) ≡ line ∷ body_lines (lines_of behind) → now ≡ contents ++ content_of line ∷ []
+    → contents ++ body_contents rest ≡ total → now ++ body_contents behind ≡ total
+content_more rest line behind contents now total here added so_far =
+    ap (λ before. before ++ body_contents behind) added
+    ∙ append_assoc contents (content_of line ∷ []) (body_contents behind)
+    ∙ ap (λ lines. contents ++ map content_of lines) (sym here) ∙ so_far

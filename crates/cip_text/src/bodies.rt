@@ -1,6 +1,7 @@
 // A record by its lines.
 ghost use Rattle.std.specs.Prelude.{◌≡◌, ◌≤◌, ◌<◌, ◌+◌, ◌∷◌, [], length, IfOk, IfSome, None};
-ghost use Rattle.cip_text.specs.Lines.{lines_of};
+ghost use Rattle.cip_text.specs.Lines.{content_of, lines_of};
+ghost use Rattle.cip_text.specs.Kinds.{is_terminator};
 ghost use Rattle.cip_text.specs.Bodies.{body, body_contents, body_lines, closing};
 ghost use Rattle.cip_text.specs.Slices.{texts};
 
@@ -84,7 +85,6 @@ pub fn body_contents(alloc: Global, bytes: &[u8]) -> Result<Vec<&[u8]>, AllocErr
 }
 
 // The contents of the lines before the terminator line, and what stands from it on.
-#[tactic(auto, using(crate::proofs::Halves::closing_itself))]
 fn split_record(alloc: Global, bytes: &[u8]) -> Result<(Vec<&[u8]>, &[u8]), AllocError>
     ensures contents { IfOk result (λ parts. texts parts.0.items ≡ body_contents bytes.now) }
     ensures closing { IfOk result (λ parts. parts.1.now ≡ closing bytes.now) }
@@ -94,13 +94,21 @@ fn split_record(alloc: Global, bytes: &[u8]) -> Result<(Vec<&[u8]>, &[u8]), Allo
     let mut rest = bytes;
     while let Some((line, behind)) = split_line(rest) {
         let content = without_end(line);
-        if begins_with(line, b'$') && is_terminator(content) {
+        if is_closing(line, content) {
             return Ok((contents, rest));
         }
         contents.push(content)?;
         rest = behind;
     }
     Ok((contents, rest))
+}
+
+// Whether a line of this content is the terminator line. Most lines are told by their first byte.
+fn is_closing(line: &[u8], content: &[u8]) -> bool
+    requires { content.now ≡ content_of line.now }
+    ensures { result ≡ is_terminator (content_of line.now) }
+{
+    begins_with(line, b'$') && is_terminator(content)
 }
 
 /// The first line of a record with its end, and what follows it. None at the terminator line, and for the empty
