@@ -5,5 +5,7 @@ use Rattle.cip_mol.specs.declared.site.Unit as units
 use Rattle.gate_twice.proofs.inside.inside_molecule.Goals as goal
 
 pub inside_drawn-requires : goal.inside_drawn-requires
-inside_drawn-requires g c =
-    ap (map (λ (unit : units.Unit). unit.site)) (c.list.ensures ∙ c.in_ok-units.ensures) ∙ map-map _ _ _ ∙ map-id _
+inside_drawn-requires g c = record {
+  sites =
+      ap (map (λ (unit : units.Unit). unit.site)) (c.list.ensures ∙ c.in_ok-units.ensures) ∙ map-map _ _ _ ∙ map-id _;
+}
