@@ -1,5 +1,1 @@
-pub mod CarriedMarks
-pub mod CarriedNodes
-pub mod CarriedOrders
-pub mod CarriedUnits
 pub mod SameTrees

@@ -1,7 +1,5 @@
-pub mod CarriedPositions
 pub mod CarriedSmallRings
 pub mod DelocalisedEnds
 pub mod HydrogenPlaces
 pub mod RenumberedGraph
-pub mod SingleLigands
 pub mod WaySymmetry

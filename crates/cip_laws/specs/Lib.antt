@@ -1,7 +1,6 @@
 pub mod AlternatingLaw
 pub mod DrawnMolecules
 pub mod DrawnOutcomes
-pub mod Images
 pub mod InversionLaw
 pub mod ReflectionLaw
 pub mod RenumberingLaw

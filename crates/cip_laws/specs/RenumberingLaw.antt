@@ -1,6 +1,6 @@
 -- What another numbering keeps: each unit goes to a unit, and what is found of it goes along. Own, after IUPAC 2013,
 -- P-92: ranking rests on the structure, not on numbers.
-use Rattle.std.specs.Prelude.{◌≡◌, ◌+◌, ◌⊎◌, ℕ, List, map, length, sum, cond, nat_lt}
+use Rattle.std.specs.Prelude.{◌≡◌, ◌+◌, ℕ, List, map, length, sum, cond, nat_lt}
 use Rattle.std.specs.List.{range_with_len}
 use Rattle.cip_rank.specs.declared.rules.Rules.{Rules}
 use Rattle.cip_mol.specs.Bonds as bonds
@@ -11,13 +11,7 @@ use Rattle.cip_digraph.specs.graph.Hydrogens.{hydrogens_of}
 use Rattle.cip_digraph.specs.graph.Renumbering.{IsRenumbering}
 use Rattle.cip_digraph.specs.units.Ends.{ends_of}
 use Rattle.cip_laws.specs.DrawnOutcomes.{units_in, outcome_in, costs_in}
-use Rattle.cip_laws.specs.Images.{Among, crossed, AreForward, AreCrossed, IsImageSite, IsImageOutcome}
-
--- where the ends have changed places, so have the costs
-abbrev pub CostsGo : (ℕ → ℕ) → Site → Site → List ℕ → List ℕ → Type 0
-CostsGo image site other costs their_costs =
-    (AreForward image site other × (their_costs ≡ costs))
-    ⊎ (AreCrossed image site other × (their_costs ≡ crossed costs))
+use Rattle.cip_carried.specs.Images.{Among, IsImageSite, IsImageOutcome, CostsGo}
 
 -- a map of vertices, which leaves numbers that are none as they are
 abbrev pub on_vertices : Drawing → (ℕ → ℕ) → ℕ → ℕ

@@ -3,8 +3,8 @@ use Rattle.std.proofs.Common.{◌≡◌, ◌≢◌, ◌≤◌, ◌+◌, inl, inr
 use Rattle.std.specs.List.{AllByRecursion}
 use Rattle.std.proofs.lemmas.Bool.{ne_eqb}
 use Rattle.cip_digraph.proofs.Lists.{Pairwise}
-use Rattle.cip_laws.specs.Images.{Among}
-use Rattle.cip_laws.proofs.lists.Among.{among_all}
+use Rattle.cip_carried.specs.Images.{Among}
+use Rattle.cip_carried.proofs.lists.Among.{among_all}
 
 pub filter_short : {X : Type 0} (test : X → Bool) (xs : List X) → length (filter test xs) ≤ length xs
 filter_short test [] = omega arith

@@ -15,11 +15,11 @@ use Rattle.cip_digraph.specs.units.DoubleBonds.{has_end_bonds, multiples, outer_
 use Rattle.cip_digraph.proofs.AlternatingWays.{ring_found}
 use Rattle.cip_digraph.proofs.Lists.{by_recursion}
 use Rattle.cip_digraph.proofs.NeighbourOrder.{neighbours_differ}
-use Rattle.cip_laws.specs.Images.{Among}
+use Rattle.cip_carried.specs.Images.{Among}
 use Rattle.cip_laws.proofs.graph.DelocalisedEnds.{one_edge, listed}
 use Rattle.cip_laws.proofs.graph.WaySymmetry.{one_of}
-use Rattle.cip_laws.proofs.lists.Among.{among_map, from_map, among_filter, from_filter, in_from_among, among_from_in, among_all, any_from}
-use Rattle.cip_laws.proofs.lists.Truths.{and_parts, and_both, true_not_false}
+use Rattle.cip_carried.proofs.lists.Among.{among_map, from_map, among_filter, from_filter, in_from_among, among_from_in, among_all, any_from}
+use Rattle.cip_carried.proofs.lists.Truths.{and_parts, and_both, true_not_false}
 use Rattle.cip_unit.specs.Sites.{LeadsToAtoms}
 use Rattle.cip_label.proofs.FitUnits.{away}
 use Rattle.cip_axis.specs.Biaryls.{is_biaryl_end}

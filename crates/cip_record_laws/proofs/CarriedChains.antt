@@ -9,13 +9,13 @@ use Rattle.cip_digraph.specs.graph.Graph.{Graph, edges_at, vertex_at}
 use Rattle.cip_digraph.specs.graph.SoundGraphs.{IsSound}
 use Rattle.cip_digraph.specs.units.Allenes.{doubles, is_allene_middle}
 use Rattle.cip_axis.specs.Cumulenes.{onward, leads_on, next_atom, chain_from, chain_over}
-use Rattle.cip_laws.specs.Images.{Among}
-use Rattle.cip_laws.proofs.lists.Arranged.{filter_arranged}
+use Rattle.cip_carried.specs.Images.{Among}
+use Rattle.cip_carried.proofs.lists.Arranged.{filter_arranged}
 use Rattle.cip_laws.proofs.units.CarriedAxes.{double_back, doubles_moved, middle_carried}
-use Rattle.cip_laws.proofs.lists.CarriedLists.{filter_carried, same_eq}
-use Rattle.cip_laws.proofs.digraph.CarriedNodes.{IsRenamed}
-use Rattle.cip_laws.proofs.graph.SingleLigands.{single}
-use Rattle.cip_laws.proofs.lists.Truths.{and_parts, and_both, true_not_false}
+use Rattle.cip_carried.proofs.lists.CarriedLists.{filter_carried, same_eq}
+use Rattle.cip_carried.proofs.digraph.CarriedNodes.{IsRenamed}
+use Rattle.cip_carried.proofs.graph.SingleLigands.{single}
+use Rattle.cip_carried.proofs.lists.Truths.{and_parts, and_both, true_not_false}
 use Rattle.cip_record_laws.proofs.TurnedLists.{long_onto, onto}
 
 module _ (graph other : Graph) (image : ℕ → ℕ) (r : IsRenamed graph other image) where

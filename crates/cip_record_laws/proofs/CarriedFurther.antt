@@ -15,14 +15,14 @@ use Rattle.cip_axis.specs.Biaryls.{hindered_at, is_hindered, is_biaryl, is_biary
 use Rattle.cip_axis.specs.Cumulenes.{any_bond, chain_from, chain_over, chains, first_atom, last_atom, is_cumulene}
 use Rattle.cip_axis.specs.Further.{cumulene_unit, cumulenes_of, biaryl_unit, biaryls_of}
 use Rattle.cip_axis.specs.declared.site.FurtherUnit.{FurtherUnit}
-use Rattle.cip_laws.specs.Images.{Among}
-use Rattle.cip_laws.proofs.lists.Among.{among_map, from_map, among_filter, from_filter, among_flat, from_flat, among_arranged, among_range, from_range}
+use Rattle.cip_carried.specs.Images.{Among}
+use Rattle.cip_carried.proofs.lists.Among.{among_map, from_map, among_filter, from_filter, among_flat, from_flat, among_arranged, among_range, from_range}
 use Rattle.cip_laws.proofs.units.CarriedAxes.{axis_end_carried, doubles_moved, double_from}
-use Rattle.cip_laws.proofs.lists.CarriedLists.{in_carried}
-use Rattle.cip_laws.proofs.digraph.CarriedNodes.{Way, way, ways, way_image, IsRenamed}
+use Rattle.cip_carried.proofs.lists.CarriedLists.{in_carried}
+use Rattle.cip_carried.proofs.digraph.CarriedNodes.{Way, way, ways, way_image, IsRenamed}
 use Rattle.cip_laws.proofs.units.CarriedSites.{SameUnit, two_same}
 use Rattle.cip_laws.proofs.graph.WaySymmetry.{back_way, leads_back, way_there, way_from}
-use Rattle.cip_laws.proofs.lists.Truths.{and_parts, and_both, not_true, not_false}
+use Rattle.cip_carried.proofs.lists.Truths.{and_parts, and_both, not_true, not_false}
 use Rattle.cip_record_laws.proofs.CarriedChains.{over_carried, over_turned, from_short, IsTurnedOver}
 use Rattle.cip_record_laws.proofs.CarriedHindrance.{biaryl_end_carried, hindered_long, ring_back, ring_carried}
 use Rattle.cip_record_laws.proofs.TurnedLists.{onto, last_is, first_onto, last_onto, long_onto, in_onto, any_onto, any_mapped, last_mapped}

@@ -13,10 +13,10 @@ use Rattle.cip_digraph.specs.units.DoubleBonds.{has_end_bonds, outer_neighbours}
 use Rattle.cip_ring.specs.AnyRings.{is_in_ring}
 use Rattle.cip_mancude.specs.SharedRings.{share_ring}
 use Rattle.cip_axis.specs.Biaryls.{stands_beside, is_hindered, hindered_at, is_biaryl_end}
-use Rattle.cip_laws.proofs.lists.Arranged.{filter_arranged}
-use Rattle.cip_laws.proofs.lists.CarriedLists.{filter_carried, any_carried, same_eq}
-use Rattle.cip_laws.proofs.digraph.CarriedNodes.{IsRenamed, delocalised_carried}
-use Rattle.cip_laws.proofs.graph.CarriedPositions.{degree_carried, neighbours_moved, positions_renamed}
+use Rattle.cip_carried.proofs.lists.Arranged.{filter_arranged}
+use Rattle.cip_carried.proofs.lists.CarriedLists.{filter_carried, any_carried, same_eq}
+use Rattle.cip_carried.proofs.digraph.CarriedNodes.{IsRenamed, delocalised_carried}
+use Rattle.cip_carried.proofs.graph.CarriedPositions.{degree_carried, neighbours_moved, positions_renamed}
 use Rattle.cip_laws.proofs.units.CarriedSites.{SameUnit, end_bonds_carried, outer_moved, z_same}
 use Rattle.cip_laws.proofs.graph.CarriedSmallRings.{steps_carried, steps_turned}
 use Rattle.cip_record_laws.proofs.CarriedSharing.{shared_carried}

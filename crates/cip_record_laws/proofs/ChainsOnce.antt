@@ -8,7 +8,7 @@ use Rattle.cip_digraph.specs.units.Allenes.{doubles}
 use Rattle.cip_digraph.proofs.Lists.{Pairwise, all_append, all_by, all_filtered, all_mapped, pairwise_append, pairwise_by, pairwise_filtered, pairwise_mapped}
 use Rattle.cip_digraph.proofs.NeighbourOrder.{neighbours_differ}
 use Rattle.cip_axis.specs.Cumulenes.{chain_from, chain_over, chains, first_atom, is_cumulene}
-use Rattle.cip_laws.proofs.lists.Elements.{unmapped}
+use Rattle.cip_carried.proofs.lists.Elements.{unmapped}
 use Rattle.cip_record_laws.specs.CumuleneLaws.{chains_in}
 
 -- lists that begin with their own number differ where those of one number do

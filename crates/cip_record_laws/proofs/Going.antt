@@ -13,10 +13,10 @@ use Rattle.cip_digraph.specs.graph.Renumbering.{IsRenumbering}
 use Rattle.cip_digraph.specs.rings.Positions.{positions_of}
 use Rattle.cip_digraph.specs.rules.Exchange.{reflected_unit}
 use Rattle.cip_laws.specs.DrawnOutcomes.{units_in}
-use Rattle.cip_laws.specs.Images.{Among}
+use Rattle.cip_carried.specs.Images.{Among}
 use Rattle.cip_laws.specs.ReflectionLaw.{ReflectsDrawing}
 use Rattle.cip_laws.specs.RenumberingLaw.{on_vertices, GoTogether, OutcomesGo}
-use Rattle.cip_laws.proofs.lists.Among.{among_map, from_map}
+use Rattle.cip_carried.proofs.lists.Among.{among_map, from_map}
 use Rattle.cip_laws.proofs.drawings.ReflectedDrawings.{reflection_keeps_drawings}
 use Rattle.cip_laws.proofs.drawings.Renumbered.{renumbering_keeps_outcomes}
 use Rattle.cip_print.specs.declared.answer.UnitAnswer.{UnitAnswer}

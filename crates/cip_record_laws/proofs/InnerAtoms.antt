@@ -3,8 +3,8 @@ use Rattle.std.proofs.Common.{◌≡◌, ◌≢◌, inl, inr, ℕ, List, [], ◌
 use Rattle.std.proofs.lemmas.Bool.{ne_eqb}
 use Rattle.cip_digraph.specs.graph.Graph.{Graph, edges_at, vertex_at}
 use Rattle.cip_digraph.specs.units.Allenes.{doubles}
-use Rattle.cip_laws.specs.Images.{Among}
-use Rattle.cip_laws.proofs.lists.Truths.{and_parts}
+use Rattle.cip_carried.specs.Images.{Among}
+use Rattle.cip_carried.proofs.lists.Truths.{and_parts}
 use Rattle.cip_record_laws.specs.CumuleneLaws.{IsInner}
 
 -- of two, the one that isn't the given one

@@ -11,9 +11,9 @@ use Rattle.cip_digraph.proofs.Lists.{pairs_from_pairwise}
 use Rattle.cip_digraph.specs.units.Allenes.{doubles, is_allene_middle, is_axis_end}
 use Rattle.cip_axis.specs.Cumulenes.{first_atom, last_atom, onward, leads_on, next_atom, chain_from, chain_over, chains, is_cumulene}
 use Rattle.cip_axis.specs.Further.{cumulene_unit, cumulenes_of}
-use Rattle.cip_laws.specs.Images.{Among}
-use Rattle.cip_laws.proofs.lists.Among.{among_filter, among_flat, among_map, among_range, from_filter, from_flat, from_map, from_range}
-use Rattle.cip_laws.proofs.lists.Truths.{and_parts, and_both, not_false, not_true}
+use Rattle.cip_carried.specs.Images.{Among}
+use Rattle.cip_carried.proofs.lists.Among.{among_filter, among_flat, among_map, among_range, from_filter, from_flat, from_map, from_range}
+use Rattle.cip_carried.proofs.lists.Truths.{and_parts, and_both, not_false, not_true}
 use Rattle.cip_laws.proofs.units.CarriedAxes.{double_back}
 use Rattle.cip_record_laws.specs.CumuleneLaws.{IsInner, AreInner, IsCumulene, chains_in, ChainsAreListed}
 use Rattle.cip_record_laws.proofs.CarriedChains.{no_middle}

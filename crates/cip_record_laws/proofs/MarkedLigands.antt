@@ -24,14 +24,14 @@ use Rattle.cip_digraph.specs.units.Descriptors.{turned_if}
 use Rattle.cip_digraph.specs.units.DrawnUnits.{units_in}
 use Rattle.cip_digraph.specs.units.Units.{centre_site}
 use Rattle.cip_digraph.proofs.DrawnSound.{drawn_sound}
-use Rattle.cip_laws.specs.Images.{IsImageOutcome}
+use Rattle.cip_carried.specs.Images.{IsImageOutcome}
 use Rattle.cip_laws.proofs.drawings.Renumbered.{senses}
 use Rattle.cip_laws.proofs.drawings.RenumberedBonds.{renumbered_sound}
-use Rattle.cip_laws.proofs.graph.CarriedPositions.{positions_renamed}
+use Rattle.cip_carried.proofs.graph.CarriedPositions.{positions_renamed}
 use Rattle.cip_laws.proofs.graph.DelocalisedEnds.{delocalised_at_both}
 use Rattle.cip_laws.proofs.graph.RenumberedGraph.{carry, graph_renamed}
-use Rattle.cip_laws.proofs.outcomes.CarriedOutcomes.{outcome_carried}
-use Rattle.cip_laws.proofs.digraph.CarriedNodes.{IsRenamed}
+use Rattle.cip_carried.proofs.outcomes.CarriedOutcomes.{outcome_carried}
+use Rattle.cip_carried.proofs.digraph.CarriedNodes.{IsRenamed}
 use Rattle.cip_laws.proofs.units.CarriedSites.{SiteImage, centre_carried, centre_image}
 use Rattle.cip_laws.proofs.units.RenumberedUnits.{carry_onto, units_match}
 use Rattle.cip_mark.specs.FoundCentres.{outcome_as, shown_at}

@@ -24,7 +24,7 @@ use Rattle.cip_axis.specs.Likeness.{like}
 use Rattle.cip_axis.specs.declared.site.FurtherUnit.{FurtherUnit}
 use Rattle.cip_axis.specs.FurtherOutcomes.{as_unit}
 use Rattle.cip_record_laws.specs.FurtherLaws.{reflected_further, ReflectsFurther, ReflectionKeepsFurther}
-use Rattle.cip_laws.proofs.lists.CarriedLists.{mapped_twice, mapped_by, mapped_flat}
+use Rattle.cip_carried.proofs.lists.CarriedLists.{mapped_twice, mapped_by, mapped_flat}
 use Rattle.cip_laws.proofs.drawings.ReflectedDrawings.{geometry_mirrored, graph_kept, reflection_keeps_drawings}
 
 either_kept : (mark : Mark) → is_either (exchanged mark) ≡ is_either mark

@@ -28,9 +28,9 @@ use Rattle.cip_axis.proofs.Drawn.{chain_below, doubles_below}
 use Rattle.cip_axis.proofs.Sited.{biaryl_end_parts}
 use Rattle.cip_axis.specs.FurtherOutcomes.{as_unit}
 use Rattle.cip_record_laws.specs.FurtherLaws.{IsImageFurther, FurtherGo, FurtherOutcomesGo, RenumberingKeepsFurther}
-use Rattle.cip_laws.specs.Images.{Among}
-use Rattle.cip_laws.proofs.lists.Among.{among_all, among_left, among_right, from_append}
-use Rattle.cip_laws.proofs.digraph.CarriedNodes.{IsRenamed, Way, way_image}
+use Rattle.cip_carried.specs.Images.{Among}
+use Rattle.cip_carried.proofs.lists.Among.{among_all, among_left, among_right, from_append}
+use Rattle.cip_carried.proofs.digraph.CarriedNodes.{IsRenamed, Way, way_image}
 use Rattle.cip_laws.proofs.units.CarriedSites.{SameUnit, two_same, two_crossed}
 use Rattle.cip_laws.proofs.units.ListedSites.{listed, neighbours_rise, some_drawn, drawn_is, axis_end_listed}
 use Rattle.cip_laws.proofs.drawings.RenamedGeometry.{crossed_same}
@@ -38,7 +38,7 @@ use Rattle.cip_laws.proofs.drawings.RenumberedBonds.{renumbered_sound}
 use Rattle.cip_laws.proofs.graph.RenumberedGraph.{carry, of_atom}
 use Rattle.cip_laws.proofs.units.RenumberedSenses.{IsEndListed}
 use Rattle.cip_laws.proofs.units.RenumberedUnits.{carry_onto}
-use Rattle.cip_laws.proofs.lists.Truths.{or_back}
+use Rattle.cip_carried.proofs.lists.Truths.{or_back}
 use Rattle.cip_laws.proofs.graph.WaySymmetry.{back_way}
 use Rattle.cip_record_laws.proofs.CarriedChains.{over_carried}
 use Rattle.cip_record_laws.proofs.CarriedFurther.{IsCumuleneCore, IsBiarylCore, FoundCumulene, found_cumulene, cumulene_among, FoundBiaryl, found_biaryl, biaryl_among, chain_atoms, last_carried, cumulene_there, cumulene_from, biaryl_there, biaryl_from, cumulene_back, biaryl_back}

@@ -11,9 +11,9 @@ use Rattle.cip_digraph.specs.units.Allenes.{doubles, is_axis_end}
 use Rattle.cip_digraph.proofs.Ended.{leads_below, member_below}
 use Rattle.cip_digraph.proofs.Lists.{Pairwise, all_filtered, all_mapped, pairs_from_pairwise}
 use Rattle.cip_axis.specs.Cumulenes.{last_atom}
-use Rattle.cip_laws.specs.Images.{Among}
-use Rattle.cip_laws.proofs.lists.Among.{among_all, among_filter}
-use Rattle.cip_laws.proofs.lists.Truths.{not_false, true_not_false}
+use Rattle.cip_carried.specs.Images.{Among}
+use Rattle.cip_carried.proofs.lists.Among.{among_all, among_filter}
+use Rattle.cip_carried.proofs.lists.Truths.{not_false, true_not_false}
 use Rattle.cip_record_laws.specs.CumuleneLaws.{IsInner, AreInner, IsCumulene}
 use Rattle.cip_record_laws.proofs.CarriedChains.{no_middle}
 use Rattle.cip_record_laws.proofs.CarriedFurther.{three_of}

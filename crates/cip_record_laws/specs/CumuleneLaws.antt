@@ -5,7 +5,7 @@ use Rattle.cip_mol.specs.Drawing.{Drawing}
 use Rattle.cip_digraph.specs.graph.Graph.{Graph}
 use Rattle.cip_digraph.specs.graph.SoundGraphs.{IsSound}
 use Rattle.cip_digraph.specs.units.Allenes.{doubles, is_allene_middle, is_axis_end}
-use Rattle.cip_laws.specs.Images.{Among}
+use Rattle.cip_carried.specs.Images.{Among}
 use Rattle.cip_axis.specs.Cumulenes.{any_bond, last_atom, chains, is_cumulene}
 use Rattle.cip_axis.specs.Further.{cumulene_unit, cumulenes_of}
 use Rattle.cip_axis.specs.declared.site.FurtherUnit.{FurtherUnit}

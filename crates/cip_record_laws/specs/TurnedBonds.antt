@@ -10,7 +10,7 @@ use Rattle.cip_mol.specs.declared.outcome.Outcome.{Outcome}
 use Rattle.cip_mol.specs.declared.site.Geometry.TheVariants.{Known}
 use Rattle.cip_digraph.specs.graph.DrawnGraph.{graph_of}
 use Rattle.cip_digraph.specs.units.Units.{centre_site}
-use Rattle.cip_laws.specs.Images.{IsImageOutcome}
+use Rattle.cip_carried.specs.Images.{IsImageOutcome}
 use Rattle.cip_mark.specs.FoundCentres.{found_at, shown_at}
 use Rattle.cip_mark.specs.Marking.{has_centre, with_mark}
 use Rattle.cip_undefined.specs.Answers.{setting_in}

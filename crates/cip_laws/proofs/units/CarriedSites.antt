@@ -20,17 +20,17 @@ use Rattle.cip_digraph.specs.rings.Positions.{positions_of, is_delocalised}
 use Rattle.cip_digraph.specs.rings.SmallRings.{is_in_small_ring}
 use Rattle.cip_digraph.specs.graph.SoundGraphs.{IsSound}
 use Rattle.cip_digraph.specs.units.Units.{centre_site}
-use Rattle.cip_laws.specs.Images.{Among, ligand_image}
-use Rattle.cip_laws.proofs.lists.Among.{among_map, from_map, among_filter, from_filter, among_flat, from_flat, among_range, from_range}
-use Rattle.cip_laws.proofs.lists.Arranged.{filter_arranged}
-use Rattle.cip_laws.proofs.lists.CarriedLists.{filter_carried, any_carried, in_carried}
-use Rattle.cip_laws.proofs.digraph.CarriedNodes.{Way, way, ways, way_image, IsRenamed, delocalised_carried}
-use Rattle.cip_laws.proofs.graph.CarriedPositions.{degree_carried, neighbours_moved, passed_moved, positions_renamed}
+use Rattle.cip_carried.specs.Images.{Among, ligand_image}
+use Rattle.cip_carried.proofs.lists.Among.{among_map, from_map, among_filter, from_filter, among_flat, from_flat, among_range, from_range}
+use Rattle.cip_carried.proofs.lists.Arranged.{filter_arranged}
+use Rattle.cip_carried.proofs.lists.CarriedLists.{filter_carried, any_carried, in_carried}
+use Rattle.cip_carried.proofs.digraph.CarriedNodes.{Way, way, ways, way_image, IsRenamed, delocalised_carried}
+use Rattle.cip_carried.proofs.graph.CarriedPositions.{degree_carried, neighbours_moved, passed_moved, positions_renamed}
 use Rattle.cip_laws.proofs.graph.CarriedSmallRings.{small_ring_back, small_ring_carried}
-use Rattle.cip_laws.proofs.digraph.CarriedUnits.{IsCarriedEnd, IsCarriedPair, IsCarriedSite}
-use Rattle.cip_laws.proofs.lists.Exchanges.{exchanged_from, turned_twice}
+use Rattle.cip_carried.proofs.digraph.CarriedUnits.{IsCarriedEnd, IsCarriedPair, IsCarriedSite}
+use Rattle.cip_carried.proofs.lists.Exchanges.{exchanged_from, turned_twice}
 use Rattle.cip_laws.proofs.graph.WaySymmetry.{back_way, leads_back, way_there, way_from}
-use Rattle.cip_laws.proofs.lists.Truths.{and_parts, and_both, or_swap, not_true, not_false}
+use Rattle.cip_carried.proofs.lists.Truths.{and_parts, and_both, or_swap, not_true, not_false}
 
 mapped_ligands : (image : ℕ → ℕ) (vs : List ℕ)
     → map (ligand_image image) (map ligands.Vertex vs) ≡ map ligands.Vertex (map image vs)

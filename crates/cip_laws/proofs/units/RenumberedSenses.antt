@@ -20,9 +20,9 @@ use Rattle.cip_mol.proofs.ExchangedEnds.{exchanged_ends_keep_bonds, exchanged_en
 use Rattle.cip_digraph.specs.units.Descriptors.{is_odd}
 use Rattle.cip_digraph.specs.units.Ends.{End, end_at}
 use Rattle.cip_digraph.specs.graph.Renumbering.{IsRenumbering}
-use Rattle.cip_laws.specs.Images.{ligand_image}
-use Rattle.cip_laws.proofs.digraph.CarriedUnits.{IsCarriedEnd, AreCarriedEnds, IsCarriedSite, IsCarriedGeometry}
-use Rattle.cip_laws.proofs.lists.Exchanges.{IsExchanged, turned_twice}
+use Rattle.cip_carried.specs.Images.{ligand_image}
+use Rattle.cip_carried.proofs.digraph.CarriedUnits.{IsCarriedEnd, AreCarriedEnds, IsCarriedSite, IsCarriedGeometry}
+use Rattle.cip_carried.proofs.lists.Exchanges.{IsExchanged, turned_twice}
 use Rattle.cip_laws.proofs.drawings.RenamedGeometry.{centre_renamed, bond_renamed, axis_renamed}
 use Rattle.cip_laws.proofs.graph.RenumberedGraph.{carry, drawn_same}
 use Rattle.cip_laws.proofs.units.TurnedSenses.{flip, is_drawn, undrawn, behind, turned_together}
