@@ -43,11 +43,6 @@ def rings(atoms):
     return Chem.MolToSmiles(molecule)
 
 
-def ring(units):
-    """A ring of so many CHCl."""
-    return "C1(Cl)" + "C(Cl)" * (units - 2) + "C1Cl"
-
-
 def prismane(corners):
     """Two rings of CH, one above the other."""
     molecule = Chem.RWMol()

@@ -12,8 +12,10 @@ DEBIAN = script.DEBIAN_PYTHON
 # a record of each family that bench/growth draws
 SHAPES = """
 import shapes
-for make in (shapes.chain, shapes.peptide, shapes.sugar, shapes.rings, shapes.ring):
+import skeletons
+for make in (shapes.chain, shapes.peptide, shapes.sugar, shapes.rings):
     print(shapes.record(make(50), make is not shapes.rings)[1], end="")
+print(skeletons.record("ring", skeletons.ring(20)), end="")
 """
 
 
@@ -84,6 +86,11 @@ class Scripts(unittest.TestCase):
         self.assertEqual(done.returncode, 0, done.stderr.decode())
         written = trying.ran(trying.program(), "annotate", given=done.stdout)
         self.assertEqual((written.returncode, written.stdout.count(b"> <CIP_LABELS>")), (0, 5))
+
+    def test_symmetric_records(self):
+        records = self.is_well("bench/symmetric", "--records", "60").encode()
+        written = trying.ran(trying.program(), "annotate", given=records)
+        self.assertEqual(written.stdout.count(b"> <CIP_LABELS>"), 60)
 
     def test_fused(self):
         with tempfile.TemporaryDirectory() as folder:

@@ -1,5 +1,6 @@
 -- The turns of a unit's ends.
-use Rattle.std.proofs.Common.{◌≡◌, ℕ, List, [], ◌∷◌, ◌++◌, cond, sym, ap, ◌∙◌, subst, None, Some, eq-eqb}
+use Rattle.std.proofs.Common.{◌≡◌, ℕ, ◌&&◌, Bool, true, false, List, [], ◌∷◌, ◌++◌, cond, sym, ap, ◌∙◌, subst, None, Some, eq-eqb}
+use Rattle.std.specs.Option.{is_some}
 use Rattle.std.specs.declared.option.Option.{Option}
 use Rattle.cip_mol.specs.declared.site.Ligand.{Ligand}
 use Rattle.cip_digraph.specs.rules.Auxiliary.{nearer_first, root_at, roots_at}
@@ -15,6 +16,7 @@ use Rattle.std.specs.Prelude.{option_to_list}
 use Rattle.cip_aux.specs.Joining.{Joins, far_number}
 use Rattle.cip_aux.specs.Sights.{path_at}
 use Rattle.cip_aux.proofs.FarEnds.{IsFar, far_found, far_none, far_same}
+use Rattle.cip_aux.proofs.Keeping.{counts_both}
 use Rattle.cip_aux.proofs.RootsAt.{both_are, none_are}
 
 module _ (inner : Inner) (node : ℕ) (r : Ready inner node) (between : Option ℕ) (far : ℕ) where
@@ -33,29 +35,31 @@ module _ (inner : Inner) (node : ℕ) (r : Ready inner node) (between : Option �
   pub no_far : (near others : List Ligand) (at : ℕ)
       → Joins inner.sight.graph (node_at inner.sight.nodes node).vertex between far
       → None ≡ far_number (shape_at inner.sight.told) (parents_of inner.sight.told) node between far
-      → AreEndTurns inner node (option_to_list between) (end_at at near ∷ end_at far others ∷ []) None
+      → AreEndTurns inner node true (option_to_list between) (end_at at near ∷ end_at far others ∷ []) None
   no_far near others at joins e =
       let none = far_none inner.sight r.shows node between far r.real joins
       (sym (e ∙ far_same inner.sight r.shows node between far)) in
       record {
         each =
-            λ mark agrees. sym (none_are inner.sight.rules inner.sight.graph inner.sight.positions mark
+            λ mark counts. sym (none_are inner.sight.rules inner.sight.graph inner.sight.positions mark
             (path_at inner.sight.nodes node) (option_to_list between) (end_at at near) (end_at far others) none);
       }
 
-  pub both_ends : (near others : List Ligand) (at c : ℕ) (one other : Option Turns)
+  pub both_ends : (near others : List Ligand) (at c : ℕ) (a b : Bool) (one other : Option Turns)
       → Some c ≡ far_number (shape_at inner.sight.told) (parents_of inner.sight.told) node between far
-      → AreRootTurns inner node near one → AreRootTurns inner c others other
-      → AreEndTurns inner node (option_to_list between) (end_at at near ∷ end_at far others ∷ []) (both_turns one other)
-  both_ends near others at c one other e first second =
+      → AreRootTurns inner node a near one → AreRootTurns inner c b others other
+      → AreEndTurns inner node (a && b) (option_to_list between) (end_at at near ∷ end_at far others ∷ [])
+      (both_turns one other)
+  both_ends near others at c a b one other e first second =
       let found = far_is c e in
       record {
-        each = λ mark agrees.
-            ap (λ t. both_turns t other) (first.each mark agrees)
+        each = λ mark counts.
+            let both = counts_both inner a b mark counts in
+            ap (λ t. both_turns t other) (first.each mark both.0)
             ∙ ap (both_turns (root_turns
             (root_at inner.sight.rules inner.sight.graph inner.sight.positions mark (path_at inner.sight.nodes node)
             near)))
-            (second.each mark agrees ∙ ap
+            (second.each mark both.1 ∙ ap
             (λ path. root_turns (root_at inner.sight.rules inner.sight.graph inner.sight.positions mark path others))
             found.path)
             ∙ sym (both_are inner.sight.rules inner.sight.graph inner.sight.positions mark
@@ -63,29 +67,30 @@ module _ (inner : Inner) (node : ℕ) (r : Ready inner node) (between : Option �
       }
 
   -- where the ligands of the near end tie, the far end doesn't matter
-  pub near_ties : (near others : List Ligand) (at c : ℕ)
+  pub near_ties : (near others : List Ligand) (at c : ℕ) (b : Bool) (turns : Option Turns) → is_some turns ≡ false
       → Some c ≡ far_number (shape_at inner.sight.told) (parents_of inner.sight.told) node between far
-      → AreRootTurns inner node near None
-      → AreEndTurns inner node (option_to_list between) (end_at at near ∷ end_at far others ∷ []) None
-  near_ties near others at c e first =
+      → AreRootTurns inner node b near turns
+      → AreEndTurns inner node b (option_to_list between) (end_at at near ∷ end_at far others ∷ []) turns
+  near_ties near others at c b (Some turns) none e first = let bad : true ≡ false = none in cc
+  near_ties near others at c b None none e first =
       let found = far_is c e in
       record {
-        each = λ mark agrees.
+        each = λ mark counts.
             ap (λ t. both_turns t (root_turns
             (root_at inner.sight.rules inner.sight.graph inner.sight.positions mark
-            (far ∷ option_to_list between ++ path_at inner.sight.nodes node) others))) (first.each mark agrees)
+            (far ∷ option_to_list between ++ path_at inner.sight.nodes node) others))) (first.each mark counts)
             ∙ sym (both_are inner.sight.rules inner.sight.graph inner.sight.positions mark
             (path_at inner.sight.nodes node) (option_to_list between) (end_at at near) (end_at far others) found.new);
       }
 
 -- a centre has one end
-pub centre_is : (inner : Inner) (node at vertex : ℕ) (ligands : List Ligand) (turns : Option Turns) → at ≡ vertex
-    → node ≡ inner.from → AreRootTurns inner node ligands turns
-    → AreEndTurns inner inner.from [] (nearer_first vertex (end_at at ligands ∷ [])) turns
-centre_is inner node at vertex ligands turns here same are =
-    subst (λ n. AreEndTurns inner n [] (nearer_first vertex (end_at at ligands ∷ [])) turns) same (record {
-      each = λ mark agrees.
-          are.each mark agrees
+pub centre_is : (inner : Inner) (node at vertex : ℕ) (b : Bool) (ligands : List Ligand) (turns : Option Turns)
+    → at ≡ vertex → node ≡ inner.from → AreRootTurns inner node b ligands turns
+    → AreEndTurns inner inner.from b [] (nearer_first vertex (end_at at ligands ∷ [])) turns
+centre_is inner node at vertex b ligands turns here same are =
+    subst (λ n. AreEndTurns inner n b [] (nearer_first vertex (end_at at ligands ∷ [])) turns) same (record {
+      each = λ mark counts.
+          are.each mark counts
           ∙ ap (λ ends. roots_turns (roots_at inner.sight.rules inner.sight.graph inner.sight.positions mark
           (path_at inner.sight.nodes node) [] ends))
           (sym (ap (λ b. cond b (end_at at ligands ∷ []) []) (eq-eqb at vertex here)));

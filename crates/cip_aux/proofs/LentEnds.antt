@@ -1,5 +1,5 @@
 -- The ends of a site are joined as they are lent.
-use Rattle.std.proofs.Common.{◌≡◌, ℕ, List, [], ◌∷◌, ◌∙◌, ap, subst, sym, None, Some}
+use Rattle.std.proofs.Common.{◌≡◌, ℕ, [], ◌∷◌, ◌∙◌, ap, subst, sym, None, Some}
 use Rattle.std.specs.Prelude.{option_to_list, unwrap_or}
 use Rattle.std.specs.declared.option.Option.{Option}
 use Rattle.cip_mol.specs.Ends.{as_site, between_in, between_of}

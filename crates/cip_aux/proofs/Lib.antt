@@ -2,6 +2,7 @@ pub mod EndTurns
 pub mod FarEnds
 pub mod FirstLetters
 pub mod FoundFirst
+pub mod Keeping
 pub mod LentEnds
 pub mod NodeMarks
 pub mod Paths

@@ -1,5 +1,5 @@
 -- What is known where a node is ready to be looked from.
-use Rattle.std.proofs.Common.{◌<◌, ℕ, List, [], ◌∷◌, map, length, refl, ◌∙◌, All, Contains, IfSome}
+use Rattle.std.proofs.Common.{◌<◌, ℕ, Bool, List, [], ◌∷◌, map, length, refl, ◌∙◌, All, Contains, IfSome}
 use Rattle.std.specs.List.{AllByRecursion}
 use Rattle.std.specs.declared.cmp.Ordering.{Ordering}
 use Rattle.std.specs.declared.option.Option.{Option}
@@ -43,12 +43,12 @@ module _ (inner : Inner) (node : ℕ) (r : Ready inner node) where
         each ligands,
       )
 
-  pub ready_early : (ligands : List Ligand) (natural turned : List (Option Ordering))
-      → AreEarly inner node (numbers_of ligands) natural turned
-      → AreRootTurns inner node ligands (turns_of natural turned)
-  ready_early ligands natural turned early = record {
-    each = λ mark agrees.
-        (λ i. turns_of (early.of_natural mark agrees i) (early.of_turned mark agrees i))
+  pub ready_early : (b : Bool) (ligands : List Ligand) (natural turned : List (Option Ordering))
+      → AreEarly inner node b (numbers_of ligands) natural turned
+      → AreRootTurns inner node b ligands (turns_of natural turned)
+  ready_early b ligands natural turned early = record {
+    each = λ mark counts.
+        (λ i. turns_of (early.of_natural mark counts i) (early.of_turned mark counts i))
         ∙ root_is inner.sight r.shows mark (seen_sides inner.sight node mark) node r.real
         (record { each = λ r_first a b la lb. refl }) ligands;
   }

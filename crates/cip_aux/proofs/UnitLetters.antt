@@ -1,5 +1,5 @@
 -- The letters of units at a node.
-use Rattle.std.proofs.Common.{◌≡◌, ◌≤◌, ◌-◌, ℕ, List, [], ◌∷◌, filter, map, take, drop, length, sym, ap, ◌∙◌, None, Some, arith, slice_index_or}
+use Rattle.std.proofs.Common.{◌≡◌, ◌≤◌, ◌-◌, ℕ, false, List, [], ◌∷◌, filter, map, take, drop, length, sym, ap, ◌∙◌, None, Some, arith, slice_index_or}
 use Rattle.std.specs.declared.option.Option.{Option}
 use Rattle.cip_mol.specs.declared.descriptor.Descriptor.{Descriptor}
 use Rattle.cip_mol.specs.declared.descriptor.Sense.{Sense}
@@ -42,7 +42,7 @@ module _ (inner : Inner) (node : ℕ) (r : Ready inner node) where
 
   pub known_letter : (unit : units.Unit) (sense : Sense) (at : ℕ) (turns : Option Turns) → unit.geometry ≡ Known sense
       → at ≡ (node_at inner.sight.nodes node).vertex
-      → AreEndTurns inner node (between_of unit.site) (nearer_first at (ends_of unit.site)) turns
+      → AreEndTurns inner node false (between_of unit.site) (nearer_first at (ends_of unit.site)) turns
       → IsUnitLetter inner node unit (turned_letter unit.site sense turns)
   known_letter unit sense at turns e here t = record {
     each = λ mark vertex up agrees path.

@@ -1,5 +1,5 @@
 -- Descriptors strictly inside the subtree of a node, by number. Own.
-use Rattle.std.specs.Prelude.{◌≡◌, ◌<◌, ℕ, cond, List, length, None, slice_index_or}
+use Rattle.std.specs.Prelude.{◌≡◌, ◌<◌, ℕ, Bool, true, false, cond, List, length, None, slice_index_or}
 use Rattle.std.specs.declared.option.Option.{Option}
 use Rattle.cip_mol.specs.declared.descriptor.Descriptor.{Descriptor}
 use Rattle.cip_digraph.specs.digraph.Digraph.{is_real}
@@ -22,6 +22,11 @@ pub record AgreesInside (inner : Inner) (mark : List ℕ → Option Descriptor) 
   pub each : (number : ℕ) → number < length inner.sight.nodes
       → mark_below (parents_of inner.sight.told) inner.from inner.marks number
       ≡ cond (is_real (node_at inner.sight.nodes number).kind) (mark (path_at inner.sight.nodes number)) None
+
+-- the descriptors that an answer speaks of: all, where constitution alone told it, else those that agree
+abbrev pub Counts : Bool → Inner → (List ℕ → Option Descriptor) → Type 0
+Counts true inner mark = Unit {0}
+Counts false inner mark = AgreesInside inner mark
 
 -- another node can be looked from with them
 pub record Ready (inner : Inner) (node : ℕ) : Type 0 where

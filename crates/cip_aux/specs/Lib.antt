@@ -1,6 +1,7 @@
 pub mod Early
 pub mod Inner
 pub mod Joining
+pub mod KeptTurns
 pub mod Marking
 pub mod Neighbours
 pub mod Sights

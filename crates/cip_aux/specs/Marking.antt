@@ -12,20 +12,22 @@ use Rattle.cip_digraph.specs.units.Ends.{End}
 use Rattle.cip_aux.specs.Below.{is_below}
 use Rattle.cip_letters.specs.declared.turns.Turns.{Turns}
 use Rattle.cip_letters.specs.TurnsOf.{root_turns, roots_turns}
-use Rattle.cip_aux.specs.Inner.{Inner, AgreesInside, mark_at}
+use Rattle.cip_aux.specs.Inner.{Inner, AgreesInside, Counts, mark_at}
 use Rattle.cip_aux.specs.Joining.{EndsJoin}
 use Rattle.cip_aux.specs.Sights.{Sight, path_at}
 
 module _ (inner : Inner) (node : ℕ) where
-  -- the turns of these ligands at the node, whichever descriptors agree with those inside
-  pub record AreRootTurns (ligands : List Ligand) (turns : Option Turns) : Type 0 where
-    pub each : (mark : List ℕ → Option Descriptor) → AgreesInside inner mark → turns
+  -- the turns of these ligands at the node, whichever descriptors agree with those inside; by constitution whichever
+  -- there are
+  pub record AreRootTurns (by_constitution : Bool) (ligands : List Ligand) (turns : Option Turns) : Type 0 where
+    pub each : (mark : List ℕ → Option Descriptor) → Counts by_constitution inner mark → turns
         ≡ root_turns
         (root_at inner.sight.rules inner.sight.graph inner.sight.positions mark (path_at inner.sight.nodes node)
         ligands)
 
-  pub record AreEndTurns (between : List ℕ) (ends : List End) (turns : Option Turns) : Type 0 where
-    pub each : (mark : List ℕ → Option Descriptor) → AgreesInside inner mark → turns
+  pub record AreEndTurns (by_constitution : Bool) (between : List ℕ) (ends : List End) (turns : Option Turns) : Type
+      0 where
+    pub each : (mark : List ℕ → Option Descriptor) → Counts by_constitution inner mark → turns
         ≡ roots_turns
         (roots_at inner.sight.rules inner.sight.graph inner.sight.positions mark (path_at inner.sight.nodes node)
         between ends)

@@ -1,10 +1,11 @@
 // The turns of a unit's ends, seen from a node.
-ghost use Rattle.std.specs.Prelude.{◌≡◌, ◌<◌, ◌≤◌, [], ◌∷◌, length, option_to_list, IfOk};
+ghost use Rattle.std.specs.Prelude.{◌≡◌, ◌<◌, ◌&&◌, [], ◌∷◌, None, true, length, option_to_list, IfOk};
 ghost use Rattle.cip_digraph.specs.digraph.NodeList.{parents_of};
 ghost use Rattle.cip_digraph.specs.digraph.Telling.{node_at};
 ghost use Rattle.cip_digraph.specs.rules.Auxiliary.{nearer_first};
 ghost use Rattle.cip_mol.specs.Ends.{between_in};
 ghost use Rattle.cip_letters.specs.LentEnds.{as_end, ends_in};
+ghost use Rattle.cip_letters.specs.TurnsOf.{both_turns};
 ghost use Rattle.cip_aux.specs.Inner.{Ready};
 ghost use Rattle.cip_aux.specs.Joining.{AreJoined, Joins, far_number};
 ghost use Rattle.cip_aux.specs.Marking.{AreRootTurns, AreEndTurns};
@@ -18,6 +19,39 @@ use cip_letters::{Turns, both, turns_from};
 use cip_mol::{End, Ends, Ligands, TwoEnds};
 use std::alloc::{AllocError, Global};
 
+/// The turns of a unit's ends, none where two ligands tie, and whether constitution alone told them.
+#[derive(Clone, Copy)]
+pub struct FoundTurns {
+    pub turns: Option<Turns>,
+    pub by_constitution: bool,
+}
+
+// None, as the digraph is.
+fn no_turns() -> FoundTurns
+    ensures { result ≡ record { turns = None; by_constitution = true } }
+{
+    FoundTurns {
+        turns: None,
+        by_constitution: true,
+    }
+}
+
+fn both_found(one: FoundTurns, other: FoundTurns) -> FoundTurns
+    ensures { result ≡ record {
+      turns = both_turns one.turns other.turns;
+      by_constitution = one.by_constitution && other.by_constitution;
+    } }
+{
+    let turns = match (one.turns, other.turns) {
+        (Some(one), Some(other)) => Some(both(one, other)),
+        _ => None,
+    };
+    FoundTurns {
+        turns,
+        by_constitution: one.by_constitution && other.by_constitution,
+    }
+}
+
 // The turns of a root's ligands, seen from its node.
 fn turns_at<N: Nodes, V: Viewer>(
     alloc: Global,
@@ -25,15 +59,20 @@ fn turns_at<N: Nodes, V: Viewer>(
     viewer: &mut V,
     node: u32,
     ligands: &Ligands,
-) -> Result<Option<Turns>, AllocError>
+) -> Result<FoundTurns, AllocError>
     requires ready { Ready inner.now node }
-    requires room { length inner.now.sight.told ≤ V.room viewer.old }
+    requires stands { V.stands viewer.old inner.now.sight }
     ensures room { V.room viewer.new ≡ V.room viewer.old }
-    ensures turns { IfOk result (AreRootTurns inner.now node ligands.now) }
+    ensures stands { V.stands viewer.new inner.now.sight }
+    ensures turns { IfOk result (λ found.
+        AreRootTurns inner.now node found.by_constitution ligands.now found.turns) }
 {
     let numbers = ligands_at(alloc, inner.whole().nodes(), node, ligands)?;
-    let sides = viewer.look(alloc, inner, node, numbers.as_slice())?;
-    Ok(turns_from(&sides))
+    let found = viewer.look(alloc, inner, node, numbers.as_slice())?;
+    Ok(FoundTurns {
+        turns: turns_from(&found.sides),
+        by_constitution: found.by_constitution,
+    })
 }
 
 // The node of a unit's other end, where the rest of the unit follows below a node.
@@ -56,26 +95,26 @@ fn ends_turns<N: Nodes, V: Viewer>(
     inner: &Inner<'_, N>,
     viewer: &mut V,
     ends: &TwoEnds<'_>,
-) -> Result<Option<Turns>, AllocError>
+) -> Result<FoundTurns, AllocError>
     requires ready { Ready inner.now inner.now.from }
     requires joins { Joins inner.now.sight.graph (node_at inner.now.sight.nodes inner.now.from).vertex
         ends.now.between ends.now.far.at }
-    requires room { length inner.now.sight.told ≤ V.room viewer.old }
+    requires stands { V.stands viewer.old inner.now.sight }
     ensures room { V.room viewer.new ≡ V.room viewer.old }
-    ensures turns { IfOk result (AreEndTurns inner.now inner.now.from (option_to_list ends.now.between)
-        (as_end ends.now.near ∷ as_end ends.now.far ∷ [])) }
+    ensures stands { V.stands viewer.new inner.now.sight }
+    ensures turns { IfOk result (λ found. AreEndTurns inner.now inner.now.from found.by_constitution
+        (option_to_list ends.now.between) (as_end ends.now.near ∷ as_end ends.now.far ∷ []) found.turns) }
 {
     let node = inner.from();
     let Some(other) = far_end(inner.whole().nodes(), node, ends.between, ends.far.at) else {
-        return Ok(None);
+        return Ok(no_turns());
     };
-    let Some(one) = turns_at(alloc, inner, viewer, node, ends.near.ligands)? else {
-        return Ok(None);
-    };
-    let Some(two) = turns_at(alloc, inner, viewer, other, ends.far.ligands)? else {
-        return Ok(None);
-    };
-    Ok(Some(both(one, two)))
+    let one = turns_at(alloc, inner, viewer, node, ends.near.ligands)?;
+    if one.turns.is_none() {
+        return Ok(one);
+    }
+    let two = turns_at(alloc, inner, viewer, other, ends.far.ligands)?;
+    Ok(both_found(one, two))
 }
 
 // The turns of a unit with two ends, where a vertex is one of them: that end is the nearer one.
@@ -85,22 +124,24 @@ fn two_ends<N: Nodes, V: Viewer>(
     viewer: &mut V,
     vertex: u32,
     ends: &TwoEnds<'_>,
-) -> Result<Option<Turns>, AllocError>
+) -> Result<FoundTurns, AllocError>
     requires ready { Ready inner.now inner.now.from }
     requires vertex { vertex ≡ (node_at inner.now.sight.nodes inner.now.from).vertex }
     requires onwards { Joins inner.now.sight.graph ends.now.near.at ends.now.between ends.now.far.at }
     requires back { Joins inner.now.sight.graph ends.now.far.at ends.now.between ends.now.near.at }
-    requires room { length inner.now.sight.told ≤ V.room viewer.old }
+    requires stands { V.stands viewer.old inner.now.sight }
     ensures room { V.room viewer.new ≡ V.room viewer.old }
-    ensures turns { IfOk result (AreEndTurns inner.now inner.now.from (option_to_list ends.now.between) (nearer_first vertex
-        (as_end ends.now.near ∷ as_end ends.now.far ∷ []))) }
+    ensures stands { V.stands viewer.new inner.now.sight }
+    ensures turns { IfOk result (λ found. AreEndTurns inner.now inner.now.from found.by_constitution
+        (option_to_list ends.now.between) (nearer_first vertex (as_end ends.now.near ∷ as_end ends.now.far ∷ []))
+        found.turns) }
 {
     if ends.near.at == vertex {
         ends_turns(alloc, inner, viewer, ends)
     } else if ends.far.at == vertex {
         ends_turns(alloc, inner, viewer, &ends.reversed())
     } else {
-        Ok(None)
+        Ok(no_turns())
     }
 }
 
@@ -110,17 +151,18 @@ fn one_end<N: Nodes, V: Viewer>(
     viewer: &mut V,
     vertex: u32,
     end: &End<'_>,
-) -> Result<Option<Turns>, AllocError>
+) -> Result<FoundTurns, AllocError>
     requires ready { Ready inner.now inner.now.from }
-    requires room { length inner.now.sight.told ≤ V.room viewer.old }
+    requires stands { V.stands viewer.old inner.now.sight }
     ensures room { V.room viewer.new ≡ V.room viewer.old }
-    ensures turns { IfOk result (AreEndTurns inner.now inner.now.from []
-        (nearer_first vertex (as_end end.now ∷ []))) }
+    ensures stands { V.stands viewer.new inner.now.sight }
+    ensures turns { IfOk result (λ found. AreEndTurns inner.now inner.now.from found.by_constitution []
+        (nearer_first vertex (as_end end.now ∷ [])) found.turns) }
 {
     if end.at == vertex {
         turns_at(alloc, inner, viewer, inner.from(), end.ligands)
     } else {
-        Ok(None)
+        Ok(no_turns())
     }
 }
 
@@ -131,14 +173,15 @@ pub fn unit_turns<N: Nodes, V: Viewer>(
     viewer: &mut V,
     vertex: u32,
     ends: &Ends<'_>,
-) -> Result<Option<Turns>, AllocError>
+) -> Result<FoundTurns, AllocError>
     requires ready { Ready inner.now inner.now.from }
     requires vertex { vertex ≡ (node_at inner.now.sight.nodes inner.now.from).vertex }
     requires joined { AreJoined inner.now.sight.graph ends.now }
-    requires room { length inner.now.sight.told ≤ V.room viewer.old }
+    requires stands { V.stands viewer.old inner.now.sight }
     ensures room { V.room viewer.new ≡ V.room viewer.old }
-    ensures turns { IfOk result (AreEndTurns inner.now inner.now.from (between_in ends.now)
-        (nearer_first vertex (ends_in ends.now))) }
+    ensures stands { V.stands viewer.new inner.now.sight }
+    ensures turns { IfOk result (λ found. AreEndTurns inner.now inner.now.from found.by_constitution
+        (between_in ends.now) (nearer_first vertex (ends_in ends.now)) found.turns) }
 {
     match ends {
         Ends::One(end) => one_end(alloc, inner, viewer, vertex, end),

@@ -1,13 +1,15 @@
 // The descriptors inside a whole digraph, from the last node to the first.
-ghost use Rattle.std.specs.Prelude.{◌≡◌, ◌<◌, ◌≤◌, ◌+◌, length, cond, map, replicate, None, IfOk, OnOk};
+ghost use Rattle.std.specs.Prelude.{◌≡◌, ◌<◌, ◌≤◌, ◌+◌, length, cond, replicate, None, IfOk, OnOk};
 ghost use Rattle.cip_digraph.specs.digraph.NodeList.{told_at, parents_of};
 ghost use Rattle.cip_digraph.specs.digraph.Telling.{node_at};
 ghost use Rattle.cip_digraph.specs.units.Units.{sites_of};
+ghost use Rattle.cip_aux.specs.KeptTurns.{AreKept, sites_in};
 ghost use Rattle.cip_aux.specs.Marking.{UnitsJoin, node_mark, flag_at, AreMarked, AreInner, AreWanted};
 ghost use Rattle.cip_aux.specs.Neighbours.{atom_told};
 ghost use Rattle.cip_aux.specs.Sights.{Shows, sight_of};
 
 use crate::inner::Inner;
+use crate::kept_turns::KeptTurns;
 use crate::letters::first_letter;
 use crate::units_at::UnitsAt;
 use crate::viewer::Viewer;
@@ -34,13 +36,18 @@ fn mark_of<N: Nodes, V: Viewer>(
     inner: &Inner<'_, N>,
     viewer: &mut V,
     units: &UnitsAt<'_>,
+    kept: &mut KeptTurns,
 ) -> Result<Option<Descriptor>, AllocError>
     requires shows { Shows inner.now.sight }
     requires within { inner.now.from < length inner.now.sight.nodes }
     requires joined { UnitsJoin inner.now.sight units.now }
     requires below { AreInner inner.now units.now }
-    requires room { length inner.now.sight.told ≤ V.room viewer.old }
+    requires stands { V.stands viewer.old inner.now.sight }
+    requires kept { AreKept inner.now.sight (sites_in units.now) kept.old.items }
     ensures room { V.room viewer.new ≡ V.room viewer.old }
+    ensures stands { V.stands viewer.new inner.now.sight }
+    ensures kept { AreKept inner.now.sight (sites_in units.now) kept.new.items }
+    ensures kept_room { kept.new.room ≡ kept.old.room }
     ensures mark { IfOk result (λ mark. mark
         ≡ node_mark inner.now.sight units.now (node_at inner.now.sight.nodes inner.now.from)) }
 {
@@ -51,14 +58,14 @@ fn mark_of<N: Nodes, V: Viewer>(
     if node == 0 {
         return Ok(None);
     }
-    first_letter(alloc, inner, viewer, vertex, units)
+    first_letter(alloc, inner, viewer, vertex, units, kept)
 }
 
-// The units of a record, and at which nodes their descriptors are wanted.
+/// The units of a record, and at which nodes their descriptors are wanted.
 #[derive(Clone, Copy)]
-struct Wanted<'a> {
-    units: &'a UnitsAt<'a>,
-    flags: &'a [bool],
+pub struct Wanted<'a> {
+    pub units: &'a UnitsAt<'a>,
+    pub flags: &'a [bool],
 }
 
 impl<'a> Wanted<'a> {
@@ -72,31 +79,43 @@ impl<'a> Wanted<'a> {
     }
 }
 
+// A node, and the descriptors of those behind it.
+#[derive(Clone, Copy)]
+struct Behind<'a> {
+    node: u32,
+    marks: &'a Descriptors,
+}
+
 // The descriptor at a node, if it is wanted, by those of all nodes behind it.
 fn wanted_mark<N: Nodes, V: Viewer>(
     alloc: Global,
     whole: &Whole<'_, N>,
     viewer: &mut V,
-    node: u32,
     wanted: &Wanted<'_>,
-    marks: &Descriptors,
+    behind: &Behind<'_>,
+    kept: &mut KeptTurns,
 ) -> Result<Option<Descriptor>, AllocError>
     requires shows { Shows (sight_of whole.now) }
-    requires within { node < length (sight_of whole.now).nodes }
+    requires within { behind.now.node < length (sight_of whole.now).nodes }
     requires joined { UnitsJoin (sight_of whole.now) wanted.now.units.now }
     requires wanted { AreWanted (parents_of whole.now.told) wanted.now.flags.now }
-    requires behind { AreMarked (sight_of whole.now) wanted.now.units.now wanted.now.flags.now (node + 1)
-        marks.now.marks }
-    requires room { length whole.now.told ≤ V.room viewer.old }
+    requires behind { AreMarked (sight_of whole.now) wanted.now.units.now wanted.now.flags.now (behind.now.node + 1)
+        behind.now.marks.now.marks }
+    requires stands { V.stands viewer.old (sight_of whole.now) }
+    requires kept { AreKept (sight_of whole.now) (sites_in wanted.now.units.now) kept.old.items }
     ensures room { V.room viewer.new ≡ V.room viewer.old }
-    ensures mark { IfOk result (λ mark. mark ≡ cond (flag_at wanted.now.flags.now node)
-        (node_mark (sight_of whole.now) wanted.now.units.now (node_at (sight_of whole.now).nodes node)) None) }
+    ensures stands { V.stands viewer.new (sight_of whole.now) }
+    ensures kept { AreKept (sight_of whole.now) (sites_in wanted.now.units.now) kept.new.items }
+    ensures kept_room { kept.new.room ≡ kept.old.room }
+    ensures mark { IfOk result (λ mark. mark ≡ cond (flag_at wanted.now.flags.now behind.now.node)
+        (node_mark (sight_of whole.now) wanted.now.units.now (node_at (sight_of whole.now).nodes behind.now.node))
+        None) }
 {
-    if !wanted.is_at(node) {
+    if !wanted.is_at(behind.node) {
         return Ok(None);
     }
-    let inner = Inner::new(whole, node, marks);
-    mark_of(alloc, &inner, viewer, wanted.units)
+    let inner = Inner::new(whole, behind.node, behind.marks);
+    mark_of(alloc, &inner, viewer, wanted.units, kept)
 }
 
 // No descriptor at each of so many nodes.
@@ -111,32 +130,37 @@ fn clear(marks: &mut Descriptors, count: u32)
 }
 
 /// The descriptor at each node of a whole digraph that is wanted; none at the root, at duplicates and where ligands
-/// tie.
+/// tie. Units whose turns are kept aren't looked at, and what constitution tells of others is kept.
 pub fn auxiliaries<N: Nodes, V: Viewer>(
     alloc: Global,
     whole: &Whole<'_, N>,
     viewer: &mut V,
-    units: &UnitsAt<'_>,
-    wanted: &[bool],
+    wanted: &Wanted<'_>,
+    kept: &mut KeptTurns,
     marks: &mut Descriptors,
 ) -> Result<(), AllocError>
-    requires sites { map (λ unit. unit.site) units.now ≡ sites_of whole.now.graph whole.now.positions }
-    requires wanted { AreWanted (parents_of whole.now.told) wanted.now }
-    requires room { length whole.now.told ≤ V.room viewer.old }
+    requires sites { sites_in wanted.now.units.now ≡ sites_of whole.now.graph whole.now.positions }
+    requires wanted { AreWanted (parents_of whole.now.told) wanted.now.flags.now }
+    requires stands { V.stands viewer.old (sight_of whole.now) }
     requires bound { length whole.now.told ≤ marks.old.bound }
+    requires kept { AreKept (sight_of whole.now) (sites_in wanted.now.units.now) kept.old.items }
     ensures room { V.room viewer.new ≡ V.room viewer.old }
+    ensures stands { V.stands viewer.new (sight_of whole.now) }
     ensures bound { marks.new.bound ≡ marks.old.bound }
-    ensures marks { OnOk result (AreMarked (sight_of whole.now) units.now wanted.now 0 marks.new.marks) }
+    ensures kept { AreKept (sight_of whole.now) (sites_in wanted.now.units.now) kept.new.items }
+    ensures kept_room { kept.new.room ≡ kept.old.room }
+    ensures marks { OnOk result (AreMarked (sight_of whole.now) wanted.now.units.now wanted.now.flags.now 0
+        marks.new.marks) }
 {
     let count = whole.nodes().table().len();
     clear(marks, count);
-    let asked = Wanted {
-        units,
-        flags: wanted,
-    };
     for done in 0..count {
         let node = count - 1 - done;
-        let mark = wanted_mark(alloc, whole, viewer, node, &asked, marks)?;
+        let behind = Behind {
+            node,
+            marks: &*marks,
+        };
+        let mark = wanted_mark(alloc, whole, viewer, wanted, &behind, kept)?;
         marks.set(node, mark);
     }
     Ok(())

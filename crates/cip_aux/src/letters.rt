@@ -1,62 +1,171 @@
 // The descriptor at a node: that of the first unit that has one there.
-ghost use Rattle.std.specs.Prelude.{◌≡◌, ◌≤◌, IfOk, length};
+ghost use Rattle.std.specs.Prelude.{◌≡◌, ◌<◌, None, Some, false, IfOk, IfSome, length, slice_set};
+ghost use Rattle.cip_mol.specs.Ends.{between_of};
 ghost use Rattle.cip_digraph.specs.digraph.Telling.{node_at};
+ghost use Rattle.cip_digraph.specs.rules.Auxiliary.{nearer_first};
+ghost use Rattle.cip_digraph.specs.units.Ends.{ends_of};
 ghost use Rattle.cip_aux.specs.Inner.{Ready};
-ghost use Rattle.cip_aux.specs.Marking.{IsUnitLetter, IsFirstLetter, UnitsJoin};
+ghost use Rattle.cip_aux.specs.KeptTurns.{AreKept, sites_in};
+ghost use Rattle.cip_aux.specs.Marking.{AreEndTurns, IsUnitLetter, IsFirstLetter, UnitsJoin};
 ghost use Rattle.cip_aux.specs.Joining.{EndsJoin};
+ghost use Rattle.cip_aux.specs.UnitsAt.{unit_at};
 
 use crate::ends::unit_turns;
 use crate::inner::Inner;
+use crate::kept_turns::{KeptTurn, KeptTurns};
 use crate::units_at::UnitsAt;
 use crate::viewer::Viewer;
 use cip_digraph::Nodes;
-use cip_letters::named;
+use cip_letters::{Turns, named};
 use cip_mol::{Descriptor, Geometry, Unit};
 use std::alloc::{AllocError, Global};
+
+// A unit by its place in the record's units, at a vertex where it ends.
+#[derive(Clone, Copy)]
+struct UnitHere<'a> {
+    units: &'a UnitsAt<'a>,
+    place: usize,
+    vertex: u32,
+}
+
+impl<'a> UnitHere<'a> {
+    fn unit(&self) -> &Unit
+        requires { self.now.place < length self.now.units.now }
+        ensures { result.now ≡ unit_at self.now.units.now self.now.place }
+    {
+        self.units.unit(self.place)
+    }
+}
+
+// Keeps the turns of a unit at a node.
+fn keep(kept: &mut KeptTurns, node: u32, place: usize, turns: Option<Turns>)
+    ensures none { turns ≡ None → kept.new ≡ kept.old }
+    ensures some { IfSome turns (λ found. kept.new ≡ record kept.old {
+      items = slice_set kept.old.items node (Some (record { place = place; turns = found }));
+    }) }
+{
+    if let Some(turns) = turns {
+        kept.put(node, KeptTurn { place, turns });
+    }
+}
+
+// The turns of a unit, seen from the node. What constitution told is kept.
+fn seen_turns<N: Nodes, V: Viewer>(
+    alloc: Global,
+    inner: &Inner<'_, N>,
+    viewer: &mut V,
+    here: &UnitHere<'_>,
+    kept: &mut KeptTurns,
+) -> Result<Option<Turns>, AllocError>
+    requires ready { Ready inner.now inner.now.from }
+    requires vertex { here.now.vertex ≡ (node_at inner.now.sight.nodes inner.now.from).vertex }
+    requires low { here.now.place < length here.now.units.now }
+    requires joined { EndsJoin inner.now.sight.graph (unit_at here.now.units.now here.now.place).site }
+    requires stands { V.stands viewer.old inner.now.sight }
+    requires kept { AreKept inner.now.sight (sites_in here.now.units.now) kept.old.items }
+    ensures room { V.room viewer.new ≡ V.room viewer.old }
+    ensures stands { V.stands viewer.new inner.now.sight }
+    ensures kept { AreKept inner.now.sight (sites_in here.now.units.now) kept.new.items }
+    ensures kept_room { kept.new.room ≡ kept.old.room }
+    ensures turns { IfOk result (AreEndTurns inner.now inner.now.from false
+        (between_of (unit_at here.now.units.now here.now.place).site)
+        (nearer_first here.now.vertex (ends_of (unit_at here.now.units.now here.now.place).site))) }
+{
+    let ends = here.unit().site.ends();
+    let found = unit_turns(alloc, inner, viewer, here.vertex, &ends)?;
+    if found.by_constitution {
+        keep(kept, inner.from(), here.place, found.turns);
+    }
+    Ok(found.turns)
+}
+
+// The turns of a unit at the node: those that are kept, or else as they are seen.
+fn turns_here<N: Nodes, V: Viewer>(
+    alloc: Global,
+    inner: &Inner<'_, N>,
+    viewer: &mut V,
+    here: &UnitHere<'_>,
+    kept: &mut KeptTurns,
+) -> Result<Option<Turns>, AllocError>
+    requires ready { Ready inner.now inner.now.from }
+    requires vertex { here.now.vertex ≡ (node_at inner.now.sight.nodes inner.now.from).vertex }
+    requires low { here.now.place < length here.now.units.now }
+    requires joined { EndsJoin inner.now.sight.graph (unit_at here.now.units.now here.now.place).site }
+    requires stands { V.stands viewer.old inner.now.sight }
+    requires kept { AreKept inner.now.sight (sites_in here.now.units.now) kept.old.items }
+    ensures room { V.room viewer.new ≡ V.room viewer.old }
+    ensures stands { V.stands viewer.new inner.now.sight }
+    ensures kept { AreKept inner.now.sight (sites_in here.now.units.now) kept.new.items }
+    ensures kept_room { kept.new.room ≡ kept.old.room }
+    ensures turns { IfOk result (AreEndTurns inner.now inner.now.from false
+        (between_of (unit_at here.now.units.now here.now.place).site)
+        (nearer_first here.now.vertex (ends_of (unit_at here.now.units.now here.now.place).site))) }
+{
+    match kept.of(inner.from(), here.place) {
+        Some(turn) => Ok(Some(turn.turns)),
+        None => seen_turns(alloc, inner, viewer, here, kept),
+    }
+}
 
 fn unit_letter<N: Nodes, V: Viewer>(
     alloc: Global,
     inner: &Inner<'_, N>,
     viewer: &mut V,
-    vertex: u32,
-    unit: &Unit,
+    here: &UnitHere<'_>,
+    kept: &mut KeptTurns,
 ) -> Result<Option<Descriptor>, AllocError>
     requires ready { Ready inner.now inner.now.from }
-    requires vertex { vertex ≡ (node_at inner.now.sight.nodes inner.now.from).vertex }
-    requires joined { EndsJoin inner.now.sight.graph unit.now.site }
-    requires room { length inner.now.sight.told ≤ V.room viewer.old }
+    requires vertex { here.now.vertex ≡ (node_at inner.now.sight.nodes inner.now.from).vertex }
+    requires low { here.now.place < length here.now.units.now }
+    requires joined { EndsJoin inner.now.sight.graph (unit_at here.now.units.now here.now.place).site }
+    requires stands { V.stands viewer.old inner.now.sight }
+    requires kept { AreKept inner.now.sight (sites_in here.now.units.now) kept.old.items }
     ensures room { V.room viewer.new ≡ V.room viewer.old }
-    ensures letter { IfOk result (IsUnitLetter inner.now inner.now.from unit.now) }
+    ensures stands { V.stands viewer.new inner.now.sight }
+    ensures kept { AreKept inner.now.sight (sites_in here.now.units.now) kept.new.items }
+    ensures kept_room { kept.new.room ≡ kept.old.room }
+    ensures letter { IfOk result (IsUnitLetter inner.now inner.now.from
+        (unit_at here.now.units.now here.now.place)) }
 {
+    let unit = here.unit();
     match unit.geometry {
         Geometry::Unknown(_) => Ok(None),
         Geometry::Known(sense) => {
-            let ends = unit.site.ends();
-            let turns = unit_turns(alloc, inner, viewer, vertex, &ends)?;
-            Ok(named(&ends, sense, turns))
+            let turns = turns_here(alloc, inner, viewer, here, kept)?;
+            Ok(named(&unit.site.ends(), sense, turns))
         }
     }
 }
 
 /// The descriptor at a real node, whose vertex this is, by those that stand strictly inside its subtree. Only units
-/// that end at the vertex are looked at.
+/// that end at the vertex are looked at, unless their turns are kept.
 pub fn first_letter<N: Nodes, V: Viewer>(
     alloc: Global,
     inner: &Inner<'_, N>,
     viewer: &mut V,
     vertex: u32,
     units: &UnitsAt<'_>,
+    kept: &mut KeptTurns,
 ) -> Result<Option<Descriptor>, AllocError>
     requires ready { Ready inner.now inner.now.from }
     requires vertex { vertex ≡ (node_at inner.now.sight.nodes inner.now.from).vertex }
     requires joined { UnitsJoin inner.now.sight units.now }
-    requires room { length inner.now.sight.told ≤ V.room viewer.old }
+    requires stands { V.stands viewer.old inner.now.sight }
+    requires kept { AreKept inner.now.sight (sites_in units.now) kept.old.items }
     ensures room { V.room viewer.new ≡ V.room viewer.old }
+    ensures stands { V.stands viewer.new inner.now.sight }
+    ensures kept { AreKept inner.now.sight (sites_in units.now) kept.new.items }
+    ensures kept_room { kept.new.room ≡ kept.old.room }
     ensures letter { IfOk result (IsFirstLetter inner.now inner.now.from units.now) }
 {
     let mut rest = units.of(vertex);
     while let [place, others @ ..] = rest {
-        if let Some(letter) = unit_letter(alloc, inner, viewer, vertex, units.unit(*place))? {
+        let here = UnitHere {
+            units: &*units,
+            place: *place,
+            vertex,
+        };
+        if let Some(letter) = unit_letter(alloc, inner, viewer, &here, kept)? {
             return Ok(Some(letter));
         }
         rest = others;

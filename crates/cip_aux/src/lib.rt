@@ -4,6 +4,7 @@
 mod ends;
 mod filling;
 mod inner;
+mod kept_turns;
 mod letters;
 mod neighbours;
 mod root_keys;
@@ -11,9 +12,10 @@ mod units_at;
 mod viewer;
 mod whole;
 
-pub use filling::auxiliaries;
+pub use filling::{Wanted, auxiliaries};
 pub use inner::Inner;
+pub use kept_turns::{KeptTurn, KeptTurns};
 pub use root_keys::RootKeys;
 pub use units_at::UnitsAt;
-pub use viewer::Viewer;
+pub use viewer::{Decided, Viewer};
 pub use whole::Whole;

@@ -27,9 +27,9 @@ pub extern "C" fn cip_labeller_size() -> usize
 /// The version of the library.
 #[unsafe(no_mangle)]
 pub extern "C" fn cip_version() -> u32
-    ensures { result ≡ 12 }
+    ensures { result ≡ 13 }
 {
-    12
+    13
 }
 
 /// Makes a labeller at a pointer, behind which is room for it.

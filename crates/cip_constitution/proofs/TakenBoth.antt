@@ -5,7 +5,8 @@ use Rattle.cip_mol.specs.declared.outcome.Rule.TheVariants.{R1b, R2}
 use Rattle.cip_branches.specs.Deciding.{Branched}
 use Rattle.cip_branches.proofs.TakenSpheres.{kept_on}
 use Rattle.cip_digraph.specs.declared.nodes.Told.{Told}
-use Rattle.cip_ligands.proofs.TakenSteps.{AreSame, same_branches}
+use Rattle.cip_ligands.specs.Taking.{AreSame}
+use Rattle.cip_ligands.proofs.TakenSteps.{same_branches}
 use Rattle.cip_constitution.specs.Alike.{TakesBoth}
 
 pub same_both : (begin : Branched) (rules : Rules) (all : List Told) (now : Branched) → TakesBoth begin rules all now

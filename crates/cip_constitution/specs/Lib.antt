@@ -1,4 +1,5 @@
 pub mod Alike
+pub mod Aside
 pub mod Closing
 pub mod Ending
 pub mod FollowedOut

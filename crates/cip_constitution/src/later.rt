@@ -3,6 +3,7 @@ ghost use Rattle.std.specs.Prelude.{◌≡◌, ◌<◌, ◌≤◌, true, if◌th
 ghost use Rattle.std.specs.List.{list_all};
 ghost use Rattle.cip_branches.specs.Deciding.{AreFollowed};
 ghost use Rattle.cip_ligands.specs.Asking.{is_decided};
+ghost use Rattle.cip_ligands.specs.Taking.{AreSame};
 ghost use Rattle.cip_rows.specs.Keys.{AreKeyed};
 ghost use Rattle.cip_rows.specs.Parting.{has_flag};
 ghost use Rattle.cip_constitution.specs.FollowedOut.{AreConstituted, AreFollowedOut, AreOrdered, with_flags};
@@ -75,6 +76,8 @@ impl Work {
         requires len { length turned.old ≡ length self.old.noted }
         ensures ordered { AreOrdered self.old (M.marks marks.now) self.new.noted turned.new }
         ensures pairs { self.new.pairs ≡ self.old.pairs }
+        ensures same { AreSame self.old.branched self.new.branched }
+        ensures len { length self.new.noted ≡ length self.old.noted }
         ensures bound { self.new.bound ≡ self.old.bound }
         ensures readings { readings.new.bound ≡ readings.old.bound }
     {

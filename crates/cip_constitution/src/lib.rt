@@ -2,6 +2,7 @@
 #![tactic(auto)]
 
 mod alike;
+mod aside;
 mod candidates;
 mod closing;
 mod differing;

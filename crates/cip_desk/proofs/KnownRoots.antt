@@ -47,6 +47,11 @@ pub on_both : {T E : Type 0} {A B D : Type 0} (result : Result T E) → OnOk res
 on_both (Ok value) a b all = all a b
 on_both (Err error) a b all = tt
 
+pub on_three : {T E : Type 0} {A B C D : Type 0} (result : Result T E) → OnOk result A → OnOk result B → OnOk result C
+    → (A → B → C → D) → OnOk result D
+on_three (Ok value) a b c all = all a b c
+on_three (Err error) a b c all = tt
+
 -- what constitution leaves, by equal settings
 pub same_constituted : (rules rules2 : Rules) (graph graph2 : Graph) (positions positions2 : List (List ℕ)) (a : Growth)
     (trying : Trying) → rules ≡ rules2 → graph ≡ graph2 → positions ≡ positions2

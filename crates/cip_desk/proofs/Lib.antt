@@ -1,10 +1,14 @@
+pub mod Anyway
 pub mod EarlyRoots
 pub mod EarlyStanding
 pub mod FoundPairs
 pub mod KnownRoots
+pub mod OpenRoots
 pub mod PairedStanding
+pub mod Ready
 pub mod RootLow
 pub mod RootMarks
 pub mod RootNodes
+pub mod SameSites
 pub mod SettledRoots
 pub mod WholeStanding

@@ -1,10 +1,9 @@
 -- What a desk holds. Own.
-use Rattle.std.specs.Prelude.{◌≡◌, ℕ, List}
+use Rattle.std.specs.Prelude.{ℕ, List}
 use Rattle.cip_mol.specs.declared.site.Ligand.{Ligand}
 use Rattle.cip_constitution.specs.Settling.{Setting, setting_of}
 use Rattle.cip_label.specs.Settings as records
 use Rattle.cip_desk.specs.declared.desk.Desk.TheInside.{Inside}
-use Rattle.cip_desk.specs.Rooting.{HasRoom}
 use Rattle.cip_desk.specs.Standing.{Standing}
 
 -- how many nodes there is room for, and how the branches of the root ranked last stand
@@ -14,12 +13,6 @@ pub record Held : Type 0 where
 
 abbrev pub held_of : Inside → Held
 held_of desk = record { bound = desk.bound; standing = desk.branches }
-
--- all tables have room for as many nodes
-pub record HaveRoom (desk : Inside) : Type 0 where
-  pub arena : desk.arena.bound ≡ desk.bound
-  pub work : desk.work.bound ≡ desk.bound
-  pub tables : HasRoom desk.bound desk.tables
 
 -- what settles a root with these ligands
 abbrev pub settled_by : records.Setting → List Ligand → Setting

@@ -1,3 +1,4 @@
 pub mod Desks
+pub mod Keeping
 pub mod Rooting
 pub mod Standing

@@ -14,6 +14,10 @@ pub record Standing : Type 0 where
   pub natural : List Asked
   pub turned : List Asked
 
+-- the same with R first and with S first
+abbrev pub both_as : List Asked → Standing
+both_as noted = record { natural = noted; turned = noted }
+
 abbrev pub is_between : ℕ → ℕ → Asked → Bool
 is_between a b asked = (asked.first == a) && (asked.second == b)
 

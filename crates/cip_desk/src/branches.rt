@@ -1,8 +1,9 @@
 // How the branches at the neighbours of a root stand.
 ghost use Rattle.std.specs.Prelude.{◌≡◌, ◌≤◌, [], length, IfOk, OnOk};
 ghost use Rattle.cip_branches.specs.Deciding.{AreFollowed};
+ghost use Rattle.cip_ligands.specs.Taking.{AreSame};
 ghost use Rattle.cip_rows.specs.Keys.{AreKeyed};
-ghost use Rattle.cip_desk.specs.Standing.{StandsOrdered, by_vertices, found_of, standing_of};
+ghost use Rattle.cip_desk.specs.Standing.{StandsOrdered, both_as, by_vertices, found_of, standing_of};
 
 use cip_constitution::{Pair, Work};
 use cip_digraph::Decision;
@@ -77,6 +78,9 @@ impl Branches {
         requires keyed { AreKeyed (length marks.now.marks) work.old.branched.layers.kin }
         requires room { length work.old.branched.layers.kin.ups ≤ readings.old.bound }
         ensures ordered { OnOk result (StandsOrdered work.old marks.now.marks self.new) }
+        ensures same { OnOk result (AreSame work.old.branched work.new.branched) }
+        ensures pairs { OnOk result (work.new.pairs ≡ work.old.pairs) }
+        ensures len { OnOk result (length work.new.noted ≡ length work.old.noted) }
         ensures work { work.new.bound ≡ work.old.bound }
         ensures readings { readings.new.bound ≡ readings.old.bound }
     {
@@ -85,6 +89,13 @@ impl Branches {
         work.configure(readings, marks, self.numbered.as_mut_slice());
         name(work.pairs(), self.numbered.as_slice(), &mut self.turned)?;
         name(work.pairs(), work.noted(), &mut self.natural)
+    }
+
+    /// Copies what is decided with R first.
+    pub fn copy_natural(&self, noted: &mut Vec<Asked>) -> Result<(), AllocError>
+        ensures { OnOk result (noted.new.items ≡ self.now.natural) }
+    {
+        copy(&self.natural, noted)
     }
 
     /// How the branches at two neighbours stand.
@@ -141,7 +152,21 @@ fn name(pairs: &[Pair], noted: &[Asked], named: &mut Vec<Asked>) -> Result<(), A
     Ok(())
 }
 
-fn copy<T: Copy>(items: &[T], other: &mut Vec<T>) -> Result<(), AllocError>
+/// Takes what was noted of pairs by their branches, and keeps it by their vertices.
+pub fn take_noted(
+    work: &Work,
+    branches: &mut Branches,
+    kept: &mut Vec<Asked>,
+) -> Result<(), AllocError>
+    ensures standing { OnOk result (branches.new ≡ both_as (by_vertices work.now.pairs work.now.noted)) }
+    ensures kept { OnOk result (kept.new.items ≡ by_vertices work.now.pairs work.now.noted) }
+{
+    branches.take(work.pairs(), work.noted())?;
+    branches.copy_natural(kept)
+}
+
+/// Makes a list the same as another one.
+pub fn copy<T: Copy>(items: &[T], other: &mut Vec<T>) -> Result<(), AllocError>
     ensures { OnOk result (other.new.items ≡ items.now) }
 {
     other.clear();

@@ -1,9 +1,15 @@
 //! One desk for the digraphs of a run: grown in reserved memory, settled, and ranked by as many rules as it takes.
 #![tactic(auto)]
 
+mod anew;
+mod aside;
+mod bench;
 mod branches;
 mod desk;
 mod early;
+mod kept_root;
+mod memo;
+mod recalling;
 mod rooted;
 mod whole;
 

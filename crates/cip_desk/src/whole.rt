@@ -1,27 +1,44 @@
 // Roots that are ranked by their whole digraph.
-ghost use Rattle.std.specs.Prelude.{◌≡◌, ◌<◌, ◌≤◌, ◌^◌, ℕ, true, length, slice_index, IfOk, OnOk};
+ghost use Rattle.std.specs.Prelude.{◌≡◌, ◌<◌, ◌≤◌, ◌^◌, ℕ, true, false, List, length, slice_index, IfOk, OnOk};
+ghost use Rattle.std.specs.List.{list_all};
+ghost use Rattle.cip_aux.specs.KeptTurns.{AreKept};
 ghost use Rattle.cip_aux.specs.Marking.{AreWanted, flag_at};
+ghost use Rattle.cip_aux.specs.Sights.{Sight};
 ghost use Rattle.cip_branches.specs.Deciding.{AreFollowed};
+ghost use Rattle.cip_branches.specs.Saving.{saved_of};
 ghost use Rattle.cip_branches.specs.Standing.{WantedIn};
 ghost use Rattle.cip_constitution.specs.FollowedOut.{AreConstituted, AreFollowedOut};
 ghost use Rattle.cip_constitution.specs.Pairs.{pairs_of};
 ghost use Rattle.cip_constitution.specs.Settling.{SettledAs};
 ghost use Rattle.cip_label.specs.Standing.{RankedAs};
 ghost use Rattle.cip_label.specs.declared.digraphs.Ranking.TheVariants.{Known};
+ghost use Rattle.cip_ligands.specs.Asking.{is_decided};
+ghost use Rattle.cip_ligands.specs.Taking.{AreSame};
+ghost use Rattle.cip_mol.specs.declared.site.Site.{Site as AnySite};
 ghost use Rattle.cip_rows.specs.Keys.{AreKeyed};
 ghost use Rattle.cip_desk.specs.Desks.{settled_by};
-ghost use Rattle.cip_desk.specs.Rooting.{HasRoom, IsRooted, HaveMarks};
+ghost use Rattle.cip_desk.specs.Keeping.{FoundAs, kept_of, ranking_in};
+ghost use Rattle.cip_desk.specs.Rooting.{HasRoom, IsRooted, HaveMarks, HaveTurns};
 ghost use Rattle.cip_desk.specs.Standing.{standing_of};
 
-use crate::branches::Branches;
+use crate::aside::Aside;
+use crate::branches::{Branches, copy, take_noted};
+use crate::memo::Found;
 use crate::rooted::{Rooted, whole_of};
-use cip_aux::UnitsAt;
+use cip_arena::Arena;
+use cip_aux::{KeptTurns, UnitsAt, Wanted};
 use cip_constitution::{Settled, Work};
 use cip_digraph::Nodes;
 use cip_inside::{Sights, descriptors_where, flag_below};
+use cip_label::{Ranking, Setting};
 use cip_ligands::{Descriptors, Readings};
 use cip_rank::{Table, both};
 use std::alloc::{AllocError, Global};
+
+/// So many nodes have the digraphs that cost much to follow and to look into, or only to grow.
+const MANY_FOLLOWED: usize = 256;
+
+const MANY_GROWN: usize = 2_000;
 
 /// What ranks the ligands of a root by its whole digraph, in memory that was reserved.
 #[derive(Drop)]
@@ -32,6 +49,10 @@ pub struct Tables {
     pub marks: Descriptors,
     // both readings of the root's branches
     pub readings: Readings,
+    // what constitution told of the units at nodes inside
+    pub turns: KeptTurns,
+    // the root's branches as constitution left them
+    pub aside: Aside,
 }
 
 impl Tables {
@@ -40,17 +61,54 @@ impl Tables {
         requires { nodes < 2 ^ 31 }
         ensures { IfOk result (HasRoom nodes) }
     {
-        let looks = both(
-            Sights::reserve(alloc, nodes)?,
-            Descriptors::reserve(alloc, nodes),
+        let tables = both(reserve_looks(alloc, nodes)?, reserve_kept(alloc, nodes))?;
+        let (((sights, marks), (turns, aside)), readings) = both(
+            tables,
+            Readings::reserve(alloc, nodes),
         )?;
-        let ((sights, marks), readings) = both(looks, Readings::reserve(alloc, nodes))?;
         Ok(Tables {
             sights,
             marks,
             readings,
+            turns,
+            aside,
         })
     }
+}
+
+fn reserve_looks(alloc: Global, nodes: u32) -> Result<(Sights, Descriptors), AllocError>
+    requires { nodes < 2 ^ 31 }
+    ensures sights { IfOk result (λ both. nodes ≤ both.0.bound) }
+    ensures marks { IfOk result (λ both. nodes ≤ both.1.bound) }
+{
+    both(
+        Sights::reserve(alloc, nodes)?,
+        Descriptors::reserve(alloc, nodes),
+    )
+}
+
+fn reserve_kept(alloc: Global, nodes: u32) -> Result<(KeptTurns, Aside), AllocError>
+    ensures turns { IfOk result (λ both. nodes ≤ both.0.room) }
+    ensures aside { IfOk result (λ both. nodes ≤ both.1.ranks.room) }
+{
+    both(
+        KeptTurns::reserve(alloc, nodes)?,
+        Aside::reserve(alloc, nodes),
+    )
+}
+
+/// Whether it costs much to find once more what was found of a root: its digraph is large, also beside the graph, which
+/// is copied if that is kept; and there is a unit that may have another sense. Without rings a digraph is as large as
+/// the graph, and a symmetry costs more than the root.
+pub fn is_costly(arena: &Arena, setting: &Setting<'_>, found: Found) -> bool {
+    let many = match found {
+        Found::Open => MANY_FOLLOWED,
+        Found::Told(_) => MANY_GROWN,
+    };
+    let nodes = arena.len() as usize;
+    nodes >= many
+        && nodes / 3 >= setting.graph().vertices().len() / 2
+        && setting.units().as_slice().len() > 1
 }
 
 // Flags the nodes in those branches that are wanted still, and all nodes below them.
@@ -80,28 +138,35 @@ fn find_marks(
     requires constituted { AreConstituted rooted.now.setting.now.rules rooted.now.setting.now.graph
         rooted.now.setting.now.positions rooted.now.arena.now work.now.pairs work.now.branched work.now.noted }
     requires room { HasRoom rooted.now.arena.now.bound tables.old }
+    requires turns { HaveTurns rooted.now.setting.now rooted.now.arena.now tables.old }
     ensures marks { OnOk result (HaveMarks rooted.now.setting.now rooted.now.arena.now work.now.branched
         tables.new.marks.marks) }
     ensures room { HasRoom rooted.now.arena.now.bound tables.new }
+    ensures turns { HaveTurns rooted.now.setting.now rooted.now.arena.now tables.new }
+    ensures aside { tables.new.aside ≡ tables.old.aside }
 {
     let setting = rooted.setting;
     let _graph = setting.graph();
     let whole = whole_of(rooted);
-    let mut wanted = vec![in alloc; false; rooted.arena.len() as usize]?;
-    flag_nodes(work, whole.nodes().table(), wanted.as_mut_slice());
+    let mut flags = vec![in alloc; false; rooted.arena.len() as usize]?;
+    flag_nodes(work, whole.nodes().table(), flags.as_mut_slice());
     let units = UnitsAt::new(alloc, setting.units().as_slice())?;
+    let wanted = Wanted {
+        units: &units,
+        flags: flags.as_slice(),
+    };
     descriptors_where(
         alloc,
         &whole,
-        &units,
-        wanted.as_slice(),
+        &wanted,
+        &mut tables.turns,
         &mut tables.sights,
         &mut tables.marks,
     )
 }
 
-/// Ranks the ligands of a root by its whole digraph: by constitution, and where that leaves two of them by all rules.
-pub fn rank_whole(
+/// Ranks the ligands of a root by all rules, where constitution leaves two of them.
+pub fn rank_open(
     alloc: Global,
     rooted: &Rooted<'_, '_>,
     work: &mut Work,
@@ -111,20 +176,95 @@ pub fn rank_whole(
     requires rooted { IsRooted rooted.now.setting.now rooted.now.root rooted.now.ligands.now rooted.now.arena.now }
     requires settled { SettledAs (settled_by rooted.now.setting.now rooted.now.ligands.now) rooted.now.arena.now
         Settled.Whole }
+    requires constituted { AreConstituted rooted.now.setting.now.rules rooted.now.setting.now.graph
+        rooted.now.setting.now.positions rooted.now.arena.now work.old.pairs work.old.branched work.old.noted }
+    requires undone { list_all is_decided work.old.noted ≡ false }
+    requires pairs { work.old.pairs ≡ pairs_of rooted.now.ligands.now }
+    requires room { HasRoom rooted.now.arena.now.bound tables.old }
+    requires turns { HaveTurns rooted.now.setting.now rooted.now.arena.now tables.old }
+    ensures ranked { OnOk result (RankedAs rooted.now.setting.now rooted.now.arena.now.bound rooted.now.root
+        rooted.now.ligands.now (standing_of branches.new) Known) }
+    ensures same { OnOk result (AreSame work.old.branched work.new.branched) }
+    ensures pairs { OnOk result (work.new.pairs ≡ work.old.pairs) }
+    ensures len { OnOk result (length work.new.noted ≡ length work.old.noted) }
+    ensures work { work.new.bound ≡ work.old.bound }
+    ensures room { HasRoom rooted.now.arena.now.bound tables.new }
+    ensures turns { HaveTurns rooted.now.setting.now rooted.now.arena.now tables.new }
+    ensures aside { tables.new.aside ≡ tables.old.aside }
+{
+    let _graph = rooted.setting.graph();
+    find_marks(alloc, rooted, work, tables)?;
+    branches.configure(work, &mut tables.readings, &tables.marks)
+}
+
+// Nothing is kept of the nodes inside; where they are many it will be.
+fn begin_turns(rooted: &Rooted<'_, '_>, turns: &mut KeptTurns)
+    requires room { length rooted.now.arena.now.nodes ≤ turns.old.room }
+    ensures none { (sight : Sight) (sites : List AnySite) → AreKept sight sites turns.new.items }
+    ensures room { turns.new.room ≡ turns.old.room }
+{
+    if is_costly(rooted.arena, rooted.setting, Found::Open) {
+        turns.begin(rooted.arena.len());
+    } else {
+        turns.forget();
+    }
+}
+
+// So many places have the looks inside that are kept open.
+fn places_kept(rooted: &Rooted<'_, '_>) -> u32 {
+    if is_costly(rooted.arena, rooted.setting, Found::Open) {
+        rooted.arena.len().saturating_mul(3)
+    } else {
+        0
+    }
+}
+
+// Sets the branches aside as constitution left them.
+fn set_aside(rooted: &Rooted<'_, '_>, work: &Work, tables: &mut Tables) -> Result<(), AllocError>
+    requires places { length work.now.branched.layers.kin.ups ≤ tables.old.aside.ranks.room }
+    requires fits { length rooted.now.arena.now.nodes ≤ rooted.now.arena.now.bound }
+    requires room { HasRoom rooted.now.arena.now.bound tables.old }
+    ensures turns { HaveTurns rooted.now.setting.now rooted.now.arena.now tables.new }
+    ensures ranks { tables.new.aside.ranks ≡ saved_of tables.old.aside.ranks.room work.now.branched }
+    ensures count { length work.now.branched.layers.ranked.numbers ≡ length work.now.branched.layers.kin.ups }
+    ensures noted { OnOk result (tables.new.aside.noted.items ≡ work.now.noted) }
+    ensures room { HasRoom rooted.now.arena.now.bound tables.new }
+{
+    begin_turns(rooted, &mut tables.turns);
+    tables.sights.begin(places_kept(rooted));
+    work.save(&mut tables.aside.ranks);
+    copy(work.noted(), &mut tables.aside.noted)
+}
+
+/// Ranks the ligands of a root by its whole digraph: by constitution, and where that leaves two of them by all rules.
+pub fn rank_whole(
+    alloc: Global,
+    rooted: &Rooted<'_, '_>,
+    work: &mut Work,
+    tables: &mut Tables,
+    branches: &mut Branches,
+) -> Result<Found, AllocError>
+    requires rooted { IsRooted rooted.now.setting.now rooted.now.root rooted.now.ligands.now rooted.now.arena.now }
+    requires settled { SettledAs (settled_by rooted.now.setting.now rooted.now.ligands.now) rooted.now.arena.now
+        Settled.Whole }
     requires followed { AreFollowedOut rooted.now.setting.now.graph rooted.now.setting.now.positions
         rooted.now.arena.now work.old }
     requires pairs { work.old.pairs ≡ pairs_of rooted.now.ligands.now }
     requires room { HasRoom rooted.now.arena.now.bound tables.old }
-    ensures ranked { OnOk result (RankedAs rooted.now.setting.now rooted.now.arena.now.bound rooted.now.root
-        rooted.now.ligands.now (standing_of branches.new) Known) }
+    ensures found { IfOk result (FoundAs (kept_of rooted.now.setting.now rooted.now.root rooted.now.ligands.now)
+        rooted.now.arena.now work.new tables.new) }
+    ensures ranking { IfOk result (λ found. RankedAs rooted.now.setting.now rooted.now.arena.now.bound rooted.now.root
+        rooted.now.ligands.now (standing_of branches.new) (ranking_in found)) }
     ensures work { work.new.bound ≡ work.old.bound }
     ensures room { HasRoom rooted.now.arena.now.bound tables.new }
 {
     let setting = rooted.setting;
     let graph = setting.graph();
     if work.constitute(rooted.arena, graph, setting.positions(), setting.rules()) {
-        return branches.take(work.pairs(), work.noted());
+        take_noted(work, branches, &mut tables.aside.noted)?;
+        return Ok(Found::Told(Ranking::Known));
     }
-    find_marks(alloc, rooted, work, tables)?;
-    branches.configure(work, &mut tables.readings, &tables.marks)
+    set_aside(rooted, work, tables)?;
+    rank_open(alloc, rooted, work, tables, branches)?;
+    Ok(Found::Open)
 }

@@ -1,5 +1,5 @@
 // The graph of a molecule: its vertices, the edges between them, and the edges at each vertex.
-ghost use Rattle.std.specs.Prelude.{◌≡◌, IfOk};
+ghost use Rattle.std.specs.Prelude.{◌≡◌, true, IfOk};
 ghost use Rattle.cip_digraph.specs.graph.Graph.{edges_at, other_end};
 ghost use Rattle.cip_digraph.specs.graph.GraphRanges.{IsInRange};
 ghost use Rattle.cip_digraph.specs.graph.SoundGraphs.{IsSound};
@@ -9,7 +9,7 @@ use std::alloc::{AllocError, Global};
 use std::marker::Model;
 
 /// An atom or implicit hydrogen.
-#[derive(Clone, Copy)]
+#[derive(Clone, Copy, PartialEq, Eq)]
 pub struct Vertex {
     /// Atomic number.
     pub z: u8,
@@ -22,7 +22,7 @@ pub struct Vertex {
 }
 
 /// A bond, or the bond of an implicit hydrogen.
-#[derive(Clone, Copy, Default)]
+#[derive(Clone, Copy, Default, PartialEq, Eq)]
 pub struct Edge {
     pub a: u32,
     pub b: u32,
@@ -88,6 +88,24 @@ impl Graph {
         })
     }
 
+    /// The same graph once more. It takes time linear in its size.
+    pub fn copy(&self, alloc: Global) -> Result<Graph, AllocError>
+        ensures { IfOk result (λ copy. copy ≡ self.now) }
+    {
+        let vertices = Vec::from_slice(alloc, &self.vertices)?;
+        let edges = Vec::from_slice(alloc, &self.edges)?;
+        Graph::new(alloc, vertices, edges, self.drawn)
+    }
+
+    /// Whether another graph is the same one, vertex by vertex and edge by edge.
+    pub fn is_same(&self, other: &Graph) -> bool
+        ensures { result ≡ true → self.now ≡ other.now }
+    {
+        self.drawn == other.drawn
+            && are_same_vertices(&self.vertices, &other.vertices)
+            && are_same_edges(&self.edges, &other.edges)
+    }
+
     /// The vertices: atoms first, then implicit hydrogens.
     pub fn vertices(&self) -> &[Vertex]
         ensures value { result.now ≡ self.now.vertices }
@@ -123,4 +141,16 @@ impl Graph {
     {
         self.incidence.of(vertex)
     }
+}
+
+fn are_same_vertices(vertices: &[Vertex], others: &[Vertex]) -> bool
+    ensures { result ≡ true → vertices.now ≡ others.now }
+{
+    vertices == others
+}
+
+fn are_same_edges(edges: &[Edge], others: &[Edge]) -> bool
+    ensures { result ≡ true → edges.now ≡ others.now }
+{
+    edges == others
 }

@@ -1,5 +1,5 @@
 // Where the double bonds of alternating atoms can stand, by vertex.
-ghost use Rattle.std.specs.Prelude.{◌≡◌, ◌<◌, ◌≤◌, [], IfOk, length, replicate, slice_set};
+ghost use Rattle.std.specs.Prelude.{◌≡◌, ◌<◌, ◌≤◌, [], true, IfOk, length, replicate, slice_set};
 ghost use Rattle.cip_digraph.specs.rings.PositionLists.{IsKept, IsPositionList, listed};
 ghost use Rattle.cip_digraph.specs.rings.Positions.{listed_positions};
 
@@ -10,7 +10,7 @@ use std::marker::Model;
 const MOST_POSITIONS: usize = 3;
 
 /// The positions of a vertex: the first so many of three numbers.
-#[derive(Clone, Copy)]
+#[derive(Clone, Copy, PartialEq, Eq)]
 pub struct PositionList {
     pub count: usize,
     pub numbers: [u32; MOST_POSITIONS],
@@ -56,6 +56,22 @@ impl Positions {
         Ok(Positions {
             lists: vec![in alloc; NO_POSITIONS; vertices]?,
         })
+    }
+
+    /// The same positions once more.
+    pub fn copy(&self, alloc: Global) -> Result<Positions, AllocError>
+        ensures { IfOk result (λ copy. copy ≡ self.now) }
+    {
+        Ok(Positions {
+            lists: Vec::from_slice(alloc, &self.lists)?,
+        })
+    }
+
+    /// Whether other positions are the same ones.
+    pub fn is_same(&self, other: &Positions) -> bool
+        ensures { result ≡ true → self.now ≡ other.now }
+    {
+        self.lists.as_slice() == other.lists.as_slice()
     }
 
     /// The positions of a vertex, ascending; none of one that isn't alternating.

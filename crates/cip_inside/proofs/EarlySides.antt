@@ -40,24 +40,24 @@ module _ (inner : Inner) (node : ℕ) (ligands : List (Option ℕ))
       ap (map side_at) found
       ∙ pairs_found tops (node_at sight.nodes) (seen_at sight node mark) r_first ligands all_tops
 
-  -- of lone pairs alone
+  -- of lone pairs alone, whichever descriptors there are
   pub lone_early : (pairs : List Asked) → length tops ≡ 0 → pairs ≡ asked_pairs tops ligands
-      → AreEarly inner node ligands (map side_at pairs) (map side_at pairs)
+      → AreEarly inner node true ligands (map side_at pairs) (map side_at pairs)
   lone_early pairs none is = record {
-    of_natural = λ mark agrees. ap (map side_at) is ∙ pairs_lone tops none (seen_sides sight node mark true) ligands
-        all_tops;
-    of_turned = λ mark agrees. ap (map side_at) is ∙ pairs_lone tops none (seen_sides sight node mark false) ligands
-        all_tops;
+    of_natural = λ mark any. ap (map side_at) is
+        ∙ pairs_lone tops none (seen_sides sight node mark true) ligands all_tops;
+    of_turned = λ mark any. ap (map side_at) is
+        ∙ pairs_lone tops none (seen_sides sight node mark false) ligands all_tops;
   }
 
-  -- where constitution decides all
+  -- where constitution decides all, whichever descriptors there are
   pub decided_early : (now : Branched) (pairs : List Asked) → 0 < length tops
       → AreConstituted sight node tops now (asked_pairs tops ligands) pairs → list_all is_decided pairs ≡ true
-      → AreEarly inner node ligands (map side_at pairs) (map side_at pairs)
+      → AreEarly inner node true ligands (map side_at pairs) (map side_at pairs)
   decided_early now pairs some is done =
       record {
-        of_natural = λ mark agrees. sides_are mark true pairs (all_told mark true (is.noted mark));
-        of_turned = λ mark agrees. sides_are mark false pairs (all_told mark false (is.noted mark));
+        of_natural = λ mark any. sides_are mark true pairs (all_told mark true (is.noted mark));
+        of_turned = λ mark any. sides_are mark false pairs (all_told mark false (is.noted mark));
       }
     where
       all_told : (mark : List ℕ → Option Descriptor) (r_first : Bool)
@@ -74,7 +74,7 @@ module _ (inner : Inner) (node : ℕ) (ligands : List (Option ℕ))
   pub ordered_early : (pairs turned : List Asked)
       → ((mark : List ℕ → Option Descriptor) → AgreesInside inner mark
       → AreOrdered sight node mark tops (asked_pairs tops ligands) pairs turned)
-      → AreEarly inner node ligands (map side_at pairs) (map side_at turned)
+      → AreEarly inner node false ligands (map side_at pairs) (map side_at turned)
   ordered_early pairs turned are_ordered = record {
     of_natural = λ mark agrees. sides_are mark true pairs (are_ordered mark agrees).natural;
     of_turned = λ mark agrees. sides_are mark false turned (are_ordered mark agrees).other;

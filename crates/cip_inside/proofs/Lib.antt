@@ -11,6 +11,7 @@ pub mod HangingPlaces
 pub mod KnownSteps
 pub mod Meeting
 pub mod NodeKeys
+pub mod OpenAgain
 pub mod Sources
 pub mod TiesItself
 pub mod WantedNodes

@@ -4,17 +4,17 @@ ghost use Rattle.std.specs.List.{AllByRecursion, list_all};
 ghost use Rattle.std.specs.declared.option.Option.{Option};
 ghost use Rattle.cip_mol.specs.declared.descriptor.Descriptor.{Descriptor as AnyDescriptor};
 ghost use Rattle.cip_branches.specs.Deciding.{AreFollowed};
+ghost use Rattle.cip_branches.specs.Saving.{restored, saved_of};
 ghost use Rattle.cip_rows.specs.Keys.{AreKeyed};
 ghost use Rattle.cip_digraph.specs.digraph.Telling.{node_at};
 ghost use Rattle.cip_ligands.specs.Marked.{AreMarksOf};
 ghost use Rattle.cip_aux.specs.Sights.{Sight};
 ghost use Rattle.cip_aux.specs.Sights.{IsReal, sight_of};
 ghost use Rattle.cip_digraph.specs.digraph.NodeList.{parents_of};
-ghost use Rattle.cip_aux.specs.Marking.{AreWanted, flag_at};
 ghost use Rattle.cip_rows.specs.Parting.{has_flag};
-ghost use Rattle.cip_branches.specs.Standing.{WantedIn};
 ghost use Rattle.cip_ligands.specs.declared.asked.Asked.{Asked as AnyAsked};
 ghost use Rattle.cip_ligands.specs.Asking.{AreWithin, is_decided};
+ghost use Rattle.cip_ligands.specs.Taking.{AreSame};
 ghost use Rattle.cip_inside.specs.Near.{AreConstituted, AreOrdered, AreTops, asked_tops, branch_of, marked_by};
 ghost use Rattle.cip_inside.specs.Near.{LeadsElsewhere};
 
@@ -23,7 +23,7 @@ use crate::flagging::are_behind;
 use crate::stepping::SeenFrom;
 use crate::tops::{branch_of, fill_tops};
 use cip_aux::Whole;
-use cip_branches::Branches;
+use cip_branches::{Branches, SavedRanks};
 use cip_digraph::Nodes;
 use cip_ligands::{Asked, Marked, Readings, decide_configuration};
 use cip_rank::both;
@@ -31,6 +31,7 @@ use cip_reroot::marks::{cover, mark_way, take_off};
 use cip_rows::Column;
 use std::alloc::{AllocError, Global};
 use std::marker::Model;
+use std::mem;
 
 /// The branches of a node's ligands, in memory that is taken at once.
 #[derive(Drop)]
@@ -138,6 +139,51 @@ impl Near {
         done
     }
 
+    /// For how many nodes there is room.
+    pub fn room(&self) -> u32
+        ensures bound { result ≡ self.now.bound }
+        ensures few { result < 2 ^ 31 }
+        ensures branches { self.now.now.layers.kin.room ≡ self.now.bound }
+    {
+        self.bound
+    }
+
+    /// How many places its branches have.
+    pub fn len(&self) -> u32
+        ensures { result ≡ length self.now.now.layers.kin.ups }
+    {
+        self.branches.len()
+    }
+
+    /// Sets the ranks of its branches aside.
+    pub fn save(&self, ranks: &mut SavedRanks)
+        requires { length self.now.now.layers.kin.ups ≤ ranks.old.room }
+        ensures saved { ranks.new ≡ saved_of ranks.old.room self.now.now }
+        ensures count { length self.now.now.layers.ranked.numbers ≡ length self.now.now.layers.kin.ups }
+    {
+        self.branches.save(ranks);
+    }
+
+    /// Lets its branches stand as they did when their ranks were set aside.
+    pub fn restore(&mut self, ranks: &SavedRanks)
+        requires rows { length ranks.now.rows ≡ length self.old.now.layers.ranked.rows }
+        requires numbers { length ranks.now.numbers ≡ length self.old.now.layers.kin.ups }
+        requires wanted { length ranks.now.wanted ≡ length self.old.now.wanted }
+        ensures { self.new ≡ record self.old { now = restored ranks.now self.old.now } }
+    {
+        self.branches.restore(ranks);
+    }
+
+    /// Takes other branches in place of its own.
+    pub fn swap(&mut self, other: &mut Branches)
+        requires { other.old.layers.kin.room ≡ self.old.bound }
+        ensures own { self.new ≡ record self.old { now = other.old } }
+        ensures other { other.new ≡ self.old.now }
+        ensures room { other.new.layers.kin.room ≡ self.new.bound }
+    {
+        mem::swap(&mut self.branches, other);
+    }
+
     /// Whether all branches that are wanted still lead to children of the node that they were followed from.
     pub fn leads_down(&self, node: u32) -> bool
         ensures down { result ≡ true → (branch : ℕ) → branch < length self.now.tops
@@ -167,6 +213,7 @@ impl Near {
             → list_all is_decided asked.old ≡ false
             → AreMarksOf (node_at sight.nodes) (marked_by mark) (M.marks marks.now) self.old.now
             → AreOrdered sight node mark self.old.tops begin asked.new turned.new }
+        ensures same { AreSame self.old.now self.new.now }
         ensures tops { self.new.tops ≡ self.old.tops }
         ensures bound { self.new.bound ≡ self.old.bound }
         ensures readings { readings.new.bound ≡ readings.old.bound }

@@ -1,20 +1,23 @@
 -- A rule begun, and taken one sphere further: what is found so far.
-use Rattle.std.proofs.Common.{◌≡◌, ◌<◌, ℕ, ℤ, zero, suc, List, [], ◌∷◌, length, map, refl, ap, ◌∙◌}
+use Rattle.std.proofs.Common.{◌≡◌, ◌<◌, ℕ, ℤ, zero, suc, Bool, List, [], ◌∷◌, map, refl, ap, ◌∙◌}
 use Rattle.std.specs.declared.option.Option.{Option}
 use Rattle.std.specs.List.{AllByRecursion}
+use Rattle.cip_mol.specs.declared.descriptor.Descriptor.{Descriptor}
 use Rattle.cip_mol.specs.declared.outcome.Rule.{Rule}
 use Rattle.cip_digraph.specs.declared.decision.Decision.{Decision}
 use Rattle.cip_branches.specs.Deciding.{Branched, AreFollowed, FlagsOpen}
 use Rattle.cip_branches.specs.Saving.{saved_of, restored}
 use Rattle.cip_branches.specs.Standing.{WantedIn}
-use Rattle.cip_branches.specs.Taking.{KeepsPlaces, SplitsFirst, Deepens}
+use Rattle.cip_branches.specs.Taking.{SplitsFirst, Deepens}
+use Rattle.cip_branches.proofs.KeptSpheres.{same_itself}
 use Rattle.cip_branches.proofs.SavedAside.{put_back}
 use Rattle.cip_branches.proofs.TakenAmong.{was_wanted}
 use Rattle.cip_branches.proofs.TakenSpheres.{kept_on}
 use Rattle.cip_ligands.specs.declared.asked.Asked.{Asked}
 use Rattle.cip_ligands.specs.Asking.{kept_or, with_found, found_between}
 use Rattle.cip_ligands.proofs.FoundWithin.{with_both}
-use Rattle.cip_ligands.specs.Taking.{TakenTo, TakesSoFar, TakesRule, WantsNoMore}
+use Rattle.cip_ligands.specs.Counting.{TakesMarked}
+use Rattle.cip_ligands.specs.Taking.{AreSame, TakenTo, TakesSoFar, TakesRule, WantsNoMore}
 
 abbrev Any : Asked → Type 0
 Any one = Unit {0}
@@ -54,12 +57,26 @@ module _ (begin : Branched) (keys : List ℤ) (rule : Rule) (asked : List Asked)
             ∙ with_both before.found here both Any (λ one w. refl) asked (any_all asked);
       }
 
--- the same branches with the same places
-pub record AreSame (begin now : Branched) : Type 0 where
-  pub kept : KeepsPlaces begin.layers now.layers
-  pub front : now.first ≡ begin.first
-  pub end : now.last ≡ begin.last
-  pub count : length now.wanted ≡ length begin.wanted
+pub same_still : (begin : Branched) → AreSame begin begin
+same_still begin = record {
+  kept = record {
+    places = same_itself begin.layers.ranked.rows begin.layers.starts;
+    kin = refl;
+    starts = refl;
+    room = refl;
+  };
+  front = refl;
+  end = refl;
+  count = refl;
+}
+
+pub same_then : (begin mid now : Branched) → AreSame begin mid → AreSame mid now → AreSame begin now
+same_then begin mid now one two = record {
+  kept = kept_on begin.layers mid.layers now.layers one.kept two.kept;
+  front = two.front ∙ one.front;
+  end = two.end ∙ one.end;
+  count = two.count ∙ one.count;
+}
 
 pub taken_same : (begin : Branched) (keys : List ℤ) (rule : Rule) (far : ℕ) (now : Branched)
     (found : ℕ → ℕ → Option Decision) → TakenTo begin keys rule far now found → AreSame begin now
@@ -83,6 +100,12 @@ pub same_branches : (begin : Branched) (keys : List ℤ) (rule : Rule) (asked : 
     (new : List Asked) → TakesRule begin keys rule asked now new → AreSame begin now
 same_branches begin keys rule asked now new takes = taken_same begin keys rule takes.far now takes.so_far.found
     takes.so_far.taken
+
+pub same_marked : (marks : List (Option Descriptor)) (r_first : Bool) (rule : Rule) (begin : Branched)
+    (asked : List Asked) (now : Branched) (new : List Asked) → TakesMarked marks r_first rule begin asked now new
+    → AreSame begin now
+same_marked marks r_first rule begin asked now new marked = same_branches begin marked.keys rule asked now new
+    marked.takes
 
 -- ranks that were set aside before let them stand as they did
 pub stands_back : (begin now : Branched) (room : ℕ) → AreFollowed begin → AreSame begin now

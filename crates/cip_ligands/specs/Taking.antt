@@ -1,12 +1,12 @@
 -- A rule taken over branches depth by depth, and what it finds between them on the way. Own.
-use Rattle.std.specs.Prelude.{◌≡◌, ◌<◌, ◌≤◌, ℕ, ℤ, zero, suc, true, List, map}
+use Rattle.std.specs.Prelude.{◌≡◌, ◌<◌, ◌≤◌, ℕ, ℤ, zero, suc, true, List, length, map}
 use Rattle.std.specs.declared.option.Option.{Option}
 use Rattle.std.specs.List.{list_all}
 use Rattle.cip_mol.specs.declared.outcome.Rule.{Rule}
 use Rattle.cip_digraph.specs.declared.decision.Decision.{Decision}
 use Rattle.cip_branches.specs.Deciding.{Branched, FlagsOpen}
 use Rattle.cip_branches.specs.Standing.{WantedIn}
-use Rattle.cip_branches.specs.Taking.{SplitsFirst, Deepens}
+use Rattle.cip_branches.specs.Taking.{KeepsPlaces, SplitsFirst, Deepens}
 use Rattle.cip_ligands.specs.declared.asked.Asked.{Asked}
 use Rattle.cip_ligands.specs.Asking.{is_decided, kept_or, with_found, found_between}
 
@@ -60,3 +60,10 @@ pub record TakesOnce (begin : Branched) (keys : List ℤ) (rule : Rule) (asked n
 -- no branch is wanted that was not so before
 pub record WantsNoMore (old now : Branched) : Type 0 where
   pub each : (t place : ℕ) → WantedIn now t place → WantedIn old t place
+
+-- the same branches with the same places
+pub record AreSame (begin now : Branched) : Type 0 where
+  pub kept : KeepsPlaces begin.layers now.layers
+  pub front : now.first ≡ begin.first
+  pub end : now.last ≡ begin.last
+  pub count : length now.wanted ≡ length begin.wanted

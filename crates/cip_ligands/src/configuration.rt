@@ -14,7 +14,7 @@ ghost use Rattle.cip_ligands.specs.Counting.{TakesMarked, TakesMarkedOnce};
 ghost use Rattle.cip_ligands.specs.Deciding.{AreDecidedBy};
 ghost use Rattle.cip_ligands.specs.Marked.{AreMarksOf};
 ghost use Rattle.cip_ligands.specs.Orders.{rules_before};
-ghost use Rattle.cip_ligands.specs.Taking.{WantsNoMore};
+ghost use Rattle.cip_ligands.specs.Taking.{AreSame, WantsNoMore};
 
 use crate::asked::{Asked, are_decided};
 use crate::both_ways::take_both_ways;
@@ -67,6 +67,7 @@ fn decide_before_readings<M: Marked>(
     ensures followed { AreFollowed branches.new }
     ensures all { result ≡ list_all is_decided asked.new }
     ensures kin { branches.new.layers.kin ≡ branches.old.layers.kin }
+    ensures same { AreSame branches.old branches.new }
     ensures wanted { WantsNoMore branches.old branches.new }
 {
     if take_marked(branches, marks, Rule::R3, asked) {
@@ -107,6 +108,7 @@ fn decide_from_readings<M: Marked>(
     ensures followed { AreFollowed branches.new }
     ensures all { result ≡ list_all is_decided asked.new }
     ensures kin { branches.new.layers.kin ≡ branches.old.layers.kin }
+    ensures same { AreSame branches.old branches.new }
     ensures wanted { WantsNoMore branches.old branches.new }
     ensures bound { readings.new.bound ≡ readings.old.bound }
 {
@@ -130,6 +132,7 @@ fn decide_before_last<M: Marked>(
     ensures followed { AreFollowed branches.new }
     ensures all { result ≡ list_all is_decided asked.new }
     ensures kin { branches.new.layers.kin ≡ branches.old.layers.kin }
+    ensures same { AreSame branches.old branches.new }
     ensures wanted { WantsNoMore branches.old branches.new }
     ensures bound { readings.new.bound ≡ readings.old.bound }
 {
@@ -154,6 +157,7 @@ fn decide_last<M: Marked>(
     ensures decided { TakesMarkedOnce (M.marks marks.now) true R5 branches.old asked.old asked.new }
     ensures turned { TakesMarkedOnce (M.marks marks.now) false R5 branches.old asked.old turned.new }
     ensures kin { branches.new.layers.kin ≡ branches.old.layers.kin }
+    ensures same { AreSame branches.old branches.new }
     ensures bound { readings.new.bound ≡ readings.old.bound }
 {
     if !some_count(branches, marks, Rule::R5) {
@@ -195,6 +199,7 @@ fn decide_marked<M: Marked>(
     requires len { length turned.old ≡ length asked.old }
     ensures decided { DecidesAll (M.marks marks.now) branches.old asked.old asked.new turned.new }
     ensures kin { branches.new.layers.kin ≡ branches.old.layers.kin }
+    ensures same { AreSame branches.old branches.new }
     ensures bound { readings.new.bound ≡ readings.old.bound }
 {
     if decide_before_last(branches, readings, marks, asked) {
@@ -226,6 +231,7 @@ pub fn decide_configuration<M: Marked>(
         → (asked.new ≡ map (with_found (λ a b. order seen true (node a) (node b))) begin)
         × (turned.new ≡ map (with_found (λ a b. order seen false (node a) (node b))) begin) }
     ensures kin { branches.new.layers.kin ≡ branches.old.layers.kin }
+    ensures same { AreSame branches.old branches.new }
     ensures bound { readings.new.bound ≡ readings.old.bound }
 {
     if are_unmarked(branches, marks) {

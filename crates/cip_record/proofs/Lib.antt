@@ -1,4 +1,5 @@
 pub mod Answered
+pub mod FoundUnits
 pub mod LinesBehind
 pub mod Overs
 pub mod UnitLists

@@ -1,4 +1,5 @@
 pub mod Answers
+pub mod Images
 pub mod Laws
 pub mod Worked
 pub mod WorkedLabels

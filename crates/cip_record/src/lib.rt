@@ -2,6 +2,8 @@
 #![tactic(auto)]
 
 mod answering;
+mod colours;
+mod images;
 mod laws;
 mod units;
 

@@ -1,8 +1,10 @@
 // The units of a graph, each with its outcome.
 ghost use Rattle.std.specs.Prelude.{◌≡◌, ◌<◌, ◌-◌, ◌^◌, IfOk, length};
+ghost use Rattle.cip_digraph.specs.rings.Positions.{positions_of};
 ghost use Rattle.cip_record.specs.Answers.{unit_answers};
 
 use crate::answering::RecordLabeller;
+use crate::images::{Images, outcome_of};
 use cip_label::Setting;
 use cip_print::{UnitAnswer, UnitAnswers, name_of};
 use cip_rank::Steps;
@@ -16,6 +18,7 @@ pub fn label_units(
     labeller: &mut RecordLabeller,
     setting: &Setting<'_>,
 ) -> Result<UnitAnswers, AllocError>
+    requires drawn { setting.now.positions ≡ positions_of setting.now.graph }
     requires few { length setting.now.units < 2 ^ 32 - 1 }
     ensures answers { IfOk result
         (λ answers. answers ≡ unit_answers setting.now.rules labeller.old setting.now.graph setting.now.positions
@@ -36,6 +39,7 @@ fn label_counted<L: Ledger>(
     requires name { blank.name ≡ L.name }
     requires parts { blank.parts ≡ L.parts }
     requires one { 0 < blank.parts }
+    requires drawn { setting.now.positions ≡ positions_of setting.now.graph }
     requires few { length setting.now.units < 2 ^ 32 - 1 }
     ensures answers { IfOk result
         (λ answers. answers ≡ unit_answers setting.now.rules labeller.old setting.now.graph setting.now.positions
@@ -45,9 +49,17 @@ fn label_counted<L: Ledger>(
 {
     let mut steps = Steps::<L>::open(blank);
     let mut answers = UnitAnswers::new(alloc);
+    let mut images = Images::none(alloc);
     let units = setting.units().as_slice();
     for (place, unit) in units.iter().enumerate() {
-        let outcome = labeller.label(alloc, setting, place as u32, &mut steps)?;
+        let outcome = outcome_of(
+            alloc,
+            labeller,
+            setting,
+            place as u32,
+            &mut images,
+            &mut steps,
+        )?;
         answers.push(UnitAnswer {
             name: name_of(&unit.site),
             site: unit.site.copy(alloc),

@@ -14,7 +14,6 @@ use Rattle.cip_mol.specs.declared.molecule.Mark.{Mark}
 use Rattle.cip_mol.specs.declared.molecule.Mark.TheVariants.{Plain}
 use Rattle.cip_mol.specs.declared.outcome.Outcome.{Outcome}
 use Rattle.cip_mol.specs.declared.site.Geometry.TheVariants.{Known}
-use Rattle.cip_mol.specs.declared.site.Site.{Site}
 use Rattle.cip_digraph.specs.graph.DrawnGraph.{graph_of}
 use Rattle.cip_digraph.specs.graph.Graph.{Graph}
 use Rattle.cip_digraph.specs.outcome.Outcomes.{outcome_of}
@@ -35,8 +34,8 @@ use Rattle.cip_carried.proofs.digraph.CarriedNodes.{IsRenamed}
 use Rattle.cip_laws.proofs.units.CarriedSites.{SiteImage, centre_carried, centre_image}
 use Rattle.cip_laws.proofs.units.RenumberedUnits.{carry_onto, units_match}
 use Rattle.cip_mark.specs.FoundCentres.{outcome_as, shown_at}
-use Rattle.cip_mark.specs.MarkLaw.{KeepsRanks, with_bonds}
-use Rattle.cip_mark.specs.Marking.{bare, bare_bonds, has_centre, is_free, is_plain, marked, marked_to, with_mark, without_mark}
+use Rattle.cip_mark.specs.MarkLaw.{KeepsRanks}
+use Rattle.cip_mark.specs.Marking.{bare, bare_bonds, has_centre, is_free, is_plain, marked, marked_to, with_mark}
 use Rattle.cip_mark.specs.Remarked.{AreRemarked, IsRemarked}
 use Rattle.cip_mark.proofs.RemarkedCentres.{keeps_ranks}
 use Rattle.cip_mark.proofs.SetSound.{sound_bare}

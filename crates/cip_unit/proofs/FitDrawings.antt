@@ -20,7 +20,7 @@ module _ (drawing : Drawing) where
       let graph = graph_of drawing in
       let positions = positions_of graph in
       let kept = sites_kept (geometry_of drawing) (sites_of graph positions) in
-      record { sites = kept; few = few_units drawing graph positions (drawn_of drawing).units few refl kept }
+      record { positions = refl; sites = kept; few = few_units drawing graph positions (drawn_of drawing).units few refl kept }
 
   -- as it is made, one after the other
   pub drawn_is : (graph : Graph) (positions : List (List ℕ)) (all : List units.Unit) → graph ≡ graph_of drawing

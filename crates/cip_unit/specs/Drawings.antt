@@ -20,7 +20,8 @@ drawn_of drawing = record {
   units = units_in drawing;
 }
 
--- the units stand at the sites of the graph, and there are few
+-- double bonds stand where those of the graph do, the units at its sites, and there are few
 pub record Fits (drawn : Drawn) : Type 0 where
+  pub positions : drawn.positions ≡ positions_of drawn.graph
   pub sites : map (λ unit. unit.site) drawn.units ≡ sites_of drawn.graph drawn.positions
   pub few : length drawn.units < 2 ^ 32 - 1

@@ -4,6 +4,7 @@ ghost use Rattle.std.specs.Prelude.{◌≡◌, ◌<◌};
 
 use crate::boxes::{child_keys, two_stand};
 use crate::growing::{settled, spheres};
+use crate::images::images;
 use crate::inside::inside;
 use crate::units::units_told;
 use cip_rank::Steps;
@@ -20,7 +21,7 @@ pub struct Worked;
 
 impl Caller for Worked {
     fn answer<R: Files + AllocGlobal>(&self, rt: &R, out: &mut Text, row: &Row) -> io::Result<()> {
-        if row.call() == "inside" {
+        if matches!(row.call(), "inside" | "images") {
             let record = fs::read(rt, row.field(2))?;
             answer_with(rt.alloc(), out, row, &record);
             return Ok(());
@@ -51,6 +52,7 @@ fn answer_grown<L: Ledger>(alloc: Global, out: &mut Text, row: &Row, record: &[u
         "settled" => settled(alloc, out, row, &mut steps),
         "spheres" => spheres(alloc, out, row, &mut steps),
         "inside" => inside(alloc, out, record, row.number(3), &mut steps),
+        "images" => images(alloc, out, record, &mut steps),
         _ => out.push_str("there is no such call"),
     }
 }

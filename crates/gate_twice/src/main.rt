@@ -1,6 +1,6 @@
 // Digraphs made twice, of worked molecules and of made ones: those of the arena against those in boxes, node by node,
 // and what is decided between their branches. Behind them the calls of a table: worked molecules to their units, the
-// spheres of their digraphs, and what is decided and described there.
+// spheres of their digraphs, what is decided and described there, and what is found of centres as images of others.
 #![tactic(auto)]
 
 mod answering;
@@ -8,6 +8,7 @@ mod boxes;
 mod counts;
 mod deciding;
 mod growing;
+mod images;
 mod inside;
 mod molecules;
 mod nodes;

@@ -8,7 +8,7 @@ use Rattle.cip_mol.specs.declared.site.Site.{Site}
 use Rattle.cip_mol.specs.declared.site.Site.TheVariants.{Axis}
 use Rattle.cip_digraph.specs.units.Allenes.{doubles, is_allene_middle, is_axis_end, is_axis_unit, axis_site, axis_sites}
 use Rattle.cip_digraph.specs.units.Centres.{is_centre}
-use Rattle.cip_digraph.specs.units.DoubleBonds.{multiples, outer_neighbours, has_end_bonds, end_ligands, bond_sites}
+use Rattle.cip_digraph.specs.units.DoubleBonds.{multiples, outer_neighbours, end_ligands, bond_sites}
 use Rattle.cip_digraph.specs.graph.Graph.{Graph, vertex_at, edges_at, neighbours}
 use Rattle.cip_digraph.specs.rings.Positions.{positions_of, is_delocalised}
 use Rattle.cip_digraph.specs.graph.SoundGraphs.{IsSound}

@@ -1,13 +1,13 @@
-use Rattle.std.proofs.Common.{◌∙◌, sym, ap, subst, [], ◌∷◌, None, Some}
+use Rattle.std.proofs.Common.{◌∙◌, sym, ap, subst, [], ◌∷◌}
 use Rattle.cip_digraph.specs.digraph.NodeList.{parents_of}
 use Rattle.cip_digraph.specs.units.Ends.{end_at}
-use Rattle.cip_letters.specs.declared.turns.Turns.{Turns}
 use Rattle.std.specs.Prelude.{option_to_list}
+use Rattle.cip_aux.specs.declared.ends.FoundTurns.{FoundTurns}
 use Rattle.cip_aux.specs.Joining.{far_number}
 use Rattle.cip_aux.specs.Marking.{AreRootTurns, AreEndTurns}
 use Rattle.cip_aux.specs.Neighbours.{shape_at}
 use Rattle.cip_aux.specs.Sights.{Sight}
-use Rattle.cip_aux.proofs.EndTurns.{far_ready, no_far, both_ends}
+use Rattle.cip_aux.proofs.EndTurns.{far_ready, no_far, near_ties, both_ends}
 use Rattle.cip_aux.proofs.ends.ends_turns.Goals as goal
 
 pub returns-in_default-clause-turns : goal.returns-in_default-clause-turns
@@ -15,10 +15,13 @@ returns-in_default-clause-turns g c =
     let inner = c.args.inner.now in
     let ends = c.args.ends.now in
     let told = c.nodes.ensures.told ∙ ap (λ (s : Sight). s.told) c.whole.ensures in
-    no_far inner inner.from c.requires.ready ends.between ends.far.at ends.near.ligands.now ends.far.ligands.now ends.near.at
+    subst (λ (found : FoundTurns). AreEndTurns inner inner.from found.by_constitution (option_to_list ends.between)
+    (end_at ends.near.at ends.near.ligands.now ∷ end_at ends.far.at ends.far.ligands.now ∷ []) found.turns)
+    (sym c.no_turns.ensures)
+    (no_far inner inner.from c.requires.ready ends.between ends.far.at ends.near.ligands.now ends.far.ligands.now ends.near.at
     c.requires.joins
     (sym c.in_default.is ∙ c.far_end.ensures
-    ∙ (λ i. far_number (shape_at (told i)) (parents_of (told i)) (c.from-node.ensures i) ends.between ends.far.at))
+    ∙ (λ i. far_number (shape_at (told i)) (parents_of (told i)) (c.from-node.ensures i) ends.between ends.far.at)))
 
 pub turns_at-requires-2-clause-ready : goal.turns_at-requires-2-clause-ready
 turns_at-requires-2-clause-ready g c =
@@ -29,30 +32,33 @@ turns_at-requires-2-clause-ready g c =
     (sym c.in-Some.is ∙ c.far_end.ensures
     ∙ (λ i. far_number (shape_at (told i)) (parents_of (told i)) (c.from-node.ensures i) ends.between ends.far.at))
 
-pub returns-in_default-3-clause-turns : goal.returns-in_default-3-clause-turns
-returns-in_default-3-clause-turns g c =
+pub returns-then-is_none-clause-turns : goal.returns-then-is_none-clause-turns
+returns-then-is_none-clause-turns g c =
     let inner = c.args.inner.now in
     let ends = c.args.ends.now in
+    let one = c.in_ok-one.one in
     let told = c.nodes.ensures.told ∙ ap (λ (s : Sight). s.told) c.whole.ensures in
-    both_ends inner inner.from c.requires.ready ends.between ends.far.at ends.near.ligands.now ends.far.ligands.now ends.near.at
-    c.in-Some.other (Some c.in-Some-2.one) None
+    near_ties inner inner.from c.requires.ready ends.between ends.far.at ends.near.ligands.now ends.far.ligands.now ends.near.at
+    c.in-Some.other one.by_constitution one.turns c.if-is_none.ensures
     (sym c.in-Some.is ∙ c.far_end.ensures
     ∙ (λ i. far_number (shape_at (told i)) (parents_of (told i)) (c.from-node.ensures i) ends.between ends.far.at))
-    (subst (λ n. AreRootTurns inner n ends.near.ligands.now (Some c.in-Some-2.one)) c.from-node.ensures
-    (subst (AreRootTurns inner c.from-node.result ends.near.ligands.now) c.in-Some-2.is c.in_ok-one.ensures.turns))
-    (subst (AreRootTurns inner c.in-Some.other ends.far.ligands.now) c.in_default-3.is c.in_ok-two.ensures.turns)
+    (subst (λ n. AreRootTurns inner n one.by_constitution ends.near.ligands.now one.turns) c.from-node.ensures
+    c.in_ok-one.ensures.turns)
 
 pub returns-clause-turns : goal.returns-clause-turns
 returns-clause-turns g c =
     let inner = c.args.inner.now in
     let ends = c.args.ends.now in
+    let one = c.in_ok-one.one in
+    let two = c.in_ok-two.two in
     let told = c.nodes.ensures.told ∙ ap (λ (s : Sight). s.told) c.whole.ensures in
-    subst (λ (turns : Turns). AreEndTurns inner inner.from (option_to_list ends.between)
-    (end_at ends.near.at ends.near.ligands.now ∷ end_at ends.far.at ends.far.ligands.now ∷ []) (Some turns)) (sym c.both.ensures)
+    subst (λ (found : FoundTurns). AreEndTurns inner inner.from found.by_constitution (option_to_list ends.between)
+    (end_at ends.near.at ends.near.ligands.now ∷ end_at ends.far.at ends.far.ligands.now ∷ []) found.turns)
+    (sym c.both_found.ensures)
     (both_ends inner inner.from c.requires.ready ends.between ends.far.at ends.near.ligands.now ends.far.ligands.now ends.near.at
-    c.in-Some.other (Some c.in-Some-2.one) (Some c.in-Some-3.two)
+    c.in-Some.other one.by_constitution two.by_constitution one.turns two.turns
     (sym c.in-Some.is ∙ c.far_end.ensures
     ∙ (λ i. far_number (shape_at (told i)) (parents_of (told i)) (c.from-node.ensures i) ends.between ends.far.at))
-    (subst (λ n. AreRootTurns inner n ends.near.ligands.now (Some c.in-Some-2.one)) c.from-node.ensures
-    (subst (AreRootTurns inner c.from-node.result ends.near.ligands.now) c.in-Some-2.is c.in_ok-one.ensures.turns))
-    (subst (AreRootTurns inner c.in-Some.other ends.far.ligands.now) c.in-Some-3.is c.in_ok-two.ensures.turns))
+    (subst (λ n. AreRootTurns inner n one.by_constitution ends.near.ligands.now one.turns) c.from-node.ensures
+    c.in_ok-one.ensures.turns)
+    c.in_ok-two.ensures.turns)

@@ -22,12 +22,14 @@ pub returns-clause-turns : goal.returns-clause-turns
 returns-clause-turns g c =
     let inner = c.args.inner.now in
     let node = c.args.node in
-    let sides = c.in_ok-sides.sides in
+    let found = c.in_ok-found.found in
+    let sides = found.sides in
     let told = c.nodes.ensures.told ∙ ap (λ (s : Sight). s.told) c.whole.ensures in
     let numbers : c.as_slice.result.now ≡ numbers_of inner node c.requires.ready c.args.ligands.now =
     c.as_slice.ensures ∙ c.in_ok-numbers.ensures
     ∙ ap (λ all. map (ligand_number (shape_at all) (parents_of all) node) c.args.ligands.now) told in
-    subst (AreRootTurns inner node c.args.ligands.now) (sym c.turns_from.ensures)
-    (ready_early inner node c.requires.ready c.args.ligands.now sides.natural.items sides.turned.items
-    (subst (λ (ligands : List (Option ℕ)). AreEarly inner node ligands sides.natural.items sides.turned.items) numbers
-    c.in_ok-sides.ensures.early))
+    subst (AreRootTurns inner node found.by_constitution c.args.ligands.now) (sym c.turns_from.ensures)
+    (ready_early inner node c.requires.ready found.by_constitution c.args.ligands.now sides.natural.items
+    sides.turned.items
+    (subst (λ (ligands : List (Option ℕ)). AreEarly inner node found.by_constitution ligands sides.natural.items
+    sides.turned.items) numbers c.in_ok-found.ensures.early))

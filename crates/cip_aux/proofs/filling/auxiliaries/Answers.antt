@@ -9,16 +9,19 @@ use Rattle.cip_aux.proofs.Told.{whole_shows}
 use Rattle.cip_aux.proofs.filling.auxiliaries.Goals as goal
 
 pub wanted_mark-requires-clause-shows : goal.wanted_mark-requires-clause-shows
-wanted_mark-requires-clause-shows g c = whole_shows c.args.whole.now c.nodes.ensures.whole
+wanted_mark-requires-clause-shows g c =
+    whole_shows c.args.whole.now c.nodes.ensures.whole
 
 pub wanted_mark-requires-clause-joined : goal.wanted_mark-requires-clause-joined
 wanted_mark-requires-clause-joined g c =
-    units_join (sight_of c.args.whole.now) c.args.units.now c.nodes.ensures.whole.sound c.requires.sites
+    units_join (sight_of c.args.whole.now) c.args.wanted.now.units.now c.nodes.ensures.whole.sound c.requires.sites
 
 pub loop-done-preserved : goal.loop-done-preserved
 loop-done-preserved g c =
     let sight = sight_of c.args.whole.now in
-    let are = AreMarked sight c.args.units.now c.args.wanted.now in
+    let all = c.args.wanted.now.units.now in
+    let flags = c.args.wanted.now.flags.now in
+    let are = AreMarked sight all flags in
     let old = c.loop-done.marks.marks in
     let count = c.len-count.result in
     let node = count - 1 - c.loop-done.done in
@@ -31,9 +34,12 @@ loop-done-preserved g c =
     let low : node < length sight.nodes = omega (arith, many, c.loop-done-test.true) in
     record {
       room = c.wanted_mark.ensures.room ∙ c.loop-done.invariant.room;
+      stands = c.wanted_mark.ensures.stands;
       bound = ap (λ (marks : Marks). marks.bound) c.set.ensures ∙ c.loop-done.invariant.bound;
+      kept = c.wanted_mark.ensures.kept;
+      kept_room = c.wanted_mark.ensures.kept_room ∙ c.loop-done.invariant.kept_room;
       marks = subst (are (count - (c.loop-done.done + 1))) (sym (ap (λ (marks : Marks). marks.marks) c.set.ensures))
           (subst (λ k. are k (slice_set old node c.in_ok-mark.mark)) next
-          (one_more sight c.args.units.now c.args.wanted.now node old c.in_ok-mark.mark low c.in_ok-mark.ensures.mark
+          (one_more sight all flags node old c.in_ok-mark.mark low c.in_ok-mark.ensures.mark
           (subst (λ k. are k old) now c.loop-done.invariant.marks)));
     }

@@ -10,7 +10,12 @@ pub mark_of-requires-clause-below : goal.mark_of-requires-clause-below
 mark_of-requires-clause-below g c =
     let all = c.args.wanted.now.units.now in
     subst (λ (inner : Inner). AreInner inner all) (sym c.new-inner.ensures)
-    (inner_marked (record { sight = sight_of c.args.whole.now; from = c.args.node; marks = c.args.marks.now.marks })
+    (inner_marked
+    (record {
+      sight = sight_of c.args.whole.now;
+      from = c.args.behind.now.node;
+      marks = c.args.behind.now.marks.now.marks;
+    })
     c.requires.shows all c.args.wanted.now.flags.now c.requires.wanted (sym c.is_at.ensures ∙ c.if-not-is_at.false)
     c.requires.behind)
 
@@ -19,9 +24,9 @@ returns-clause-mark g c =
     let all = c.args.wanted.now.units.now in
     let sight = sight_of c.args.whole.now in
     let inner = c.new-inner.result in
-    let found = node_mark sight all (node_at sight.nodes c.args.node) in
+    let found = node_mark sight all (node_at sight.nodes c.args.behind.now.node) in
     ok_by (λ mark. mark ≡ node_mark inner.sight all (node_at inner.sight.nodes inner.from))
-    (λ mark. mark ≡ cond (flag_at c.args.wanted.now.flags.now c.args.node) found None) c.mark_of.result
+    (λ mark. mark ≡ cond (flag_at c.args.wanted.now.flags.now c.args.behind.now.node) found None) c.mark_of.result
     (λ mark e.
     e ∙ ap (λ (of : Inner). node_mark of.sight all (node_at of.sight.nodes of.from)) c.new-inner.ensures
     ∙ sym (ap (λ b. cond b found None) (sym c.is_at.ensures ∙ c.if-not-is_at.false)))

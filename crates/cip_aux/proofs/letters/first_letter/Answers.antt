@@ -1,5 +1,6 @@
-use Rattle.std.proofs.Common.{rules, ◌<◌, ◌∙◌, refl, subst, length, None}
+use Rattle.std.proofs.Common.{rules, ◌<◌, ◌∙◌, refl, subst, length}
 use Rattle.cip_aux.specs.Marking.{IsUnitLetter}
+use Rattle.cip_aux.specs.UnitsAt.{unit_at}
 use Rattle.cip_letters.proofs.OddTurns.{all_rest}
 use Rattle.cip_aux.proofs.UnitLetters.{ends_leave, none_here}
 use Rattle.cip_aux.proofs.letters.first_letter.Goals as goal
@@ -7,6 +8,9 @@ use Rattle.cip_aux.proofs.letters.first_letter.Goals as goal
 pub loop-rest-init : goal.loop-rest-init
 loop-rest-init g c = record {
   room = refl;
+  stands = c.requires.stands;
+  kept = c.requires.kept;
+  kept_room = refl;
   low = c.of-rest.ensures.low;
   left = ends_leave c.args.inner.now c.args.inner.now.from c.args.vertex c.args.units.now c.of-rest.result.now
       c.requires.ready c.requires.vertex c.of-rest.ensures;
@@ -18,9 +22,12 @@ loop-rest-preserved g c =
     let all = c.args.units.now in
     record {
       room = c.unit_letter.ensures.room ∙ c.loop-rest.invariant.room;
+      stands = c.unit_letter.ensures.stands;
+      kept = c.unit_letter.ensures.kept;
+      kept_room = c.unit_letter.ensures.kept_room ∙ c.loop-rest.invariant.kept_room;
       low = all_rest (λ place. place < length all) c.loop-rest.rest.now (search rules) c.loop-rest.invariant.low;
       left = none_here inner inner.from all c.loop-rest.rest.now _ (search rules)
-          (subst (λ unit. IsUnitLetter inner inner.from unit None) c.unit.ensures
-          (subst (IsUnitLetter inner inner.from c.unit.result.now) c.in_default-2.is c.in_ok-letter.ensures.letter))
+          (subst (IsUnitLetter inner inner.from (unit_at all _)) c.in_default-2.is
+          c.in_ok-letter.ensures.letter)
           c.loop-rest.invariant.left;
     }

@@ -1,10 +1,14 @@
 use Rattle.std.proofs.Common.{◌≡◌, ◌<◌, All, length}
+use Rattle.cip_aux.specs.KeptTurns.{AreKept, sites_in}
 use Rattle.cip_aux.proofs.UnitLetters.{Leaves}
 use Rattle.cip_aux.proofs.letters.first_letter.Given as goal
 
 abbrev pub invariant-loop-rest : goal.invariant-loop-rest
 invariant-loop-rest g l = record {
   room : g.V.Viewer.room l.viewer ≡ g.V.Viewer.room l.initial.viewer;
+  stands : g.V.Viewer.stands l.viewer l.inner.sight;
+  kept : AreKept l.inner.sight (sites_in l.units) l.kept.items;
+  kept_room : l.kept.room ≡ l.initial.kept.room;
   low : All (λ place. place < length l.units) l.rest;
   left : Leaves l.inner l.inner.from l.units l.rest;
 }

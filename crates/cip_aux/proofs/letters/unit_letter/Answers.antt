@@ -1,33 +1,22 @@
-use Rattle.std.proofs.Common.{◌∙◌, List, ap, sym, subst}
-use Rattle.cip_mol.specs.Ends.{between_of}
-use Rattle.cip_digraph.specs.rules.Auxiliary.{nearer_first}
-use Rattle.cip_digraph.specs.units.Ends.{End, ends_of}
-use Rattle.cip_letters.specs.LentEnds.{ends_in}
+use Rattle.std.proofs.Common.{◌∙◌, ap, sym, subst}
+use Rattle.cip_mol.specs.declared.site.Unit as units
 use Rattle.cip_letters.specs.Lettered.{turned_letter}
-use Rattle.cip_letters.proofs.LentEnds.{ends_are}
-use Rattle.cip_aux.specs.Marking.{AreEndTurns, IsUnitLetter}
-use Rattle.cip_aux.proofs.LentEnds.{lent_joined}
+use Rattle.cip_aux.specs.Marking.{IsUnitLetter}
+use Rattle.cip_aux.specs.UnitsAt.{unit_at}
 use Rattle.cip_aux.proofs.UnitLetters.{known_letter}
 use Rattle.cip_aux.proofs.letters.unit_letter.Goals as goal
-
-pub unit_turns-requires-clause-joined : goal.unit_turns-requires-clause-joined
-unit_turns-requires-clause-joined g c =
-    lent_joined c.args.inner.now.sight.graph c.ends-ends.result c.args.unit.now.site c.ends-ends.ensures.site
-    c.ends-ends.ensures.between c.requires.joined
 
 pub returns-in_ok-turns-in-Known-clause-letter : goal.returns-in_ok-turns-in-Known-clause-letter
 returns-in_ok-turns-in-Known-clause-letter g c =
     let inner = c.args.inner.now in
-    let unit = c.args.unit.now in
+    let here = c.args.here.now in
+    let unit = unit_at here.units.now here.place in
     let sense = c.in-Known.sense in
     let turns = c.in_ok-turns-in-Known.turns in
-    let here = c.ends-ends.ensures.site in
+    let same = c.unit-unit.ensures in
     subst (IsUnitLetter inner inner.from unit)
-    (ap (λ site. turned_letter site sense turns) (sym here) ∙ sym c.named.ensures)
-    (known_letter inner inner.from c.requires.ready unit sense c.args.vertex turns c.in-Known.is c.requires.vertex
-    (subst
-    (λ (ends : List End). AreEndTurns inner inner.from (between_of unit.site) (nearer_first c.args.vertex ends) turns)
-    (sym (ends_are c.ends-ends.result) ∙ ap ends_of here)
-    (subst
-    (λ between. AreEndTurns inner inner.from between (nearer_first c.args.vertex (ends_in c.ends-ends.result)) turns)
-    c.ends-ends.ensures.between c.in_ok-turns-in-Known.ensures.turns)))
+    (ap (λ (of : units.Unit). turned_letter of.site sense turns) (sym same)
+    ∙ ap (λ site. turned_letter site sense turns) (sym c.ends.ensures.site) ∙ sym c.named.ensures)
+    (known_letter inner inner.from c.requires.ready unit sense here.vertex turns
+    (sym (ap (λ (of : units.Unit). of.geometry) same) ∙ c.in-Known.is) c.requires.vertex
+    c.in_ok-turns-in-Known.ensures.turns)

@@ -1,42 +1,66 @@
-use Rattle.std.proofs.Common.{◌∙◌, ℕ, sym, subst}
-use Rattle.cip_label.specs.Fitting.{IsFit}
+use Rattle.std.proofs.Common.{List, sym, ap, ◌∙◌, subst}
+use Rattle.cip_constitution.specs.FollowedOut.{AreConstituted}
+use Rattle.cip_constitution.specs.declared.pairs.Pair.{Pair}
 use Rattle.cip_label.specs.Standing.{RankedAs}
 use Rattle.cip_label.specs.declared.digraphs.Ranking.TheVariants.{Known}
-use Rattle.cip_desk.specs.Standing.{by_vertices, standing_of}
-use Rattle.cip_desk.proofs.KnownRoots.{on_both, on_ok, early_ranked, late_ranked, same_constituted}
+use Rattle.cip_ligands.specs.declared.asked.Asked.{Asked}
+use Rattle.cip_desk.specs.Keeping.{StandsAnyway, kept_of}
+use Rattle.cip_desk.specs.Standing.{Standing, standing_of}
+use Rattle.cip_desk.specs.declared.aside.Aside.{Aside}
+use Rattle.cip_desk.proofs.Anyway.{early_anyway, whole_anyway}
+use Rattle.cip_desk.proofs.KnownRoots.{same_constituted}
+use Rattle.cip_desk.proofs.OpenRoots.{opened}
 use Rattle.cip_desk.proofs.whole.rank_whole.Goals as goal
 
-pub returns-then-constitute-clause-ranked : goal.returns-then-constitute-clause-ranked
-returns-then-constitute-clause-ranked c =
+pub returns-then-constitute-clause-found : goal.returns-then-constitute-clause-found
+returns-then-constitute-clause-found c =
     let setting = c.args.rooted.now.setting.now in
+    let root = c.args.rooted.now.root in
     let ligands = c.args.rooted.now.ligands.now in
     let arena = c.args.rooted.now.arena.now in
-    let fit = subst (λ (root : ℕ). IsFit setting.graph root ligands) (sym c.requires.rooted.at) c.requires.rooted.fit in
-    let standing = c.take.new.self in
-    on_both c.take.result c.take.ensures.natural c.take.ensures.turned
-    (λ natural turned. subst
-    (λ (root : ℕ). RankedAs setting arena.bound root ligands (standing_of standing) Known) c.requires.rooted.at
-    (early_ranked setting ligands arena c.requires.rooted.holds c.graph-graph.ensures.proper.sound fit
-    c.requires.rooted.fits c.requires.settled c.constitute.new.self (c.constitute.ensures.pairs ∙ c.requires.pairs)
+    let told = early_anyway setting root ligands arena c.requires.rooted c.graph-graph.ensures.proper c.requires.settled
+    c.constitute.new.self (c.constitute.ensures.pairs ∙ c.requires.pairs)
     (same_constituted c.rules.result setting.rules c.graph-graph.result.now setting.graph c.positions.result.now
     setting.positions arena c.constitute.new.self c.rules.ensures c.graph-graph.ensures.value c.positions.ensures
-    c.constitute.ensures.constituted) (sym c.constitute.ensures.all ∙ c.if-constitute.true) standing
-    (natural ∙ (λ k. by_vertices (c.pairs.ensures k) (c.noted.ensures k)))
-    (turned ∙ (λ k. by_vertices (c.pairs.ensures k) (c.noted.ensures k)))))
+    c.constitute.ensures.constituted) (sym c.constitute.ensures.all ∙ c.if-constitute.true) in
+    subst (λ (noted : List Asked). StandsAnyway (kept_of setting root ligands) arena.bound noted Known)
+    (sym c.in_ok-take_noted.ensures.kept) told
 
-pub returns-clause-ranked : goal.returns-clause-ranked
-returns-clause-ranked c =
+pub returns-then-constitute-clause-ranking : goal.returns-then-constitute-clause-ranking
+returns-then-constitute-clause-ranking c =
     let setting = c.args.rooted.now.setting.now in
+    let root = c.args.rooted.now.root in
     let ligands = c.args.rooted.now.ligands.now in
     let arena = c.args.rooted.now.arena.now in
-    let fit = subst (λ (root : ℕ). IsFit setting.graph root ligands) (sym c.requires.rooted.at) c.requires.rooted.fit in
-    let standing = c.configure.new.self in
-    on_ok c.configure.result c.configure.ensures.ordered
-    (λ ordered. subst
-    (λ (root : ℕ). RankedAs setting arena.bound root ligands (standing_of standing) Known) c.requires.rooted.at
-    (late_ranked setting ligands arena c.requires.rooted.holds c.graph-graph.ensures.proper.sound fit
-    c.requires.rooted.fits c.requires.settled c.constitute.new.self (c.constitute.ensures.pairs ∙ c.requires.pairs)
+    let told = early_anyway setting root ligands arena c.requires.rooted c.graph-graph.ensures.proper c.requires.settled
+    c.constitute.new.self (c.constitute.ensures.pairs ∙ c.requires.pairs)
     (same_constituted c.rules.result setting.rules c.graph-graph.result.now setting.graph c.positions.result.now
     setting.positions arena c.constitute.new.self c.rules.ensures c.graph-graph.ensures.value c.positions.ensures
-    c.constitute.ensures.constituted) (sym c.constitute.ensures.all ∙ c.if-constitute.false)
-    c.find_marks.new.tables.marks.marks c.in_ok-find_marks.ensures.marks standing ordered))
+    c.constitute.ensures.constituted) (sym c.constitute.ensures.all ∙ c.if-constitute.true) in
+    subst (λ (s : Standing). RankedAs setting arena.bound root ligands (standing_of s) Known)
+    (sym c.in_ok-take_noted.ensures.standing) (told.each setting.units c.graph-graph.ensures.proper.sites)
+
+pub returns-clause-found : goal.returns-clause-found
+returns-clause-found c =
+    let setting = c.args.rooted.now.setting.now in
+    let root = c.args.rooted.now.root in
+    let ligands = c.args.rooted.now.ligands.now in
+    let arena = c.args.rooted.now.arena.now in
+    let trying = c.constitute.new.self in
+    let kept = kept_of setting root ligands in
+    let are = c.constitute.ensures.pairs ∙ c.requires.pairs in
+    let aside = c.rank_open.ensures.aside in
+    let constituted = same_constituted c.rules.result setting.rules c.graph-graph.result.now setting.graph c.positions.result.now
+    setting.positions arena trying c.rules.ensures c.graph-graph.ensures.value c.positions.ensures
+    c.constitute.ensures.constituted in
+    opened kept arena c.requires.rooted.holds c.requires.rooted.at c.requires.rooted.fits
+    (whole_anyway setting root ligands arena c.requires.rooted c.graph-graph.ensures.proper c.requires.settled)
+    trying.branched trying.noted c.rank_open.new.work c.rank_open.new.tables c.args.tables.now.aside.ranks.room
+    (c.in_ok-rank_open.ensures.pairs ∙ are)
+    (ap (λ (aside : Aside). aside.ranks) aside ∙ c.set_aside.ensures.ranks) c.set_aside.ensures.count
+    c.in_ok-rank_open.ensures.same
+    (ap (λ (aside : Aside). aside.noted.items) aside ∙ c.in_ok-set_aside.ensures.noted)
+    c.in_ok-rank_open.ensures.len
+    (subst (λ (pairs : List Pair). AreConstituted setting.rules setting.graph setting.positions arena pairs
+    trying.branched trying.noted) are constituted)
+    (sym c.constitute.ensures.all ∙ c.if-constitute.false) c.rank_open.ensures.turns

@@ -1,7 +1,12 @@
 use Rattle.std.proofs.Common.{◌≡◌, ◌∙◌, ap, sym, subst, arith, true, Bool, List, length, map}
 use Rattle.cip_digraph.specs.digraph.NodeList.{parents_of}
+use Rattle.std.specs.declared.option.Option.{Option}
+use Rattle.cip_rows.specs.Reserved.{Reserved}
+use Rattle.cip_aux.specs.KeptTurns.{AreKept, sites_in}
+use Rattle.cip_aux.specs.declared.kept_turns.KeptTurn.{KeptTurn}
 use Rattle.cip_aux.specs.Marking.{node_mark, flag_at, AreMarked, AreWanted}
 use Rattle.cip_aux.specs.Sights.{sight_of}
+use Rattle.cip_aux.proofs.Keeping.{none_kept}
 use Rattle.cip_aux.proofs.NodeMarks.{all_marked}
 use Rattle.cip_aux.proofs.Told.{whole_shows}
 use Rattle.cip_inside.proofs.WantedNodes.{all_wanted, on_by, wanted_at}
@@ -10,9 +15,16 @@ use Rattle.cip_inside.proofs.inside.descriptors_inside.Goals as goal
 pub descriptors_where-requires-clause-wanted : goal.descriptors_where-requires-clause-wanted
 descriptors_where-requires-clause-wanted g c =
     let parents = parents_of c.args.whole.now.told in
-    subst (AreWanted parents) (sym (c.as_slice.ensures.value ∙ c.in_ok-wanted.ensures))
+    subst (AreWanted parents) (sym (c.as_slice.ensures.value ∙ c.in_ok-flags.ensures))
     (all_wanted parents c.len-count.result
     (c.len-count.ensures.len ∙ ap length c.table.ensures ∙ ap (λ all. length (parents_of all)) c.nodes.ensures.told))
+
+pub descriptors_where-requires-clause-kept : goal.descriptors_where-requires-clause-kept
+descriptors_where-requires-clause-kept g c =
+    let sight = sight_of c.args.whole.now in
+    let sites = sites_in c.args.units.now in
+    subst (λ (kept : Reserved (Option KeptTurn)). AreKept sight sites kept.items) (sym c.in_ok-none.ensures)
+    (none_kept sight sites)
 
 pub returns-clause-marks : goal.returns-clause-marks
 returns-clause-marks g c =
@@ -29,6 +41,6 @@ returns-clause-marks g c =
     (λ are.
     all_marked sight all c.as_slice.result.now marks
     (λ k low. subst (λ (flags : List Bool). flag_at flags k ≡ true)
-    (sym (c.as_slice.ensures.value ∙ c.in_ok-wanted.ensures))
+    (sym (c.as_slice.ensures.value ∙ c.in_ok-flags.ensures))
     (wanted_at c.len-count.result k (omega (arith, low, count)))) are)
     c.descriptors_where.ensures.marks

@@ -1,7 +1,7 @@
 use Rattle.std.proofs.Common.{[], ◌∷◌, refl, sym, ◌∙◌}
 use Rattle.cip_mol.specs.declared.outcome.Rule.TheVariants.{R3, R4b, R4c, R5}
 use Rattle.cip_ligands.proofs.ConfigurationDecided.{decides_more, decides_early}
-use Rattle.cip_ligands.proofs.TakenSteps.{fewer_still}
+use Rattle.cip_ligands.proofs.TakenSteps.{fewer_still, same_then}
 use Rattle.cip_ligands.proofs.configuration.decide_before_last.Goals as goal
 
 pub returns-then-decide_before_readings-clause-decided : goal.returns-then-decide_before_readings-clause-decided
@@ -23,3 +23,8 @@ pub returns-clause-wanted : goal.returns-clause-wanted
 returns-clause-wanted g c =
     fewer_still c.args.branches.now c.decide_before_readings.new.branches c.decide_from_readings.new.branches
     c.decide_before_readings.ensures.wanted c.decide_from_readings.ensures.wanted
+
+pub returns-clause-same : goal.returns-clause-same
+returns-clause-same g c =
+    same_then c.args.branches.now c.decide_before_readings.new.branches c.decide_from_readings.new.branches
+    c.decide_before_readings.ensures.same c.decide_from_readings.ensures.same

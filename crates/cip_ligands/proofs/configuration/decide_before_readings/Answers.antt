@@ -1,7 +1,7 @@
-use Rattle.std.proofs.Common.{[], ◌∷◌, refl, sym, ◌∙◌}
+use Rattle.std.proofs.Common.{true, [], ◌∷◌, refl, sym, ◌∙◌}
 use Rattle.cip_mol.specs.declared.outcome.Rule.TheVariants.{R3, R4a, R4b}
 use Rattle.cip_ligands.proofs.ConfigurationDecided.{decides_one, decides_more, decides_early}
-use Rattle.cip_ligands.proofs.TakenSteps.{fewer_still}
+use Rattle.cip_ligands.proofs.TakenSteps.{fewer_still, same_marked, same_then}
 use Rattle.cip_ligands.proofs.configuration.decide_before_readings.Goals as goal
 
 pub returns-then-take_marked-clause-decided : goal.returns-then-take_marked-clause-decided
@@ -34,3 +34,18 @@ returns-clause-decided g c =
 pub returns-clause-wanted : goal.returns-clause-wanted
 returns-clause-wanted g c = fewer_still c.args.branches.now c.take_marked.new.branches c.take_marked-2.new.branches
     c.take_marked.ensures.wanted c.take_marked-2.ensures.wanted
+
+pub returns-then-take_marked-clause-same : goal.returns-then-take_marked-clause-same
+returns-then-take_marked-clause-same g c =
+    same_marked (g.M.Marked.marks c.args.marks.now) true R3 c.args.branches.now c.args.asked.now
+    c.take_marked.new.branches c.take_marked.new.asked c.take_marked.ensures.taken
+
+pub returns-clause-same : goal.returns-clause-same
+returns-clause-same g c =
+    let marks = g.M.Marked.marks c.args.marks.now in
+    let mid = c.take_marked.new.branches in
+    let now = c.take_marked-2.new.branches in
+    same_then c.args.branches.now mid now
+    (same_marked marks true R3 c.args.branches.now c.args.asked.now mid c.take_marked.new.asked
+    c.take_marked.ensures.taken)
+    (same_marked marks true R4a mid c.take_marked.new.asked now c.take_marked-2.new.asked c.take_marked-2.ensures.taken)

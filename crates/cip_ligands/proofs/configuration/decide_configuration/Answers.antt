@@ -1,4 +1,5 @@
 use Rattle.std.proofs.Common.{true, false, ◌∙◌}
+use Rattle.cip_ligands.proofs.TakenSteps.{same_still}
 use Rattle.cip_ligands.proofs.UnmarkedBranches.{unmarked_order}
 use Rattle.cip_ligands.proofs.configuration.decide_configuration.Goals as goal
 
@@ -16,3 +17,6 @@ returns-then-are_unmarked-clause-decided g c seen named node count begin within 
 pub returns-clause-decided : goal.returns-clause-decided
 returns-clause-decided g c seen named node count begin within before known =
     c.decide_marked.ensures.decided.each seen named node count begin within before known
+
+pub returns-then-are_unmarked-clause-same : goal.returns-then-are_unmarked-clause-same
+returns-then-are_unmarked-clause-same g c = same_still c.args.branches.now

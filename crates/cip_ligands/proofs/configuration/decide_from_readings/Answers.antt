@@ -1,6 +1,7 @@
-use Rattle.std.proofs.Common.{[], ◌∷◌, refl, sym, ◌∙◌}
+use Rattle.std.proofs.Common.{true, [], ◌∷◌, refl, sym, ◌∙◌}
 use Rattle.cip_mol.specs.declared.outcome.Rule.TheVariants.{R4b, R4c, R5}
 use Rattle.cip_ligands.proofs.ConfigurationDecided.{decides_one, decides_more, decides_early}
+use Rattle.cip_ligands.proofs.TakenSteps.{same_marked, same_still}
 use Rattle.cip_ligands.proofs.configuration.decide_from_readings.Goals as goal
 
 pub returns-then-decide_by_readings-clause-decided : goal.returns-then-decide_by_readings-clause-decided
@@ -21,3 +22,11 @@ returns-clause-decided g c =
     (sym c.decide_by_readings.ensures.all ∙ c.if-decide_by_readings.false) refl
     (record { each = λ t place p. p })
     (decides_one marks R4c R5 refl refl (λ seen. refl) (λ seen node. refl) old now half new c.take_marked.ensures.taken)
+
+pub returns-then-decide_by_readings-clause-same : goal.returns-then-decide_by_readings-clause-same
+returns-then-decide_by_readings-clause-same g c = same_still c.args.branches.now
+
+pub returns-clause-same : goal.returns-clause-same
+returns-clause-same g c =
+    same_marked (g.M.Marked.marks c.args.marks.now) true R4c c.args.branches.now c.decide_by_readings.new.asked
+    c.take_marked.new.branches c.take_marked.new.asked c.take_marked.ensures.taken

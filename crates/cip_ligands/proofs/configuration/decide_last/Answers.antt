@@ -1,6 +1,7 @@
 use Rattle.std.proofs.Common.{◌∙◌, false, true}
 use Rattle.cip_mol.specs.declared.outcome.Rule.TheVariants.{R5}
 use Rattle.cip_ligands.proofs.MarkedKeys.{taken_by_marks, taken_by_none, uncounted_turned}
+use Rattle.cip_ligands.proofs.TakenSteps.{same_branches, same_still}
 use Rattle.cip_ligands.proofs.configuration.decide_last.Goals as goal
 
 pub returns-then-not-some_count-clause-decided : goal.returns-then-not-some_count-clause-decided
@@ -34,3 +35,11 @@ returns-clause-turned g c = record {
   takes = taken_by_marks (g.M.Marked.marks c.args.marks.now) c.args.branches.now c.args.asked.now
       c.take_both_ways.new.turned false R5 c.take_both_ways.new.branches c.take_both_ways.ensures.turned;
 }
+
+pub returns-then-not-some_count-clause-same : goal.returns-then-not-some_count-clause-same
+returns-then-not-some_count-clause-same g c = same_still c.args.branches.now
+
+pub returns-clause-same : goal.returns-clause-same
+returns-clause-same g c =
+    same_branches c.args.branches.now _ R5 c.args.asked.now c.take_both_ways.new.branches c.take_both_ways.new.turned
+    c.take_both_ways.ensures.turned

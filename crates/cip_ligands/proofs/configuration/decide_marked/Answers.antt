@@ -1,6 +1,7 @@
 use Rattle.std.proofs.Common.{true, false, sym, ◌∙◌}
 use Rattle.cip_ligands.proofs.ConfigurationDecided.{last_decides, decided_before}
 use Rattle.cip_ligands.proofs.MarkedPlaces.{marks_stay}
+use Rattle.cip_ligands.proofs.TakenSteps.{same_then}
 use Rattle.cip_ligands.proofs.configuration.decide_marked.Goals as goal
 
 pub returns-then-decide_before_last-clause-decided : goal.returns-then-decide_before_last-clause-decided
@@ -34,3 +35,8 @@ returns-clause-decided g c = record {
             still turned.takes,
       );
 }
+
+pub returns-clause-same : goal.returns-clause-same
+returns-clause-same g c =
+    same_then c.args.branches.now c.decide_before_last.new.branches c.decide_last.new.branches
+    c.decide_before_last.ensures.same c.decide_last.ensures.same

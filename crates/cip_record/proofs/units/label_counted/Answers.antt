@@ -1,5 +1,6 @@
 use Rattle.std.proofs.Common.{◌∙◌, ap, subst, ◌<◌, length}
 use Rattle.cip_digraph.specs.graph.Graph.{Graph}
+use Rattle.cip_record.specs.Images.{AreFound}
 use Rattle.cip_record.proofs.UnitLists.{has_room, next_unit}
 use Rattle.cip_record.proofs.units.label_counted.Goals as goal
 
@@ -23,5 +24,8 @@ loop-place-preserved g c = record {
       (c.drawn.ensures.value ∙ ap (λ (graph : Graph). graph.drawn) c.graph.ensures.value) c.loop-place.invariant.kept
       c.in_ok-outcome.ensures.outcome;
   all = c.loop-place.invariant.all;
-  kept = c.label.ensures.kept ∙ c.loop-place.invariant.kept;
+  kept = c.outcome_of.ensures.kept ∙ c.loop-place.invariant.kept;
+  found =
+      subst (λ bound. AreFound c.args.setting.now bound c.outcome_of.new.images) c.loop-place.invariant.kept
+      c.in_ok-outcome.ensures.found;
 }

@@ -1,5 +1,6 @@
 use Rattle.std.proofs.Common.{◌≡◌, map, take}
 use Rattle.cip_record.specs.Answers.{unit_answer}
+use Rattle.cip_record.specs.Images.{AreFound}
 use Rattle.cip_record.proofs.units.label_counted.Given as goal
 
 abbrev pub invariant-loop-place : goal.invariant-loop-place
@@ -9,4 +10,5 @@ invariant-loop-place g l = record {
       (take l.place l.setting.units);
   all : l.units ≡ l.setting.units;
   kept : l.labeller ≡ l.fn.labeller;
+  found : AreFound l.setting l.fn.labeller l.images;
 }

@@ -1,0 +1,171 @@
+-- What is kept of the turns of units, and what one entry more says.
+use Rattle.std.proofs.Common.{◌≡◌, ℕ, zero, suc, ◌==◌, ◌&&◌, ◌⊎◌, Bool, true, false, cond, List, [], ◌∷◌, refl, sym, ap, ◌∙◌, subst, None, Some, IfSome, inl, inr, replicate, slice_index_or, slice_set, eqb-true}
+use Rattle.std.specs.declared.option.Option.{Option}
+use Rattle.cip_mol.specs.Ends.{as_site, between_in, between_of}
+use Rattle.cip_mol.specs.declared.ends.Ends.{Ends}
+use Rattle.cip_mol.specs.declared.descriptor.Descriptor.{Descriptor}
+use Rattle.cip_mol.specs.declared.site.Site.{Site}
+use Rattle.cip_mol.specs.declared.site.Unit as units
+use Rattle.cip_digraph.specs.digraph.Telling.{node_at}
+use Rattle.cip_digraph.specs.rules.Auxiliary.{nearer_first, roots_at}
+use Rattle.cip_digraph.specs.units.Ends.{End, ends_of}
+use Rattle.cip_letters.specs.declared.turns.Turns.{Turns}
+use Rattle.cip_letters.specs.LentEnds.{ends_in}
+use Rattle.cip_letters.specs.TurnsOf.{roots_turns}
+use Rattle.cip_letters.proofs.LentEnds.{ends_are}
+use Rattle.cip_rows.specs.Reserved.{Reserved}
+use Rattle.cip_aux.specs.Inner.{Inner, AgreesInside, Counts}
+use Rattle.cip_aux.specs.KeptTurns.{AreConstant, AreKept, if_of, kept_at, site_at, sites_in}
+use Rattle.cip_aux.specs.Marking.{AreEndTurns}
+use Rattle.cip_aux.specs.Sights.{Sight, path_at}
+use Rattle.cip_aux.specs.UnitsAt.{unit_at}
+use Rattle.cip_aux.specs.declared.kept_turns.KeptTurn.{KeptTurn}
+
+-- no entries
+pub none_kept : (sight : Sight) (sites : List Site) → AreKept sight sites []
+none_kept sight sites = record { each = λ node turn e. let bad : None ≡ Some turn = e in cc }
+
+abbrev nothing : Option KeptTurn
+nothing = None
+
+nothing_at : (count node : ℕ) → slice_index_or (replicate count nothing) node nothing ≡ nothing
+nothing_at zero node = refl
+nothing_at (suc count) zero = refl
+nothing_at (suc count) (suc node) = nothing_at count node
+
+-- empty entries
+pub empty_kept : (sight : Sight) (sites : List Site) (count : ℕ) → AreKept sight sites (replicate count None)
+empty_kept sight sites count = record {
+  each = λ node turn e. let bad : None ≡ Some turn = sym (nothing_at count node) ∙ e in cc;
+}
+
+-- what is kept rests on the sight and the sites alone
+pub same_kept : (sight other : Sight) (sites others : List Site) (kept : List (Option KeptTurn)) → sight ≡ other
+    → sites ≡ others → AreKept sight sites kept → AreKept other others kept
+same_kept sight other sites others kept e f are =
+    subst (λ s. AreKept s others kept) e (subst (λ (of : List Site). AreKept sight of kept) f are)
+
+set_gives : (kept : List (Option KeptTurn)) (node k : ℕ) (turn found : KeptTurn)
+    → slice_index_or (slice_set kept node (Some turn)) k None ≡ Some found
+    → ((node ≡ k) × (turn ≡ found)) ⊎ (slice_index_or kept k None ≡ Some found)
+set_gives [] node k turn found e = inr e
+set_gives (first ∷ kept) zero zero turn found e = let same : turn ≡ found = cc in inl (refl, same)
+set_gives (first ∷ kept) zero (suc k) turn found e = inr e
+set_gives (first ∷ kept) (suc node) zero turn found e = inr e
+set_gives (first ∷ kept) (suc node) (suc k) turn found e = elim (set_gives kept node k turn found e) [
+  | inl same ↦ inl (ap suc same.0, same.1)
+  | inr before ↦ inr before
+]
+
+-- one entry more
+pub more_kept : (sight : Sight) (sites : List Site) (kept : List (Option KeptTurn)) (node : ℕ) (turn : KeptTurn)
+    → AreKept sight sites kept → AreConstant sight node (site_at sites turn.place) (Some turn.turns)
+    → AreKept sight sites (slice_set kept node (Some turn))
+more_kept sight sites kept node turn are new = record {
+  each = λ k found e. elim (set_gives kept node k turn found e) [
+    | inl same ↦
+        subst (λ n. AreConstant sight n (site_at sites found.place) (Some found.turns)) same.0
+        (subst (λ (t : KeptTurn). AreConstant sight node (site_at sites t.place) (Some t.turns)) same.1 new)
+    | inr before ↦ are.each k found before
+  ];
+}
+
+-- the entry that is found at a node is that of the unit
+pub kept_gives : (kept : List (Option KeptTurn)) (node place : ℕ) (turn : KeptTurn)
+    → kept_at kept node place ≡ Some turn
+    → (slice_index_or kept node None ≡ Some turn) × (turn.place ≡ place)
+kept_gives kept node place turn e = by (slice_index_or kept node None) e
+  where
+    of_same : (found : KeptTurn) (b : Bool) → found.place == place ≡ b → cond b (Some found) None ≡ Some turn
+        → (Some found ≡ Some turn) × (turn.place ≡ place)
+    of_same found true t e =
+        let same : found ≡ turn = cc in
+        (e, sym (ap (λ (k : KeptTurn). k.place) same) ∙ eqb-true found.place place t)
+    of_same found false t e = let bad : None ≡ Some turn = e in cc
+
+    by : (found : Option KeptTurn) → if_of place found ≡ Some turn → (found ≡ Some turn) × (turn.place ≡ place)
+    by None e = let bad : None ≡ Some turn = e in cc
+    by (Some found) e = of_same found (found.place == place) refl e
+
+-- the site of a unit by its place
+pub site_is : (all : List units.Unit) (place : ℕ) → site_at (sites_in all) place ≡ (unit_at all place).site
+site_is [] place = refl
+site_is (unit ∷ all) zero = refl
+site_is (unit ∷ all) (suc place) = site_is all place
+
+module _ (inner : Inner) where
+  -- descriptors that agree count in any case
+  pub agrees_count : (b : Bool) (mark : List ℕ → Option Descriptor) → AgreesInside inner mark → Counts b inner mark
+  agrees_count true mark agrees = tt
+  agrees_count false mark agrees = agrees
+
+  pub counts_both : (a b : Bool) (mark : List ℕ → Option Descriptor) → Counts (a && b) inner mark
+      → Counts a inner mark × Counts b inner mark
+  counts_both true b mark counts = (tt, counts)
+  counts_both false b mark counts = (counts, agrees_count b mark counts)
+
+  module _ (vertex : ℕ) (site : Site) (turns : Option Turns)
+      (here : vertex ≡ (node_at inner.sight.nodes inner.from).vertex) where
+    abbrev TurnsBy : Bool → Type 0
+    TurnsBy b = AreEndTurns inner inner.from b (between_of site) (nearer_first vertex (ends_of site)) turns
+
+    abbrev at_vertex : (List ℕ → Option Descriptor) → ℕ → Option Turns
+    at_vertex mark v =
+        roots_turns (roots_at inner.sight.rules inner.sight.graph inner.sight.positions mark
+        (path_at inner.sight.nodes inner.from) (between_of site) (nearer_first v (ends_of site)))
+
+    -- what constitution told of a unit
+    pub constant_by : TurnsBy true → AreConstant inner.sight inner.from site turns
+    constant_by told = record { each = λ mark. told.each mark tt ∙ ap (at_vertex mark) here }
+
+    pub constant_is : AreConstant inner.sight inner.from site turns → TurnsBy false
+    constant_is told = record { each = λ mark agrees. told.each mark ∙ ap (at_vertex mark) (sym here) }
+
+  -- the turns of ends that are lent are those of the site
+  pub lent_turns : (vertex : ℕ) (b : Bool) (turns : Option Turns) (lent : Ends) (site : Site) → as_site lent ≡ site
+      → between_in lent ≡ between_of site
+      → AreEndTurns inner inner.from b (between_in lent) (nearer_first vertex (ends_in lent)) turns
+      → AreEndTurns inner inner.from b (between_of site) (nearer_first vertex (ends_of site)) turns
+  lent_turns vertex b turns lent site same between told =
+      subst
+      (λ (ends : List End). AreEndTurns inner inner.from b (between_of site) (nearer_first vertex ends) turns)
+      (sym (ends_are lent) ∙ ap ends_of same)
+      (subst (λ (way : List ℕ). AreEndTurns inner inner.from b way (nearer_first vertex (ends_in lent)) turns) between
+      told)
+
+  module _ (vertex : ℕ) (all : List units.Unit) (place : ℕ)
+      (here : vertex ≡ (node_at inner.sight.nodes inner.from).vertex) where
+    abbrev UnitTurns : Bool → Option Turns → Type 0
+    UnitTurns b turns =
+        let site = (unit_at all place).site in
+        AreEndTurns inner inner.from b (between_of site) (nearer_first vertex (ends_of site)) turns
+
+    -- an entry that is found tells the turns of the unit
+    pub found_told : (kept : List (Option KeptTurn)) (node : ℕ) (turn : KeptTurn) → node ≡ inner.from
+        → AreKept inner.sight (sites_in all) kept → kept_at kept node place ≡ Some turn
+        → UnitTurns false (Some turn.turns)
+    found_told kept node turn same are e =
+        let gives = kept_gives kept node place turn e in
+        constant_is vertex (unit_at all place).site (Some turn.turns) here
+        (subst (λ site. AreConstant inner.sight inner.from site (Some turn.turns)) (site_is all place)
+        (subst (λ p. AreConstant inner.sight inner.from (site_at (sites_in all) p) (Some turn.turns)) gives.1
+        (subst (λ n. AreConstant inner.sight n (site_at (sites_in all) turn.place) (Some turn.turns)) same
+        (are.each node turn gives.0))))
+
+    -- what constitution told of the unit is kept
+    pub told_kept : (turns : Option Turns) (old new : Reserved (Option KeptTurn)) (node : ℕ) → node ≡ inner.from
+        → UnitTurns true turns → AreKept inner.sight (sites_in all) old.items
+        → (turns ≡ None → new ≡ old)
+        → IfSome turns (λ found. new ≡ record old {
+          items = slice_set old.items node (Some (record { place = place; turns = found }));
+        })
+        → AreKept inner.sight (sites_in all) new.items
+    told_kept None old new node same told are none some =
+        subst (λ (kept : Reserved (Option KeptTurn)). AreKept inner.sight (sites_in all) kept.items)
+        (sym (none refl)) are
+    told_kept (Some found) old new node same told are none some =
+        let constant = constant_by vertex (unit_at all place).site (Some found) here told in
+        subst (λ (kept : Reserved (Option KeptTurn)). AreKept inner.sight (sites_in all) kept.items) (sym some)
+        (more_kept inner.sight (sites_in all) old.items node (record { place = place; turns = found }) are
+        (subst (λ n. AreConstant inner.sight n (site_at (sites_in all) place) (Some found)) (sym same)
+        (subst (λ site. AreConstant inner.sight inner.from site (Some found)) (sym (site_is all place)) constant)))

@@ -1,0 +1,32 @@
+use Rattle.std.proofs.Common.{◌∙◌, ap, subst, true}
+use Rattle.cip_mol.specs.Ends.{between_in, between_of}
+use Rattle.cip_mol.specs.declared.site.Unit as units
+use Rattle.cip_digraph.specs.rules.Auxiliary.{nearer_first}
+use Rattle.cip_letters.specs.LentEnds.{ends_in}
+use Rattle.cip_aux.specs.Marking.{AreEndTurns}
+use Rattle.cip_aux.specs.UnitsAt.{unit_at}
+use Rattle.cip_aux.proofs.Keeping.{lent_turns, told_kept}
+use Rattle.cip_aux.proofs.LentEnds.{lent_joined}
+use Rattle.cip_aux.proofs.letters.seen_turns.Goals as goal
+
+pub unit_turns-requires-clause-joined : goal.unit_turns-requires-clause-joined
+unit_turns-requires-clause-joined g c =
+    let here = c.args.here.now in
+    let site = ap (λ (unit : units.Unit). unit.site) c.unit.ensures in
+    lent_joined c.args.inner.now.sight.graph c.ends-ends.result (unit_at here.units.now here.place).site
+    (c.ends-ends.ensures.site ∙ site) (c.ends-ends.ensures.between ∙ ap between_of site) c.requires.joined
+
+pub returns-then-found-clause-kept : goal.returns-then-found-clause-kept
+returns-then-found-clause-kept g c =
+    let inner = c.args.inner.now in
+    let here = c.args.here.now in
+    let found = c.in_ok-found.found in
+    let all = here.units.now in
+    let site = ap (λ (unit : units.Unit). unit.site) c.unit.ensures in
+    told_kept inner here.vertex all here.place c.requires.vertex found.turns c.args.kept.now c.keep.new.kept
+    c.from.result c.from.ensures
+    (lent_turns inner here.vertex true found.turns c.ends-ends.result (unit_at all here.place).site
+    (c.ends-ends.ensures.site ∙ site) (c.ends-ends.ensures.between ∙ ap between_of site)
+    (subst (λ b. AreEndTurns inner inner.from b (between_in c.ends-ends.result)
+    (nearer_first here.vertex (ends_in c.ends-ends.result)) found.turns) c.if-found.true c.in_ok-found.ensures.turns))
+    c.requires.kept c.keep.ensures.none c.keep.ensures.some

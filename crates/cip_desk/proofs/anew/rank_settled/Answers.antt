@@ -1,0 +1,48 @@
+use Rattle.std.proofs.Common.{sym, subst}
+use Rattle.cip_constitution.specs.Settling.{SettledAs}
+use Rattle.cip_label.specs.Standing.{RankedAs}
+use Rattle.cip_label.specs.declared.digraphs.Ranking.TheVariants.{Known}
+use Rattle.cip_desk.specs.Desks.{settled_by}
+use Rattle.cip_desk.specs.Standing.{Standing, standing_of}
+use Rattle.cip_desk.proofs.Anyway.{over_anyway, tied_anyway}
+use Rattle.cip_desk.proofs.SettledRoots.{over_ranked, tied_ranked}
+use Rattle.cip_desk.proofs.anew.rank_settled.Goals as goal
+
+pub returns-in-Over-clause-found : goal.returns-in-Over-clause-found
+returns-in-Over-clause-found c =
+    let rooted = c.args.rooted.now in
+    over_anyway rooted.setting.now rooted.root rooted.ligands.now rooted.arena.now c.requires.rooted c.requires.proper
+    c.args.tables.now.aside.noted.items
+    (subst (SettledAs (settled_by rooted.setting.now rooted.ligands.now) rooted.arena.now) c.in-Over.is
+    c.requires.settled)
+
+pub returns-in-Over-clause-ranking : goal.returns-in-Over-clause-ranking
+returns-in-Over-clause-ranking c =
+    let rooted = c.args.rooted.now in
+    over_ranked rooted.setting.now rooted.ligands.now rooted.root rooted.arena.now c.requires.rooted.holds
+    c.requires.rooted.at (standing_of c.args.branches.now)
+    (subst (SettledAs (settled_by rooted.setting.now rooted.ligands.now) rooted.arena.now) c.in-Over.is
+    c.requires.settled)
+
+pub returns-in-Tied-clause-found : goal.returns-in-Tied-clause-found
+returns-in-Tied-clause-found c =
+    let rooted = c.args.rooted.now in
+    tied_anyway rooted.setting.now rooted.root rooted.ligands.now rooted.arena.now c.requires.rooted c.requires.proper
+    c.args.tables.now.aside.noted.items
+    (subst (SettledAs (settled_by rooted.setting.now rooted.ligands.now) rooted.arena.now) c.in-Tied.is
+    c.requires.settled)
+
+pub returns-in-Tied-clause-ranking : goal.returns-in-Tied-clause-ranking
+returns-in-Tied-clause-ranking c =
+    let rooted = c.args.rooted.now in
+    tied_ranked rooted.setting.now rooted.ligands.now rooted.root rooted.arena.now c.requires.rooted.holds
+    c.requires.rooted.at (standing_of c.args.branches.now) c.requires.proper.sound c.requires.rooted.fit
+    (subst (SettledAs (settled_by rooted.setting.now rooted.ligands.now) rooted.arena.now) c.in-Tied.is
+    c.requires.settled) c.requires.rooted.fits
+
+pub returns-in_ok-rank_ordered-in-Ordered-clause-ranking : goal.returns-in_ok-rank_ordered-in-Ordered-clause-ranking
+returns-in_ok-rank_ordered-in-Ordered-clause-ranking c =
+    let rooted = c.args.rooted.now in
+    subst (λ (s : Standing). RankedAs rooted.setting.now rooted.arena.now.bound rooted.root rooted.ligands.now
+    (standing_of s) Known) (sym c.in_ok-rank_ordered-in-Ordered.ensures.standing)
+    (c.in_ok-rank_ordered-in-Ordered.ensures.told.each rooted.setting.now.units c.requires.proper.sites)

@@ -1,0 +1,18 @@
+use Rattle.std.proofs.Common.{◌∙◌, subst}
+use Rattle.cip_desk.specs.Keeping.{FoundAs, StandsAnyway, kept_of}
+use Rattle.cip_desk.proofs.Ready.{found_kept, told_ranked}
+use Rattle.cip_desk.proofs.recalling.recall.Goals as goal
+
+pub returns-in_ok-take_named-in-Told-clause-ranking : goal.returns-in_ok-take_named-in-Told-clause-ranking
+returns-in_ok-take_named-in-Told-clause-ranking c =
+    let told = c.args.told.now in
+    let bench = c.args.bench.now in
+    let kept = kept_of told.setting.now told.root told.ligands.now in
+    let noted = bench.tables.aside.noted.items in
+    let found = subst (FoundAs kept bench.arena bench.work bench.tables) c.in-Told.is
+    (found_kept bench c.args.found kept c.requires.found c.requires.root c.requires.ready.kept) in
+    told_ranked told.setting.now told.root told.ligands.now told.bound noted c.in-Told.ranking c.take_named.new.self
+    c.graph-graph.ensures.proper
+    (subst (λ bound. StandsAnyway kept bound noted c.in-Told.ranking) c.requires.ready.room.arena found)
+    (c.in_ok-take_named-in-Told.ensures.natural ∙ c.as_slice.ensures.value)
+    (c.in_ok-take_named-in-Told.ensures.turned ∙ c.as_slice.ensures.value)

@@ -1,0 +1,174 @@
+// Roots whose digraph is grown anew.
+ghost use Rattle.std.specs.Prelude.{◌≡◌, ◌≤◌, ◌∷◌, [], IfOk, OnOk};
+ghost use Rattle.cip_constitution.specs.FollowedOut.{AreFollowedOut};
+ghost use Rattle.cip_constitution.specs.Noting.{Notes};
+ghost use Rattle.cip_constitution.specs.Pairs.{pairs_of};
+ghost use Rattle.cip_constitution.specs.Settling.{SettledAs};
+ghost use Rattle.cip_digraph.specs.units.Ends.{end_at};
+ghost use Rattle.cip_label.specs.Fitting.{IsFit};
+ghost use Rattle.cip_label.specs.Settings.{IsProper};
+ghost use Rattle.cip_label.specs.Standing.{RankedAs};
+ghost use Rattle.cip_label.specs.declared.digraphs.Ranking.TheVariants.{Known};
+ghost use Rattle.cip_label.specs.Steps.{Rises};
+ghost use Rattle.cip_desk.specs.Desks.{settled_by};
+ghost use Rattle.cip_desk.specs.Keeping.{FoundAs, HaveRoom, StandsAnyway, kept_of, ranking_in};
+ghost use Rattle.cip_desk.specs.Rooting.{HasRoom, IsRooted};
+ghost use Rattle.cip_desk.specs.Standing.{both_as, standing_of};
+
+use crate::bench::Bench;
+use crate::branches::{Branches, take_noted};
+use crate::memo::Found;
+use crate::rooted::Rooted;
+use crate::whole::{Tables, rank_whole};
+use cip_arena::Arena;
+use cip_constitution::{Settled, Work, settle};
+use cip_early::RootedLigands;
+use cip_label::{Ranking, Setting};
+use cip_mol::Ligands;
+use cip_rank::Steps;
+use std::alloc::{AllocError, Global};
+use std::sync::ledger::Ledger;
+
+// Grows the digraph of a root until its ligands are settled.
+fn settle_root<L: Ledger>(
+    arena: &mut Arena,
+    work: &mut Work,
+    setting: &Setting<'_>,
+    root: u32,
+    ligands: &Ligands,
+    steps: &mut Steps<L>,
+) -> Settled
+    requires fit { IsFit setting.now.graph root ligands.now }
+    requires some { 1 ≤ arena.old.bound }
+    requires room { arena.old.bound ≤ work.old.bound }
+    requires pairs { work.old.pairs ≡ pairs_of ligands.now }
+    ensures settled { SettledAs (settled_by setting.now ligands.now) arena.new result }
+    ensures rooted { IsRooted setting.now root ligands.now arena.new }
+    ensures bound { arena.new.bound ≡ arena.old.bound }
+    ensures cost { Rises setting.now arena.old.bound (end_at root ligands.now ∷ []) steps.old steps.new }
+    ensures work { work.new.bound ≡ work.old.bound }
+    ensures pairs { work.new.pairs ≡ pairs_of ligands.now }
+    ensures noted { result ≡ Settled.Ordered → Notes setting.now.graph setting.now.positions arena.new.root
+        arena.new.bound arena.new.sphere work.new.pairs work.new.noted }
+    ensures followed { result ≡ Settled.Whole → AreFollowedOut setting.now.graph setting.now.positions arena.new
+        work.new }
+    ensures proper { IsProper setting.now }
+{
+    let graph = setting.graph();
+    arena.start(graph, root);
+    settle(
+        arena,
+        work,
+        graph,
+        setting.positions(),
+        setting.units(),
+        ligands.as_slice(),
+        setting.rules(),
+        steps,
+    )
+}
+
+// Ranks the ligands of a root by how they were settled.
+fn rank_settled(
+    alloc: Global,
+    settled: Settled,
+    rooted: &Rooted<'_, '_>,
+    work: &mut Work,
+    tables: &mut Tables,
+    branches: &mut Branches,
+) -> Result<Found, AllocError>
+    requires rooted { IsRooted rooted.now.setting.now rooted.now.root rooted.now.ligands.now rooted.now.arena.now }
+    requires proper { IsProper rooted.now.setting.now }
+    requires settled { SettledAs (settled_by rooted.now.setting.now rooted.now.ligands.now) rooted.now.arena.now settled }
+    requires pairs { work.old.pairs ≡ pairs_of rooted.now.ligands.now }
+    requires noted { settled ≡ Settled.Ordered → Notes rooted.now.setting.now.graph rooted.now.setting.now.positions
+        rooted.now.arena.now.root rooted.now.arena.now.bound rooted.now.arena.now.sphere work.old.pairs work.old.noted }
+    requires followed { settled ≡ Settled.Whole → AreFollowedOut rooted.now.setting.now.graph
+        rooted.now.setting.now.positions rooted.now.arena.now work.old }
+    requires room { HasRoom rooted.now.arena.now.bound tables.old }
+    ensures found { IfOk result (FoundAs (kept_of rooted.now.setting.now rooted.now.root rooted.now.ligands.now)
+        rooted.now.arena.now work.new tables.new) }
+    ensures ranking { IfOk result (λ found. RankedAs rooted.now.setting.now rooted.now.arena.now.bound rooted.now.root
+        rooted.now.ligands.now (standing_of branches.new) (ranking_in found)) }
+    ensures work { work.new.bound ≡ work.old.bound }
+    ensures room { HasRoom rooted.now.arena.now.bound tables.new }
+{
+    match settled {
+        Settled::Over => Ok(Found::Told(Ranking::Over)),
+        Settled::Tied => Ok(Found::Told(Ranking::Tied)),
+        Settled::Ordered => {
+            rank_ordered(rooted, work, tables, branches)?;
+            Ok(Found::Told(Ranking::Known))
+        }
+        Settled::Whole => rank_whole(alloc, rooted, work, tables, branches),
+    }
+}
+
+// Ranks the ligands of a root that all differ by Rule 1a: what it decides was noted while they were settled.
+fn rank_ordered(
+    rooted: &Rooted<'_, '_>,
+    work: &Work,
+    tables: &mut Tables,
+    branches: &mut Branches,
+) -> Result<(), AllocError>
+    requires rooted { IsRooted rooted.now.setting.now rooted.now.root rooted.now.ligands.now rooted.now.arena.now }
+    requires settled { SettledAs (settled_by rooted.now.setting.now rooted.now.ligands.now) rooted.now.arena.now
+        Settled.Ordered }
+    requires pairs { work.now.pairs ≡ pairs_of rooted.now.ligands.now }
+    requires noted { Notes rooted.now.setting.now.graph rooted.now.setting.now.positions rooted.now.arena.now.root
+        rooted.now.arena.now.bound rooted.now.arena.now.sphere work.now.pairs work.now.noted }
+    requires room { HasRoom rooted.now.arena.now.bound tables.old }
+    ensures told { OnOk result (StandsAnyway (kept_of rooted.now.setting.now rooted.now.root rooted.now.ligands.now)
+        rooted.now.arena.now.bound tables.new.aside.noted.items Known) }
+    ensures standing { OnOk result (branches.new ≡ both_as tables.new.aside.noted.items) }
+    ensures room { HasRoom rooted.now.arena.now.bound tables.new }
+{
+    let _graph = rooted.setting.graph();
+    take_noted(work, branches, &mut tables.aside.noted)
+}
+
+/// Ranks the ligands of a root by its digraph, as far as they need it.
+pub fn rank_anew<L: Ledger>(
+    alloc: Global,
+    told: &RootedLigands<'_, '_>,
+    bench: &mut Bench,
+    branches: &mut Branches,
+    steps: &mut Steps<L>,
+) -> Result<Found, AllocError>
+    requires fit { IsFit told.now.setting.now.graph told.now.root told.now.ligands.now }
+    requires some { 1 ≤ told.now.bound }
+    requires room { HaveRoom told.now.bound bench.old }
+    ensures room { HaveRoom told.now.bound bench.new }
+    ensures memo { bench.new.memo ≡ bench.old.memo }
+    ensures found { IfOk result (FoundAs (kept_of told.now.setting.now told.now.root told.now.ligands.now)
+        bench.new.arena bench.new.work bench.new.tables) }
+    ensures ranking { IfOk result (λ found. RankedAs told.now.setting.now told.now.bound told.now.root
+        told.now.ligands.now (standing_of branches.new) (ranking_in found)) }
+    ensures cost { Rises told.now.setting.now told.now.bound (end_at told.now.root told.now.ligands.now ∷ [])
+        steps.old steps.new }
+{
+    let (setting, root, ligands) = (told.setting, told.root, told.ligands);
+    bench.work.ask(ligands);
+    let settled = settle_root(
+        &mut bench.arena,
+        &mut bench.work,
+        setting,
+        root,
+        ligands,
+        steps,
+    );
+    let rooted = Rooted {
+        arena: &bench.arena,
+        setting,
+        root,
+        ligands,
+    };
+    rank_settled(
+        alloc,
+        settled,
+        &rooted,
+        &mut bench.work,
+        &mut bench.tables,
+        branches,
+    )
+}

@@ -1,0 +1,108 @@
+-- Looks that are kept: they stand again as constitution left them, and each is one of this digraph.
+use Rattle.std.proofs.Common.{◌≡◌, ◌∙◌, ◌<◌, ◌==◌, ◌&&◌, ℕ, Bool, true, false, List, [], ◌∷◌, None, Some, All, Contains, IfSome, length, map, get_or, slice_get, refl, sym, ap, subst, arith, eqb-true}
+use Rattle.std.specs.List.{list_all}
+use Rattle.std.specs.Option.{option_map}
+use Rattle.std.specs.Prelude.{unwrap_or}
+use Rattle.std.specs.declared.option.Option.{Option}
+use Rattle.std.proofs.lemmas.List.{length-map}
+use Rattle.std.proofs.lemmas.Option.{get_or_from_slice_get, slice_get-get_or, slice_get-map, slice_get_within}
+use Rattle.cip_aux.specs.Neighbours.{neighbours_of}
+use Rattle.cip_aux.specs.Sights.{Sight}
+use Rattle.cip_branches.specs.Deciding.{Branched}
+use Rattle.cip_branches.specs.Saving.{Saved, restored, saved_of}
+use Rattle.cip_digraph.specs.digraph.NodeList.{parents_of}
+use Rattle.cip_ligands.specs.Asking.{is_decided}
+use Rattle.cip_ligands.specs.declared.asked.Asked.{Asked}
+use Rattle.cip_ligands.proofs.TakenSteps.{same_still, stands_back}
+use Rattle.cip_inside.specs.Asking.{asked_pairs}
+use Rattle.cip_inside.specs.Near.{AreConstituted, asked_tops}
+use Rattle.cip_inside.specs.OpenLooks.{IsOpen, Look, asks, same_ligand, same_ligands}
+
+pub stood : (bound : ℕ) (sight : Sight) (look : Look) (is : IsOpen bound sight look)
+    → restored look.ranks look.branched ≡ is.begin
+stood bound sight look is =
+    ap (λ (s : Saved). restored s look.branched) is.ranks
+    ∙ stands_back is.begin look.branched look.ranks.room is.constituted.placed.followed is.same
+
+-- one of them
+pub at_place : {X : Type 0} (P : X → Type 0) (xs : List X) (place : ℕ) (x : X) → All P xs → slice_get xs place ≡ Some x → P x
+at_place P xs place x all at =
+    subst P (get_or_from_slice_get xs place x x at) (all place x (slice_get_within xs place x at))
+
+-- there is one at each place
+pub some_at : {X : Type 0} (xs : List X) (place : ℕ) → place < length xs → (x : X) × (slice_get xs place ≡ Some x)
+some_at [] place within = absurd (omega (arith, within))
+some_at (x ∷ xs) place within = (get_or (x ∷ xs) place x, slice_get-get_or (x ∷ xs) place x within)
+
+some_is : {X : Type 0} (x y : X) → Some x ≡ Some y → x ≡ y
+some_is x y e = ap (λ o. unwrap_or o y) e
+
+-- what it is made of
+pub made_of : {X Y : Type 0} (f : X → Y) (xs : List X) (place : ℕ) (y : Y) → slice_get (map f xs) place ≡ Some y
+    → (x : X) × (slice_get xs place ≡ Some x) × (f x ≡ y)
+made_of f xs place y at =
+    let found =
+    some_at xs place
+    (subst (λ n. place < n) (length-map xs f) (slice_get_within (map f xs) place y at)) in (
+      found.0,
+      found.1,
+      some_is (f found.0) y (sym (ap (option_map f) found.1) ∙ sym (slice_get-map f xs place) ∙ at),
+    )
+
+-- as constitution has just left it
+pub opened : (bound : ℕ) (sight : Sight) (node : ℕ) (ligands : List (Option ℕ)) (begin : Branched) (pairs : List Asked)
+    (room : ℕ) → All (λ ligand. IfSome ligand (Contains (neighbours_of (parents_of sight.told) node))) ligands
+    → 0 < length (asked_tops (parents_of sight.told) ligands node)
+    → AreConstituted sight node (asked_tops (parents_of sight.told) ligands node) begin
+    (asked_pairs (asked_tops (parents_of sight.told) ligands node) ligands) pairs
+    → list_all is_decided pairs ≡ false
+    → length begin.layers.ranked.numbers ≡ length begin.layers.kin.ups
+    → begin.layers.kin.room ≡ bound
+    → IsOpen bound sight (record {
+      node = node;
+      ligands = ligands;
+      pairs = pairs;
+      branched = begin;
+      ranks = saved_of room begin;
+    })
+opened bound sight node ligands begin pairs room next some constituted undone numbers kept = record {
+  begin = begin;
+  next = next;
+  some = some;
+  constituted = constituted;
+  undone = undone;
+  ranks = refl;
+  numbers = numbers;
+  same = same_still begin;
+  room = kept;
+}
+
+both_true : (a b : Bool) → (a && b) ≡ true → (a ≡ true) × (b ≡ true)
+both_true true b e = (refl, e)
+both_true false b e = let bad : true ≡ false = sym e in absurd (true_not_false bad)
+  where
+    true_not_false : true ≡ false → ⊥
+    true_not_false e = cc
+
+same_one : (one other : Option ℕ) → same_ligand one other ≡ true → one ≡ other
+same_one None None e = refl
+same_one None (Some b) e = let bad : true ≡ false = sym e in cc
+same_one (Some a) None e = let bad : true ≡ false = sym e in cc
+same_one (Some a) (Some b) e = ap Some (eqb-true a b e)
+
+same_all : (ones others : List (Option ℕ)) → same_ligands ones others ≡ true → ones ≡ others
+same_all [] [] e = refl
+same_all [] (b ∷ others) e = let bad : true ≡ false = sym e in cc
+same_all (a ∷ ones) [] e = let bad : true ≡ false = sym e in cc
+same_all (a ∷ ones) (b ∷ others) e =
+    let both = both_true (same_ligand a b) (same_ligands ones others) e in
+    (λ i. same_one a b both.0 i ∷ same_all ones others both.1 i)
+
+pub asked_node : (look : Look) (node : ℕ) (ligands : List (Option ℕ)) → asks look node ligands ≡ true → look.node ≡ node
+asked_node look node ligands e =
+    eqb-true look.node node (both_true (look.node == node) (same_ligands look.ligands ligands) e).0
+
+pub asked_ligands : (look : Look) (node : ℕ) (ligands : List (Option ℕ)) → asks look node ligands ≡ true
+    → look.ligands ≡ ligands
+asked_ligands look node ligands e =
+    same_all look.ligands ligands (both_true (look.node == node) (same_ligands look.ligands ligands) e).1

@@ -1,0 +1,35 @@
+use Rattle.std.proofs.Common.{◌≡◌, ◌∙◌, List, Some, IfOk, slice_get, sym, ap, subst}
+use Rattle.std.proofs.lemmas.Option.{slice_get-map}
+use Rattle.std.specs.Option.{option_map}
+use Rattle.cip_aux.specs.Early.{AreEarly}
+use Rattle.cip_inside.specs.OpenLooks.{Look, look_of}
+use Rattle.cip_inside.specs.declared.open_looks.OpenLook.{OpenLook}
+use Rattle.cip_inside.proofs.OpenAgain.{made_of}
+use Rattle.cip_inside.proofs.open_looks.OpenLooks.go_on.Goals as goal
+
+pub look_again-requires-clause-ready : goal.look_again-requires-clause-ready
+look_again-requires-clause-ready g c = λ look at.
+    c.requires.ready (look_of look)
+    (subst (λ (ls : List Look). slice_get ls c.args.place ≡ Some (look_of look)) c.self.view_is
+    (slice_get-map look_of c.self.inside.looks.items c.args.place
+    ∙ ap (option_map look_of)
+    (subst (λ (ls : List OpenLook). slice_get ls c.args.place ≡ Some look) c.as_mut_slice.ensures.value at)))
+
+pub look_again-requires-clause-tops : goal.look_again-requires-clause-tops
+look_again-requires-clause-tops g c = λ look at.
+    c.requires.tops (look_of look)
+    (subst (λ (ls : List Look). slice_get ls c.args.place ≡ Some (look_of look)) c.self.view_is
+    (slice_get-map look_of c.self.inside.looks.items c.args.place
+    ∙ ap (option_map look_of)
+    (subst (λ (ls : List OpenLook). slice_get ls c.args.place ≡ Some look) c.as_mut_slice.ensures.value at)))
+
+pub returns-clause-early : goal.returns-clause-early
+returns-clause-early g c = λ look at.
+    let items = c.self.inside.looks.items in
+    let found = made_of look_of items c.args.place look
+    (subst (λ (ls : List Look). slice_get ls c.args.place ≡ Some look) (sym c.self.view_is) at) in
+    subst (λ (l : Look). IfOk c.look_again.result
+    (λ found. AreEarly c.args.inner.now l.node found.by_constitution l.ligands found.sides.natural.items
+    found.sides.turned.items)) found.2
+    (c.look_again.ensures.early found.0
+    (subst (λ (ls : List OpenLook). slice_get ls c.args.place ≡ Some found.0) (sym c.as_mut_slice.ensures.value) found.1))

@@ -1,0 +1,212 @@
+// Looks into a digraph of which those are kept that constitution leaves open.
+ghost use Rattle.std.specs.Prelude.{◌≡◌, ◌<◌, ◌≤◌, ℕ, List, true, false, All, Contains, IfOk, IfSome, Some, length, map, slice_get};
+ghost use Rattle.std.specs.List.{list_all};
+ghost use Rattle.std.specs.declared.option.Option.{Option};
+ghost use Rattle.cip_aux.specs.Early.{AreEarly};
+ghost use Rattle.cip_aux.specs.Inner.{Inner as AnyInner, Ready};
+ghost use Rattle.cip_aux.specs.Neighbours.{neighbours_of};
+ghost use Rattle.cip_branches.specs.Saving.{saved_of};
+ghost use Rattle.cip_digraph.specs.digraph.NodeList.{parents_of};
+ghost use Rattle.cip_ligands.specs.Asking.{is_decided};
+ghost use Rattle.cip_ligands.specs.Taking.{AreSame};
+ghost use Rattle.cip_inside.specs.Asking.{asked_pairs, side_at};
+ghost use Rattle.cip_inside.specs.Near.{AreConstituted, ArePlaced, AreTops, asked_tops};
+ghost use Rattle.cip_inside.specs.OpenLooks.{AreOpen, IsOpen, look_of};
+ghost use Rattle.cip_inside.specs.declared.open_looks.OpenLook.{OpenLook as OpenedLook};
+
+use crate::asking::{ask_all, both_sides};
+use crate::near::Near;
+use crate::open_looks::{MOST_LIGANDS, OpenLook, OpenLooks};
+use crate::sights::configure;
+use cip_aux::{Decided, Inner};
+use cip_branches::{Branches, SavedRanks};
+use cip_digraph::Nodes;
+use cip_letters::MOST_PAIRS;
+use cip_ligands::{Asked, Readings};
+use smallvec::SmallVec;
+use std::alloc::{AllocError, Global};
+
+/// A node and those of its ligands that are looked at.
+#[derive(Clone, Copy)]
+pub struct Look<'a> {
+    pub node: u32,
+    pub ligands: &'a [Option<u32>],
+}
+
+// What constitution alone tells.
+fn settled(alloc: Global, pairs: &[Asked]) -> Result<Decided, AllocError>
+    ensures { (inner : AnyInner) (node : ℕ) (ligands : List (Option ℕ))
+        → AreEarly inner node true ligands (map side_at pairs.now) (map side_at pairs.now)
+        → IfOk result (λ found. AreEarly inner node found.by_constitution ligands found.sides.natural.items
+        found.sides.turned.items) }
+{
+    Ok(Decided {
+        sides: both_sides(alloc, pairs, pairs)?,
+        by_constitution: true,
+    })
+}
+
+// Takes the rules behind Rule 2 where constitution leaves a pair open.
+fn configured<N: Nodes>(
+    alloc: Global,
+    near: &mut Near,
+    readings: &mut Readings,
+    inner: &Inner<'_, N>,
+    node: u32,
+    pairs: &mut [Asked],
+) -> Result<Decided, AllocError>
+    requires room { length inner.now.sight.told ≤ readings.old.bound }
+    requires ready { Ready inner.now node }
+    requires tops { AreTops (parents_of inner.now.sight.told) node near.old.tops }
+    requires placed { ArePlaced inner.now.sight node near.old.tops near.old.now }
+    ensures early { (ligands : List (Option ℕ))
+        → All (λ ligand. IfSome ligand (Contains (neighbours_of (parents_of inner.now.sight.told) node))) ligands
+        → near.old.tops ≡ asked_tops (parents_of inner.now.sight.told) ligands node
+        → 0 < length near.old.tops
+        → AreConstituted inner.now.sight node near.old.tops near.old.now (asked_pairs near.old.tops ligands) pairs.old
+        → list_all is_decided pairs.old ≡ false
+        → IfOk result (λ found. AreEarly inner.now node found.by_constitution ligands found.sides.natural.items
+        found.sides.turned.items) }
+    ensures same { AreSame near.old.now near.new.now }
+    ensures bound { near.new.bound ≡ near.old.bound }
+    ensures readings { readings.new.bound ≡ readings.old.bound }
+{
+    let mut turned = SmallVec::<Asked, MOST_PAIRS>::from_slice(alloc, pairs)?;
+    let others = turned.as_mut_slice();
+    configure(near, readings, inner, node, pairs, others);
+    Ok(Decided {
+        sides: both_sides(alloc, pairs, others)?,
+        by_constitution: false,
+    })
+}
+
+// Takes the branches of a look, which constitution left open.
+fn taken(
+    alloc: Global,
+    near: &mut Near,
+    asked: &Look<'_>,
+    pairs: &[Asked],
+) -> Result<OpenLook, AllocError>
+    ensures node { IfOk result (λ look. look.node ≡ asked.now.node) }
+    ensures ligands { IfOk result (λ look. look.ligands.items ≡ asked.now.ligands.now) }
+    ensures pairs { IfOk result (λ look. look.pairs.items ≡ pairs.now) }
+    ensures branches { IfOk result (λ look. look.branches ≡ near.old.now) }
+    ensures ranks { IfOk result (λ look. look.ranks ≡ saved_of look.ranks.room near.old.now) }
+    ensures numbers { IfOk result (λ look. length near.old.now.layers.ranked.numbers
+        ≡ length near.old.now.layers.kin.ups) }
+    ensures room { IfOk result (λ look. look.branches.layers.kin.room ≡ near.old.bound) }
+    ensures bound { near.new.bound ≡ near.old.bound }
+    ensures tops { near.new.tops ≡ near.old.tops }
+{
+    let ligands = SmallVec::<Option<u32>, MOST_LIGANDS>::from_slice(alloc, asked.ligands)?;
+    let pairs = SmallVec::<Asked, MOST_PAIRS>::from_slice(alloc, pairs)?;
+    let mut branches = Branches::reserve(alloc, near.room())?;
+    let mut ranks = SavedRanks::reserve(alloc, near.len())?;
+    near.save(&mut ranks);
+    near.swap(&mut branches);
+    Ok(OpenLook {
+        node: asked.node,
+        ligands,
+        pairs,
+        branches,
+        ranks,
+    })
+}
+
+// Goes on with an open look from where constitution left its branches, by the descriptors that count.
+fn go_on<N: Nodes>(
+    alloc: Global,
+    near: &mut Near,
+    readings: &mut Readings,
+    inner: &Inner<'_, N>,
+    look: &mut OpenLook,
+) -> Result<Decided, AllocError>
+    requires bound { length inner.now.sight.told ≤ near.old.bound }
+    requires room { near.old.bound ≤ readings.old.bound }
+    requires ready { Ready inner.now look.old.node }
+    requires tops { near.old.tops ≡ asked_tops (parents_of inner.now.sight.told) look.old.ligands.items look.old.node }
+    requires open { IsOpen near.old.bound inner.now.sight (look_of look.old) }
+    ensures early { IfOk result (λ found. AreEarly inner.now look.old.node found.by_constitution look.old.ligands.items
+        found.sides.natural.items found.sides.turned.items) }
+    ensures open { IsOpen near.old.bound inner.now.sight (look_of look.new) }
+    ensures near { near.new.bound ≡ near.old.bound }
+    ensures readings { readings.new.bound ≡ readings.old.bound }
+{
+    let mut pairs = SmallVec::<Asked, MOST_PAIRS>::from_slice(alloc, look.pairs.as_slice())?;
+    near.swap(&mut look.branches);
+    near.restore(&look.ranks);
+    let found = configured(
+        alloc,
+        near,
+        readings,
+        inner,
+        look.node,
+        pairs.as_mut_slice(),
+    );
+    near.swap(&mut look.branches);
+    found
+}
+
+/// Looks from a node at ligands whose branches were begun, and keeps the look where constitution leaves it open and there
+/// is room.
+pub fn look_first<N: Nodes>(
+    alloc: Global,
+    near: &mut Near,
+    readings: &mut Readings,
+    inner: &Inner<'_, N>,
+    asked: &Look<'_>,
+    open: &mut OpenLooks,
+) -> Result<Decided, AllocError>
+    requires room { near.old.bound ≤ readings.old.bound }
+    requires ready { Ready inner.now asked.now.node }
+    requires next { All (λ ligand. IfSome ligand (Contains (neighbours_of (parents_of inner.now.sight.told)
+        asked.now.node))) asked.now.ligands.now }
+    requires tops { near.old.tops ≡ asked_tops (parents_of inner.now.sight.told) asked.now.ligands.now asked.now.node }
+    requires open { AreOpen near.old.bound inner.now.sight open.old }
+    ensures early { IfOk result (λ found. AreEarly inner.now asked.now.node found.by_constitution asked.now.ligands.now
+        found.sides.natural.items found.sides.turned.items) }
+    ensures open { AreOpen near.old.bound inner.now.sight open.new }
+    ensures near { near.new.bound ≡ near.old.bound }
+    ensures readings { readings.new.bound ≡ readings.old.bound }
+{
+    let mut pairs = ask_all(alloc, near, asked.ligands)?;
+    let found = pairs.as_mut_slice();
+    if near.is_empty() {
+        return settled(alloc, found);
+    }
+    if near.constitution(inner.whole(), asked.node, found) {
+        return settled(alloc, found);
+    }
+    if !open.has_room(near.len()) {
+        return configured(alloc, near, readings, inner, asked.node, found);
+    }
+    let mut look = taken(alloc, near, asked, found)?;
+    let decided = go_on(alloc, near, readings, inner, &mut look)?;
+    open.push(look)?;
+    Ok(decided)
+}
+
+/// Goes on with the look at a place of those that are kept.
+pub fn look_again<N: Nodes>(
+    alloc: Global,
+    near: &mut Near,
+    readings: &mut Readings,
+    inner: &Inner<'_, N>,
+    looks: &mut [OpenLook],
+    place: usize,
+) -> Result<Decided, AllocError>
+    requires room { near.old.bound ≤ readings.old.bound }
+    requires place { place < length looks.old }
+    requires ready { (look : OpenedLook) → slice_get looks.old place ≡ Some look → Ready inner.now look.node }
+    requires tops { (look : OpenedLook) → slice_get looks.old place ≡ Some look → near.old.tops
+        ≡ asked_tops (parents_of inner.now.sight.told) look.ligands.items look.node }
+    requires open { AreOpen near.old.bound inner.now.sight (map look_of looks.old) }
+    ensures early { (look : OpenedLook) → slice_get looks.old place ≡ Some look → IfOk result
+        (λ found. AreEarly inner.now look.node found.by_constitution look.ligands.items found.sides.natural.items
+        found.sides.turned.items) }
+    ensures open { AreOpen near.old.bound inner.now.sight (map look_of looks.new) }
+    ensures near { near.new.bound ≡ near.old.bound }
+    ensures readings { readings.new.bound ≡ readings.old.bound }
+{
+    go_on(alloc, near, readings, inner, &mut looks[place])
+}

@@ -1,0 +1,168 @@
+// Looks that constitution leaves open, with their branches as they stand behind Rule 2: asked again with other descriptors
+// they need no rule of constitution.
+ghost use Rattle.std.specs.Prelude.{◌≡◌, ◌<◌, ◌≤◌, ◌++◌, ◌∷◌, [], true, IfOk, IfSome, OnErr, OnOk, Some, length, slice_get};
+ghost use Rattle.cip_aux.specs.Early.{AreEarly};
+ghost use Rattle.cip_aux.specs.Inner.{Ready};
+ghost use Rattle.cip_inside.specs.OpenLooks.{Look as AnyLook, AreOpen, asks, look_of, looked_at, same_ligand, same_ligands};
+
+use crate::keeping::look_again;
+use crate::near::Near;
+use cip_aux::{Decided, Inner};
+use cip_branches::{Branches, SavedRanks};
+use cip_digraph::Nodes;
+use cip_letters::MOST_PAIRS;
+use cip_ligands::{Asked, Readings};
+use smallvec::SmallVec;
+use std::alloc::{AllocError, Global};
+use std::marker::Model;
+
+/// An end of a unit has at most so many ligands.
+pub const MOST_LIGANDS: usize = 4;
+
+/// So many looks are kept at most.
+const MOST_LOOKS: usize = 64;
+
+/// A look from a node at some of its ligands.
+#[derive(Drop)]
+pub struct OpenLook {
+    pub node: u32,
+    pub ligands: SmallVec<Option<u32>, MOST_LIGANDS>,
+    // what constitution decides between each two of them
+    pub pairs: SmallVec<Asked, MOST_PAIRS>,
+    pub branches: Branches,
+    // the ranks of the branches behind Rule 2
+    pub ranks: SavedRanks,
+}
+
+impl OpenLook {
+    fn asks(&self, node: u32, ligands: &[Option<u32>]) -> bool
+        ensures { result ≡ asks (look_of self.now) node ligands.now }
+    {
+        self.node == node && are_same(self.ligands.as_slice(), ligands)
+    }
+}
+
+/// Looks into one digraph, and for how many more places there is room. Contracts see the looks.
+#[derive(Drop)]
+pub struct OpenLooks {
+    looks: Vec<OpenLook>,
+    left: u32,
+}
+
+impl Model for OpenLooks {
+    ghost use Rattle.std.specs.Prelude.{List, map};
+    ghost use Rattle.cip_inside.specs.OpenLooks.{Look, look_of};
+
+    ghost Value = { List Look };
+
+    ghost view = { λ kept. map look_of kept.looks.items };
+}
+
+impl OpenLooks {
+    /// None, and none will be kept.
+    pub fn none(alloc: Global) -> OpenLooks
+        ensures { result ≡ [] }
+    {
+        OpenLooks {
+            looks: Vec::new(alloc),
+            left: 0,
+        }
+    }
+
+    /// Forgets all, and makes room for so many places.
+    pub fn begin(&mut self, places: u32)
+        ensures { self.new ≡ [] }
+    {
+        self.looks.clear();
+        self.left = places;
+    }
+
+    /// Whether a look with so many places can be kept.
+    pub fn has_room(&self, places: u32) -> bool {
+        places <= self.left && self.looks.len() < MOST_LOOKS
+    }
+
+    /// The place of the look from a node at these ligands.
+    pub fn find(&self, node: u32, ligands: &[Option<u32>]) -> Option<usize>
+        ensures within { IfSome result (λ place. place < length self.now) }
+        ensures asks { IfSome result (λ place. (look : AnyLook) → slice_get self.now place ≡ Some look
+            → asks look node ligands.now ≡ true) }
+    {
+        for place in 0..self.looks.len() {
+            if self.looks[place].asks(node, ligands) {
+                return Some(place);
+            }
+        }
+        None
+    }
+
+    /// Goes on with the look at a place.
+    pub fn go_on<N: Nodes>(
+        &mut self,
+        alloc: Global,
+        near: &mut Near,
+        readings: &mut Readings,
+        inner: &Inner<'_, N>,
+        place: usize,
+    ) -> Result<Decided, AllocError>
+        requires room { near.old.bound ≤ readings.old.bound }
+        requires place { place < length self.old }
+        requires ready { (look : AnyLook) → slice_get self.old place ≡ Some look → Ready inner.now look.node }
+        requires tops { (look : AnyLook) → slice_get self.old place ≡ Some look → near.old.tops
+            ≡ looked_at inner.now.sight look }
+        requires open { AreOpen near.old.bound inner.now.sight self.old }
+        ensures early { (look : AnyLook) → slice_get self.old place ≡ Some look → IfOk result
+            (λ found. AreEarly inner.now look.node found.by_constitution look.ligands found.sides.natural.items
+            found.sides.turned.items) }
+        ensures open { AreOpen near.old.bound inner.now.sight self.new }
+        ensures near { near.new.bound ≡ near.old.bound }
+        ensures readings { readings.new.bound ≡ readings.old.bound }
+    {
+        look_again(
+            alloc,
+            near,
+            readings,
+            inner,
+            self.looks.as_mut_slice(),
+            place,
+        )
+    }
+
+    /// Keeps one more.
+    pub fn push(&mut self, look: OpenLook) -> Result<(), AllocError>
+        ensures added { OnOk result (self.new ≡ self.old ++ look_of look ∷ []) }
+        ensures refused { OnErr result (self.new ≡ self.old) }
+    {
+        self.left = self.left.saturating_sub(look.branches.len());
+        self.looks.push(look)?;
+        Ok(())
+    }
+}
+
+fn is_same(one: Option<u32>, other: Option<u32>) -> bool
+    ensures { result ≡ same_ligand one other }
+{
+    match (one, other) {
+        (None, None) => true,
+        (Some(one), Some(other)) => one == other,
+        (None, Some(_)) | (Some(_), None) => false,
+    }
+}
+
+fn are_same(one: &[Option<u32>], other: &[Option<u32>]) -> bool
+    ensures { result ≡ same_ligands one.now other.now }
+{
+    let mut ones = one;
+    let mut others = other;
+    while let [first, ones_left @ ..] = ones {
+        let [second, others_left @ ..] = others else {
+            return false;
+        };
+        if !is_same(*first, *second) {
+            return false;
+        }
+        ones = ones_left;
+        others = others_left;
+    }
+    others.is_empty()
+}
