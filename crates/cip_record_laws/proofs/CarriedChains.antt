@@ -13,7 +13,7 @@ use Rattle.cip_carried.specs.Images.{Among}
 use Rattle.cip_carried.proofs.lists.Arranged.{filter_arranged}
 use Rattle.cip_laws.proofs.units.CarriedAxes.{double_back, doubles_moved, middle_carried}
 use Rattle.cip_carried.proofs.lists.CarriedLists.{filter_carried, same_eq}
-use Rattle.cip_carried.proofs.digraph.CarriedNodes.{IsRenamed}
+use Rattle.cip_carried.specs.Renamed.{IsRenamed}
 use Rattle.cip_carried.proofs.graph.SingleLigands.{single}
 use Rattle.cip_carried.proofs.lists.Truths.{and_parts, and_both, true_not_false}
 use Rattle.cip_record_laws.proofs.TurnedLists.{long_onto, onto}

@@ -19,7 +19,7 @@ use Rattle.cip_carried.specs.Images.{Among}
 use Rattle.cip_carried.proofs.lists.Among.{among_map, from_map, among_filter, from_filter, among_flat, from_flat, among_arranged, among_range, from_range}
 use Rattle.cip_laws.proofs.units.CarriedAxes.{axis_end_carried, doubles_moved, double_from}
 use Rattle.cip_carried.proofs.lists.CarriedLists.{in_carried}
-use Rattle.cip_carried.proofs.digraph.CarriedNodes.{Way, way, ways, way_image, IsRenamed}
+use Rattle.cip_carried.specs.Renamed.{Way, way, ways, way_image, IsRenamed}
 use Rattle.cip_laws.proofs.units.CarriedSites.{SameUnit, two_same}
 use Rattle.cip_laws.proofs.graph.WaySymmetry.{back_way, leads_back, way_there, way_from}
 use Rattle.cip_carried.proofs.lists.Truths.{and_parts, and_both, not_true, not_false}

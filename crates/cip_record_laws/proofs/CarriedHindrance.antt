@@ -15,7 +15,8 @@ use Rattle.cip_mancude.specs.SharedRings.{share_ring}
 use Rattle.cip_axis.specs.Biaryls.{stands_beside, is_hindered, hindered_at, is_biaryl_end}
 use Rattle.cip_carried.proofs.lists.Arranged.{filter_arranged}
 use Rattle.cip_carried.proofs.lists.CarriedLists.{filter_carried, any_carried, same_eq}
-use Rattle.cip_carried.proofs.digraph.CarriedNodes.{IsRenamed, delocalised_carried}
+use Rattle.cip_carried.proofs.digraph.CarriedNodes.{delocalised_carried}
+use Rattle.cip_carried.specs.Renamed.{IsRenamed}
 use Rattle.cip_carried.proofs.graph.CarriedPositions.{degree_carried, neighbours_moved, positions_renamed}
 use Rattle.cip_laws.proofs.units.CarriedSites.{SameUnit, end_bonds_carried, outer_moved, z_same}
 use Rattle.cip_laws.proofs.graph.CarriedSmallRings.{steps_carried, steps_turned}

@@ -30,7 +30,7 @@ use Rattle.cip_carried.proofs.graph.CarriedPositions.{positions_renamed}
 use Rattle.cip_laws.proofs.graph.DelocalisedEnds.{delocalised_at_both}
 use Rattle.cip_laws.proofs.graph.RenumberedGraph.{carry, graph_renamed}
 use Rattle.cip_carried.proofs.outcomes.CarriedOutcomes.{outcome_carried}
-use Rattle.cip_carried.proofs.digraph.CarriedNodes.{IsRenamed}
+use Rattle.cip_carried.specs.Renamed.{IsRenamed}
 use Rattle.cip_laws.proofs.units.CarriedSites.{SiteImage, centre_carried, centre_image}
 use Rattle.cip_laws.proofs.units.RenumberedUnits.{carry_onto, units_match}
 use Rattle.cip_mark.specs.FoundCentres.{outcome_as, shown_at}

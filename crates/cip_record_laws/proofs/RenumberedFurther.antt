@@ -30,7 +30,7 @@ use Rattle.cip_axis.specs.FurtherOutcomes.{as_unit}
 use Rattle.cip_record_laws.specs.FurtherLaws.{IsImageFurther, FurtherGo, FurtherOutcomesGo, RenumberingKeepsFurther}
 use Rattle.cip_carried.specs.Images.{Among}
 use Rattle.cip_carried.proofs.lists.Among.{among_all, among_left, among_right, from_append}
-use Rattle.cip_carried.proofs.digraph.CarriedNodes.{IsRenamed, Way, way_image}
+use Rattle.cip_carried.specs.Renamed.{IsRenamed, Way, way_image}
 use Rattle.cip_laws.proofs.units.CarriedSites.{SameUnit, two_same, two_crossed}
 use Rattle.cip_laws.proofs.units.ListedSites.{listed, neighbours_rise, some_drawn, drawn_is, axis_end_listed}
 use Rattle.cip_laws.proofs.drawings.RenamedGeometry.{crossed_same}

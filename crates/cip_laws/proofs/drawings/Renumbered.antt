@@ -13,7 +13,7 @@ use Rattle.cip_digraph.proofs.DrawnSound.{drawn_sound}
 use Rattle.cip_carried.specs.Images.{Among}
 use Rattle.cip_laws.specs.RenumberingLaw.{OutcomesGo, RenumberingKeepsOutcomes, RenumberingsAreSound}
 use Rattle.cip_laws.proofs.units.CarriedSites.{SiteImage}
-use Rattle.cip_carried.proofs.digraph.CarriedUnits.{IsCarriedGeometry}
+use Rattle.cip_carried.specs.CarriedUnits.{IsCarriedGeometry}
 use Rattle.cip_laws.proofs.graph.DelocalisedEnds.{delocalised_at_both}
 use Rattle.cip_laws.proofs.units.ListedSites.{sites_listed}
 use Rattle.cip_laws.proofs.drawings.RenumberedBonds.{renumbered_sound}

@@ -8,7 +8,7 @@ use Rattle.cip_digraph.specs.graph.SoundGraphs.{IsSound}
 use Rattle.cip_carried.specs.Images.{Among}
 use Rattle.cip_carried.proofs.lists.Among.{among_map, from_map, among_filter, from_filter, among_left, among_right, from_append, among_flat, from_flat, among_arranged, in_from_among, among_from_in}
 use Rattle.cip_carried.proofs.lists.CarriedLists.{mapped_twice, same_eq}
-use Rattle.cip_carried.proofs.digraph.CarriedNodes.{Way, way, ways, IsRenamed}
+use Rattle.cip_carried.specs.Renamed.{Way, way, ways, IsRenamed}
 use Rattle.cip_carried.proofs.graph.CarriedPositions.{neighbours_moved}
 use Rattle.cip_laws.proofs.graph.WaySymmetry.{leads_back}
 use Rattle.cip_carried.proofs.lists.Truths.{same_truth, or_back}

@@ -11,7 +11,7 @@ use Rattle.cip_digraph.proofs.NeighbourOrder.{neighbours_differ}
 use Rattle.cip_carried.specs.Images.{Among}
 use Rattle.cip_carried.proofs.lists.Among.{among_map, from_map, among_filter, from_filter, among_arranged, among_all}
 use Rattle.cip_carried.proofs.lists.CarriedLists.{mapped_twice}
-use Rattle.cip_carried.proofs.digraph.CarriedNodes.{Way, way, ways, way_image, IsRenamed}
+use Rattle.cip_carried.specs.Renamed.{Way, way, ways, way_image, IsRenamed}
 use Rattle.cip_laws.proofs.graph.RenumberedGraph.{sorted_permutes}
 
 -- elements with different images are the same where their images are

@@ -23,9 +23,9 @@ use Rattle.cip_laws.specs.RenumberingLaw.{UnitsShareNoEnd}
 use Rattle.cip_carried.proofs.lists.Among.{among_map, from_map, among_filter, from_filter, from_append}
 use Rattle.cip_laws.proofs.units.CarriedAxes.{IsAxisCore, axis_of, FoundAxis, found_axis, axis_back}
 use Rattle.cip_carried.proofs.lists.CarriedLists.{filter_carried}
-use Rattle.cip_carried.proofs.digraph.CarriedNodes.{Way, way, ways}
+use Rattle.cip_carried.specs.Renamed.{Way, way, ways}
 use Rattle.cip_laws.proofs.units.CarriedSites.{bond_of, FoundBond, found_bond}
-use Rattle.cip_carried.proofs.digraph.CarriedUnits.{stands_at, AreAlone}
+use Rattle.cip_carried.specs.CarriedUnits.{stands_at, AreAlone}
 use Rattle.cip_laws.proofs.graph.WaySymmetry.{back_way, leads_back}
 use Rattle.cip_carried.proofs.lists.Truths.{true_not_false, and_parts, either_true, or_true}
 

@@ -24,11 +24,13 @@ use Rattle.cip_carried.specs.Images.{Among, ligand_image}
 use Rattle.cip_carried.proofs.lists.Among.{among_map, from_map, among_filter, from_filter, among_flat, from_flat, among_range, from_range}
 use Rattle.cip_carried.proofs.lists.Arranged.{filter_arranged}
 use Rattle.cip_carried.proofs.lists.CarriedLists.{filter_carried, any_carried, in_carried}
-use Rattle.cip_carried.proofs.digraph.CarriedNodes.{Way, way, ways, way_image, IsRenamed, delocalised_carried}
+use Rattle.cip_carried.proofs.digraph.CarriedNodes.{delocalised_carried}
+use Rattle.cip_carried.specs.Renamed.{Way, way, ways, way_image, IsRenamed}
 use Rattle.cip_carried.proofs.graph.CarriedPositions.{degree_carried, neighbours_moved, passed_moved, positions_renamed}
 use Rattle.cip_laws.proofs.graph.CarriedSmallRings.{small_ring_back, small_ring_carried}
-use Rattle.cip_carried.proofs.digraph.CarriedUnits.{IsCarriedEnd, IsCarriedPair, IsCarriedSite}
-use Rattle.cip_carried.proofs.lists.Exchanges.{exchanged_from, turned_twice}
+use Rattle.cip_carried.specs.CarriedUnits.{IsCarriedEnd, IsCarriedPair, IsCarriedSite}
+use Rattle.cip_carried.proofs.lists.Exchanges.{exchanged_from}
+use Rattle.cip_carried.specs.Exchanged.{turned_twice}
 use Rattle.cip_laws.proofs.graph.WaySymmetry.{back_way, leads_back, way_there, way_from}
 use Rattle.cip_carried.proofs.lists.Truths.{and_parts, and_both, or_swap, not_true, not_false}
 

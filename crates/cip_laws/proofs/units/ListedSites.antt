@@ -29,7 +29,7 @@ use Rattle.cip_laws.proofs.units.AloneSites.{centre_is, double_parts, axis_end_p
 use Rattle.cip_carried.proofs.lists.Among.{from_map, among_map, from_filter, among_filter, from_append, from_range, found_any, among_all}
 use Rattle.cip_laws.proofs.units.CarriedAxes.{FoundAxis, found_axis}
 use Rattle.cip_carried.proofs.lists.CarriedLists.{mapped_twice}
-use Rattle.cip_carried.proofs.digraph.CarriedNodes.{Way, way, ways}
+use Rattle.cip_carried.specs.Renamed.{Way, way, ways}
 use Rattle.cip_laws.proofs.units.CarriedSites.{FoundBond, found_bond}
 use Rattle.cip_laws.proofs.graph.RenumberedGraph.{total, vertex_of_hydrogen, vertex_of_none}
 use Rattle.cip_laws.proofs.units.RenumberedSenses.{IsListed, IsEndListed, IsSiteListed}

@@ -21,8 +21,8 @@ use Rattle.cip_digraph.specs.units.Descriptors.{is_odd}
 use Rattle.cip_digraph.specs.units.Ends.{End, end_at}
 use Rattle.cip_digraph.specs.graph.Renumbering.{IsRenumbering}
 use Rattle.cip_carried.specs.Images.{ligand_image}
-use Rattle.cip_carried.proofs.digraph.CarriedUnits.{IsCarriedEnd, AreCarriedEnds, IsCarriedSite, IsCarriedGeometry}
-use Rattle.cip_carried.proofs.lists.Exchanges.{IsExchanged, turned_twice}
+use Rattle.cip_carried.specs.CarriedUnits.{IsCarriedEnd, AreCarriedEnds, IsCarriedSite, IsCarriedGeometry}
+use Rattle.cip_carried.specs.Exchanged.{IsExchanged, turned_twice}
 use Rattle.cip_laws.proofs.drawings.RenamedGeometry.{centre_renamed, bond_renamed, axis_renamed}
 use Rattle.cip_laws.proofs.graph.RenumberedGraph.{carry, drawn_same}
 use Rattle.cip_laws.proofs.units.TurnedSenses.{flip, is_drawn, undrawn, behind, turned_together}

@@ -20,11 +20,11 @@ use Rattle.cip_carried.specs.Images.{Among, ligand_image, IsImageEnd, IsImageSit
 use Rattle.cip_laws.proofs.units.AloneSites.{shown, units_alone}
 use Rattle.cip_carried.proofs.lists.Among.{among_map, from_map}
 use Rattle.cip_laws.proofs.units.CarriedAxes.{DelocalisedAtBoth, sites_there, sites_back}
-use Rattle.cip_carried.proofs.digraph.CarriedNodes.{IsRenamed}
+use Rattle.cip_carried.specs.Renamed.{IsRenamed}
 use Rattle.cip_carried.proofs.outcomes.CarriedOutcomes.{outcome_carried, costs_carried}
 use Rattle.cip_carried.proofs.graph.CarriedPositions.{positions_renamed}
 use Rattle.cip_laws.proofs.units.CarriedSites.{SiteImage}
-use Rattle.cip_carried.proofs.digraph.CarriedUnits.{IsCarriedEnd, IsCarriedPair, IsCarriedSite, IsCarriedGeometry, IsCarriedUnit, UnitsMatch}
+use Rattle.cip_carried.specs.CarriedUnits.{IsCarriedEnd, IsCarriedPair, IsCarriedSite, IsCarriedGeometry, IsCarriedUnit, UnitsMatch}
 use Rattle.cip_carried.proofs.lists.Exchanges.{permutation_from}
 use Rattle.cip_laws.proofs.graph.HydrogenPlaces.{IsPlaced}
 use Rattle.cip_laws.proofs.drawings.RenumberedAtoms.{image_onto, hydrogens_same}
