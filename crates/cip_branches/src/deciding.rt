@@ -137,6 +137,13 @@ impl Branches {
         self.spheres.len()
     }
 
+    /// For how many places there is room.
+    pub fn room(&self) -> u32
+        ensures { result ≡ self.now.layers.kin.room }
+    {
+        self.wanted.room()
+    }
+
     /// How many branches there are, wanted still or let go.
     pub fn branch_count(&self) -> u32
         ensures count { result ≡ length self.now.wanted }

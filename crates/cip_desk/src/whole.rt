@@ -213,7 +213,7 @@ fn begin_turns(rooted: &Rooted<'_, '_>, turns: &mut KeptTurns)
 // So many places have the looks inside that are kept open.
 fn places_kept(rooted: &Rooted<'_, '_>) -> u32 {
     if is_costly(rooted.arena, rooted.setting, Found::Open) {
-        rooted.arena.len().saturating_mul(3)
+        rooted.arena.len().saturating_mul(4)
     } else {
         0
     }

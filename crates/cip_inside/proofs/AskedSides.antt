@@ -170,7 +170,7 @@ parent_lists parents (suc before) =
 one_more : (x : ℕ) (xs : List ℕ) (n : ℕ) → Contains xs n → Contains (x ∷ xs) n
 one_more x xs n is = let lt = is.1 in (suc (is.0), omega (arith, lt), is.2)
 
-kept_in : (test : ℕ → Bool) (xs : List ℕ) (n k : ℕ) → k < length xs → slice_index_or xs k n ≡ n → test n ≡ true
+pub kept_in : (test : ℕ → Bool) (xs : List ℕ) (n k : ℕ) → k < length xs → slice_index_or xs k n ≡ n → test n ≡ true
     → Contains (filter test xs) n
 kept_in test [] n k lt e t = absurd (omega (arith, lt))
 kept_in test (x ∷ xs) n zero lt e t =

@@ -18,6 +18,7 @@ use Rattle.cip_aux.specs.Neighbours.{neighbours_of}
 use Rattle.cip_letters.specs.Sides.{pair_sides}
 use Rattle.cip_aux.specs.Sights.{Sight, seen_sides}
 use Rattle.cip_inside.specs.Asking.{asked_pairs, side_at}
+use Rattle.cip_inside.specs.Narrowing.{Tell}
 use Rattle.cip_inside.specs.Near.{AreConstituted, AreOrdered, asked_tops, seen_at, top_node}
 use Rattle.cip_inside.proofs.AskedSides.{pairs_found, pairs_lone, pairs_within, tops_of}
 
@@ -70,12 +71,13 @@ module _ (inner : Inner) (node : ℕ) (ligands : List (Option ℕ))
           (asked_pairs tops ligands) (pairs_within tops some ligands) (R1a ∷ R1b ∷ R2 ∷ [])
           (R3 ∷ R4a ∷ R4b ∷ R4c ∷ R5 ∷ []) refl pairs noted done
 
-  -- where all rules decide them
-  pub ordered_early : (pairs turned : List Asked)
-      → ((mark : List ℕ → Option Descriptor) → AgreesInside inner mark
-      → AreOrdered sight node mark tops (asked_pairs tops ligands) pairs turned)
-      → AreEarly inner node false ligands (map side_at pairs) (map side_at turned)
-  ordered_early pairs turned are_ordered = record {
-    of_natural = λ mark agrees. sides_are mark true pairs (are_ordered mark agrees).natural;
-    of_turned = λ mark agrees. sides_are mark false turned (are_ordered mark agrees).other;
-  }
+-- where all rules decide them
+pub ordered_early : (inner : Inner) (node : ℕ) (tops : List ℕ) (asked : List Asked) (ligands : List (Option ℕ))
+    → Tell inner.sight node tops asked ligands → (pairs turned : List Asked)
+    → ((mark : List ℕ → Option Descriptor) → AgreesInside inner mark
+    → AreOrdered inner.sight node mark tops asked pairs turned)
+    → AreEarly inner node false ligands (map side_at pairs) (map side_at turned)
+ordered_early inner node tops asked ligands tell pairs turned are_ordered = record {
+  of_natural = λ mark agrees. ap (map side_at) (are_ordered mark agrees).natural ∙ tell.each mark true;
+  of_turned = λ mark agrees. ap (map side_at) (are_ordered mark agrees).other ∙ tell.each mark false;
+}

@@ -10,6 +10,7 @@ pub mod FollowedViews
 pub mod HangingPlaces
 pub mod KnownSteps
 pub mod Meeting
+pub mod Narrowed
 pub mod NodeKeys
 pub mod OpenAgain
 pub mod Sources

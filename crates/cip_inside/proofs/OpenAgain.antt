@@ -1,28 +1,27 @@
 -- Looks that are kept: they stand again as constitution left them, and each is one of this digraph.
-use Rattle.std.proofs.Common.{◌≡◌, ◌∙◌, ◌<◌, ◌==◌, ◌&&◌, ℕ, Bool, true, false, List, [], ◌∷◌, None, Some, All, Contains, IfSome, length, map, get_or, slice_get, refl, sym, ap, subst, arith, eqb-true}
-use Rattle.std.specs.List.{list_all}
+use Rattle.std.proofs.Common.{◌≡◌, ◌∙◌, ◌<◌, ◌==◌, ◌&&◌, ℕ, Bool, true, false, List, [], ◌∷◌, None, Some, All, length, map, get_or, slice_get, refl, sym, ap, subst, arith, eqb-true}
 use Rattle.std.specs.Option.{option_map}
 use Rattle.std.specs.Prelude.{unwrap_or}
 use Rattle.std.specs.declared.option.Option.{Option}
 use Rattle.std.proofs.lemmas.List.{length-map}
 use Rattle.std.proofs.lemmas.Option.{get_or_from_slice_get, slice_get-get_or, slice_get-map, slice_get_within}
-use Rattle.cip_aux.specs.Neighbours.{neighbours_of}
 use Rattle.cip_aux.specs.Sights.{Sight}
 use Rattle.cip_branches.specs.Deciding.{Branched}
 use Rattle.cip_branches.specs.Saving.{Saved, restored, saved_of}
 use Rattle.cip_digraph.specs.digraph.NodeList.{parents_of}
-use Rattle.cip_ligands.specs.Asking.{is_decided}
 use Rattle.cip_ligands.specs.declared.asked.Asked.{Asked}
+use Rattle.cip_ligands.specs.Taking.{AreSame}
 use Rattle.cip_ligands.proofs.TakenSteps.{same_still, stands_back}
-use Rattle.cip_inside.specs.Asking.{asked_pairs}
-use Rattle.cip_inside.specs.Near.{AreConstituted, asked_tops}
-use Rattle.cip_inside.specs.OpenLooks.{IsOpen, Look, asks, same_ligand, same_ligands}
+use Rattle.cip_inside.specs.Narrowing.{LeavesOpen}
+use Rattle.cip_inside.specs.Near.{asked_tops}
+use Rattle.cip_inside.specs.OpenLooks.{IsOpen, Look, asks, looked_at, same_ligand, same_ligands}
+use Rattle.cip_inside.proofs.Narrowed.{left_again}
 
 pub stood : (bound : ℕ) (sight : Sight) (look : Look) (is : IsOpen bound sight look)
     → restored look.ranks look.branched ≡ is.begin
 stood bound sight look is =
     ap (λ (s : Saved). restored s look.branched) is.ranks
-    ∙ stands_back is.begin look.branched look.ranks.room is.constituted.placed.followed is.same
+    ∙ stands_back is.begin look.branched look.ranks.room is.left.constituted.placed.followed is.same
 
 -- one of them
 pub at_place : {X : Type 0} (P : X → Type 0) (xs : List X) (place : ℕ) (x : X) → All P xs → slice_get xs place ≡ Some x → P x
@@ -50,31 +49,22 @@ made_of f xs place y at =
     )
 
 -- as constitution has just left it
-pub opened : (bound : ℕ) (sight : Sight) (node : ℕ) (ligands : List (Option ℕ)) (begin : Branched) (pairs : List Asked)
-    (room : ℕ) → All (λ ligand. IfSome ligand (Contains (neighbours_of (parents_of sight.told) node))) ligands
-    → 0 < length (asked_tops (parents_of sight.told) ligands node)
-    → AreConstituted sight node (asked_tops (parents_of sight.told) ligands node) begin
-    (asked_pairs (asked_tops (parents_of sight.told) ligands node) ligands) pairs
-    → list_all is_decided pairs ≡ false
-    → length begin.layers.ranked.numbers ≡ length begin.layers.kin.ups
-    → begin.layers.kin.room ≡ bound
-    → IsOpen bound sight (record {
-      node = node;
-      ligands = ligands;
-      pairs = pairs;
-      branched = begin;
-      ranks = saved_of room begin;
-    })
-opened bound sight node ligands begin pairs room next some constituted undone numbers kept = record {
+pub opened : (bound : ℕ) (sight : Sight) (look : Look) (node : ℕ) (ligands asked : List (Option ℕ)) (tops : List ℕ)
+    (begin : Branched) (pairs : List Asked) → look.node ≡ node → look.ligands ≡ ligands → look.tops ≡ asked
+    → look.pairs ≡ pairs → look.branched ≡ begin → look.ranks ≡ saved_of look.ranks.room begin
+    → length begin.layers.ranked.numbers ≡ length begin.layers.kin.ups → look.branched.layers.kin.room ≡ bound
+    → tops ≡ asked_tops (parents_of sight.told) asked node → LeavesOpen sight node tops begin pairs ligands
+    → IsOpen bound sight look
+opened bound sight look node ligands asked tops begin pairs e f g h k ranks numbers room are left = record {
   begin = begin;
-  next = next;
-  some = some;
-  constituted = constituted;
-  undone = undone;
-  ranks = refl;
+  left = subst (λ (n : ℕ). LeavesOpen sight n (looked_at sight look) begin look.pairs look.ligands) (sym e)
+      (subst (λ (ls : List (Option ℕ)). LeavesOpen sight node (looked_at sight look) begin look.pairs ls) (sym f)
+      (left_again sight node tops (looked_at sight look) begin begin pairs look.pairs ligands left
+      ((λ i. asked_tops (parents_of sight.told) (g i) (e i)) ∙ sym are) refl h));
+  ranks = ranks;
   numbers = numbers;
-  same = same_still begin;
-  room = kept;
+  same = subst (AreSame begin) (sym k) (same_still begin);
+  room = room;
 }
 
 both_true : (a b : Bool) → (a && b) ≡ true → (a ≡ true) × (b ≡ true)

@@ -1,24 +1,22 @@
 -- Looks that constitution leaves open, as they are kept. Own.
-use Rattle.std.specs.Prelude.{◌≡◌, ◌<◌, ◌≤◌, ◌==◌, ◌&&◌, ℕ, Bool, true, false, List, [], ◌∷◌, None, Some, All, Contains, IfSome, length}
-use Rattle.std.specs.List.{list_all}
+use Rattle.std.specs.Prelude.{◌≡◌, ◌≤◌, ◌==◌, ◌&&◌, ℕ, Bool, true, false, List, [], ◌∷◌, None, Some, All, length}
 use Rattle.std.specs.declared.option.Option.{Option}
-use Rattle.cip_aux.specs.Neighbours.{neighbours_of}
 use Rattle.cip_aux.specs.Sights.{Sight}
 use Rattle.cip_branches.specs.Deciding.{Branched}
 use Rattle.cip_branches.specs.Saving.{Saved, saved_of}
 use Rattle.cip_digraph.specs.digraph.NodeList.{parents_of}
-use Rattle.cip_ligands.specs.Asking.{is_decided}
 use Rattle.cip_ligands.specs.Taking.{AreSame}
 use Rattle.cip_ligands.specs.declared.asked.Asked.{Asked}
-use Rattle.cip_inside.specs.Asking.{asked_pairs}
-use Rattle.cip_inside.specs.Near.{AreConstituted, asked_tops}
+use Rattle.cip_inside.specs.Narrowing.{LeavesOpen}
+use Rattle.cip_inside.specs.Near.{asked_tops}
 use Rattle.cip_inside.specs.declared.open_looks.OpenLook.{OpenLook}
 
--- the node that is looked from, its ligands, what constitution decides between each two of them, their branches, and the
--- ranks of these as constitution left them
+-- the node that is looked from, its ligands, the tops of the branches that are kept, what constitution decides between
+-- each two ligands, the branches, and the ranks of these as constitution left them
 pub record Look : Type 0 where
   pub node : ℕ
   pub ligands : List (Option ℕ)
+  pub tops : List (Option ℕ)
   pub pairs : List Asked
   pub branched : Branched
   pub ranks : Saved
@@ -27,6 +25,7 @@ abbrev pub look_of : OpenLook → Look
 look_of look = record {
   node = look.node;
   ligands = look.ligands.items;
+  tops = look.tops.items;
   pairs = look.pairs.items;
   branched = look.branches;
   ranks = look.ranks;
@@ -50,16 +49,12 @@ asks look node ligands = (look.node == node) && same_ligands look.ligands ligand
 
 -- the nodes at the tops of its branches
 abbrev pub looked_at : Sight → Look → List ℕ
-looked_at sight look = asked_tops (parents_of sight.told) look.ligands look.node
+looked_at sight look = asked_tops (parents_of sight.told) look.tops look.node
 
 -- Constitution left its branches so, with a pair open; only their ranks have changed since.
 pub record IsOpen (bound : ℕ) (sight : Sight) (look : Look) : Type 0 where
   pub begin : Branched
-  pub next : All (λ ligand. IfSome ligand (Contains (neighbours_of (parents_of sight.told) look.node))) look.ligands
-  pub some : 0 < length (looked_at sight look)
-  pub constituted : AreConstituted sight look.node (looked_at sight look) begin
-      (asked_pairs (looked_at sight look) look.ligands) look.pairs
-  pub undone : list_all is_decided look.pairs ≡ false
+  pub left : LeavesOpen sight look.node (looked_at sight look) begin look.pairs look.ligands
   pub ranks : look.ranks ≡ saved_of look.ranks.room begin
   pub numbers : length begin.layers.ranked.numbers ≡ length begin.layers.kin.ups
   pub same : AreSame begin look.branched

@@ -53,7 +53,8 @@ fn branch_at(near: &Near, ligand: u32) -> u32
     }
 }
 
-fn ask(near: &Near, one: Option<u32>, other: Option<u32>) -> Asked
+/// Two ligands, to be asked about.
+pub fn ask(near: &Near, one: Option<u32>, other: Option<u32>) -> Asked
     ensures { result ≡ asked_of near.now.tops one other }
 {
     match (one, other) {

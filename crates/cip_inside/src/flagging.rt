@@ -66,3 +66,14 @@ pub fn are_behind(branches: &Branches, tops: &[u32], node: u32) -> bool
     }
     true
 }
+
+/// How many places stand in branches that are wanted.
+pub fn wanted_places(branches: &Branches) -> u32 {
+    let mut count = 0_u32;
+    for place in 0..branches.len() {
+        if branches.is_wanted(branches.branch(place)) {
+            count = count.saturating_add(1);
+        }
+    }
+    count
+}

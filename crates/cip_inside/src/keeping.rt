@@ -1,24 +1,25 @@
 // Looks into a digraph of which those are kept that constitution leaves open.
 ghost use Rattle.std.specs.Prelude.{◌≡◌, ◌<◌, ◌≤◌, ℕ, List, true, false, All, Contains, IfOk, IfSome, Some, length, map, slice_get};
-ghost use Rattle.std.specs.List.{list_all};
 ghost use Rattle.std.specs.declared.option.Option.{Option};
 ghost use Rattle.cip_aux.specs.Early.{AreEarly};
 ghost use Rattle.cip_aux.specs.Inner.{Inner as AnyInner, Ready};
 ghost use Rattle.cip_aux.specs.Neighbours.{neighbours_of};
+ghost use Rattle.cip_aux.specs.Sights.{IsReal, sight_of};
 ghost use Rattle.cip_branches.specs.Saving.{saved_of};
 ghost use Rattle.cip_digraph.specs.digraph.NodeList.{parents_of};
-ghost use Rattle.cip_ligands.specs.Asking.{is_decided};
 ghost use Rattle.cip_ligands.specs.Taking.{AreSame};
-ghost use Rattle.cip_inside.specs.Asking.{asked_pairs, side_at};
-ghost use Rattle.cip_inside.specs.Near.{AreConstituted, ArePlaced, AreTops, asked_tops};
+ghost use Rattle.cip_inside.specs.Asking.{side_at};
+ghost use Rattle.cip_inside.specs.Narrowing.{LeavesOpen};
+ghost use Rattle.cip_inside.specs.Near.{ArePlaced, AreTops, asked_tops};
 ghost use Rattle.cip_inside.specs.OpenLooks.{AreOpen, IsOpen, look_of};
 ghost use Rattle.cip_inside.specs.declared.open_looks.OpenLook.{OpenLook as OpenedLook};
 
 use crate::asking::{ask_all, both_sides};
+use crate::narrowing::{MOST_LIGANDS, Tops, move_all, open_tops};
 use crate::near::Near;
-use crate::open_looks::{MOST_LIGANDS, OpenLook, OpenLooks};
+use crate::open_looks::{OpenLook, OpenLooks};
 use crate::sights::configure;
-use cip_aux::{Decided, Inner};
+use cip_aux::{Decided, Inner, Whole};
 use cip_branches::{Branches, SavedRanks};
 use cip_digraph::Nodes;
 use cip_letters::MOST_PAIRS;
@@ -60,12 +61,8 @@ fn configured<N: Nodes>(
     requires tops { AreTops (parents_of inner.now.sight.told) node near.old.tops }
     requires placed { ArePlaced inner.now.sight node near.old.tops near.old.now }
     ensures early { (ligands : List (Option ℕ))
-        → All (λ ligand. IfSome ligand (Contains (neighbours_of (parents_of inner.now.sight.told) node))) ligands
-        → near.old.tops ≡ asked_tops (parents_of inner.now.sight.told) ligands node
-        → 0 < length near.old.tops
-        → AreConstituted inner.now.sight node near.old.tops near.old.now (asked_pairs near.old.tops ligands) pairs.old
-        → list_all is_decided pairs.old ≡ false
-        → IfOk result (λ found. AreEarly inner.now node found.by_constitution ligands found.sides.natural.items
+        → LeavesOpen inner.now.sight node near.old.tops near.old.now pairs.old ligands → IfOk result
+        (λ found. AreEarly inner.now node found.by_constitution ligands found.sides.natural.items
         found.sides.turned.items) }
     ensures same { AreSame near.old.now near.new.now }
     ensures bound { near.new.bound ≡ near.old.bound }
@@ -80,15 +77,19 @@ fn configured<N: Nodes>(
     })
 }
 
-// Takes the branches of a look, which constitution left open.
+// Takes the branches of a look, which constitution left open, and leaves others.
 fn taken(
     alloc: Global,
     near: &mut Near,
+    blank: Branches,
     asked: &Look<'_>,
+    tops: Tops,
     pairs: &[Asked],
 ) -> Result<OpenLook, AllocError>
+    requires blank { blank.layers.kin.room ≡ near.old.bound }
     ensures node { IfOk result (λ look. look.node ≡ asked.now.node) }
     ensures ligands { IfOk result (λ look. look.ligands.items ≡ asked.now.ligands.now) }
+    ensures looked { IfOk result (λ look. look.tops.items ≡ tops.items) }
     ensures pairs { IfOk result (λ look. look.pairs.items ≡ pairs.now) }
     ensures branches { IfOk result (λ look. look.branches ≡ near.old.now) }
     ensures ranks { IfOk result (λ look. look.ranks ≡ saved_of look.ranks.room near.old.now) }
@@ -100,13 +101,14 @@ fn taken(
 {
     let ligands = SmallVec::<Option<u32>, MOST_LIGANDS>::from_slice(alloc, asked.ligands)?;
     let pairs = SmallVec::<Asked, MOST_PAIRS>::from_slice(alloc, pairs)?;
-    let mut branches = Branches::reserve(alloc, near.room())?;
+    let mut branches = blank;
     let mut ranks = SavedRanks::reserve(alloc, near.len())?;
     near.save(&mut ranks);
     near.swap(&mut branches);
     Ok(OpenLook {
         node: asked.node,
         ligands,
+        tops,
         pairs,
         branches,
         ranks,
@@ -124,7 +126,6 @@ fn go_on<N: Nodes>(
     requires bound { length inner.now.sight.told ≤ near.old.bound }
     requires room { near.old.bound ≤ readings.old.bound }
     requires ready { Ready inner.now look.old.node }
-    requires tops { near.old.tops ≡ asked_tops (parents_of inner.now.sight.told) look.old.ligands.items look.old.node }
     requires open { IsOpen near.old.bound inner.now.sight (look_of look.old) }
     ensures early { IfOk result (λ found. AreEarly inner.now look.old.node found.by_constitution look.old.ligands.items
         found.sides.natural.items found.sides.turned.items) }
@@ -133,6 +134,7 @@ fn go_on<N: Nodes>(
     ensures readings { readings.new.bound ≡ readings.old.bound }
 {
     let mut pairs = SmallVec::<Asked, MOST_PAIRS>::from_slice(alloc, look.pairs.as_slice())?;
+    near.begin(inner.whole(), look.node, look.tops.as_slice());
     near.swap(&mut look.branches);
     near.restore(&look.ranks);
     let found = configured(
@@ -147,6 +149,68 @@ fn go_on<N: Nodes>(
     found
 }
 
+// Begins anew with the branches of open pairs alone where the others hold most places, so that these needn't be kept.
+// Hands back the tops of the branches that are left.
+fn narrowed<N: Nodes>(
+    alloc: Global,
+    near: &mut Near,
+    whole: &Whole<'_, N>,
+    asked: &Look<'_>,
+    pairs: &mut [Asked],
+) -> Result<Tops, AllocError>
+    requires room { length whole.now.told ≤ near.old.bound }
+    requires node { asked.now.node < length whole.now.told }
+    requires real { IsReal (sight_of whole.now).nodes asked.now.node }
+    requires tops { near.old.tops ≡ asked_tops (parents_of whole.now.told) asked.now.ligands.now asked.now.node }
+    requires left { LeavesOpen (sight_of whole.now) asked.now.node near.old.tops near.old.now pairs.old
+        asked.now.ligands.now }
+    ensures tops { IfOk result (λ tops. near.new.tops ≡ asked_tops (parents_of whole.now.told) tops.items asked.now.node) }
+    ensures left { IfOk result (λ tops. LeavesOpen (sight_of whole.now) asked.now.node near.new.tops near.new.now pairs.new
+        asked.now.ligands.now) }
+    ensures bound { near.new.bound ≡ near.old.bound }
+{
+    if !near.is_sparse() {
+        return Tops::from_slice(alloc, asked.ligands);
+    }
+    let before = SmallVec::<u32, MOST_LIGANDS>::from_slice(alloc, near.tops())?;
+    let open = open_tops(alloc, near.tops(), pairs)?;
+    near.begin(whole, asked.node, open.as_slice());
+    move_all(near, before.as_slice(), pairs);
+    near.constitution(whole, asked.node, pairs);
+    Ok(open)
+}
+
+// Keeps a look that constitution leaves open, and goes on with it.
+fn keep<N: Nodes>(
+    alloc: Global,
+    near: &mut Near,
+    readings: &mut Readings,
+    inner: &Inner<'_, N>,
+    asked: &Look<'_>,
+    pairs: &mut [Asked],
+    kept: &mut OpenLooks,
+) -> Result<Decided, AllocError>
+    requires bound { length inner.now.sight.told ≤ near.old.bound }
+    requires room { near.old.bound ≤ readings.old.bound }
+    requires ready { Ready inner.now asked.now.node }
+    requires tops { near.old.tops ≡ asked_tops (parents_of inner.now.sight.told) asked.now.ligands.now asked.now.node }
+    requires left { LeavesOpen inner.now.sight asked.now.node near.old.tops near.old.now pairs.old
+        asked.now.ligands.now }
+    requires open { AreOpen near.old.bound inner.now.sight kept.old }
+    ensures early { IfOk result (λ found. AreEarly inner.now asked.now.node found.by_constitution asked.now.ligands.now
+        found.sides.natural.items found.sides.turned.items) }
+    ensures open { AreOpen near.old.bound inner.now.sight kept.new }
+    ensures near { near.new.bound ≡ near.old.bound }
+    ensures readings { readings.new.bound ≡ readings.old.bound }
+{
+    let tops = narrowed(alloc, near, inner.whole(), asked, pairs)?;
+    let blank = kept.blank(alloc, near.room())?;
+    let mut look = taken(alloc, near, blank, asked, tops, pairs)?;
+    let decided = go_on(alloc, near, readings, inner, &mut look)?;
+    kept.push(look)?;
+    Ok(decided)
+}
+
 /// Looks from a node at ligands whose branches were begun, and keeps the look where constitution leaves it open and there
 /// is room.
 pub fn look_first<N: Nodes>(
@@ -155,35 +219,33 @@ pub fn look_first<N: Nodes>(
     readings: &mut Readings,
     inner: &Inner<'_, N>,
     asked: &Look<'_>,
-    open: &mut OpenLooks,
+    kept: &mut OpenLooks,
 ) -> Result<Decided, AllocError>
     requires room { near.old.bound ≤ readings.old.bound }
     requires ready { Ready inner.now asked.now.node }
     requires next { All (λ ligand. IfSome ligand (Contains (neighbours_of (parents_of inner.now.sight.told)
         asked.now.node))) asked.now.ligands.now }
-    requires tops { near.old.tops ≡ asked_tops (parents_of inner.now.sight.told) asked.now.ligands.now asked.now.node }
-    requires open { AreOpen near.old.bound inner.now.sight open.old }
+    requires open { AreOpen near.old.bound inner.now.sight kept.old }
     ensures early { IfOk result (λ found. AreEarly inner.now asked.now.node found.by_constitution asked.now.ligands.now
         found.sides.natural.items found.sides.turned.items) }
-    ensures open { AreOpen near.old.bound inner.now.sight open.new }
+    ensures open { AreOpen near.old.bound inner.now.sight kept.new }
     ensures near { near.new.bound ≡ near.old.bound }
     ensures readings { readings.new.bound ≡ readings.old.bound }
 {
+    let whole = inner.whole();
+    near.begin(whole, asked.node, asked.ligands);
     let mut pairs = ask_all(alloc, near, asked.ligands)?;
     let found = pairs.as_mut_slice();
     if near.is_empty() {
         return settled(alloc, found);
     }
-    if near.constitution(inner.whole(), asked.node, found) {
+    if near.constitution(whole, asked.node, found) {
         return settled(alloc, found);
     }
-    if !open.has_room(near.len()) {
+    if !kept.has_room(near.len()) {
         return configured(alloc, near, readings, inner, asked.node, found);
     }
-    let mut look = taken(alloc, near, asked, found)?;
-    let decided = go_on(alloc, near, readings, inner, &mut look)?;
-    open.push(look)?;
-    Ok(decided)
+    keep(alloc, near, readings, inner, asked, found, kept)
 }
 
 /// Goes on with the look at a place of those that are kept.
@@ -198,8 +260,6 @@ pub fn look_again<N: Nodes>(
     requires room { near.old.bound ≤ readings.old.bound }
     requires place { place < length looks.old }
     requires ready { (look : OpenedLook) → slice_get looks.old place ≡ Some look → Ready inner.now look.node }
-    requires tops { (look : OpenedLook) → slice_get looks.old place ≡ Some look → near.old.tops
-        ≡ asked_tops (parents_of inner.now.sight.told) look.ligands.items look.node }
     requires open { AreOpen near.old.bound inner.now.sight (map look_of looks.old) }
     ensures early { (look : OpenedLook) → slice_get looks.old place ≡ Some look → IfOk result
         (λ found. AreEarly inner.now look.node found.by_constitution look.ligands.items found.sides.natural.items

@@ -10,6 +10,7 @@ mod inside;
 mod keeping;
 mod marks_inside;
 mod masses;
+mod narrowing;
 mod near;
 mod open_looks;
 mod sights;

@@ -19,7 +19,7 @@ ghost use Rattle.cip_inside.specs.Near.{AreConstituted, AreOrdered, AreTops, ask
 ghost use Rattle.cip_inside.specs.Near.{LeadsElsewhere};
 
 use crate::constituting::constitute;
-use crate::flagging::are_behind;
+use crate::flagging::{are_behind, wanted_places};
 use crate::stepping::SeenFrom;
 use crate::tops::{branch_of, fill_tops};
 use cip_aux::Whole;
@@ -92,6 +92,13 @@ impl Near {
     {
         let _count = self.tops.len();
         branch_of(self.tops.as_slice(), ligand)
+    }
+
+    /// The nodes at the tops of its branches.
+    pub fn tops(&self) -> &[u32]
+        ensures { result.now ≡ self.now.tops }
+    {
+        self.tops.as_slice()
     }
 
     /// Whether there are no branches.
@@ -192,6 +199,11 @@ impl Near {
     {
         let _count = self.tops.len();
         are_behind(&self.branches, self.tops.as_slice(), node)
+    }
+
+    /// Whether at most half of all places stand in branches that are wanted still.
+    pub fn is_sparse(&self) -> bool {
+        wanted_places(&self.branches) <= self.branches.len() / 2
     }
 
     /// Takes Rules 3 to 5 where constitution leaves a pair undecided, the last one both ways, by the descriptors of the

@@ -1,11 +1,12 @@
 // Looks that constitution leaves open, with their branches as they stand behind Rule 2: asked again with other descriptors
 // they need no rule of constitution.
-ghost use Rattle.std.specs.Prelude.{◌≡◌, ◌<◌, ◌≤◌, ◌++◌, ◌∷◌, [], true, IfOk, IfSome, OnErr, OnOk, Some, length, slice_get};
+ghost use Rattle.std.specs.Prelude.{◌≡◌, ◌<◌, ◌≤◌, ◌+◌, ◌^◌, ◌++◌, ◌∷◌, [], true, IfOk, IfSome, OnErr, OnOk, Some, length, slice_get};
 ghost use Rattle.cip_aux.specs.Early.{AreEarly};
 ghost use Rattle.cip_aux.specs.Inner.{Ready};
-ghost use Rattle.cip_inside.specs.OpenLooks.{Look as AnyLook, AreOpen, asks, look_of, looked_at, same_ligand, same_ligands};
+ghost use Rattle.cip_inside.specs.OpenLooks.{Look as AnyLook, AreOpen, asks, look_of, same_ligand, same_ligands};
 
 use crate::keeping::look_again;
+use crate::narrowing::{MOST_LIGANDS, Tops};
 use crate::near::Near;
 use cip_aux::{Decided, Inner};
 use cip_branches::{Branches, SavedRanks};
@@ -16,9 +17,6 @@ use smallvec::SmallVec;
 use std::alloc::{AllocError, Global};
 use std::marker::Model;
 
-/// An end of a unit has at most so many ligands.
-pub const MOST_LIGANDS: usize = 4;
-
 /// So many looks are kept at most.
 const MOST_LOOKS: usize = 64;
 
@@ -27,6 +25,8 @@ const MOST_LOOKS: usize = 64;
 pub struct OpenLook {
     pub node: u32,
     pub ligands: SmallVec<Option<u32>, MOST_LIGANDS>,
+    // those whose branches are kept
+    pub tops: Tops,
     // what constitution decides between each two of them
     pub pairs: SmallVec<Asked, MOST_PAIRS>,
     pub branches: Branches,
@@ -47,6 +47,8 @@ impl OpenLook {
 pub struct OpenLooks {
     looks: Vec<OpenLook>,
     left: u32,
+    // branches of looks into digraphs before, for those that come
+    spare: Vec<Branches>,
 }
 
 impl Model for OpenLooks {
@@ -66,15 +68,33 @@ impl OpenLooks {
         OpenLooks {
             looks: Vec::new(alloc),
             left: 0,
+            spare: Vec::new(alloc),
         }
     }
 
-    /// Forgets all, and makes room for so many places.
+    /// Forgets all but their memory, and makes room for so many places.
     pub fn begin(&mut self, places: u32)
         ensures { self.new ≡ [] }
     {
-        self.looks.clear();
         self.left = places;
+        while let Some(look) = self.looks.pop() {
+            // what finds no place here is let go
+            let _ = self.spare.push(look.branches);
+        }
+    }
+
+    /// Branches with room for so many places, in memory of a look before where there is some.
+    pub fn blank(&mut self, alloc: Global, room: u32) -> Result<Branches, AllocError>
+        requires { room + 1 < 2 ^ 32 }
+        ensures room { IfOk result (λ branches. branches.layers.kin.room ≡ room) }
+        ensures same { self.new ≡ self.old }
+    {
+        while let Some(branches) = self.spare.pop() {
+            if branches.room() == room {
+                return Ok(branches);
+            }
+        }
+        Branches::reserve(alloc, room)
     }
 
     /// Whether a look with so many places can be kept.
@@ -108,8 +128,6 @@ impl OpenLooks {
         requires room { near.old.bound ≤ readings.old.bound }
         requires place { place < length self.old }
         requires ready { (look : AnyLook) → slice_get self.old place ≡ Some look → Ready inner.now look.node }
-        requires tops { (look : AnyLook) → slice_get self.old place ≡ Some look → near.old.tops
-            ≡ looked_at inner.now.sight look }
         requires open { AreOpen near.old.bound inner.now.sight self.old }
         ensures early { (look : AnyLook) → slice_get self.old place ≡ Some look → IfOk result
             (λ found. AreEarly inner.now look.node found.by_constitution look.ligands found.sides.natural.items

@@ -28,7 +28,7 @@ use std::marker::Model;
 pub struct Sights {
     near: Near,
     readings: Readings,
-    open: OpenLooks,
+    kept: OpenLooks,
 }
 
 impl Model for Sights {
@@ -37,7 +37,7 @@ impl Model for Sights {
 
     ghost Value = { Room };
 
-    ghost view = { λ sights. record { bound = sights.near.bound; looks = sights.open } };
+    ghost view = { λ sights. record { bound = sights.near.bound; looks = sights.kept } };
 
     ghost invariant = { λ sights. sights.readings.bound ≡ sights.near.bound };
 }
@@ -100,7 +100,7 @@ impl Sights {
         Ok(Sights {
             near,
             readings,
-            open: OpenLooks::none(alloc),
+            kept: OpenLooks::none(alloc),
         })
     }
 
@@ -108,7 +108,7 @@ impl Sights {
     pub fn begin(&mut self, places: u32)
         ensures { self.new ≡ record self.old { looks = [] } }
     {
-        self.open.begin(places);
+        self.kept.begin(places);
     }
 }
 
@@ -124,14 +124,13 @@ impl Viewer for Sights {
         node: u32,
         ligands: &[Option<u32>],
     ) -> Result<Decided, AllocError> {
-        self.near.begin(inner.whole(), node, ligands);
         let near = &mut self.near;
         let readings = &mut self.readings;
-        match self.open.find(node, ligands) {
-            Some(place) => self.open.go_on(alloc, near, readings, inner, place),
+        match self.kept.find(node, ligands) {
+            Some(place) => self.kept.go_on(alloc, near, readings, inner, place),
             None => {
                 let asked = Look { node, ligands };
-                look_first(alloc, near, readings, inner, &asked, &mut self.open)
+                look_first(alloc, near, readings, inner, &asked, &mut self.kept)
             }
         }
     }

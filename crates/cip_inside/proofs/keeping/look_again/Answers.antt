@@ -13,10 +13,6 @@ pub go_on-requires-clause-ready : goal.go_on-requires-clause-ready
 go_on-requires-clause-ready g c =
     c.requires.ready _ (slice_get-get_or c.args.looks.now c.args.place c.index-looks-place.result c.requires.place)
 
-pub go_on-requires-clause-tops : goal.go_on-requires-clause-tops
-go_on-requires-clause-tops g c =
-    c.requires.tops _ (slice_get-get_or c.args.looks.now c.args.place c.index-looks-place.result c.requires.place)
-
 pub go_on-requires-clause-open : goal.go_on-requires-clause-open
 go_on-requires-clause-open g c =
     let looks = c.args.looks.now in

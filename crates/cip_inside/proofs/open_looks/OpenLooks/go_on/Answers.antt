@@ -15,14 +15,6 @@ look_again-requires-clause-ready g c = λ look at.
     ∙ ap (option_map look_of)
     (subst (λ (ls : List OpenLook). slice_get ls c.args.place ≡ Some look) c.as_mut_slice.ensures.value at)))
 
-pub look_again-requires-clause-tops : goal.look_again-requires-clause-tops
-look_again-requires-clause-tops g c = λ look at.
-    c.requires.tops (look_of look)
-    (subst (λ (ls : List Look). slice_get ls c.args.place ≡ Some (look_of look)) c.self.view_is
-    (slice_get-map look_of c.self.inside.looks.items c.args.place
-    ∙ ap (option_map look_of)
-    (subst (λ (ls : List OpenLook). slice_get ls c.args.place ≡ Some look) c.as_mut_slice.ensures.value at)))
-
 pub returns-clause-early : goal.returns-clause-early
 returns-clause-early g c = λ look at.
     let items = c.self.inside.looks.items in

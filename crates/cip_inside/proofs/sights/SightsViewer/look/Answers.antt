@@ -1,10 +1,7 @@
-use Rattle.std.proofs.Common.{◌∙◌, ℕ, List, IfOk, sym, ap, subst}
+use Rattle.std.proofs.Common.{ℕ, List, IfOk, sym, subst}
 use Rattle.std.specs.declared.option.Option.{Option}
 use Rattle.cip_aux.specs.Early.{AreEarly}
 use Rattle.cip_aux.specs.Inner.{Ready}
-use Rattle.cip_aux.specs.Sights.{Sight}
-use Rattle.cip_digraph.specs.digraph.NodeList.{parents_of}
-use Rattle.cip_inside.specs.Near.{Nearing, asked_tops}
 use Rattle.cip_inside.proofs.OpenAgain.{asked_ligands, asked_node, some_at}
 use Rattle.cip_inside.proofs.sights.SightsViewer.look.Goals as goal
 
@@ -13,18 +10,9 @@ go_on-requires-clause-ready g c = λ look at.
     subst (Ready c.args.inner.now)
     (sym (asked_node look c.args.node c.args.ligands.now (c.in-Some.ensures.asks look at))) c.requires.ready
 
-pub go_on-requires-clause-tops : goal.go_on-requires-clause-tops
-go_on-requires-clause-tops g c = λ look at.
-    let asks = c.in-Some.ensures.asks look at in
-    let node = asked_node look c.args.node c.args.ligands.now asks in
-    let ligands = asked_ligands look c.args.node c.args.ligands.now asks in
-    ap (λ (near : Nearing). near.tops) c.begin.ensures
-    ∙ ap (λ (s : Sight). asked_tops (parents_of s.told) c.args.ligands.now c.args.node) c.whole.ensures
-    ∙ (λ i. asked_tops (parents_of c.args.inner.now.sight.told) (sym ligands i) (sym node i))
-
 pub returns-in-Some-clause-early : goal.returns-in-Some-clause-early
 returns-in-Some-clause-early g c =
-    let found = some_at c.self.inside.open c.in-Some.place c.in-Some.ensures.within in
+    let found = some_at c.self.inside.kept c.in-Some.place c.in-Some.ensures.within in
     let look = found.0 in
     let asks = c.in-Some.ensures.asks look found.1 in
     subst (λ (n : ℕ). IfOk c.go_on.result (λ found. AreEarly c.args.inner.now n found.by_constitution c.args.ligands.now

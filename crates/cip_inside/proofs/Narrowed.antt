@@ -1,0 +1,333 @@
+-- Pairs that are asked about by the branches of open pairs alone tell the same.
+use Rattle.std.proofs.Common.{◌≡◌, ◌<◌, ◌==◌, ◌&&◌, ◌||◌, ◌+◌, ℕ, zero, suc, Bool, true, false, not, cond, List, [], ◌∷◌, ◌++◌, filter, map, length, take, get_or, slice_index, slice_index_or, refl, sym, ap, ◌∙◌, subst, arith, None, Some, All, Contains, IfSome, eq-eqb}
+use Rattle.std.specs.List.{AllByRecursion, list_all, list_any}
+use Rattle.std.specs.declared.option.Option.{Option}
+use Rattle.std.specs.declared.cmp.Ordering.{Ordering}
+use Rattle.std.proofs.lemmas.Bool.{or_left, or_right}
+use Rattle.std.proofs.lemmas.List.{get_or_default, map-append, take_more}
+use Rattle.std.proofs.lemmas.List.Elements.{All-contains, All-contains_itself, All-filter, Contains-get_or, filter-append}
+use Rattle.cip_branches.specs.Deciding.{Branched}
+use Rattle.cip_rank.specs.Tree.{children_of}
+use Rattle.cip_reroot.specs.View.{parent_list}
+use Rattle.cip_mol.specs.declared.descriptor.Descriptor.{Descriptor}
+use Rattle.cip_mol.specs.declared.outcome.Rule.TheVariants.{R1a, R1b, R2, R3, R4a, R4b, R4c, R5}
+use Rattle.cip_digraph.specs.declared.decision.Decision.{Decision}
+use Rattle.cip_digraph.specs.digraph.Digraph.{Node}
+use Rattle.cip_digraph.specs.digraph.NodeList.{parents_of}
+use Rattle.cip_digraph.specs.digraph.Telling.{node_at}
+use Rattle.cip_digraph.specs.rules.Decisions.{difference_by, first_decision, order}
+use Rattle.cip_letters.specs.Sides.{found_side, pair_sides}
+use Rattle.cip_ligands.specs.declared.asked.Asked.{Asked}
+use Rattle.cip_ligands.specs.Asking.{AreWithin, is_decided, kept_or, with_found}
+use Rattle.cip_ligands.specs.Orders.{decided_in_turn}
+use Rattle.cip_ligands.proofs.FoundWithin.{all_within}
+use Rattle.cip_ligands.proofs.RulesGoOn.{order_told}
+use Rattle.cip_aux.specs.Neighbours.{neighbours_of}
+use Rattle.cip_aux.specs.Sights.{Sight, seen_sides}
+use Rattle.cip_inside.specs.Asking.{asked_between, asked_of, asked_pairs, branch_at, side_at}
+use Rattle.cip_inside.specs.Narrowing.{LeavesOpen, Tell, is_open_top, is_top_of, moved, open_tops}
+use Rattle.cip_inside.specs.Near.{AreConstituted, asked_tops, is_ligand, seen_at, top_node}
+use Rattle.cip_inside.proofs.AskedSides.{branch_low, branch_top, kept_in, pairs_found, pairs_within, tops_of}
+
+-- a node's ligands as they are asked about first
+pub first_left : (sight : Sight) (node : ℕ) (ligands : List (Option ℕ))
+    → All (λ ligand. IfSome ligand (Contains (neighbours_of (parents_of sight.told) node))) ligands
+    → (tops : List ℕ) → tops ≡ asked_tops (parents_of sight.told) ligands node → 0 < length tops
+    → (now : Branched) (pairs : List Asked) → AreConstituted sight node tops now (asked_pairs tops ligands) pairs
+    → list_all is_decided pairs ≡ false → LeavesOpen sight node tops now pairs ligands
+first_left sight node ligands next tops are some now pairs is undone = record {
+  asked = asked_pairs tops ligands;
+  within = pairs_within tops some ligands;
+  tell = record {
+    each = λ mark r_first. pairs_found tops (node_at sight.nodes) (seen_at sight node mark) r_first ligands
+        (subst (λ (ns : List ℕ). AllByRecursion (λ ligand. IfSome ligand (Contains ns)) ligands) (sym are)
+        (tops_of (parents_of sight.told) node ligands next));
+  };
+  constituted = is;
+  undone = undone;
+}
+
+-- the same as they stand
+pub left_again : (sight : Sight) (node : ℕ) (tops others : List ℕ) (now then : Branched) (pairs asked : List Asked)
+    (ligands : List (Option ℕ)) → LeavesOpen sight node tops now pairs ligands → others ≡ tops → then ≡ now
+    → asked ≡ pairs → LeavesOpen sight node others then asked ligands
+left_again sight node tops others now then pairs asked ligands left e f g =
+    subst (λ (ns : List ℕ). LeavesOpen sight node ns then asked ligands) (sym e)
+    (subst (λ (b : Branched). LeavesOpen sight node tops b asked ligands) (sym f)
+    (subst (λ (ps : List Asked). LeavesOpen sight node tops now ps ligands) (sym g) left))
+
+-- a node's ligands as they were asked about and constituted
+pub constituted_left : (sight : Sight) (node : ℕ) (ligands : List (Option ℕ))
+    → All (λ ligand. IfSome ligand (Contains (neighbours_of (parents_of sight.told) node))) ligands
+    → (tops still : List ℕ) → tops ≡ asked_tops (parents_of sight.told) ligands node → still ≡ tops
+    → 0 < length tops → (now : Branched) (asked pairs : List Asked) → asked ≡ asked_pairs tops ligands
+    → AreConstituted sight node still now asked pairs → list_all is_decided pairs ≡ false
+    → LeavesOpen sight node still now pairs ligands
+constituted_left sight node ligands next tops still are same some now asked pairs e is undone =
+    left_again sight node tops still now now pairs pairs ligands
+    (first_left sight node ligands next tops are some now pairs
+    (subst (λ (ps : List Asked). AreConstituted sight node tops now ps pairs) e
+    (subst (λ (ns : List ℕ). AreConstituted sight node ns now asked pairs) same is)) undone) same refl refl
+
+-- tops
+
+-- one top more
+pub more_open : (test : ℕ → Bool) (tops : List ℕ) (i d : ℕ) → i < length tops
+    → map Some (filter test (take (i + 1) tops))
+    ≡ map Some (filter test (take i tops)) ++ map Some (filter test (get_or tops i d ∷ []))
+more_open test tops i d lt =
+    ap (map Some) (ap (filter test) (take_more tops i d lt)
+    ∙ filter-append test (take i tops) (get_or tops i d ∷ []))
+    ∙ map-append Some (filter test (take i tops)) (filter test (get_or tops i d ∷ []))
+
+in_filter : (test : ℕ → Bool) (xs : List ℕ) (n : ℕ) → Contains (filter test xs) n → Contains xs n
+in_filter test xs n is = All-contains (Contains xs) (filter test xs) n
+    (All-filter test (Contains xs) xs (All-contains_itself xs)) is
+
+any_some : (xs : List ℕ) (top : ℕ) → Contains xs top → list_any (is_ligand top) (map Some xs) ≡ true
+any_some [] top is = let lt = is.1 in absurd (omega (arith, lt))
+any_some (x ∷ xs) top is = by is.0 is.1 is.2 (any_some xs top)
+  where
+    by : (k : ℕ) → k < length (x ∷ xs) → slice_index_or (x ∷ xs) k top ≡ top
+        → (Contains xs top → list_any (is_ligand top) (map Some xs) ≡ true)
+        → list_any (is_ligand top) (map Some (x ∷ xs)) ≡ true
+    by zero lt e rest = or_left _ _ (eq-eqb x top e)
+    by (suc k) lt e rest = or_right _ _ (rest (k, omega (arith, lt), e))
+
+weaker : (P Q : Asked → Type 0) (xs : List Asked) → ((x : Asked) → P x → Q x) → AllByRecursion P xs → AllByRecursion Q xs
+weaker P Q [] f all = tt
+weaker P Q (x ∷ xs) f all = (f x all.0, weaker P Q xs f all.1)
+
+-- each pair is one of them
+any_one : (test : ℕ → Asked → Bool) (all : List Asked)
+    → AllByRecursion (λ pair. (top : ℕ) → test top pair ≡ true → list_any (test top) all ≡ true) all
+any_one test [] = tt
+any_one test (pair ∷ rest) = (
+  (λ top e. or_left _ _ e),
+  weaker (λ other. (top : ℕ) → test top other ≡ true → list_any (test top) rest ≡ true)
+      (λ other. (top : ℕ) → test top other ≡ true → list_any (test top) (pair ∷ rest) ≡ true) rest
+      (λ other f top e. or_right _ _ (f top e)) (any_one test rest),
+)
+
+module _ (parents : List ℕ) (node : ℕ) (tops : List ℕ) (ligands : List (Option ℕ))
+    (are : tops ≡ asked_tops parents ligands node) (pairs : List Asked) where
+  -- a top of an open pair is still one
+  open_top : (branch : ℕ) → branch < length tops → is_open_top tops pairs (slice_index tops branch) ≡ true
+      → Contains (asked_tops parents (open_tops tops pairs) node) (slice_index tops branch)
+  open_top branch lt is_open =
+      let top = slice_index tops branch in
+      let next : Contains (children_of parents node ++ parent_list parents node) top =
+      in_filter (λ other. list_any (is_ligand other) ligands) (children_of parents node ++ parent_list parents node) top
+      (subst (λ (ns : List ℕ). Contains ns top) are (Contains-get_or tops branch 0 lt)) in
+      kept_in (λ other. list_any (is_ligand other) (open_tops tops pairs))
+      (children_of parents node ++ parent_list parents node) top next.0 next.1 next.2
+      (any_some (filter (is_open_top tops pairs) tops) top
+      (kept_in (is_open_top tops pairs) tops top branch lt (get_or_default tops branch top 0 lt) is_open))
+
+  abbrev HasTops : Asked → Type 0
+  HasTops pair =
+      is_decided pair ≡ false
+      → Contains (asked_tops parents (open_tops tops pairs) node) (slice_index tops pair.first)
+      × Contains (asked_tops parents (open_tops tops pairs) node) (slice_index tops pair.second)
+
+  one_has : (pair : Asked) → AreWithin (length tops) pair
+      → ((top : ℕ) → is_top_of tops top pair ≡ true → is_open_top tops pairs top ≡ true) → HasTops pair
+  one_has pair within some undone = (
+    open_top pair.first within.0 (some (slice_index tops pair.first)
+        (ap (λ b. not b && ((slice_index tops pair.first == slice_index tops pair.first)
+        || (slice_index tops pair.second == slice_index tops pair.first))) undone
+        ∙ or_left _ _ (eq-eqb (slice_index tops pair.first) (slice_index tops pair.first) refl))),
+    open_top pair.second within.1 (some (slice_index tops pair.second)
+        (ap (λ b. not b && ((slice_index tops pair.first == slice_index tops pair.second)
+        || (slice_index tops pair.second == slice_index tops pair.second))) undone
+        ∙ or_right _ _ (eq-eqb (slice_index tops pair.second) (slice_index tops pair.second) refl))),
+  )
+
+  have_by : (rest : List Asked) → AllByRecursion (AreWithin (length tops)) rest
+      → AllByRecursion (λ pair. (top : ℕ) → is_top_of tops top pair ≡ true → is_open_top tops pairs top ≡ true) rest
+      → AllByRecursion HasTops rest
+  have_by [] within some = tt
+  have_by (pair ∷ rest) within some = (one_has pair within.0 some.0, have_by rest within.1 some.1)
+
+  have_tops : AllByRecursion (AreWithin (length tops)) pairs → AllByRecursion HasTops pairs
+  have_tops within = have_by pairs within (any_one (is_top_of tops) pairs)
+
+  -- an open pair has one
+  some_top : (rest : List Asked) → list_all is_decided rest ≡ false → AllByRecursion HasTops rest
+      → 0 < length (asked_tops parents (open_tops tops pairs) node)
+  some_top [] undone has = let bad : true ≡ false = undone in cc
+  some_top (pair ∷ rest) undone has =
+      by (is_decided pair) refl undone (λ left. some_top rest left has.1)
+    where
+      by : (b : Bool) → is_decided pair ≡ b → (b && list_all is_decided rest) ≡ false
+          → (list_all is_decided rest ≡ false → 0 < length (asked_tops parents (open_tops tops pairs) node))
+          → 0 < length (asked_tops parents (open_tops tops pairs) node)
+      by true e left others = others left
+      by false e left others = let lt = (has.0 e).0.1 in omega (arith, lt)
+
+-- pairs
+
+is_none : (first later : Option Decision) → kept_or first later ≡ None → (first ≡ None) × (later ≡ None)
+is_none None later e = (refl, e)
+is_none (Some found) later e = let bad : Some found ≡ None = e in cc
+
+module _ (sight : Sight) (node : ℕ) (tops others : List ℕ) (mark : List ℕ → Option Descriptor) where
+  abbrev named : ℕ → Node
+  named = node_at sight.nodes
+
+  abbrev decide : List ℕ → ℕ → ℕ → Option Decision
+  decide ns = decided_in_turn (seen_at sight node mark) true (R1a ∷ R1b ∷ R2 ∷ []) (top_node sight ns)
+
+  abbrev ordered : Bool → List ℕ → ℕ → ℕ → Option Decision
+  ordered r_first ns a b = order (seen_at sight node mark) r_first (top_node sight ns a) (top_node sight ns b)
+
+  -- by the nodes at their tops
+  abbrev Stays : (List ℕ → ℕ → ℕ → Option Decision) → Asked → Type 0
+  Stays find asked = find others (branch_at others (slice_index tops asked.first))
+      (branch_at others (slice_index tops asked.second)) ≡ find tops asked.first asked.second
+
+  abbrev HasBoth : Asked → Type 0
+  HasBoth asked = Contains others (slice_index tops asked.first) × Contains others (slice_index tops asked.second)
+
+  decide_stays : (asked : Asked) → HasBoth asked → Stays decide asked
+  decide_stays asked has = λ i. first_decision
+      (difference_by (seen_at sight node mark) true
+      (named (branch_top others (slice_index tops asked.first) has.0 i))
+      (named (branch_top others (slice_index tops asked.second) has.1 i))) (R1a ∷ R1b ∷ R2 ∷ [])
+
+  ordered_stays : (r_first : Bool) (asked : Asked) → HasBoth asked → Stays (ordered r_first) asked
+  ordered_stays r_first asked has = λ i. order (seen_at sight node mark) r_first
+      (named (branch_top others (slice_index tops asked.first) has.0 i))
+      (named (branch_top others (slice_index tops asked.second) has.1 i))
+
+  -- what constitution decides, all rules decide
+  told : (r_first : Bool) (asked : Asked) → AreWithin (length tops) asked → (found : Decision)
+      → kept_or asked.decision (decide tops asked.first asked.second) ≡ Some found
+      → kept_or asked.decision (ordered r_first tops asked.first asked.second) ≡ Some found
+  told r_first asked within found e =
+      let same = order_told (seen_at sight node mark) r_first (node_at sight.nodes) (top_node sight tops) (length tops)
+      (asked ∷ []) (within, tt) (R1a ∷ R1b ∷ R2 ∷ []) (R3 ∷ R4a ∷ R4b ∷ R4c ∷ R5 ∷ []) refl
+      (with_found (decide tops) asked ∷ []) refl
+      (ap (λ (d : Option Decision). is_decided (asked_between asked.first asked.second d) && true) e) in
+      sym (ap (λ (ones : List Asked). (slice_index_or ones 0 asked).decision) same) ∙ e
+
+  moved_side : (r_first : Bool) (asked : Asked) → AreWithin (length tops) asked
+      → (is_decided (with_found (decide tops) asked) ≡ false → HasBoth asked)
+      → side_at (with_found (ordered r_first others) (moved tops others (with_found (decide tops) asked)))
+      ≡ side_at (with_found (ordered r_first tops) asked)
+  moved_side r_first asked within has =
+      by (kept_or asked.decision (decide tops asked.first asked.second)) refl
+    where
+      by : (d : Option Decision) → kept_or asked.decision (decide tops asked.first asked.second) ≡ d
+          → side_at (with_found (ordered r_first others) (moved tops others (asked_between asked.first asked.second d)))
+          ≡ side_at (with_found (ordered r_first tops) asked)
+      by (Some found) e = sym (ap found_side (told r_first asked within found e))
+      by None e =
+          let none = is_none asked.decision (decide tops asked.first asked.second) e in
+          ap found_side (ordered_stays r_first asked
+          (has (ap (λ (d : Option Decision). is_decided (asked_between asked.first asked.second d)) e)))
+          ∙ ap (λ (d : Option Decision). found_side (kept_or d (ordered r_first tops asked.first asked.second)))
+          (sym none.0)
+
+  moved_open : (asked : Asked) → (is_decided (with_found (decide tops) asked) ≡ false → HasBoth asked)
+      → is_decided (with_found (decide others) (moved tops others (with_found (decide tops) asked)))
+      ≡ is_decided (with_found (decide tops) asked)
+  moved_open asked has = by (kept_or asked.decision (decide tops asked.first asked.second)) refl
+    where
+      by : (d : Option Decision) → kept_or asked.decision (decide tops asked.first asked.second) ≡ d
+          → is_decided (with_found (decide others) (moved tops others (asked_between asked.first asked.second d)))
+          ≡ is_decided (asked_between asked.first asked.second d)
+      by (Some found) e = refl
+      by None e =
+          let none = is_none asked.decision (decide tops asked.first asked.second) e in
+          ap (λ (d : Option Decision). is_decided (asked_between 0 0 d))
+          (decide_stays asked (has (ap (λ (d : Option Decision). is_decided (asked_between asked.first asked.second d)) e))
+          ∙ none.1)
+
+  abbrev Has : Asked → Type 0
+  Has asked = is_decided (with_found (decide tops) asked) ≡ false → HasBoth asked
+
+  all_sides : (r_first : Bool) (asked : List Asked) → AllByRecursion (AreWithin (length tops)) asked
+      → AllByRecursion Has asked
+      → map side_at (map (with_found (ordered r_first others))
+      (map (moved tops others) (map (with_found (decide tops)) asked)))
+      ≡ map side_at (map (with_found (ordered r_first tops)) asked)
+  all_sides r_first [] within has = refl
+  all_sides r_first (one ∷ asked) within has =
+      λ i. moved_side r_first one within.0 has.0 i ∷ all_sides r_first asked within.1 has.1 i
+
+  all_open : (asked : List Asked) → AllByRecursion Has asked
+      → list_all is_decided (map (with_found (decide others))
+      (map (moved tops others) (map (with_found (decide tops)) asked)))
+      ≡ list_all is_decided (map (with_found (decide tops)) asked)
+  all_open [] has = refl
+  all_open (one ∷ asked) has = λ i. moved_open one has.0 i && all_open asked has.1 i
+
+  moved_one : 0 < length others → (asked : Asked) → AreWithin (length others) (moved tops others asked)
+  moved_one some asked = by asked.decision
+    where
+      by : (d : Option Decision)
+          → AreWithin (length others) (moved tops others (asked_between asked.first asked.second d))
+      by (Some found) = (some, some)
+      by None = (branch_low others some (slice_index tops asked.first), branch_low others some (slice_index tops asked.second))
+
+  moved_within : 0 < length others → (pairs : List Asked)
+      → AllByRecursion (AreWithin (length others)) (map (moved tops others) pairs)
+  moved_within some [] = tt
+  moved_within some (pair ∷ pairs) = (moved_one some pair, moved_within some pairs)
+
+-- pairs that were decided as far as constitution goes have their tops among these
+under_found : (find : ℕ → ℕ → Option Decision) (P : Asked → Type 0) (asked : List Asked)
+    → AllByRecursion P (map (with_found find) asked) → AllByRecursion (λ one. P (with_found find one)) asked
+under_found find P [] all = tt
+under_found find P (one ∷ asked) all = (all.0, under_found find P asked all.1)
+
+module _ (sight : Sight) (node : ℕ) (tops : List ℕ) (asked_for : List (Option ℕ))
+    (are : tops ≡ asked_tops (parents_of sight.told) asked_for node) (before : Branched) (pairs : List Asked)
+    (ligands : List (Option ℕ)) (left : LeavesOpen sight node tops before pairs ligands) where
+  abbrev others : List ℕ
+  others = asked_tops (parents_of sight.told) (open_tops tops pairs) node
+
+  no_mark : List ℕ → Option Descriptor
+  no_mark path = None
+
+  pub pairs_are_within : AllByRecursion (AreWithin (length tops)) pairs
+  pairs_are_within = subst (AllByRecursion (AreWithin (length tops))) (sym (left.constituted.noted no_mark))
+      (all_within (decide sight node tops others no_mark tops) (length tops) left.asked left.within)
+
+  pairs_have : AllByRecursion (HasTops (parents_of sight.told) node tops asked_for are pairs) pairs
+  pairs_have = have_tops (parents_of sight.told) node tops asked_for are pairs pairs_are_within
+
+  have : (mark : List ℕ → Option Descriptor) → AllByRecursion (Has sight node tops others mark) left.asked
+  have mark = under_found (decide sight node tops others mark tops)
+      (HasTops (parents_of sight.told) node tops asked_for are pairs) left.asked
+      (subst (AllByRecursion (HasTops (parents_of sight.told) node tops asked_for are pairs))
+      (left.constituted.noted mark) pairs_have)
+
+  pub some_left : 0 < length others
+  some_left = some_top (parents_of sight.told) node tops asked_for are pairs pairs left.undone pairs_have
+
+  pub all_moved : AllByRecursion (AreWithin (length others)) (map (moved tops others) pairs)
+  all_moved = moved_within sight node tops others no_mark some_left pairs
+
+  -- asked about once more they tell the same
+  pub narrowed_left : (now : Branched) (found : List Asked)
+      → AreConstituted sight node others now (map (moved tops others) pairs) found
+      → LeavesOpen sight node others now found ligands
+  narrowed_left now found is = record {
+    asked = map (moved tops others) pairs;
+    within = all_moved;
+    tell = record {
+      each = λ mark r_first.
+          ap (λ (ps : List Asked). map side_at (map (with_found (ordered sight node tops others mark r_first others))
+          (map (moved tops others) ps))) (left.constituted.noted mark)
+          ∙ all_sides sight node tops others mark r_first left.asked left.within (have mark)
+          ∙ left.tell.each mark r_first;
+    };
+    constituted = is;
+    undone = ap (list_all is_decided) (is.noted no_mark)
+        ∙ ap (λ (ps : List Asked). list_all is_decided (map (with_found (decide sight node tops others no_mark others))
+        (map (moved tops others) ps))) (left.constituted.noted no_mark)
+        ∙ all_open sight node tops others no_mark left.asked (have no_mark)
+        ∙ sym (ap (list_all is_decided) (left.constituted.noted no_mark)) ∙ left.undone;
+  }

@@ -1,0 +1,86 @@
+// Pairs that constitution leaves open, asked about once more by their branches alone: the others are let go with all
+// their places.
+ghost use Rattle.std.specs.Prelude.{◌≡◌, ◌++◌, ◌∷◌, [], IfOk, OnOk, Some, filter, map, slice_index};
+ghost use Rattle.cip_inside.specs.Narrowing.{is_open_top, is_top_of, moved, open_tops};
+
+use crate::asking::ask;
+use crate::near::Near;
+use cip_ligands::Asked;
+use smallvec::SmallVec;
+use std::alloc::{AllocError, Global};
+
+/// An end of a unit has at most so many ligands.
+pub const MOST_LIGANDS: usize = 4;
+
+/// Nodes at the tops of branches.
+pub type Tops = SmallVec<Option<u32>, MOST_LIGANDS>;
+
+// The node at the top of a branch.
+fn top_at(tops: &[u32], branch: u32) -> u32
+    ensures { result ≡ slice_index tops.now branch }
+{
+    match tops.get(branch as usize) {
+        Some(top) => *top,
+        None => 0,
+    }
+}
+
+fn is_top_of(tops: &[u32], top: u32, pair: &Asked) -> bool
+    ensures { result ≡ is_top_of tops.now top pair.now }
+{
+    pair.decision.is_none() && (top_at(tops, pair.first) == top || top_at(tops, pair.second) == top)
+}
+
+fn is_open_top(tops: &[u32], pairs: &[Asked], top: u32) -> bool
+    ensures { result ≡ is_open_top tops.now pairs.now top }
+{
+    pairs.iter().any(|pair| is_top_of(tops, top, pair))
+}
+
+fn push_if_open(tops: &[u32], pairs: &[Asked], top: u32, found: &mut Tops) -> Result<(), AllocError>
+    ensures { OnOk result (found.new.items ≡ found.old.items
+        ++ map Some (filter (is_open_top tops.now pairs.now) (top ∷ []))) }
+{
+    if is_open_top(tops, pairs, top) {
+        found.push(Some(top))?;
+    }
+    Ok(())
+}
+
+/// The tops of the branches in open pairs.
+#[tactic(auto, using(crate::proofs::Narrowed::more_open))]
+pub fn open_tops(alloc: Global, tops: &[u32], pairs: &[Asked]) -> Result<Tops, AllocError>
+    ensures { IfOk result (λ found. found.items ≡ open_tops tops.now pairs.now) }
+{
+    let mut found = SmallVec::new(alloc);
+    for top in tops {
+        push_if_open(tops, pairs, *top, &mut found)?;
+    }
+    Ok(found)
+}
+
+fn moved(near: &Near, tops: &[u32], pair: Asked) -> Asked
+    ensures { result ≡ moved tops.now near.now.tops pair }
+{
+    match pair.decision {
+        Some(_) => Asked {
+            first: 0,
+            second: 0,
+            decision: pair.decision,
+        },
+        None => ask(
+            near,
+            Some(top_at(tops, pair.first)),
+            Some(top_at(tops, pair.second)),
+        ),
+    }
+}
+
+/// Asks about the same pairs by other branches. Of those that are decided the branches don't matter.
+pub fn move_all(near: &Near, tops: &[u32], pairs: &mut [Asked])
+    ensures { pairs.new ≡ map (moved tops.now near.now.tops) pairs.old }
+{
+    for pair in pairs.iter_mut() {
+        *pair = moved(near, tops, *pair);
+    }
+}
