@@ -6,6 +6,7 @@ pub mod Ending
 pub mod EvenSpheres
 pub mod FewKids
 pub mod Filled
+pub mod FlaggedClasses
 pub mod Followed
 pub mod GrownPlaces
 pub mod InwardSpheres

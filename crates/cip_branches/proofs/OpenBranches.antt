@@ -1,8 +1,10 @@
 -- Open branches are fewer than the wanted ones, and no further one is told apart among them.
-use Rattle.std.proofs.Common.{◌≡◌, ◌<◌, ℕ, zero, suc, Bool, true, false, List, [], ◌∷◌, length, slice_index, refl, sym, ◌∙◌, subst, arith}
-use Rattle.cip_branches.specs.Closing.{TiesWith, FlagOpen}
+use Rattle.std.proofs.Common.{◌≡◌, ◌<◌, ◌+◌, ℕ, zero, suc, Bool, true, false, List, [], ◌∷◌, length, slice_index, slice_set, refl, sym, ap, ◌∙◌, subst, arith, inl, inr}
+use Rattle.std.proofs.lemmas.List.{get_or-set_same, get_or-set_other}
+use Rattle.cip_branches.specs.Closing.{TiesWith, IsOpen, FlagOpen}
 use Rattle.cip_branches.specs.Deciding.{FlagsOpen}
 use Rattle.cip_rows.specs.Parting.{has_flag}
+use Rattle.cip_rows.proofs.Cases.{cases_flag, cases_same}
 use Rattle.cip_branches.specs.Ruled.{WantsFewer}
 
 -- a flag that is set stands within the flags
@@ -80,4 +82,26 @@ open_still numbers new wanted same tie = record {
     all_open = λ branch lt is. is.chosen;
   };
   fewer = record { each = λ branch has. has };
+}
+
+-- one more branch has its flag
+pub flag_next : (numbers : List ℕ) (wanted flags : List Bool) (branch : ℕ) (flag : Bool) → branch < length flags
+    → (flag ≡ true → IsOpen numbers wanted branch) → (flag ≡ false → IsOpen numbers wanted branch → ⊥)
+    → FlagOpen numbers wanted branch flags → FlagOpen numbers wanted (branch + 1) (slice_set flags branch flag)
+flag_next numbers wanted flags branch flag lt told none so_far = record {
+  open_only = λ other below has. elim (cases_same branch other) [
+    | inl here ↦ subst (IsOpen numbers wanted) here (told (sym (get_or-set_same flags branch flag false lt)
+        ∙ ap (has_flag (slice_set flags branch flag)) here ∙ has))
+    | inr differ ↦ so_far.open_only other (omega (arith, below, differ))
+        (sym (get_or-set_other flags branch other flag false (λ e. differ (sym e))) ∙ has)
+  ];
+  all_open = λ other below is. elim (cases_same branch other) [
+    | inl here ↦ elim (cases_flag flag) [
+      | inl set ↦ ap (has_flag (slice_set flags branch flag)) (sym here)
+          ∙ get_or-set_same flags branch flag false lt ∙ set
+      | inr not ↦ absurd (none not (subst (IsOpen numbers wanted) (sym here) is))
+    ]
+    | inr differ ↦ get_or-set_other flags branch other flag false (λ e. differ (sym e))
+        ∙ so_far.all_open other (omega (arith, below, differ)) is
+  ];
 }

@@ -125,9 +125,21 @@ module _ (kids : ℕ → List ℕ) (ups rows starts : List ℕ) (last : ℕ) (st
       (λ place p. turns.refines.inside s place (omega arith) p)
 
 -- what the code reads of the starts
-pub read_at : (starts read : List ℕ) (t row : ℕ) → read ≡ starts → t ≡ row → slice_index starts row ≡ slice_index read t
-read_at starts read t row same at = ap (slice_index starts) (sym at)
-    ∙ ap (λ (ns : List ℕ). slice_index ns t) (sym same)
+pub read_at : (starts : List ℕ) (t row read : ℕ) → read ≡ slice_index starts t → t ≡ row → slice_index starts row ≡ read
+read_at starts t row read is at = ap (slice_index starts) (sym at) ∙ sym is
+
+-- a sphere as the code finds it
+pub record FoundSphere (rows numbers : List ℕ) (from to : ℕ) : Type 0 where
+  pub ordered : from ≤ to
+  pub within : to ≤ length rows
+  pub classed : AreClassed rows numbers from to
+
+pub found_sphere : (kids : ℕ → List ℕ) (ups rows starts : List ℕ) (last : ℕ) (numbers : List ℕ)
+    → AreSpheres kids ups rows starts last numbers → (t from to : ℕ) → t ≤ last → slice_index starts t ≡ from
+    → slice_index starts (suc t) ≡ to → FoundSphere rows numbers from to
+found_sphere kids ups rows starts last numbers are t from to le from_is to_is =
+    subst (λ n. FoundSphere rows numbers n to) from_is (subst (FoundSphere rows numbers (slice_index starts t)) to_is
+    (record { ordered = are.rise t le; within = are.within t le; classed = are.classed t le }))
 
 -- what a turn asks for
 pub record Asks (now : Layers) (from to past : ℕ) : Type 0 where

@@ -122,11 +122,7 @@ impl Branches {
         let opens = &mut self.opens;
         self.spheres
             .flag_open(self.wanted.as_slice(), &mut opens.items);
-        let wanted = &mut self.wanted;
-        wanted
-            .items
-            .as_mut_slice()
-            .copy_from_slice(self.opens.as_slice());
+        self.wanted.copy(self.opens.as_slice());
     }
 
     /// How many places there are.

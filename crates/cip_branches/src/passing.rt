@@ -29,8 +29,8 @@ impl Spheres {
         requires noted { AreNotedBut self.old.ranked.rows from to self.old.before self.old.ranked.numbers }
         ensures { self.new ≡ record self.old { before = self.old.ranked.numbers } }
     {
-        let before = &mut self.before;
-        note_places(&self.order, from, to, &mut before.items);
+        let noted = &mut self.before;
+        note_places(&self.order, from, to, &mut noted.items);
     }
 
     /// Takes a rule one sphere further, to the one behind `far`: splits its classes by keys, and refines the spheres
@@ -59,11 +59,11 @@ impl Spheres {
         ensures others { self.new ≡ record self.old { ranked = self.new.ranked; before = self.new.before } }
         ensures room { self.new.ranked.room ≡ self.old.ranked.room }
     {
-        let from = self.starts.as_slice()[far as usize + 1];
-        let to = self.starts.as_slice()[far as usize + 2];
+        let from = self.first_row(far + 1);
+        let to = self.first_row(far + 2);
         self.split_sphere(keys, from, to);
         let inner = self.refine_inwards(far, last);
-        let first = self.starts.as_slice()[inner as usize];
+        let first = self.first_row(inner);
         self.note_rows(first, to);
         inner
     }

@@ -19,8 +19,8 @@ impl Spheres {
         ensures ranked { AreRanked self.new last }
     {
         let _last = last;
-        let from = self.starts.as_slice()[0];
-        let to = self.starts.as_slice()[1];
+        let from = self.first_row(0);
+        let to = self.first_row(1);
         self.split_sphere(keys, from, to);
         self.note_rows(from, to);
     }
@@ -39,8 +39,8 @@ impl Spheres {
             self.new.ranked.numbers }
     {
         let _count = self.starts.len();
-        let from = self.starts.as_slice()[far as usize + 1];
-        let to = self.starts.as_slice()[far as usize + 2];
+        let from = self.first_row(far + 1);
+        let to = self.first_row(far + 2);
         if self.stands_by(keys, from, to) {
             return false;
         }

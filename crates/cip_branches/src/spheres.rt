@@ -1,5 +1,5 @@
 // All columns of branches.
-ghost use Rattle.std.specs.Prelude.{◌≡◌, ◌<◌, ◌+◌, ◌^◌, [], IfOk};
+ghost use Rattle.std.specs.Prelude.{◌≡◌, ◌<◌, ◌≤◌, ◌+◌, ◌^◌, [], IfOk, length, slice_index};
 
 use cip_rank::both;
 use cip_rows::{Column, Family, Order};
@@ -59,6 +59,15 @@ impl Spheres {
             flags,
             sets,
         })
+    }
+
+    /// The first row of a sphere, which for the one behind the last is the row behind all.
+    pub(crate) fn first_row(&self, sphere: u32) -> u32
+        requires { sphere < length self.now.starts }
+        ensures value { result ≡ slice_index self.now.starts sphere }
+        ensures fits { length self.now.ranked.rows ≤ self.now.kin.room }
+    {
+        self.starts.as_slice()[sphere as usize]
     }
 }
 

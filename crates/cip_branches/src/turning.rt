@@ -80,9 +80,9 @@ impl Spheres {
         let mut inner = far + 1;
         while inner > 0 {
             let t = inner - 1;
-            let from = self.starts.as_slice()[t as usize];
-            let to = self.starts.as_slice()[t as usize + 1];
-            let past = self.starts.as_slice()[t as usize + 2];
+            let from = self.first_row(t);
+            let to = self.first_row(t + 1);
+            let past = self.first_row(t + 2);
             if !self.turn_inwards(from, to, past) {
                 return inner;
             }

@@ -18,7 +18,7 @@ use Rattle.cip_stream.specs.Endings.{AnswersTaken, EndsAs, GrewFrom}
 use Rattle.cip_stream.specs.Batches.{Advances, Answers, AnswersTail, blank_of}
 use Rattle.cip_stream.specs.Reading.{Brings, Ends, Overfeeds, Overflows, StandsStill, TakesAtMost}
 use Rattle.cip_stream.proofs.Answered.{no_place, all_answered, whole_first, input_passed, record_passed, IsPassed}
-use Rattle.cip_stream.proofs.Batches.{no_memory, gathers, advances_both, answers_both, same_next}
+use Rattle.cip_stream.proofs.Batches.{no_memory, gathers, answers_both, same_next}
 use Rattle.cip_stream.proofs.Bounds.{consumes_both, takes_more}
 use Rattle.cip_io.proofs.Growth.{appends_both, prefix_behind, prefix_longer}
 use Rattle.cip_stream.proofs.Growing.{verdict_both, texts_both, joined_result, answers_longer}
@@ -280,21 +280,6 @@ pub room_met : {N : Type 0} (manner : Manner N) (limits : Limits) (verdict : Ver
 room_met manner limits verdict left rest old new first gathered met few =
     let next = same_next manner 1 first met.records gathered verdict old new met.came in
     omega (arith, next, met.over.few, few)
-
--- some of those that were gathered were answered
-pub met_further : {N : Type 0} (manner : Manner N) (limits : Limits) (verdict more : Verdict N) (left rest old half new : Option (List ℕ))
-    (first later : ℕ) (gathered batch : List (List ℕ))
-    → Met manner limits verdict left rest old half first gathered
-    → Advances manner first gathered later batch more half new
-    → Met manner limits (joined verdict more) left rest old new later batch
-met_further manner limits verdict more left rest old half new first later gathered batch met came = record {
-  records = met.records;
-  over = met.over;
-  came = subst (λ records. Advances manner 1 met.records later records (joined verdict more) old new) (append-nil batch)
-      (advances_both manner 1 first later met.records gathered [] batch verdict more old half new
-      (subst (λ records. Advances manner 1 met.records first records verdict old half) (sym (append-nil gathered))
-      met.came) came);
-}
 
 pub stopped_at_limit : {N : Type 0} (manner : Manner N) (limits : Limits) (verdict : Verdict N) (stop : Stop)
     (left rest old half new : Option (List ℕ)) (first : ℕ) (gathered : List (List ℕ))

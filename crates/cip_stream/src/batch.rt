@@ -195,6 +195,25 @@ pub fn answer_batch<'a, R: Threads + Sync, G: Gate + Sync, T: Teller + Sync, K: 
     Ok(verdict)
 }
 
+/// Answers all records that wait, those in the framer behind those of the batch. Says what they add to the end of the run.
+pub fn answer_rest<'a, R: Threads + Sync, G: Gate + Sync, T: Teller + Sync, K: Sink>(
+    desks: &mut Desks<'_, R, G, T>,
+    framer: &mut Framer,
+    batch: &mut Batch<'a, T>,
+    sink: &mut K,
+) -> Result<Verdict<T::Note>, Stop>
+    requires limit { framer.old.limit < 2 ^ 31 }
+    requires room { batch.old.first + length (batch.old.records ++ framer.old.waiting) < 2 ^ 64 }
+    ensures answered { Answers (T.manner batch.old.teller) batch.old.first (batch.old.records ++ framer.old.waiting)
+        result (K.taken sink.old) (K.taken sink.new) }
+    ensures fault { IsErrOf result Stop.WriteFault → Rose (K.faults sink.old) (K.faults sink.new) }
+    ensures later { K.faults sink.old ≤ K.faults sink.new }
+{
+    let verdict = answer_waiting(desks, framer, batch, sink)?;
+    let behind = answer_batch(desks, batch, sink)?;
+    Ok(verdict.and(behind))
+}
+
 /// Answers the last batch, into which a last record without its terminator line goes, and writes blank lines behind it
 /// where they are kept. Says what its records add to the end of the run.
 pub fn answer_tail<'a, R: Threads + Sync, G: Gate + Sync, T: Teller + Sync, K: Sink>(

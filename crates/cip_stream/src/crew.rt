@@ -1,5 +1,5 @@
 // Who answers the records of a stream.
-ghost use Rattle.std.specs.Prelude.{◌≡◌, ◌≤◌, ◌<◌, ◌^◌, IfOk, length, map};
+ghost use Rattle.std.specs.Prelude.{◌≡◌, ◌≤◌, ◌<◌, ◌^◌, IfOk, OnOk, length, map};
 ghost use Rattle.cip_stream.specs.Batches.{telling};
 
 use crate::batch::Waiting;
@@ -63,8 +63,22 @@ fn new_workers<T: Teller>(
     ensures { IfOk result (λ v. length v.items ≡ count) }
 {
     let mut workers = Vec::with_capacity(alloc, count as usize)?;
+    add_workers(alloc, teller, count, &mut workers)?;
+    Ok(workers)
+}
+
+// Adds workers until there are so many. They stay with the caller, so that want of memory gives none back here.
+fn add_workers<T: Teller>(
+    alloc: Global,
+    teller: &T,
+    count: u8,
+    workers: &mut Vec<Worker<T::Desk, Told<T::Note>>>,
+) -> Result<(), AllocError>
+    requires { length workers.old.items ≤ count }
+    ensures { OnOk result (length workers.new.items ≡ count) }
+{
     while workers.len() < count as usize {
         workers.push(Worker::new(alloc, teller.new_desk(alloc)?))?;
     }
-    Ok(workers)
+    Ok(())
 }

@@ -7,7 +7,7 @@ ghost use Rattle.cip_io.specs.Faults.{Rose};
 ghost use Rattle.cip_stream.specs.Endings.{EndsAs, AnswersTaken};
 ghost use Rattle.cip_stream.specs.Reading.{IsFresh, TakesAtMost};
 
-use crate::batch::{Batch, answer_batch, answer_tail, answer_waiting};
+use crate::batch::{Batch, answer_batch, answer_rest, answer_tail, answer_waiting};
 use crate::crew::{Crew, Desks};
 use crate::limits::Limits;
 use crate::reading::{Turn, feed_next, new_piece};
@@ -41,14 +41,19 @@ pub fn answer_stream<R: Threads + Sync, G: Gate + Sync, T: Teller + Sync, S: Sou
     ensures source_fault { IsErrOf result Stop.ReadFault → Rose (S.faults source.old) (S.faults source.new) }
     ensures sink_fault { IsErrOf result Stop.WriteFault → Rose (K.faults sink.old) (K.faults sink.new) }
 {
+    let piece = new_piece(crew.alloc)?;
     let mut desks = Desks::reserve(crew, teller)?;
     let mut inflow = Inflow {
         alloc: crew.alloc,
-        piece: new_piece(crew.alloc)?,
+        piece,
         framer: Framer::new(crew.alloc, limits.record),
     };
     let mut batch = Batch::new(crew.alloc, teller, crew.workers);
-    answer_pieces(&mut desks, &mut inflow, &mut batch, limits, source, sink)
+    let ended = answer_pieces(&mut desks, &mut inflow, &mut batch, limits, source, sink);
+    drop(batch);
+    drop(inflow);
+    drop(desks);
+    ended
 }
 
 // What the bytes of a source come through: room for a piece, and the framer that cuts it.
@@ -114,8 +119,7 @@ fn answer_pieces<'a, R: Threads + Sync, G: Gate + Sync, T: Teller + Sync, S: Sou
                 return Err(Stop::ReadFault);
             }
             Turn::Limit => {
-                answer_waiting(desks, &mut inflow.framer, batch, sink)?;
-                answer_batch(desks, batch, sink)?;
+                answer_rest(desks, &mut inflow.framer, batch, sink)?;
                 return Err(Stop::Limit);
             }
         }

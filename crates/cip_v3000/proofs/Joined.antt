@@ -1,11 +1,12 @@
 -- One line more of the joined lines.
 use Rattle.std.proofs.Common.{◌≡◌, ℕ, ◌-◌, ◌+◌, ◌≤◌, ◌<◌, List, [], ◌∷◌, ◌++◌, refl, sym, ap, ◌∙◌, arith, length, take, drop, get_or, true, false, append_assoc}
-use Rattle.std.proofs.lemmas.List.{append-nil, take_more, get_or-drop, length-drop, length-take, length-map, map-append}
+use Rattle.std.proofs.lemmas.List.{append-nil, take_more, drop_more, drop_all, get_or-drop, length-drop, length-take, length-map, map-append}
 use Rattle.std.specs.Borrow.{Bor}
+use Rattle.std.specs.List.{flat_map}
 use Rattle.cip_mol.specs.declared.refusal.ReadCause.TheVariants.{Short, Frame}
 use Rattle.cip_text.specs.Slices.{texts}
 use Rattle.cip_reading.proofs.Texts.{drop_texts, drop_texts_past}
-use Rattle.cip_v3000.specs.JoinedLines.{JoinedLine, JoinedLines, begins_v30, is_continued, behind, joined_from}
+use Rattle.cip_v3000.specs.JoinedLines.{JoinedLine, JoinedLines, begins_v30, is_continued, part_of, behind, joined_from}
 use Rattle.cip_v3000.specs.Joining.{with_before, parts_at, rest_from}
 
 -- a line more is a part more
@@ -89,3 +90,27 @@ lines_end before lines first place total le is =
     }
     = rw (drop_texts_past lines place le) refl in
     rw (sym (append-nil before)) (sym (ap (with_before before) one) ∙ is)
+
+-- the text of parts, one more of them
+
+pub part_joined : (so_far : List ℕ) (parts : List (Bor (List ℕ))) (place : ℕ) (d : Bor (List ℕ)) (part total : List ℕ)
+    → place < length parts → part ≡ part_of (get_or parts place d).now
+    → so_far ++ flat_map part_of (texts (drop place parts)) ≡ total
+    → (so_far ++ part) ++ flat_map part_of (texts (drop (place + 1) parts)) ≡ total
+part_joined so_far parts place d part total lt here is =
+    let one : flat_map part_of (texts (drop place parts)) ≡ part ++ flat_map part_of (texts (drop (place + 1) parts))
+    = rw (drop_more parts place d lt, here) refl in
+    append_assoc so_far part (flat_map part_of (texts (drop (place + 1) parts)))
+    ∙ ap (λ bytes. so_far ++ bytes) (sym one) ∙ is
+
+pub parts_joined : (so_far : List ℕ) (parts : List (Bor (List ℕ))) (place : ℕ) (total : List ℕ) → length parts ≤ place
+    → so_far ++ flat_map part_of (texts (drop place parts)) ≡ total → so_far ≡ total
+parts_joined so_far parts place total past is =
+    sym (append-nil so_far)
+    ∙ ap (λ (left : List (Bor (List ℕ))). so_far ++ flat_map part_of (texts left)) (sym (drop_all place parts past)) ∙ is
+
+pub only_part : (parts : List (Bor (List ℕ))) (d : Bor (List ℕ)) → 1 ≤ length parts → length parts < 2
+    → part_of (get_or parts 0 d).now ≡ flat_map part_of (texts parts)
+only_part [] d some few = absurd (omega (arith, some))
+only_part (part ∷ []) d some few = sym (append-nil (part_of part.now))
+only_part (part ∷ other ∷ parts) d some few = absurd (omega (arith, few))

@@ -5,6 +5,7 @@ use Rattle.std.specs.Prelude.{codes}
 use Rattle.std.specs.Str.{bytes_eq}
 use Rattle.cip_text.specs.Numbers.{integer_of, decimal4_of}
 use Rattle.cip_elem.specs.Symbols.{element_of}
+use Rattle.cip_num.specs.declared.plane.Vec3.{Vec3}
 use Rattle.cip_mol.specs.Bonds.{cause_of}
 use Rattle.cip_mol.specs.declared.molecule.Bond.{Bond}
 use Rattle.cip_mol.specs.declared.molecule.Mark.{Mark}
@@ -15,8 +16,8 @@ use Rattle.cip_reading.specs.Causes.{order_of}
 use Rattle.cip_reading.specs.Fields.{number_stated, signed_stated}
 use Rattle.cip_reading.proofs.LineCauses.{IsOfLine, given_is, cause_is, ok_or_is, then_is, coordinate_is, guard_is, unless_refused_is}
 use Rattle.cip_v3000.specs.declared.keys.AtomKeys.{AtomKeys}
-use Rattle.cip_v3000.specs.AtomLine.{word_at, unless_known, new_index, is_number, isotope_of, atom_of}
-use Rattle.cip_v3000.specs.BondLine.{mark_of, with_mark, place_named, bond_of}
+use Rattle.cip_v3000.specs.AtomLine.{word_at, unless_known, new_index, is_number, isotope_of, point_of, atom_by, atom_of}
+use Rattle.cip_v3000.specs.BondLine.{mark_of, with_mark, place_of, bond_by, bond_of}
 use Rattle.cip_v3000.specs.CountsLine.{is_counts, count_at, counts_of}
 use Rattle.cip_reading.specs.Turns.{over}
 use Rattle.cip_v3000.specs.Keys.{valence_of, with_value, with_key}
@@ -74,30 +75,50 @@ counts_line words =
     then_is (ok_or_is (count_at 32768 2 words) Counts (λ e. cc)) (λ bonds.
     given_is (record { atoms = atoms; bonds = bonds }))))
 
+point_is : (x y z : List ℕ) → IsOfLine (point_of x y z)
+point_is x y z =
+    then_is (coordinate_is (decimal4_of x)) (λ x.
+    then_is (coordinate_is (decimal4_of y)) (λ y.
+    then_is (coordinate_is (decimal4_of z)) (λ z.
+    given_is (record { x = x; y = y; z = z }))))
+
+atom_is : (symbol : List ℕ) (point : Result Vec3 ReadCause) (mapping : List ℕ) (keys : List (List ℕ))
+    → IsOfLine point → IsOfLine (atom_by symbol point mapping keys)
+unfolding atom_by
+atom_is symbol point mapping keys is =
+    then_is (ok_or_is (element_of symbol) Symbol (λ e. cc)) (λ element.
+    then_is is (λ at.
+    then_is (guard_is KeyValue (λ e. cc) (is_number (integer_of mapping))) (λ _.
+    then_is (over_is with_key key_is (record { charge = pos 0; radical = 0; mass = 0; valence_mark = 0 }) keys)
+    (λ keys.
+    given_is (record {
+      z = element.z;
+      isotope = isotope_of element.isotope keys.mass;
+      charge = keys.charge;
+      radical = keys.radical;
+      valence_mark = keys.valence_mark;
+      at = at;
+    })))))
+
 pub atom_line : (known : List ℕ) (words : List (List ℕ)) → IsOfLine (atom_of known words)
 unfolding atom_of
 atom_line known words =
     then_is (guard_is Frame (λ e. cc) (nat_lt 5 (length words))) (λ _.
     then_is (index_is known (word_at words 0)) (λ index.
-    then_is (ok_or_is (element_of (word_at words 1)) Symbol (λ e. cc)) (λ element.
-    then_is (coordinate_is (decimal4_of (word_at words 2))) (λ x.
-    then_is (coordinate_is (decimal4_of (word_at words 3))) (λ y.
-    then_is (coordinate_is (decimal4_of (word_at words 4))) (λ z.
-    then_is (guard_is KeyValue (λ e. cc) (is_number (integer_of (word_at words 5)))) (λ _.
     then_is
-    (over_is with_key key_is (record { charge = pos 0; radical = 0; mass = 0; valence_mark = 0 }) (drop 6 words))
-    (λ keys.
-    given_is (record {
-      index = index;
-      atom = record {
-        z = element.z;
-        isotope = isotope_of element.isotope keys.mass;
-        charge = keys.charge;
-        radical = keys.radical;
-        valence_mark = keys.valence_mark;
-        at = record { x = x; y = y; z = z };
-      };
-    })))))))))
+    (atom_is (word_at words 1) (point_of (word_at words 2) (word_at words 3) (word_at words 4)) (word_at words 5)
+    (drop 6 words) (point_is (word_at words 2) (word_at words 3) (word_at words 4))) (λ atom.
+    given_is (record { index = index; atom = atom }))))
+
+bond_is : (atoms : List ℕ) (order first second : Option ℕ) (keys : List (List ℕ))
+    → IsOfLine (bond_by atoms order first second keys)
+unfolding bond_by
+bond_is atoms order first second keys =
+    then_is (ok_or_is (order_of order) BondType (λ e. cc)) (λ order.
+    then_is (ok_or_is (place_of atoms first) BondEnd (λ e. cc)) (λ a.
+    then_is (ok_or_is (place_of atoms second) BondEnd (λ e. cc)) (λ b.
+    then_is (over_is (with_mark order) (mark_is order) Plain keys) (λ mark.
+    given_is (record { a = a; b = b; order = order; mark = mark })))))
 
 pub bond_line : (atoms known : List ℕ) (before : List Bond) (words : List (List ℕ))
     → IsOfLine (bond_of atoms known before words)
@@ -105,12 +126,8 @@ unfolding bond_of
 bond_line atoms known before words =
     then_is (guard_is Frame (λ e. cc) (nat_lt 3 (length words))) (λ _.
     then_is (index_is known (word_at words 0)) (λ index.
-    then_is (ok_or_is (order_of (number_stated 3 (word_at words 1))) BondType (λ e. cc)) (λ order.
-    then_is (ok_or_is (place_named atoms (word_at words 2)) BondEnd (λ e. cc)) (λ a.
-    then_is (ok_or_is (place_named atoms (word_at words 3)) BondEnd (λ e. cc)) (λ b.
-    then_is (over_is (with_mark order) (mark_is order) Plain (drop 4 words)) (λ mark.
     then_is
-    (let bond : Bond = record { a = a; b = b; order = order; mark = mark } in
-    unless_refused_is bond (cause_of (length atoms) before bond))
-    (λ bond.
-    given_is (record { index = index; bond = bond }))))))))
+    (bond_is atoms (number_stated 3 (word_at words 1)) (number_stated 1000000000 (word_at words 2))
+    (number_stated 1000000000 (word_at words 3)) (drop 4 words)) (λ drawn.
+    then_is (unless_refused_is drawn (cause_of (length atoms) before drawn)) (λ bond.
+    given_is (record { index = index; bond = bond })))))

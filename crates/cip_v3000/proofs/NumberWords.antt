@@ -1,5 +1,7 @@
 -- Numbers of few digits as words.
-use Rattle.std.proofs.Common.{◌≡◌, ◌≤◌, ◌<◌, ◌-◌, ◌++◌, ℕ, ℤ, List, [], ◌∷◌, true, false, refl, sym, ◌∙◌, ap, subst, append-nil, append_assoc, inl, inr, arith, length, take, drop, get_or, pos, Some}
+use Rattle.std.proofs.Common.{◌≡◌, ◌≤◌, ◌<◌, ◌-◌, ◌++◌, ℕ, ℤ, List, [], ◌∷◌, true, false, refl, sym, ◌∙◌, ap, subst, append-nil, append_assoc, inl, inr, arith, length, take, drop, get_or, pos, Some, Ok, unsigned_abs}
+use Rattle.std.specs.declared.option.Option.{Option}
+use Rattle.std.specs.Prelude.{IfSome}
 use Rattle.std.specs.List.{list_all}
 use Rattle.std.proofs.lemmas.Bool.{cases_lt, and_parts}
 use Rattle.std.proofs.lemmas.Bool.Decides.{nat_tests}
@@ -10,13 +12,14 @@ use Rattle.cip_reading.specs.Usual.{is_high, Spells, IsDecimalBegun}
 use Rattle.cip_reading.proofs.UsualNumbers.{digits_read}
 use Rattle.cip_v3000.specs.declared.splitting.Within.{Within}
 use Rattle.cip_v3000.specs.declared.splitting.Within.TheVariants.{Plain}
+use Rattle.cip_v3000.specs.LineWords.{HaveNumber, HaveCoordinate}
 use Rattle.cip_v3000.specs.NumberWords.{IsNumberWord, IsNumberBegun}
 use Rattle.cip_v3000.specs.Words.{ends_word, ended, words_from, words_of}
 use Rattle.cip_v3000.proofs.FirstWords.{begun_ends, begun_runs_out, first_word}
 use Rattle.cip_v3000.proofs.WordSteps.{state_stays}
 
 -- what a number of few digits is as a word
-pub number_read : (most : ℕ) (word : List ℕ) (number : ℕ) → Spells word number
+number_read : (most : ℕ) (word : List ℕ) (number : ℕ) → Spells word number
     → up_to most (Some (pos number)) ≡ number_stated most word
 unfolding number_stated
 number_read most word number is = rw (digits_read word number is) refl
@@ -34,14 +37,24 @@ number_ends text at within space is = elim (cases_lt at (length text)) [
 ]
 
 pub number_first : (text begun : List ℕ) (number end : ℕ) → begun ≡ without_spaces_before text
-    → IsNumberBegun begun (number, end)
-    → IsNumberWord text (take end begun) number (take (length begun - end) (drop end begun))
+    → IsNumberBegun begun (number, end) → IsNumberWord text number (take (length begun - end) (drop end begun))
 number_first text begun number end bare is =
     let some : 0 < length begun = omega (arith, is.spells.some, length-take-le end begun is.within, is.within) in
     record {
+      word = take end begun;
       words = (first_word text begun end bare some is.cut is.within is.space).words;
       spells = is.spells;
     }
+
+pub number_next : (most : ℕ) (text : List ℕ) (number : ℕ) (rest : List ℕ) (found : Option ℕ)
+    → IsNumberWord text number rest → found ≡ up_to most (Some (pos number)) → IfSome found (λ n. n ≤ most)
+    → HaveNumber most (words_of text) found (words_of rest)
+number_next most text number rest found is read few = record {
+  word = is.word;
+  split = is.words;
+  is = read ∙ number_read most is.word number is.spells;
+  few = few;
+}
 
 -- bytes above the closing bracket stay in their word
 high_goes_on : (front rest word : List ℕ) → list_all is_high front ≡ true
@@ -63,10 +76,15 @@ high_begun text end h =
     sym (high_goes_on (take end text) (drop end text) [] h) ∙ ap (words_from Plain []) (take-append-drop end text)
 
 -- a decimal that begins a text is its first word
-pub decimal_first : (text begun : List ℕ) (number : ℤ) (end : ℕ) → begun ≡ without_spaces_before text
-    → IsDecimalBegun begun (number, end)
-    → words_of text ≡ take end begun ∷ words_of (take (length begun - end) (drop end begun))
-decimal_first text begun number end bare is =
+pub decimal_first : (text begun : List ℕ) (found number : ℤ) (end : ℕ) → begun ≡ without_spaces_before text
+    → found ≡ number → IsDecimalBegun begun (number, end) → unsigned_abs number ≤ 500000000
+    → HaveCoordinate (words_of text) (Ok found) (words_of (take (length begun - end) (drop end begun)))
+decimal_first text begun found number end bare same is near =
     let some : 0 < length begun = omega (arith, is.some, is.within) in
     let cut = number_ends begun end is.within is.space (high_begun begun end is.plain) in
-    (first_word text begun end bare some cut is.within is.space).words
+    record {
+      word = take end begun;
+      split = (first_word text begun end bare some cut is.within is.space).words;
+      value = rw (same, is.decimal) refl;
+      near = rw same near;
+    }

@@ -1,27 +1,24 @@
 -- What the grammar gives has bonds without a fault.
 use Rattle.std.proofs.Common.{◌≡◌, ◌+◌, ℕ, List, [], ◌∷◌, ◌++◌, length, drop, Result, Ok, Option, Some, None, Bool, true, false, refl, sym, ap, ◌∙◌, subst, arith}
 use Rattle.std.specs.Prelude.{slice_get, nat_lt}
-use Rattle.std.specs.Option.{ok_or}
 use Rattle.cip_mol.specs.Bonds.{cause_of, IsSound}
 use Rattle.cip_mol.specs.Drawing.{Drawing}
 use Rattle.cip_mol.specs.declared.molecule.Bond.{Bond}
-use Rattle.cip_mol.specs.declared.molecule.Mark.TheVariants.{Plain}
 use Rattle.cip_mol.specs.declared.refusal.ReadCause.{ReadCause}
-use Rattle.cip_mol.specs.declared.refusal.ReadCause.TheVariants.{BondEnd, BondType, Frame}
+use Rattle.cip_mol.specs.declared.refusal.ReadCause.TheVariants.{Frame}
 use Rattle.cip_mol.specs.declared.refusal.ReadFault.{ReadFault}
 use Rattle.cip_mol.proofs.SoundBonds.{sound_push}
-use Rattle.cip_reading.specs.Causes.{guard, order_of, unless_refused}
+use Rattle.cip_reading.specs.Causes.{guard, unless_refused}
 use Rattle.cip_reading.specs.Fields.{number_stated}
 use Rattle.cip_reading.proofs.Given.{same_given, given_of, numbered_given, unrefused, kept_through}
 use Rattle.cip_reading.proofs.Rows.{length-push}
 use Rattle.cip_v3000.specs.declared.bonds.BondLine.{BondLine}
 use Rattle.cip_v3000.specs.declared.frames.FrameLine.TheVariants.{BeginTable, BeginAtoms, EndAtoms, BeginBonds, EndBonds}
 use Rattle.cip_v3000.specs.AtomLine.{atom_of, new_index, word_at}
-use Rattle.cip_v3000.specs.BondLine.{bond_of, place_named, with_mark}
+use Rattle.cip_v3000.specs.BondLine.{bond_by, bond_of}
 use Rattle.cip_v3000.specs.CountsLine.{counts_of}
 use Rattle.cip_v3000.specs.Grammar.{Atoms, Bonds, words_in, read_line, read_at, frame_at, atom_row, bond_row, atom_block, bond_rows, framed_bonds, has_bond_block, bond_block, behind_block, table_end, molecule_end, molecule_in, molecule_of}
 use Rattle.cip_v3000.specs.JoinedLines.{JoinedLine, JoinedLines, joined_lines}
-use Rattle.cip_reading.specs.Turns.{over}
 use Rattle.cip_v3000.specs.Soundness.{ReadingsAreSound}
 
 -- the words that something was read of
@@ -48,13 +45,10 @@ unfolding bond_of
 free_bond atoms known before words line h =
     let many = given_of (guard Frame (nat_lt 3 (length words))) _ line h in
     let index = given_of (new_index known (word_at words 0)) _ line many.gives in
-    let order = given_of (ok_or (order_of (number_stated 3 (word_at words 1))) BondType) _ line index.gives in
-    let a = given_of (ok_or (place_named atoms (word_at words 2)) BondEnd) _ line order.gives in
-    let b = given_of (ok_or (place_named atoms (word_at words 3)) BondEnd) _ line a.gives in
-    let mark = given_of (over (with_mark order.was) Plain (drop 4 words)) _ line b.gives in
-    let drawn : Bond = record { a = a.was; b = b.was; order = order.was; mark = mark.was } in
-    let bond = given_of (unless_refused drawn (cause_of (length atoms) before drawn)) _ line mark.gives in
-    let free = unrefused drawn bond.was (cause_of (length atoms) before drawn) bond.read_as in
+    let drawn = given_of (bond_by atoms (number_stated 3 (word_at words 1)) (number_stated 1000000000 (word_at words 2))
+    (number_stated 1000000000 (word_at words 3)) (drop 4 words)) _ line index.gives in
+    let bond = given_of (unless_refused drawn.was (cause_of (length atoms) before drawn.was)) _ line drawn.gives in
+    let free = unrefused drawn.was bond.was (cause_of (length atoms) before drawn.was) bond.read_as in
     subst (λ (l : BondLine). cause_of (length atoms) before l.bond ≡ None)
     (same_given (record { index = index.was; bond = bond.was }) line bond.gives)
     (subst (λ x. cause_of (length atoms) before x ≡ None) free.same free.none)

@@ -6,8 +6,8 @@ use Rattle.cip_mol.specs.Bonds.{cause_of}
 use Rattle.cip_mol.specs.declared.refusal.ReadCause.TheVariants.{Frame}
 use Rattle.cip_reading.specs.Fields.{number_stated, signed_stated}
 use Rattle.cip_reading.specs.Reading.{through}
-use Rattle.cip_v3000.specs.AtomLine.{new_index, atom_of}
-use Rattle.cip_v3000.specs.BondLine.{with_mark, place_named, bond_of}
+use Rattle.cip_v3000.specs.AtomLine.{new_index, atom_by, atom_of}
+use Rattle.cip_v3000.specs.BondLine.{with_mark, place_named, bond_by, bond_of}
 use Rattle.cip_v3000.specs.CountsLine.{count_at, counts_of}
 use Rattle.cip_v3000.specs.Frames.{is_frame}
 use Rattle.cip_v3000.specs.Grammar.{read_at, molecule_in, molecule_of}
@@ -65,7 +65,7 @@ unfolding joined_lines
 alanine_joined = atoms_joined alanine_bonds ∙ ap (with_before joined_atoms) bonds_joined
 
 alanine_in : molecule_in alanine joined_alanine ≡ Ok drawn_alanine
-unfolding read_at through is_frame counts_of count_at atom_of bond_of new_index place_named with_mark with_key over words_of keyed number_stated signed_stated integer_of decimal4_of element_of cause_of
+unfolding read_at through is_frame counts_of count_at atom_of atom_by bond_of bond_by new_index place_named with_mark with_key over words_of keyed number_stated signed_stated integer_of decimal4_of element_of cause_of
 alanine_in = refl
 
 pub alanine_read : molecule_of alanine ≡ Ok drawn_alanine

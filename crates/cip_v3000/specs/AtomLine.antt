@@ -8,7 +8,9 @@ use Rattle.cip_text.specs.Numbers.{integer_of, decimal4_of}
 use Rattle.cip_text.specs.declared.numbers.NumberFault.{NumberFault}
 use Rattle.cip_text.specs.declared.numbers.NumberFault.TheVariants.{Empty, NotANumber, OutOfRange}
 use Rattle.cip_elem.specs.Symbols.{element_of}
+use Rattle.cip_num.specs.declared.plane.Vec3.{Vec3}
 use Rattle.cip_mol.specs.Ranges.{IsAtom}
+use Rattle.cip_mol.specs.declared.molecule.Atom.{Atom}
 use Rattle.cip_mol.specs.declared.refusal.ReadCause.{ReadCause}
 use Rattle.cip_mol.specs.declared.refusal.ReadCause.TheVariants.{Symbol, Frame, Index, KeyValue}
 use Rattle.cip_reading.specs.Causes.{guard, coordinate}
@@ -38,28 +40,41 @@ is_number (Err OutOfRange) = true
 abbrev pub isotope_of : ℕ → ℕ → ℕ
 isotope_of stated mass = if mass == 0 then stated else mass
 
+abbrev pub point_by : Result ℤ ReadCause → Result ℤ ReadCause → Result ℤ ReadCause → Result Vec3 ReadCause
+point_by first second third = do
+  x ← first
+  y ← second
+  z ← third
+  Ok (record { x = x; y = y; z = z })
+
+-- the point of three words
+abbrev pub point_of : List ℕ → List ℕ → List ℕ → Result Vec3 ReadCause
+point_of x y z = point_by (coordinate (decimal4_of x)) (coordinate (decimal4_of y)) (coordinate (decimal4_of z))
+
+-- the atom of a symbol at a point, of a number that isn't used, and of key words
+unfoldable pub atom_by : List ℕ → Result Vec3 ReadCause → List ℕ → List (List ℕ) → Result Atom ReadCause
+atom_by symbol point mapping keys = do
+  element ← ok_or (element_of symbol) Symbol
+  at ← point
+  _ ← guard KeyValue (is_number (integer_of mapping))
+  keys ← keys_from (record { charge = pos 0; radical = 0; mass = 0; valence_mark = 0 }) keys
+  Ok (record {
+    z = element.z;
+    isotope = isotope_of element.isotope keys.mass;
+    charge = keys.charge;
+    radical = keys.radical;
+    valence_mark = keys.valence_mark;
+    at = at;
+  })
+
 -- the atom of a line behind lines of these indices
 unfoldable pub atom_of : List ℕ → List (List ℕ) → Result AtomLine ReadCause
 atom_of known words = do
   _ ← guard Frame (nat_lt 5 (length words))
   index ← new_index known (word_at words 0)
-  element ← ok_or (element_of (word_at words 1)) Symbol
-  x ← coordinate (decimal4_of (word_at words 2))
-  y ← coordinate (decimal4_of (word_at words 3))
-  z ← coordinate (decimal4_of (word_at words 4))
-  _ ← guard KeyValue (is_number (integer_of (word_at words 5)))
-  keys ← keys_from (record { charge = pos 0; radical = 0; mass = 0; valence_mark = 0 }) (drop 6 words)
-  Ok (record {
-    index = index;
-    atom = record {
-      z = element.z;
-      isotope = isotope_of element.isotope keys.mass;
-      charge = keys.charge;
-      radical = keys.radical;
-      valence_mark = keys.valence_mark;
-      at = record { x = x; y = y; z = z };
-    };
-  })
+  atom ← let at : Result Vec3 ReadCause = point_of (word_at words 2) (word_at words 3) (word_at words 4) in
+      atom_by (word_at words 1) at (word_at words 5) (drop 6 words)
+  Ok (record { index = index; atom = atom })
 
 pub record IsAtomLine (known : List ℕ) (line : AtomLine) : Type 0 where
   pub atom : IsAtom line.atom

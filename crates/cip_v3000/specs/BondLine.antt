@@ -55,17 +55,23 @@ place_of indices (Some index) = position (nat_eq index) indices
 unfoldable pub place_named : List ℕ → List ℕ → Option ℕ
 place_named indices word = place_of indices (number_stated 1000000000 word)
 
+-- the bond of an order between the atoms of two indices, and of key words
+unfoldable pub bond_by : List ℕ → Option ℕ → Option ℕ → Option ℕ → List (List ℕ) → Result Bond ReadCause
+bond_by atoms order first second keys = do
+  order ← ok_or (order_of order) BondType
+  a ← ok_or (place_of atoms first) BondEnd
+  b ← ok_or (place_of atoms second) BondEnd
+  mark ← over (with_mark order) Plain keys
+  Ok (record { a = a; b = b; order = order; mark = mark })
+
 -- the bond of a line, among atoms of these indices and behind bonds of those
 unfoldable pub bond_of : List ℕ → List ℕ → List Bond → List (List ℕ) → Result BondLine ReadCause
 bond_of atoms known before words = do
   _ ← guard Frame (nat_lt 3 (length words))
   index ← new_index known (word_at words 0)
-  order ← ok_or (order_of (number_stated 3 (word_at words 1))) BondType
-  a ← ok_or (place_named atoms (word_at words 2)) BondEnd
-  b ← ok_or (place_named atoms (word_at words 3)) BondEnd
-  mark ← over (with_mark order) Plain (drop 4 words)
-  bond ← let bond : Bond = record { a = a; b = b; order = order; mark = mark } in
-      unless_refused bond (cause_of (length atoms) before bond)
+  drawn ← bond_by atoms (number_stated 3 (word_at words 1)) (number_stated 1000000000 (word_at words 2))
+      (number_stated 1000000000 (word_at words 3)) (drop 4 words)
+  bond ← unless_refused drawn (cause_of (length atoms) before drawn)
   Ok (record { index = index; bond = bond })
 
 pub record IsBondLine (known : List ℕ) (before : Connections) (line : BondLine) : Type 0 where

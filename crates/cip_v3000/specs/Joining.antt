@@ -2,6 +2,7 @@
 use Rattle.std.specs.Prelude.{ℕ, List, ◌<◌, ◌++◌, ◌+◌, ◌-◌, ◌^◌, length, take, drop, map}
 use Rattle.std.specs.Borrow.{Bor}
 use Rattle.cip_text.specs.Slices.{texts}
+use Rattle.cip_mol.specs.declared.refusal.ReadFault.{ReadFault}
 use Rattle.cip_v3000.specs.declared.joining.JoinedLine as declared_line
 use Rattle.cip_v3000.specs.declared.joining.JoinedLines as declared_lines
 use Rattle.cip_v3000.specs.declared.joining.Text.{Text}
@@ -13,6 +14,10 @@ seen line = record { parts = texts line.parts.now; number = line.number }
 
 abbrev pub seen_all : declared_lines.JoinedLines → JoinedLines
 seen_all joined = record { lines = map seen joined.lines.items; past = joined.past }
+
+-- the same from these lines and this fault
+abbrev pub joined_by : List declared_line.JoinedLine → ReadFault → JoinedLines
+joined_by lines past = record { lines = map seen lines; past = past }
 
 abbrev pub bytes_of : Text → List ℕ
 bytes_of (Whole bytes) = bytes.now

@@ -4,7 +4,8 @@ use Rattle.cip_reading.specs.Usual.{Spells}
 use Rattle.cip_v3000.specs.Words.{ended, words_of}
 
 -- the first word of a text is a number of few digits, and this stands behind it
-pub record IsNumberWord (text word : List ℕ) (number : ℕ) (rest : List ℕ) : Type 0 where
+pub record IsNumberWord (text : List ℕ) (number : ℕ) (rest : List ℕ) : Type 0 where
+  pub word : List ℕ
   pub words : words_of text ≡ word ∷ words_of rest
   pub spells : Spells word number
 

@@ -1,13 +1,14 @@
 // Atom lines.
 ghost use Rattle.std.specs.Prelude.{◌≡◌, ◌≤◌, false, length, nat_lt, IfOk, IfSome, IsNone};
+ghost use Rattle.cip_mol.specs.Ranges.{IsAtom, IsPlace};
 ghost use Rattle.cip_text.specs.Numbers.{integer_of};
-ghost use Rattle.cip_v3000.specs.AtomLine.{isotope_of, is_number, atom_of, IsAtomLine};
+ghost use Rattle.cip_v3000.specs.AtomLine.{isotope_of, is_number, atom_by, atom_of, IsAtomLine};
 ghost use Rattle.cip_v3000.specs.LineWords.{AreAtomWords};
 ghost use Rattle.cip_v3000.specs.Words.{words_of};
 
 use crate::indices::{GREATEST, Indices, new_index};
 use crate::keys::{AtomKeys, atom_keys};
-use crate::number_words::{next_coordinate, next_number};
+use crate::number_words::{next_number, next_point};
 use crate::splitting::next_word;
 use cip_elem::number_of;
 use cip_mol::{Atom, ReadCause};
@@ -34,9 +35,7 @@ pub struct AtomLine {
 struct AtomWords<'a> {
     index: Option<u32>,
     symbol: &'a [u8],
-    x: Result<i64, ReadCause>,
-    y: Result<i64, ReadCause>,
-    z: Result<i64, ReadCause>,
+    at: Result<Vec3, ReadCause>,
     mapping: &'a [u8],
     keys: &'a [u8],
 }
@@ -49,44 +48,48 @@ pub fn atom_in(known: &Indices, text: &[u8]) -> Result<AtomLine, ReadCause>
 {
     let words = atom_words(text).ok_or(ReadCause::Frame)?;
     let index = new_index(known, words.index)?;
+    let atom = atom_by(&words)?;
+    Ok(AtomLine { index, atom })
+}
+
+fn atom_words(text: &[u8]) -> Option<AtomWords<'_>>
+    ensures some { IfSome result (AreAtomWords (words_of text.now)) }
+    ensures none { IsNone result → nat_lt 5 (length (words_of text.now)) ≡ false }
+{
+    let (index, rest) = next_number(GREATEST, text)?;
+    let (symbol, rest) = next_word(rest)?;
+    let (at, rest) = next_point(rest)?;
+    let (mapping, keys) = next_word(rest)?;
+    Some(AtomWords {
+        index,
+        symbol,
+        at,
+        mapping,
+        keys,
+    })
+}
+
+// The atom that the words draw.
+#[tactic(auto, unfolding(crate::specs::AtomLine::atom_by))]
+fn atom_by(words: &AtomWords<'_>) -> Result<Atom, ReadCause>
+    requires { IfOk words.now.at IsPlace }
+    ensures value { result ≡ atom_by words.now.symbol.now words.now.at words.now.mapping.now
+        (words_of words.now.keys.now) }
+    ensures range { IfOk result IsAtom }
+{
     let element = number_of(words.symbol).ok_or(ReadCause::Symbol)?;
-    let x = words.x?;
-    let y = words.y?;
-    let z = words.z?;
+    let at = words.at?;
     if !is_number(words.mapping) {
         return Err(ReadCause::KeyValue);
     }
     let keys = atom_keys(NO_KEYS, words.keys)?;
-    let atom = Atom {
+    Ok(Atom {
         z: element.z,
         isotope: isotope(element.isotope, keys.mass),
         charge: keys.charge,
         radical: keys.radical,
         valence_mark: keys.valence_mark,
-        at: Vec3 { x, y, z },
-    };
-    Ok(AtomLine { index, atom })
-}
-
-#[tactic(auto, using(crate::proofs::PlacedWords::atom_words_are))]
-fn atom_words(text: &[u8]) -> Option<AtomWords<'_>>
-    ensures some { IfSome result (AreAtomWords (words_of text.now)) }
-    ensures none { IsNone result → nat_lt 5 (length (words_of text.now)) ≡ false }
-{
-    let (_, index, rest) = next_number(GREATEST, text)?;
-    let (symbol, rest) = next_word(rest)?;
-    let (_, x, rest) = next_coordinate(rest)?;
-    let (_, y, rest) = next_coordinate(rest)?;
-    let (_, z, rest) = next_coordinate(rest)?;
-    let (mapping, keys) = next_word(rest)?;
-    Some(AtomWords {
-        index,
-        symbol,
-        x,
-        y,
-        z,
-        mapping,
-        keys,
+        at,
     })
 }
 

@@ -43,14 +43,36 @@ pub fn atom_block(
     ensures range { IfOk result (λ block. All IsAtom block.atoms.items) }
     ensures counted { IfOk result (λ block. (length block.atoms.items ≡ count) × (length block.indices ≡ count)) }
 {
-    let mut block = AtomBlock {
-        indices: Indices::new(alloc),
-        atoms: Vec::with_capacity(alloc, count as usize)?,
-    };
-    for row in 0..count as usize {
-        read_atom(alloc, joined, row, &mut block)?;
-    }
+    let mut block = no_atoms(alloc, count)?;
+    read_atoms(alloc, joined, count, &mut block)?;
     Ok(block)
+}
+
+fn no_atoms(alloc: Global, count: u32) -> Result<AtomBlock, AllocError>
+    ensures { IfOk result (λ block. seen_atoms block ≡ record { indices = []; atoms = [] }) }
+{
+    let atoms = Vec::with_capacity(alloc, count as usize)?;
+    let indices = Indices::new(alloc);
+    Ok(AtomBlock { indices, atoms })
+}
+
+// Reads so many atoms into a block that has none. It stays with the caller, so that no row gives it back.
+fn read_atoms(
+    alloc: Global,
+    joined: &JoinedLines<'_>,
+    count: u32,
+    block: &mut AtomBlock,
+) -> Result<(), ReadRefusal>
+    requires count { count ≤ 16384 }
+    requires none { seen_atoms block.old ≡ record { indices = []; atoms = [] } }
+    ensures value { Gives (λ _. seen_atoms block.new) result (atom_block (seen_all joined.now) count) }
+    ensures range { OnOk result (All IsAtom block.new.atoms.items) }
+    ensures counted { OnOk result ((length block.new.atoms.items ≡ count) × (length block.new.indices ≡ count)) }
+{
+    for row in 0..count as usize {
+        read_atom(alloc, joined, row, block)?;
+    }
+    Ok(())
 }
 
 // Puts the atom of a row behind those before it.
@@ -108,11 +130,12 @@ pub fn bond_block(
     ensures range { IfOk result (λ block. All IsBond block.bonds.bonds) }
     ensures counted { IfOk result (λ block. length block.bonds.bonds ≤ 32768) }
 {
-    if has {
-        framed_bonds(alloc, joined, atoms, count, place)
-    } else {
-        Ok(no_bonds(alloc, atoms)?)
+    let mut block = no_bonds(alloc, atoms)?;
+    if !has {
+        return Ok(block);
     }
+    read_framed(alloc, joined, atoms, count, place, &mut block)?;
+    Ok(block)
 }
 
 /// The place behind the bond block at a place, where there is one.
@@ -186,53 +209,60 @@ fn no_bonds(alloc: Global, atoms: &Indices) -> Result<BondBlock, AllocError>
     Ok(BondBlock { indices, bonds })
 }
 
-fn framed_bonds(
+// Reads the bond block with its frame, from this place on, into one that has no bonds.
+fn read_framed(
     alloc: Global,
     joined: &JoinedLines<'_>,
     atoms: &Indices,
     count: u32,
     place: usize,
-) -> Result<BondBlock, ReadRefusal>
+    block: &mut BondBlock,
+) -> Result<(), ReadRefusal>
     requires few { length atoms.now ≤ 16384 }
     requires count { count ≤ 32768 }
     requires place { place ≤ 16388 }
-    ensures value { Gives seen_bonds result (framed_bonds (seen_all joined.now) atoms.now count place) }
-    ensures among { IfOk result (λ block. block.bonds.atoms ≡ length atoms.now) }
-    ensures range { IfOk result (λ block. All IsBond block.bonds.bonds) }
-    ensures counted { IfOk result (λ block. length block.bonds.bonds ≤ 32768) }
+    requires none { seen_bonds block.old ≡ record { indices = []; bonds = [] } }
+    requires among { block.old.bonds.atoms ≡ length atoms.now }
+    ensures value { Gives (λ _. seen_bonds block.new) result
+        (framed_bonds (seen_all joined.now) atoms.now count place) }
+    ensures among { OnOk result (block.new.bonds.atoms ≡ length atoms.now) }
+    ensures range { OnOk result (All IsBond block.new.bonds.bonds) }
+    ensures counted { OnOk result (length block.new.bonds.bonds ≤ 32768) }
 {
     frame(alloc, joined, place, FrameLine::BeginBonds)?;
-    let block = bond_rows(alloc, joined, atoms, place + 1, count)?;
+    read_bonds(alloc, joined, atoms, place + 1, count, block)?;
     frame(
         alloc,
         joined,
         place + 1 + count as usize,
         FrameLine::EndBonds,
     )?;
-    Ok(block)
+    Ok(())
 }
 
-// The bond lines, so many, from this place on.
-fn bond_rows(
+// Reads so many bond lines, from this place on, into a block that has no bonds.
+fn read_bonds(
     alloc: Global,
     joined: &JoinedLines<'_>,
     atoms: &Indices,
     first: usize,
     count: u32,
-) -> Result<BondBlock, ReadRefusal>
+    block: &mut BondBlock,
+) -> Result<(), ReadRefusal>
     requires few { length atoms.now ≤ 16384 }
     requires count { count ≤ 32768 }
     requires first { first ≤ 16389 }
-    ensures value { Gives seen_bonds result (bond_rows (seen_all joined.now) atoms.now first count) }
-    ensures among { IfOk result (λ block. block.bonds.atoms ≡ length atoms.now) }
-    ensures range { IfOk result (λ block. All IsBond block.bonds.bonds) }
-    ensures counted { IfOk result (λ block. length block.bonds.bonds ≡ count) }
+    requires none { seen_bonds block.old ≡ record { indices = []; bonds = [] } }
+    requires among { block.old.bonds.atoms ≡ length atoms.now }
+    ensures value { Gives (λ _. seen_bonds block.new) result (bond_rows (seen_all joined.now) atoms.now first count) }
+    ensures among { OnOk result (block.new.bonds.atoms ≡ length atoms.now) }
+    ensures range { OnOk result (All IsBond block.new.bonds.bonds) }
+    ensures counted { OnOk result (length block.new.bonds.bonds ≡ count) }
 {
-    let mut block = no_bonds(alloc, atoms)?;
     for row in 0..count as usize {
-        read_bond(alloc, joined, atoms, first, row, &mut block)?;
+        read_bond(alloc, joined, atoms, first, row, block)?;
     }
-    Ok(block)
+    Ok(())
 }
 
 // Puts the bond of a row behind those before it.

@@ -1,8 +1,9 @@
 // Bond lines.
 ghost use Rattle.std.specs.Prelude.{◌≡◌, ◌≤◌, ◌<◌, false, length, nat_lt, IfOk, IfSome, IsNone};
+ghost use Rattle.cip_mol.specs.Ranges.{IsBond};
 ghost use Rattle.cip_mol.specs.declared.molecule.Mark.TheVariants.{Plain};
 ghost use Rattle.cip_reading.specs.Fields.{number_stated};
-ghost use Rattle.cip_v3000.specs.BondLine.{mark_of, marked, with_mark, place_of, place_named, bond_of, IsBondLine, IsMark};
+ghost use Rattle.cip_v3000.specs.BondLine.{mark_of, marked, with_mark, place_of, place_named, bond_by, bond_of, IsBondLine, IsMark};
 ghost use Rattle.cip_v3000.specs.LineWords.{AreBondWords};
 ghost use Rattle.cip_v3000.specs.Words.{words_of};
 ghost use Rattle.cip_reading.specs.Turns.{over};
@@ -32,7 +33,7 @@ struct BondWords<'a> {
 }
 
 /// What the words of a bond line say, among atoms of these indices and behind these bonds.
-#[tactic(auto, unfolding(crate::specs::BondLine::bond_of, crate::specs::BondLine::place_named, crate::specs::AtomLine::new_index))]
+#[tactic(auto, unfolding(crate::specs::BondLine::bond_of, crate::specs::AtomLine::new_index))]
 pub fn bond_in(
     atoms: &Indices,
     known: &Indices,
@@ -46,23 +47,19 @@ pub fn bond_in(
 {
     let words = bond_words(text).ok_or(ReadCause::Frame)?;
     let index = new_index(known, words.index)?;
-    let order = order(words.order).ok_or(ReadCause::BondType)?;
-    let a = place_of(atoms, words.a).ok_or(ReadCause::BondEnd)?;
-    let b = place_of(atoms, words.b).ok_or(ReadCause::BondEnd)?;
-    let mark = mark_in(order, words.keys)?;
-    let bond = checked(before, Bond { a, b, order, mark })?;
+    let drawn = bond_by(atoms, &words)?;
+    let bond = checked(before, drawn)?;
     Ok(BondLine { index, bond })
 }
 
-#[tactic(auto, using(crate::proofs::PlacedWords::bond_words_are))]
 fn bond_words(text: &[u8]) -> Option<BondWords<'_>>
     ensures some { IfSome result (AreBondWords (words_of text.now)) }
     ensures none { IsNone result → nat_lt 3 (length (words_of text.now)) ≡ false }
 {
-    let (_, index, rest) = next_number(GREATEST, text)?;
-    let (_, order, rest) = next_number(3, rest)?;
-    let (_, a, rest) = next_number(GREATEST, rest)?;
-    let (_, b, keys) = next_number(GREATEST, rest)?;
+    let (index, rest) = next_number(GREATEST, text)?;
+    let (order, rest) = next_number(3, rest)?;
+    let (a, rest) = next_number(GREATEST, rest)?;
+    let (b, keys) = next_number(GREATEST, rest)?;
     Some(BondWords {
         index,
         order,
@@ -70,6 +67,21 @@ fn bond_words(text: &[u8]) -> Option<BondWords<'_>>
         b,
         keys,
     })
+}
+
+// The bond that the words draw.
+#[tactic(auto, unfolding(crate::specs::BondLine::bond_by))]
+fn bond_by(atoms: &Indices, words: &BondWords<'_>) -> Result<Bond, ReadCause>
+    requires atoms { length atoms.now ≤ 1000000000 }
+    requires order { IfSome words.now.order (λ order. order ≤ 3) }
+    ensures value { result ≡ bond_by atoms.now words.now.order words.now.a words.now.b (words_of words.now.keys.now) }
+    ensures range { IfOk result IsBond }
+{
+    let order = order(words.order).ok_or(ReadCause::BondType)?;
+    let a = place_of(atoms, words.a).ok_or(ReadCause::BondEnd)?;
+    let b = place_of(atoms, words.b).ok_or(ReadCause::BondEnd)?;
+    let mark = mark_in(order, words.keys)?;
+    Ok(Bond { a, b, order, mark })
 }
 
 /// The place, from 0, of the atom that a word names by its index.

@@ -1,10 +1,10 @@
 // Lines, joined where they are continued.
-ghost use Rattle.std.specs.Prelude.{◌≡◌, ◌≤◌, ◌<◌, ◌^◌, ◌-◌, ◌+◌, All, length, slice_get, IfErr, IfOk, Some, None};
+ghost use Rattle.std.specs.Prelude.{◌≡◌, ◌≤◌, ◌<◌, ◌^◌, ◌-◌, ◌+◌, [], All, length, slice_get, IfErr, IfOk, OnOk, Some, None};
 ghost use Rattle.std.specs.List.{flat_map};
 ghost use Rattle.cip_mol.specs.declared.refusal.ReadCause.TheVariants.{Frame};
 ghost use Rattle.cip_text.specs.Slices.{texts};
 ghost use Rattle.cip_v3000.specs.JoinedLines.{begins_v30, body, is_continued, part_of, text_of, next_number, joined_lines};
-ghost use Rattle.cip_v3000.specs.Joining.{seen, seen_all, parts_at, bytes_of, IsNumbered};
+ghost use Rattle.cip_v3000.specs.Joining.{seen, seen_all, joined_by, parts_at, bytes_of, IsNumbered};
 
 use cip_mol::{ReadCause, ReadFault};
 use cip_reading::short;
@@ -33,20 +33,34 @@ pub enum Text<'a> {
 }
 
 /// The joined lines of a record behind its first four.
-#[tactic(auto, unfolding(crate::specs::JoinedLines::joined_lines))]
 pub fn joined_lines<'a>(alloc: Global, lines: &'a [&'a [u8]]) -> Result<JoinedLines<'a>, AllocError>
     requires few { length lines.now < 2 ^ 32 - 1 }
     ensures value { IfOk result (λ found. seen_all found ≡ joined_lines (texts lines.now)) }
     ensures numbered { IfOk result (λ found. All IsNumbered found.lines.items) }
 {
     let mut found = Vec::with_capacity(alloc, lines.len())?;
+    let past = join_lines(lines, &mut found)?;
+    Ok(JoinedLines { lines: found, past })
+}
+
+// Puts the joined lines into a list that has none, and says which fault it is where one more is due. The list stays with
+// the caller, so that no line gives it back.
+#[tactic(auto, unfolding(crate::specs::JoinedLines::joined_lines))]
+fn join_lines<'a>(
+    lines: &'a [&'a [u8]],
+    found: &mut Vec<JoinedLine<'a>>,
+) -> Result<ReadFault, AllocError>
+    requires few { length lines.now < 2 ^ 32 - 1 }
+    requires none { found.old.items ≡ [] }
+    ensures value { IfOk result (λ past. joined_by found.new.items past ≡ joined_lines (texts lines.now)) }
+    ensures numbered { OnOk result (All IsNumbered found.new.items) }
+{
     let mut first = 4;
     let mut place = 4;
     while place < lines.len() {
         let line = lines[place];
         if !begins_v30(line) {
-            let past = frame_fault(place);
-            return Ok(JoinedLines { lines: found, past });
+            return Ok(frame_fault(place));
         }
         place += 1;
         if !is_continued(line) {
@@ -54,8 +68,7 @@ pub fn joined_lines<'a>(alloc: Global, lines: &'a [&'a [u8]]) -> Result<JoinedLi
             first = place;
         }
     }
-    let past = short(lines);
-    Ok(JoinedLines { lines: found, past })
+    Ok(short(lines))
 }
 
 /// The text of a joined line, without what begins and continues its parts.
@@ -144,7 +157,6 @@ fn begins_v30(line: &[u8]) -> bool
     line.len() >= 7 && &line[..7] == b"M  V30 ".as_slice()
 }
 
-#[tactic(auto, using(crate::proofs::Continued::other_end))]
 fn is_continued(line: &[u8]) -> bool
     ensures { result ≡ is_continued line.now }
 {

@@ -1,53 +1,78 @@
 // Words that are numbers or coordinates, read as they are taken.
-ghost use Rattle.std.specs.Prelude.{◌≡◌, ◌≤◌, ◌∷◌, [], pos, unsigned_abs, Some, IfOk, IfSome, IsNone};
+ghost use Rattle.std.specs.Prelude.{◌≡◌, ◌≤◌, ◌∷◌, [], pos, unsigned_abs, Some, false, length, nat_lt, IfOk, IfSome, IsNone};
 ghost use Rattle.cip_text.specs.Numbers.{decimal4_of};
 ghost use Rattle.cip_reading.specs.Causes.{coordinate};
 ghost use Rattle.cip_reading.specs.Fields.{number_stated, up_to};
+ghost use Rattle.cip_mol.specs.Ranges.{IsPlace};
+ghost use Rattle.cip_v3000.specs.AtomLine.{point_by};
+ghost use Rattle.cip_v3000.specs.LineWords.{IsNear, HaveNumber, HaveCoordinate, HavePoint};
 ghost use Rattle.cip_v3000.specs.NumberWords.{IsNumberWord, IsNumberBegun};
 ghost use Rattle.cip_v3000.specs.Words.{words_of};
 
 use crate::splitting::next_word;
 use cip_mol::ReadCause;
+use cip_num::Vec3;
 use cip_reading::{behind_spaces, coordinate, decimal_begun, number_stated};
 
-/// The first word of a text, the number that it is, from 0 to a most, and what stands behind it.
-#[tactic(auto, using(crate::proofs::NumberWords::number_read))]
-pub fn next_number(most: u32, text: &[u8]) -> Option<(&[u8], Option<u32>, &[u8])>
+/// The number, from 0 to a most, that the first word of a text is, where it is one, and what stands behind the word.
+pub fn next_number(most: u32, text: &[u8]) -> Option<(Option<u32>, &[u8])>
     requires { most ≤ 1000000000 }
-    ensures some { IfSome result (λ p. words_of text.now ≡ p.0.now ∷ words_of p.2.now) }
-    ensures value { IfSome result (λ p. p.1 ≡ number_stated most p.0.now) }
-    ensures range { IfSome result (λ p. IfSome p.1 (λ number. number ≤ most)) }
+    ensures some { IfSome result (λ p. HaveNumber most (words_of text.now) p.0 (words_of p.1.now)) }
     ensures none { IsNone result → words_of text.now ≡ [] }
 {
-    if let Some((word, number, rest)) = number_word(text) {
-        return Some((word, at_most(most, number), rest));
+    if let Some((number, rest)) = number_word(text) {
+        return Some((at_most(most, number), rest));
     }
     let (word, rest) = next_word(text)?;
-    Some((word, number_stated(most, word), rest))
+    Some((number_stated(most, word), rest))
 }
 
-/// The first word of a text, the coordinate that it is, where it is one, and what stands behind it.
-pub fn next_coordinate(text: &[u8]) -> Option<(&[u8], Result<i64, ReadCause>, &[u8])>
-    ensures some { IfSome result (λ p. words_of text.now ≡ p.0.now ∷ words_of p.2.now) }
-    ensures value { IfSome result (λ p. p.1 ≡ coordinate (decimal4_of p.0.now)) }
-    ensures small { IfSome result (λ p. IfOk p.1 (λ number. unsigned_abs number ≤ 500000000)) }
+// The coordinate that the first word of a text is, where it is one, and what stands behind the word.
+fn next_coordinate(text: &[u8]) -> Option<(Result<i64, ReadCause>, &[u8])>
+    ensures some { IfSome result (λ p. HaveCoordinate (words_of text.now) p.0 (words_of p.1.now)) }
     ensures none { IsNone result → words_of text.now ≡ [] }
 {
     let begun = behind_spaces(text);
     if let Some((number, end)) = decimal_begun(begun) {
-        return Some((&begun[..end], Ok(number), &begun[end..]));
+        return Some((Ok(number), &begun[end..]));
     }
     let (word, rest) = next_word(text)?;
-    Some((word, coordinate(word), rest))
+    Some((coordinate(word), rest))
 }
 
-// The first word of a text, where it is a number of few digits, with that number and what stands behind it.
-fn number_word(text: &[u8]) -> Option<(&[u8], u32, &[u8])>
-    ensures { IfSome result (λ p. IsNumberWord text.now p.0.now p.1 p.2.now) }
+/// The point whose coordinates the first three words of a text are, where they are some, and what stands behind them.
+pub fn next_point(text: &[u8]) -> Option<(Result<Vec3, ReadCause>, &[u8])>
+    ensures some { IfSome result (λ p. HavePoint (words_of text.now) p.0 (words_of p.1.now)) }
+    ensures none { IsNone result → nat_lt 2 (length (words_of text.now)) ≡ false }
+{
+    let (x, rest) = next_coordinate(text)?;
+    let (y, rest) = next_coordinate(rest)?;
+    let (z, rest) = next_coordinate(rest)?;
+    Some((point(x, y, z), rest))
+}
+
+fn point(
+    x: Result<i64, ReadCause>,
+    y: Result<i64, ReadCause>,
+    z: Result<i64, ReadCause>,
+) -> Result<Vec3, ReadCause>
+    requires x { IfOk x IsNear }
+    requires y { IfOk y IsNear }
+    requires z { IfOk z IsNear }
+    ensures value { result ≡ point_by x y z }
+    ensures near { IfOk result IsPlace }
+{
+    let (x, y, z) = (x?, y?, z?);
+    Ok(Vec3 { x, y, z })
+}
+
+// The number of few digits that the first word of a text is, where it is one, and what stands behind the word.
+fn number_word(text: &[u8]) -> Option<(u32, &[u8])>
+    ensures { IfSome result (λ p. IsNumberWord text.now p.0 p.1.now) }
 {
     let begun = behind_spaces(text);
     let (number, end) = number_begun(begun)?;
-    Some((&begun[..end], number, &begun[end..]))
+    Some((number, &begun[end..]))
 }
 
 // A number that isn't larger than a most.

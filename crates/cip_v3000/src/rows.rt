@@ -1,5 +1,5 @@
 // Single lines of a molfile.
-ghost use Rattle.std.specs.Prelude.{◌≡◌, ◌≤◌, length, IfOk};
+ghost use Rattle.std.specs.Prelude.{◌≡◌, ◌≤◌, length, Ok, IfOk};
 ghost use Rattle.cip_reading.specs.Reading.{Gives, numbered};
 ghost use Rattle.cip_v3000.specs.AtomLine.{atom_of, IsAtomLine};
 ghost use Rattle.cip_v3000.specs.BondLine.{bond_of, IsBondLine};
@@ -37,7 +37,7 @@ fn counts_of(alloc: Global, number: u32, text: &[u8]) -> Result<CountsLine, Read
     ensures range { IfOk result (λ counts. (counts.atoms ≤ 16384) × (counts.bonds ≤ 32768)) }
 {
     let words = words(alloc, text)?;
-    Ok(numbered(number, counts_in(&words))?)
+    told(number, counts_in(&words))
 }
 
 /// Reads the atom line at a place, behind atoms of these indices.
@@ -53,7 +53,7 @@ pub fn atom_line(
 {
     let line = joined.line(place)?;
     let text = text_of(alloc, &line)?;
-    Ok(numbered(line.number, atom_in(known, text.bytes()))?)
+    told(line.number, atom_in(known, text.bytes()))
 }
 
 /// Reads the bond line at a place, among atoms of these indices and behind these bonds.
@@ -74,7 +74,7 @@ pub fn bond_line(
 {
     let line = joined.line(place)?;
     let text = text_of(alloc, &line)?;
-    Ok(numbered(line.number, bond_in(atoms, known, before, text.bytes()))?)
+    told(line.number, bond_in(atoms, known, before, text.bytes()))
 }
 
 /// Reads the line at a place that frames a part.
@@ -95,6 +95,14 @@ pub fn frame(
         }));
     }
     Ok(())
+}
+
+// What was read of a line, with the line's number in its fault. The text stays with the caller, which lets it go once.
+fn told<T: Copy>(number: u32, read: Result<T, ReadCause>) -> Result<T, ReadRefusal>
+    ensures value { Gives (λ row. row) result (numbered number read) }
+    ensures read { IfOk result (λ row. read ≡ Ok row) }
+{
+    Ok(numbered(number, read)?)
 }
 
 /// Whether a joined line is the one that frames a part.

@@ -7,7 +7,7 @@ use Rattle.cip_stream.specs.Batches.{Answers, AnswersTail}
 use Rattle.cip_stream.specs.Reading.{Brings}
 use Rattle.cip_stream.specs.Verdicts.{clear}
 use Rattle.cip_stream.proofs.Progressing.{Progress, begun, fed_piece, room_between, room_fed, turned}
-use Rattle.cip_stream.proofs.Ending.{bounded, turn_failed, still_fed, stopped_fed, read_fault, ended, limit_met, room_met, met_further, stopped_at_limit, limited}
+use Rattle.cip_stream.proofs.Ending.{bounded, turn_failed, still_fed, stopped_fed, read_fault, ended, limit_met, room_met, stopped_at_limit, limited}
 use Rattle.cip_stream.proofs.Tails.{below, never_read_fault, no_read_fault}
 use Rattle.cip_stream.proofs.Turning.{as_many}
 use Rattle.cip_stream.proofs.streaming.answer_pieces.Goals as goal
@@ -36,12 +36,8 @@ pub returns-in-Fault-clause-bounded : goal.returns-in-Fault-clause-bounded
 returns-in-Fault-clause-bounded g c =
     bounded _ _ _ _ _ _ _ _ _ _ _ _ c.loop-count.invariant.progress c.feed_next.ensures.bounded
 
-pub returns-in_err-answer_waiting-in-Limit-clause-bounded : goal.returns-in_err-answer_waiting-in-Limit-clause-bounded
-returns-in_err-answer_waiting-in-Limit-clause-bounded g c =
-    bounded _ _ _ _ _ _ _ _ _ _ _ _ c.loop-count.invariant.progress c.feed_next.ensures.bounded
-
-pub returns-in_err-answer_batch-in-Limit-clause-bounded : goal.returns-in_err-answer_batch-in-Limit-clause-bounded
-returns-in_err-answer_batch-in-Limit-clause-bounded g c =
+pub returns-in_err-answer_rest-in-Limit-clause-bounded : goal.returns-in_err-answer_rest-in-Limit-clause-bounded
+returns-in_err-answer_rest-in-Limit-clause-bounded g c =
     bounded _ _ _ _ _ _ _ _ _ _ _ _ c.loop-count.invariant.progress c.feed_next.ensures.bounded
 
 pub returns-in-Limit-clause-bounded : goal.returns-in-Limit-clause-bounded
@@ -158,10 +154,10 @@ returns-in-Fault-clause-read_fault g c =
     c.feed_next.new.framer _ _ c.loop-count.invariant.progress came
     (rw c.loop-count.invariant.teller at c.in_ok-answer_batch-in-Fault.ensures.answered)
 
-pub returns-in_err-answer_waiting-in-Limit-clause-ended : goal.returns-in_err-answer_waiting-in-Limit-clause-ended
-returns-in_err-answer_waiting-in-Limit-clause-ended g c =
-    let p = err_from_is_err_and c.from_residual-in_err-answer_waiting-in-Limit.result
-    c.from_residual-in_err-answer_waiting-in-Limit.ensures.1 in
+pub returns-in_err-answer_rest-in-Limit-clause-ended : goal.returns-in_err-answer_rest-in-Limit-clause-ended
+returns-in_err-answer_rest-in-Limit-clause-ended g c =
+    let p = err_from_is_err_and c.from_residual-in_err-answer_rest-in-Limit.result
+    c.from_residual-in_err-answer_rest-in-Limit.ensures.1 in
     let came : Brings c.loop-count.room (Ok Limit) (g.S.Source.left c.loop-count.source)
     (g.S.Source.left c.feed_next.new.source) c.loop-count.inflow.framer c.feed_next.new.framer =
     subst (λ turn. Brings c.loop-count.room (Ok turn) (g.S.Source.left c.loop-count.source)
@@ -170,36 +166,13 @@ returns-in_err-answer_waiting-in-Limit-clause-ended g c =
     let met = limit_met _ c.args.limits c.loop-count.room c.loop-count.verdict _ _ _ _ _ c.loop-count.inflow.framer
     c.feed_next.new.framer c.loop-count.batch.first c.loop-count.batch.records c.loop-count.invariant.progress came
     c.feed_next.ensures.limit in
-    rw (p.1, p.2) (stopped_at_limit _ c.args.limits c.loop-count.verdict c.in_err-answer_waiting-in-Limit.field-0.0
+    rw (p.1, p.2) (stopped_at_limit _ c.args.limits c.loop-count.verdict c.in_err-answer_rest-in-Limit.field-0.0
     _ _ _ _ _ _ _ met (subst (λ t. Answers (g.T.Teller.manner t)
     c.loop-count.batch.first (c.loop-count.batch.records ++ c.feed_next.new.framer.waiting)
-    (Err c.in_err-answer_waiting-in-Limit.field-0.0) (g.K.Sink.taken c.loop-count.sink)
-    (g.K.Sink.taken c.answer_waiting-in-Limit.new.sink))
+    (Err c.in_err-answer_rest-in-Limit.field-0.0) (g.K.Sink.taken c.loop-count.sink)
+    (g.K.Sink.taken c.answer_rest.new.sink))
     c.loop-count.invariant.teller
-    c.in_err-answer_waiting-in-Limit.ensures.answered))
-
-pub returns-in_err-answer_batch-in-Limit-clause-ended : goal.returns-in_err-answer_batch-in-Limit-clause-ended
-returns-in_err-answer_batch-in-Limit-clause-ended g c =
-    let p = err_from_is_err_and c.from_residual-in_err-answer_batch-in-Limit.result
-    c.from_residual-in_err-answer_batch-in-Limit.ensures.1 in
-    let came : Brings c.loop-count.room (Ok Limit) (g.S.Source.left c.loop-count.source)
-    (g.S.Source.left c.feed_next.new.source) c.loop-count.inflow.framer c.feed_next.new.framer =
-    subst (λ turn. Brings c.loop-count.room (Ok turn) (g.S.Source.left c.loop-count.source)
-    (g.S.Source.left c.feed_next.new.source) c.loop-count.inflow.framer c.feed_next.new.framer) c.in-Limit.is
-    c.in_ok-count.ensures.brought in
-    let met = limit_met _ c.args.limits c.loop-count.room c.loop-count.verdict _ _ _ _ _ c.loop-count.inflow.framer
-    c.feed_next.new.framer c.loop-count.batch.first c.loop-count.batch.records c.loop-count.invariant.progress came
-    c.feed_next.ensures.limit in
-    let further = met_further _ c.args.limits c.loop-count.verdict _ _ _ _ _ _ _ _ _ _ met
-    (rw c.loop-count.invariant.teller at c.in_ok-answer_waiting-in-Limit.ensures.answered) in
-    let same = c.in_ok-answer_waiting-in-Limit.ensures.teller ∙ c.loop-count.invariant.teller in
-    rw (p.1, p.2) (stopped_at_limit _ c.args.limits _ c.in_err-answer_batch-in-Limit.field-0.0
-    _ _ _ _ _ _ _ further (subst (λ t. Answers (g.T.Teller.manner t)
-    c.answer_waiting-in-Limit.new.batch.first c.answer_waiting-in-Limit.new.batch.records
-    (Err c.in_err-answer_batch-in-Limit.field-0.0) (g.K.Sink.taken c.answer_waiting-in-Limit.new.sink)
-    (g.K.Sink.taken c.answer_batch-in-Limit.new.sink))
-    same
-    c.in_err-answer_batch-in-Limit.ensures.answered))
+    c.in_err-answer_rest-in-Limit.ensures.answered))
 
 pub returns-in-Limit-clause-ended : goal.returns-in-Limit-clause-ended
 returns-in-Limit-clause-ended g c =
@@ -211,10 +184,8 @@ returns-in-Limit-clause-ended g c =
     let met = limit_met _ c.args.limits c.loop-count.room c.loop-count.verdict _ _ _ _ _ c.loop-count.inflow.framer
     c.feed_next.new.framer c.loop-count.batch.first c.loop-count.batch.records c.loop-count.invariant.progress came
     c.feed_next.ensures.limit in
-    let further = met_further _ c.args.limits c.loop-count.verdict _ _ _ _ _ _ _ _ _ _ met
-    (rw c.loop-count.invariant.teller at c.in_ok-answer_waiting-in-Limit.ensures.answered) in
-    let same = c.in_ok-answer_waiting-in-Limit.ensures.teller ∙ c.loop-count.invariant.teller in
-    limited _ c.args.limits _ _ _ _ _ _ _ _ _ further (rw same at c.in_ok-answer_batch-in-Limit.ensures.answered)
+    limited _ c.args.limits _ _ _ _ _ _ _ _ _ met
+    (rw c.loop-count.invariant.teller at c.in_ok-answer_rest-in-Limit.ensures.answered)
 
 -- the numbers of records
 
@@ -238,8 +209,8 @@ pub answer_batch-requires-clause-room : goal.answer_batch-requires-clause-room
 answer_batch-requires-clause-room g c =
     omega (arith, room_between _ _ _ _ _ _ _ _ _ _ _ c.loop-count.invariant.progress c.requires.input)
 
-pub answer_waiting-requires-in-Limit-clause-room : goal.answer_waiting-requires-in-Limit-clause-room
-answer_waiting-requires-in-Limit-clause-room g c =
+pub answer_rest-requires-clause-room : goal.answer_rest-requires-clause-room
+answer_rest-requires-clause-room g c =
     let came : Brings c.loop-count.room (Ok Limit) (g.S.Source.left c.loop-count.source)
     (g.S.Source.left c.feed_next.new.source) c.loop-count.inflow.framer c.feed_next.new.framer =
     subst (λ turn. Brings c.loop-count.room (Ok turn) (g.S.Source.left c.loop-count.source)
@@ -249,21 +220,6 @@ answer_waiting-requires-in-Limit-clause-room g c =
     c.feed_next.new.framer c.loop-count.batch.first c.loop-count.batch.records c.loop-count.invariant.progress came
     c.feed_next.ensures.limit in
     omega (arith, room_met _ c.args.limits _ _ _ _ _ _ _ met c.requires.input)
-
-pub answer_batch-requires-in-Limit-clause-room : goal.answer_batch-requires-in-Limit-clause-room
-answer_batch-requires-in-Limit-clause-room g c =
-    let came : Brings c.loop-count.room (Ok Limit) (g.S.Source.left c.loop-count.source)
-    (g.S.Source.left c.feed_next.new.source) c.loop-count.inflow.framer c.feed_next.new.framer =
-    subst (λ turn. Brings c.loop-count.room (Ok turn) (g.S.Source.left c.loop-count.source)
-    (g.S.Source.left c.feed_next.new.source) c.loop-count.inflow.framer c.feed_next.new.framer) c.in-Limit.is
-    c.in_ok-count.ensures.brought in
-    let met = limit_met _ c.args.limits c.loop-count.room c.loop-count.verdict _ _ _ _ _ c.loop-count.inflow.framer
-    c.feed_next.new.framer c.loop-count.batch.first c.loop-count.batch.records c.loop-count.invariant.progress came
-    c.feed_next.ensures.limit in
-    let further = met_further _ c.args.limits c.loop-count.verdict _ _ _ _ _ _ _ _ _ _ met
-    (rw c.loop-count.invariant.teller at c.in_ok-answer_waiting-in-Limit.ensures.answered) in
-    let same = c.in_ok-answer_waiting-in-Limit.ensures.teller ∙ c.loop-count.invariant.teller in
-    omega (arith, room_met _ c.args.limits _ _ _ _ _ _ _ further c.requires.input)
 
 pub answer_tail-requires-clause-small : goal.answer_tail-requires-clause-small
 answer_tail-requires-clause-small g c κs within =
@@ -369,38 +325,20 @@ returns-in_err-answer_batch-in-Fault-clause-source_fault g c =
     (g.K.Sink.taken c.loop-count.sink) (g.K.Sink.taken c.answer_batch.new.sink)
     c.in_err-answer_batch-in-Fault.ensures.answered is))
 
-pub returns-in_err-answer_waiting-in-Limit-clause-read_fault : goal.returns-in_err-answer_waiting-in-Limit-clause-read_fault
-returns-in_err-answer_waiting-in-Limit-clause-read_fault g c =
-    let p = err_from_is_err_and c.from_residual-in_err-answer_waiting-in-Limit.result
-    c.from_residual-in_err-answer_waiting-in-Limit.ensures.1 in
+pub returns-in_err-answer_rest-in-Limit-clause-read_fault : goal.returns-in_err-answer_rest-in-Limit-clause-read_fault
+returns-in_err-answer_rest-in-Limit-clause-read_fault g c =
+    let p = err_from_is_err_and c.from_residual-in_err-answer_rest-in-Limit.result
+    c.from_residual-in_err-answer_rest-in-Limit.ensures.1 in
     rw (p.1, p.2) (λ is. absurd (never_read_fault (g.T.Teller.manner c.loop-count.batch.teller) c.loop-count.batch.first
-    (c.loop-count.batch.records ++ c.feed_next.new.framer.waiting) c.in_err-answer_waiting-in-Limit.field-0.0
-    (g.K.Sink.taken c.loop-count.sink) (g.K.Sink.taken c.answer_waiting-in-Limit.new.sink)
-    c.in_err-answer_waiting-in-Limit.ensures.answered is))
+    (c.loop-count.batch.records ++ c.feed_next.new.framer.waiting) c.in_err-answer_rest-in-Limit.field-0.0
+    (g.K.Sink.taken c.loop-count.sink) (g.K.Sink.taken c.answer_rest.new.sink)
+    c.in_err-answer_rest-in-Limit.ensures.answered is))
 
-pub returns-in_err-answer_waiting-in-Limit-clause-source_fault : goal.returns-in_err-answer_waiting-in-Limit-clause-source_fault
-returns-in_err-answer_waiting-in-Limit-clause-source_fault g c =
-    let p = err_from_is_err_and c.from_residual-in_err-answer_waiting-in-Limit.result
-    c.from_residual-in_err-answer_waiting-in-Limit.ensures.1 in
+pub returns-in_err-answer_rest-in-Limit-clause-source_fault : goal.returns-in_err-answer_rest-in-Limit-clause-source_fault
+returns-in_err-answer_rest-in-Limit-clause-source_fault g c =
+    let p = err_from_is_err_and c.from_residual-in_err-answer_rest-in-Limit.result
+    c.from_residual-in_err-answer_rest-in-Limit.ensures.1 in
     rw (p.1, p.2) (λ is. absurd (never_read_fault (g.T.Teller.manner c.loop-count.batch.teller) c.loop-count.batch.first
-    (c.loop-count.batch.records ++ c.feed_next.new.framer.waiting) c.in_err-answer_waiting-in-Limit.field-0.0
-    (g.K.Sink.taken c.loop-count.sink) (g.K.Sink.taken c.answer_waiting-in-Limit.new.sink)
-    c.in_err-answer_waiting-in-Limit.ensures.answered is))
-
-pub returns-in_err-answer_batch-in-Limit-clause-read_fault : goal.returns-in_err-answer_batch-in-Limit-clause-read_fault
-returns-in_err-answer_batch-in-Limit-clause-read_fault g c =
-    let p = err_from_is_err_and c.from_residual-in_err-answer_batch-in-Limit.result
-    c.from_residual-in_err-answer_batch-in-Limit.ensures.1 in
-    rw (p.1, p.2) (λ is. absurd (never_read_fault (g.T.Teller.manner c.answer_waiting-in-Limit.new.batch.teller) c.answer_waiting-in-Limit.new.batch.first
-    c.answer_waiting-in-Limit.new.batch.records c.in_err-answer_batch-in-Limit.field-0.0
-    (g.K.Sink.taken c.answer_waiting-in-Limit.new.sink) (g.K.Sink.taken c.answer_batch-in-Limit.new.sink)
-    c.in_err-answer_batch-in-Limit.ensures.answered is))
-
-pub returns-in_err-answer_batch-in-Limit-clause-source_fault : goal.returns-in_err-answer_batch-in-Limit-clause-source_fault
-returns-in_err-answer_batch-in-Limit-clause-source_fault g c =
-    let p = err_from_is_err_and c.from_residual-in_err-answer_batch-in-Limit.result
-    c.from_residual-in_err-answer_batch-in-Limit.ensures.1 in
-    rw (p.1, p.2) (λ is. absurd (never_read_fault (g.T.Teller.manner c.answer_waiting-in-Limit.new.batch.teller) c.answer_waiting-in-Limit.new.batch.first
-    c.answer_waiting-in-Limit.new.batch.records c.in_err-answer_batch-in-Limit.field-0.0
-    (g.K.Sink.taken c.answer_waiting-in-Limit.new.sink) (g.K.Sink.taken c.answer_batch-in-Limit.new.sink)
-    c.in_err-answer_batch-in-Limit.ensures.answered is))
+    (c.loop-count.batch.records ++ c.feed_next.new.framer.waiting) c.in_err-answer_rest-in-Limit.field-0.0
+    (g.K.Sink.taken c.loop-count.sink) (g.K.Sink.taken c.answer_rest.new.sink)
+    c.in_err-answer_rest-in-Limit.ensures.answered is))

@@ -1,7 +1,20 @@
+use Rattle.std.proofs.Common.{arith}
+use Rattle.std.proofs.lemmas.Int.{ints, to_z-of_z}
+use mir.Syntax.{w64}
 use Rattle.cip_v3000.proofs.NumberWords.{decimal_first}
 use Rattle.cip_v3000.proofs.number_words.next_coordinate.Goals as goal
 
 pub returns-in-Some-clause-some : goal.returns-in-Some-clause-some
 returns-in-Some-clause-some c =
-    decimal_first c.args.text.now c.behind_spaces-begun.result.now c.in-Some.number c.in-Some.end
-    c.behind_spaces-begun.ensures c.in-Some.ensures.value
+    let near = c.in-Some.ensures.small in
+    decimal_first c.args.text.now c.behind_spaces-begun.result.now _ c.in-Some.number c.in-Some.end
+    c.behind_spaces-begun.ensures (to_z-of_z w64 c.in-Some.number (omega (arith, ints, near)))
+    c.in-Some.ensures.value near
+
+pub returns-clause-some : goal.returns-clause-some
+returns-clause-some c = record {
+  word = c.in_ok-word.word.now;
+  split = c.in_ok-word.ensures.some;
+  value = c.coordinate.ensures.value;
+  near = c.coordinate.ensures.small;
+}

@@ -1,6 +1,7 @@
-use Rattle.std.proofs.Common.{◌≡◌, ◌+◌, ◌∙◌, suc, slice_index, sym, ap, subst, arith}
+use Rattle.std.proofs.Common.{◌≡◌, ◌+◌, suc, slice_index, sym, subst, arith}
 use Rattle.std.specs.Ordering.{int_cmp, on}
 use Rattle.cip_rows.specs.Keys.{key_of}
+use Rattle.cip_rows.specs.Kids.{kids_of}
 use Rattle.cip_rows.specs.Parting.{TieAlike}
 use Rattle.cip_branches.specs.Following.{AreRanked}
 use Rattle.cip_branches.specs.Layers.{Layers}
@@ -9,9 +10,9 @@ use Rattle.cip_branches.specs.Turning.{IsInnermost}
 use Rattle.cip_branches.proofs.EvenSpheres.{deeper_even}
 use Rattle.cip_branches.proofs.StirredSpheres.{first_is}
 use Rattle.cip_branches.proofs.TakenSpheres.{deeper_is, deeper_ranked, deeper_noted, deeper_steady}
-use Rattle.cip_branches.proofs.Turns.{read_at}
+use Rattle.cip_branches.proofs.Turns.{FoundSphere, found_sphere, read_at}
 use Rattle.cip_branches.proofs.spheres.Spheres.deepen.Goals as goal
-use Rattle.cip_branches.proofs.spheres.Spheres.deepen.Goals.{After-stands_by}
+use Rattle.cip_branches.proofs.spheres.Spheres.deepen.Goals.{After-first_row-to, After-stands_by}
 
 pub pass-requires-clause-noted : goal.pass-requires-clause-noted
 pass-requires-clause-noted g c = deeper_noted c.args.self.now c.args.last c.requires.ranked c.args.far
@@ -20,15 +21,35 @@ pub pass-requires-clause-steady : goal.pass-requires-clause-steady
 pass-requires-clause-steady g c = deeper_steady c.args.self.now c.args.last c.requires.ranked c.args.far c.requires.far
 
 -- what the code reads of the starts
-from_is : (g : _) (c : After-stands_by g) → slice_index c.as_slice.result.now (c.args.far + 1)
-    ≡ slice_index c.args.self.now.starts (suc c.args.far)
-from_is g c = sym (read_at c.args.self.now.starts c.as_slice.result.now (c.args.far + 1) (suc c.args.far)
-    (c.as_slice.ensures ∙ ap (λ (s : Layers). s.starts) c.self.view_is) (omega arith))
+from_is : (g : _) (c : After-stands_by g) → c.first_row-from.result ≡ slice_index c.args.self.now.starts (suc c.args.far)
+from_is g c = sym (read_at c.args.self.now.starts (c.args.far + 1) (suc c.args.far) c.first_row-from.result
+    c.first_row-from.ensures.value (omega arith))
 
-to_is : (g : _) (c : After-stands_by g) → slice_index c.as_slice-2.result.now (c.args.far + 2)
+to_is : (g : _) (c : After-stands_by g) → c.first_row-to.result
     ≡ slice_index c.args.self.now.starts (suc (suc c.args.far))
-to_is g c = sym (read_at c.args.self.now.starts c.as_slice-2.result.now (c.args.far + 2) (suc (suc c.args.far))
-    (c.as_slice-2.ensures ∙ ap (λ (s : Layers). s.starts) c.self.view_is) (omega arith))
+to_is g c = sym (read_at c.args.self.now.starts (c.args.far + 2) (suc (suc c.args.far)) c.first_row-to.result
+    c.first_row-to.ensures.value (omega arith))
+
+sphere : (g : _) (c : After-first_row-to g) →
+    let first = c.args.self.now in
+    FoundSphere first.ranked.rows first.ranked.numbers c.first_row-from.result c.first_row-to.result
+sphere g c =
+    let first = c.args.self.now in
+    found_sphere (kids_of first.kin) first.kin.ups first.ranked.rows first.starts c.args.last first.ranked.numbers
+    c.requires.ranked.spheres (suc c.args.far) c.first_row-from.result c.first_row-to.result c.requires.far
+    (read_at first.starts (c.args.far + 1) (suc c.args.far) c.first_row-from.result c.first_row-from.ensures.value
+    (omega arith))
+    (read_at first.starts (c.args.far + 2) (suc (suc c.args.far)) c.first_row-to.result c.first_row-to.ensures.value
+    (omega arith))
+
+pub stands_by-requires-clause-ordered : goal.stands_by-requires-clause-ordered
+stands_by-requires-clause-ordered g c = (sphere g c).ordered
+
+pub stands_by-requires-clause-within : goal.stands_by-requires-clause-within
+stands_by-requires-clause-within g c = (sphere g c).within
+
+pub stands_by-requires-clause-classed : goal.stands_by-requires-clause-classed
+stands_by-requires-clause-classed g c = (sphere g c).classed
 
 pub returns-then-stands_by-clause-deeper : goal.returns-then-stands_by-clause-deeper
 returns-then-stands_by-clause-deeper g c =
@@ -41,7 +62,7 @@ returns-then-stands_by-clause-deeper g c =
     (subst (λ n. TieAlike compare all.ranked.rows all.ranked.numbers (slice_index all.starts (suc c.args.far)) n)
     (to_is g at)
     (subst (λ n. TieAlike compare all.ranked.rows all.ranked.numbers n
-    (slice_index c.as_slice-2.result.now (c.args.far + 2))) (from_is g at) alike))
+    c.first_row-to.result) (from_is g at) alike))
 
 pub returns-clause-deeper : goal.returns-clause-deeper
 returns-clause-deeper g c =

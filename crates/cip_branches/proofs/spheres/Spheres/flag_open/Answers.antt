@@ -1,7 +1,16 @@
 use Rattle.std.proofs.Common.{length, ◌≡◌, arith, ◌∙◌, subst}
 use Rattle.cip_branches.specs.Closing.{FlagOpen}
-use Rattle.cip_branches.proofs.OpenBranches.{open_fewer}
+use Rattle.cip_branches.proofs.OpenBranches.{open_fewer, flag_next}
 use Rattle.cip_branches.proofs.spheres.Spheres.flag_open.Goals as goal
+
+pub loop-branch-preserved : goal.loop-branch-preserved
+loop-branch-preserved c =
+    let next = c.loop-branch-test.true in
+    let high = c.loop-branch.auto.branch-end in
+    let long = c.loop-branch.auto.flags ∙ c.requires.len in
+    flag_next c.args.self.now.ranked.numbers c.args.wanted.now c.loop-branch.flags c.loop-branch.branch
+    c.is_open.result (omega (arith, next, high, long)) c.is_open.ensures.told c.is_open.ensures.none
+    c.loop-branch.invariant
 
 pub returns-clause-fewer : goal.returns-clause-fewer
 returns-clause-fewer c =

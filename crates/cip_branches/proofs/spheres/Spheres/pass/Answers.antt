@@ -11,20 +11,64 @@ use Rattle.cip_rows.specs.Rows.{IsRow, OrdersPlaces}
 use Rattle.cip_branches.specs.Turning.{in_sphere, AreSpheres, AreSteadyBefore, IsInnermost, SamePlaces, Stands, StandBut}
 use Rattle.cip_branches.proofs.KeptSpheres.{same_after}
 use Rattle.cip_branches.proofs.Passed.{innermost, noted_after, places, passed, split_spheres, split_steady, tops_stand}
-use Rattle.cip_branches.proofs.Turns.{read_at}
+use Rattle.cip_branches.proofs.Turns.{FoundSphere, found_sphere, read_at}
 use Rattle.cip_branches.proofs.spheres.Spheres.pass.Goals as goal
-use Rattle.cip_branches.proofs.spheres.Spheres.pass.Goals.{After-split_sphere}
+use Rattle.cip_branches.proofs.spheres.Spheres.pass.Goals.{After-first_row-to, After-split_sphere, After-note_rows}
 
 -- what the code reads of the starts
 from_is : (g : _) (c : After-split_sphere g) → slice_index c.args.self.now.starts (suc c.args.far)
-    ≡ slice_index c.as_slice.result.now (c.args.far + 1)
-from_is g c = read_at c.args.self.now.starts c.as_slice.result.now (c.args.far + 1) (suc c.args.far)
-    (c.as_slice.ensures ∙ ap (λ (s : Layers). s.starts) c.self.view_is) (omega arith)
+    ≡ c.first_row-from.result
+from_is g c = read_at c.args.self.now.starts (c.args.far + 1) (suc c.args.far) c.first_row-from.result
+    c.first_row-from.ensures.value (omega arith)
 
 to_is : (g : _) (c : After-split_sphere g) → slice_index c.args.self.now.starts (suc (suc c.args.far))
-    ≡ slice_index c.as_slice-2.result.now (c.args.far + 2)
-to_is g c = read_at c.args.self.now.starts c.as_slice-2.result.now (c.args.far + 2) (suc (suc c.args.far))
-    (c.as_slice-2.ensures ∙ ap (λ (s : Layers). s.starts) c.self.view_is) (omega arith)
+    ≡ c.first_row-to.result
+to_is g c = read_at c.args.self.now.starts (c.args.far + 2) (suc (suc c.args.far)) c.first_row-to.result
+    c.first_row-to.ensures.value (omega arith)
+
+sphere : (g : _) (c : After-first_row-to g) →
+    let first = c.args.self.now in
+    FoundSphere first.ranked.rows first.ranked.numbers c.first_row-from.result c.first_row-to.result
+sphere g c =
+    let first = c.args.self.now in
+    found_sphere (kids_of first.kin) first.kin.ups first.ranked.rows first.starts c.args.last first.ranked.numbers
+    c.requires.spheres (suc c.args.far) c.first_row-from.result c.first_row-to.result c.requires.far
+    (read_at first.starts (c.args.far + 1) (suc c.args.far) c.first_row-from.result c.first_row-from.ensures.value
+    (omega arith))
+    (read_at first.starts (c.args.far + 2) (suc (suc c.args.far)) c.first_row-to.result c.first_row-to.ensures.value
+    (omega arith))
+
+pub split_sphere-requires-clause-ordered : goal.split_sphere-requires-clause-ordered
+split_sphere-requires-clause-ordered g c =
+    (sphere g (goal.at.split_sphere-requires-clause-ordered g c).After-first_row-to).ordered
+
+pub split_sphere-requires-clause-within : goal.split_sphere-requires-clause-within
+split_sphere-requires-clause-within g c =
+    (sphere g (goal.at.split_sphere-requires-clause-within g c).After-first_row-to).within
+
+pub split_sphere-requires-clause-classed : goal.split_sphere-requires-clause-classed
+split_sphere-requires-clause-classed g c =
+    (sphere g (goal.at.split_sphere-requires-clause-classed g c).After-first_row-to).classed
+
+pub refine_inwards-inner-requires-clause-last : goal.refine_inwards-inner-requires-clause-last
+refine_inwards-inner-requires-clause-last g c =
+    c.requires.last ∙ ap (λ (s : Layers). length s.starts) (sym c.split_sphere.ensures.others)
+
+pub first_row-first-requires : goal.first_row-first-requires
+first_row-first-requires g c =
+    let starts = ap (λ (s : Layers). length s.starts) (c.refine_inwards-inner.ensures.others
+    ∙ ap (λ (s : Layers). record s { ranked = c.refine_inwards-inner.new.self.ranked }) c.split_sphere.ensures.others) in
+    let high = c.refine_inwards-inner.ensures.inner.high in
+    let far = c.requires.far in
+    let last = c.requires.last in
+    omega (arith, starts, high, far, last)
+
+pub note_rows-requires-clause-within : goal.note_rows-requires-clause-within
+note_rows-requires-clause-within g c =
+    let within = (sphere g (goal.at.note_rows-requires-clause-within g c).After-first_row-to).within in
+    let split = c.split_sphere.ensures.kept.kept.len in
+    let refined = c.refine_inwards-inner.ensures.places.len in
+    omega (arith, within, split, refined)
 
 -- the sphere as it is split
 kept : (g : _) (c : After-split_sphere g) →
@@ -37,7 +81,7 @@ kept g c =
     let new = c.split_sphere.new.self.ranked in
     subst (λ n. KeepsSphere n (slice_index first.starts (suc (suc c.args.far))) first.ranked.rows new.rows
     first.ranked.numbers new.numbers) (sym (from_is g c))
-    (subst (λ n. KeepsSphere (slice_index c.as_slice.result.now (c.args.far + 1)) n first.ranked.rows new.rows
+    (subst (λ n. KeepsSphere c.first_row-from.result n first.ranked.rows new.rows
     first.ranked.numbers new.numbers) (sym (to_is g c)) c.split_sphere.ensures.kept)
 
 split : (g : _) (c : After-split_sphere g) →
@@ -50,13 +94,12 @@ split g c =
     subst (λ n. OrdersPlaces (IsRow first.ranked.rows n (slice_index first.starts (suc (suc c.args.far))))
     (then_cmp (by_number first.ranked.numbers) (on (key_of (g.K.Keyed.key c.args.keys.now) first.kin) int_cmp)) numbers)
     (sym (from_is g c))
-    (subst (λ n. OrdersPlaces (IsRow first.ranked.rows (slice_index c.as_slice.result.now (c.args.far + 1)) n)
+    (subst (λ n. OrdersPlaces (IsRow first.ranked.rows c.first_row-from.result n)
     (then_cmp (by_number first.ranked.numbers) (on (key_of (g.K.Keyed.key c.args.keys.now) first.kin) int_cmp)) numbers)
     (sym (to_is g c)) c.split_sphere.ensures.split)
 
 fits : (g : _) (c : After-split_sphere g) → length c.args.self.now.ranked.rows ≤ c.args.self.now.kin.room
-fits g c = subst (λ (s : Layers). length s.ranked.rows ≤ s.kin.room) c.self.view_is
-    (let one = c.self.invariant.rows_len in let two = c.self.invariant.fits in omega (arith, one, two))
+fits g c = c.first_row-from.ensures.fits
 
 pub refine_inwards-inner-requires-clause-spheres : goal.refine_inwards-inner-requires-clause-spheres
 refine_inwards-inner-requires-clause-spheres g c =
@@ -96,12 +139,12 @@ note_rows-requires-clause-noted g c =
     c.requires.steady new.rows new.numbers (kept g at) inner
     c.refine_inwards-inner.ensures.inner.high last.ranked.numbers stand last.ranked.rows
     places in
-    let inner_is = read_at first.starts c.as_slice-3.result.now inner inner
-    (c.as_slice-3.ensures ∙ ap (λ (s : Layers). s.starts) (c.self-2.view_is ∙ others)) refl in
-    subst (λ ns. AreNotedBut last.ranked.rows (slice_index c.as_slice-3.result.now inner)
-    (slice_index c.as_slice-2.result.now (c.args.far + 2)) ns last.ranked.numbers)
+    let inner_is = read_at first.starts inner inner c.first_row-first.result
+    (c.first_row-first.ensures.value ∙ ap (λ (s : Layers). slice_index s.starts inner) others) refl in
+    subst (λ ns. AreNotedBut last.ranked.rows c.first_row-first.result
+    c.first_row-to.result ns last.ranked.numbers)
     (sym (ap (λ (s : Layers). s.before) others))
-    (subst (λ n. AreNotedBut last.ranked.rows n (slice_index c.as_slice-2.result.now (c.args.far + 2)) first.before
+    (subst (λ n. AreNotedBut last.ranked.rows n c.first_row-to.result first.before
     last.ranked.numbers) inner_is
     (subst (λ n. AreNotedBut last.ranked.rows (slice_index first.starts inner) n first.before last.ranked.numbers)
     (to_is g at) noted))
@@ -164,3 +207,36 @@ returns-clause-inner g c =
     (innermost (kids_of first.kin) first.kin.ups first.ranked.rows first.starts c.args.last c.args.far first.kin.room
     c.requires.far first.ranked.numbers first.before c.requires.spheres (fits g at) c.requires.noted c.requires.steady
     new.rows new.numbers (kept g at) inner last.ranked.numbers found)
+
+-- the layers as the rows are noted
+noted : (g : _) (c : After-note_rows g) →
+    let ranked = c.refine_inwards-inner.new.self.ranked in
+    c.note_rows.new.self ≡ record c.args.self.now { ranked = ranked; before = ranked.numbers }
+noted g c =
+    let ranked = c.refine_inwards-inner.new.self.ranked in
+    c.note_rows.ensures ∙ ap (λ (s : Layers). record s { before = ranked.numbers })
+    (c.refine_inwards-inner.ensures.others ∙ ap (λ (s : Layers). record s { ranked = ranked })
+    c.split_sphere.ensures.others)
+
+pub returns-clause-spheres : goal.returns-clause-spheres
+returns-clause-spheres g c =
+    let first = c.args.self.now in
+    let last = c.refine_inwards-inner.new.self.ranked in
+    subst (λ (s : Layers). AreSpheres (kids_of first.kin) first.kin.ups s.ranked.rows first.starts c.args.last
+    s.ranked.numbers) (sym c.note_rows.ensures) (subst (λ (s : Layers). AreSpheres (kids_of s.kin) s.kin.ups last.rows
+    s.starts c.args.last last.numbers) c.split_sphere.ensures.others c.refine_inwards-inner.ensures.spheres)
+
+pub returns-clause-before : goal.returns-clause-before
+returns-clause-before g c =
+    ap (λ (s : Layers). s.before) c.note_rows.ensures ∙ sym (ap (λ (s : Layers). s.ranked.numbers) c.note_rows.ensures)
+
+pub returns-clause-others : goal.returns-clause-others
+returns-clause-others g c =
+    let whole = noted g (goal.at.returns-clause-others g c).After-note_rows in
+    subst (λ (s : Layers). c.note_rows.new.self ≡ record c.args.self.now { ranked = s.ranked; before = s.before })
+    (sym whole) whole
+
+pub returns-clause-room : goal.returns-clause-room
+returns-clause-room g c =
+    ap (λ (s : Layers). s.ranked.room) c.note_rows.ensures ∙ c.refine_inwards-inner.ensures.room
+    ∙ c.split_sphere.ensures.room

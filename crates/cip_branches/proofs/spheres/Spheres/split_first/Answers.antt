@@ -3,26 +3,23 @@ use Rattle.std.specs.Ordering.{int_cmp, then_cmp, on}
 use Rattle.cip_rank.specs.Ranking.{by_number}
 use Rattle.cip_branches.specs.Following.{AreRanked}
 use Rattle.cip_branches.specs.Layers.{Layers}
+use Rattle.cip_rows.specs.Kids.{kids_of}
 use Rattle.cip_rows.specs.Parting.{KeepsSphere}
 use Rattle.cip_rows.specs.Keys.{key_of}
-use Rattle.cip_rows.specs.Rows.{IsRow, AreClassed, OrdersPlaces}
+use Rattle.cip_rows.specs.Rows.{IsRow, OrdersPlaces}
 use Rattle.cip_branches.specs.Taking.{SplitsFirst}
 use Rattle.cip_branches.specs.Turning.{in_sphere}
 use Rattle.cip_branches.proofs.TakenSpheres.{first_splits, first_ranked}
-use Rattle.cip_branches.proofs.Turns.{read_at}
+use Rattle.cip_branches.proofs.Turns.{FoundSphere, found_sphere}
 use Rattle.cip_branches.proofs.spheres.Spheres.split_first.Goals as goal
-use Rattle.cip_branches.proofs.spheres.Spheres.split_first.Goals.{After-split_sphere}
+use Rattle.cip_branches.proofs.spheres.Spheres.split_first.Goals.{After-first_row-to, After-split_sphere}
 
 -- what the code reads of the starts
-from_is : (g : _) (c : After-split_sphere g) → slice_index c.args.self.now.starts 0
-    ≡ slice_index c.as_slice.result.now 0
-from_is g c = read_at c.args.self.now.starts c.as_slice.result.now 0 0
-    (c.as_slice.ensures ∙ ap (λ (s : Layers). s.starts) c.self.view_is) refl
+from_is : (g : _) (c : After-split_sphere g) → slice_index c.args.self.now.starts 0 ≡ c.first_row-from.result
+from_is g c = sym c.first_row-from.ensures.value
 
-to_is : (g : _) (c : After-split_sphere g) → slice_index c.args.self.now.starts 1
-    ≡ slice_index c.as_slice-2.result.now 1
-to_is g c = read_at c.args.self.now.starts c.as_slice-2.result.now 1 1
-    (c.as_slice-2.ensures ∙ ap (λ (s : Layers). s.starts) c.self.view_is) refl
+to_is : (g : _) (c : After-split_sphere g) → slice_index c.args.self.now.starts 1 ≡ c.first_row-to.result
+to_is g c = sym c.first_row-to.ensures.value
 
 -- the sphere as it is split
 kept : (g : _) (c : After-split_sphere g) →
@@ -35,7 +32,7 @@ kept g c =
     let new = c.split_sphere.new.self.ranked in
     subst (λ n. KeepsSphere n (slice_index first.starts 1) first.ranked.rows new.rows first.ranked.numbers new.numbers)
     (sym (from_is g c))
-    (subst (λ n. KeepsSphere (slice_index c.as_slice.result.now 0) n first.ranked.rows new.rows first.ranked.numbers
+    (subst (λ n. KeepsSphere c.first_row-from.result n first.ranked.rows new.rows first.ranked.numbers
     new.numbers) (sym (to_is g c)) c.split_sphere.ensures.kept)
 
 split : (g : _) (c : After-split_sphere g) →
@@ -48,19 +45,36 @@ split g c =
     subst (λ n. OrdersPlaces (IsRow first.ranked.rows n (slice_index first.starts 1))
     (then_cmp (by_number first.ranked.numbers) (on (key_of (g.K.Keyed.key c.args.keys.now) first.kin) int_cmp)) numbers)
     (sym (from_is g c))
-    (subst (λ n. OrdersPlaces (IsRow first.ranked.rows (slice_index c.as_slice.result.now 0) n)
+    (subst (λ n. OrdersPlaces (IsRow first.ranked.rows c.first_row-from.result n)
     (then_cmp (by_number first.ranked.numbers) (on (key_of (g.K.Keyed.key c.args.keys.now) first.kin) int_cmp)) numbers)
     (sym (to_is g c)) c.split_sphere.ensures.split)
 
+sphere : (g : _) (c : After-first_row-to g) →
+    let first = c.args.self.now in
+    FoundSphere first.ranked.rows first.ranked.numbers c.first_row-from.result c.first_row-to.result
+sphere g c =
+    let first = c.args.self.now in
+    found_sphere (kids_of first.kin) first.kin.ups first.ranked.rows first.starts c.args.last first.ranked.numbers
+    c.requires.ranked.spheres 0 c.first_row-from.result c.first_row-to.result (omega arith) (sym c.first_row-from.ensures.value)
+    (sym c.first_row-to.ensures.value)
+
+pub split_sphere-requires-clause-ordered : goal.split_sphere-requires-clause-ordered
+split_sphere-requires-clause-ordered g c =
+    (sphere g (goal.at.split_sphere-requires-clause-ordered g c).After-first_row-to).ordered
+
+pub split_sphere-requires-clause-within : goal.split_sphere-requires-clause-within
+split_sphere-requires-clause-within g c =
+    (sphere g (goal.at.split_sphere-requires-clause-within g c).After-first_row-to).within
+
 pub split_sphere-requires-clause-classed : goal.split_sphere-requires-clause-classed
 split_sphere-requires-clause-classed g c =
-    let first = c.args.self.now in
-    let starts = ap (λ (s : Layers). s.starts) c.self.view_is in
-    subst (AreClassed first.ranked.rows first.ranked.numbers (slice_index c.as_slice.result.now 0))
-    (read_at first.starts c.as_slice-2.result.now 1 1 (c.as_slice-2.ensures ∙ starts) refl)
-    (subst (λ n. AreClassed first.ranked.rows first.ranked.numbers n (slice_index first.starts 1))
-    (read_at first.starts c.as_slice.result.now 0 0 (c.as_slice.ensures ∙ starts) refl)
-    (c.requires.ranked.spheres.classed 0 (omega arith)))
+    (sphere g (goal.at.split_sphere-requires-clause-classed g c).After-first_row-to).classed
+
+pub note_rows-requires-clause-within : goal.note_rows-requires-clause-within
+note_rows-requires-clause-within g c =
+    let within = (sphere g (goal.at.note_rows-requires-clause-within g c).After-first_row-to).within in
+    let split = c.split_sphere.ensures.kept.kept.len in
+    omega (arith, within, split)
 
 pub note_rows-requires-clause-noted : goal.note_rows-requires-clause-noted
 note_rows-requires-clause-noted g c =

@@ -1,14 +1,123 @@
-use Rattle.std.proofs.Common.{Bool, List, ◌∙◌, sym, subst}
+use Rattle.std.proofs.Common.{arith, ◌≡◌, ◌≤◌, ℕ, Bool, List, true, length, ◌∙◌, sym, ap, subst}
 use Rattle.std.specs.Ordering.{int_cmp, then_cmp, on}
+use Rattle.std.specs.Vec.{with_items}
 use Rattle.std.proofs.lemmas.Cmp.{on_total, int_cmp_total}
 use Rattle.std.proofs.lemmas.List.{with_items_is}
 use Rattle.cip_rank.specs.Ranking.{by_number}
 use Rattle.cip_branches.specs.Layers.{Layers}
-use Rattle.cip_rows.specs.Parting.{FlagClasses, KeepsSphere}
+use Rattle.cip_rows.specs.Parting.{FlagClasses, FlagHeads, KeepsSphere, has_flag}
 use Rattle.cip_rows.specs.Keys.{key_of}
+use Rattle.cip_rows.specs.Reserved.{Reserved}
 use Rattle.cip_rows.specs.Rows.{IsRow, AreClassed, OrdersPlaces}
+use Rattle.cip_rows.specs.Stirring.{NoFlags}
 use Rattle.cip_rows.proofs.PartedSphere.{have_flags, sphere_split}
+use Rattle.cip_branches.proofs.FlaggedClasses.{class_heads, class_cleared}
 use Rattle.cip_branches.proofs.spheres.Spheres.split_sphere.Goals as goal
+use Rattle.cip_branches.proofs.spheres.Spheres.split_sphere.Goals.{After-flag_classes}
+
+-- the rows and numbers that the sphere has inside
+classed : {seen now : Layers} {from to : ℕ} → seen ≡ now
+    → AreClassed now.ranked.rows now.ranked.numbers from to → AreClassed seen.ranked.rows seen.ranked.numbers from to
+classed {from = from} {to = to} view was =
+    subst (λ (s : Layers). AreClassed s.ranked.rows s.ranked.numbers from to) (sym view) was
+
+within : {seen now : Layers} {to : ℕ} → seen ≡ now → to ≤ length now.ranked.rows → to ≤ length seen.ranked.rows
+within {to = to} view was = subst (λ (s : Layers). to ≤ length s.ranked.rows) (sym view) was
+
+-- what is read of the flags that were set
+set_flags : (g : _) (c : After-flag_classes g)
+    → (with_items c.flags.inside.items c.flag_classes.new.flags).items ≡ c.flag_classes.new.flags
+set_flags g c = with_items_is c.flags.inside.items c.flag_classes.new.flags
+    (c.flag_classes.auto.flags ∙ c.deref_mut.ensures.len)
+
+flags_long : (g : _) (c : After-flag_classes g) → length c.flag_classes.new.flags ≡ length c.self.inside.family.ups
+flags_long g c = c.flag_classes.auto.flags ∙ ap (λ (fs : List Bool). length fs) c.deref_mut.ensures.value
+    ∙ ap (λ (column : Reserved Bool). length column.items) c.flags.view_is ∙ c.self.invariant.flags_len
+
+pub flag_classes-requires-clause-ordered : goal.flag_classes-requires-clause-ordered
+flag_classes-requires-clause-ordered g c = c.requires.ordered
+
+pub flag_classes-requires-clause-within : goal.flag_classes-requires-clause-within
+flag_classes-requires-clause-within g c = within c.self.view_is c.requires.within
+
+pub flag_classes-requires-clause-flags : goal.flag_classes-requires-clause-flags
+flag_classes-requires-clause-flags g c =
+    let rows = within c.self.view_is c.requires.within in
+    let rows_len = c.self.invariant.rows_len in
+    let flags_len = c.self.invariant.flags_len in
+    let len = ap (λ (fs : List Bool). length fs) (c.deref_mut.ensures.value ∙ ap (λ (column : Reserved Bool).
+    column.items) c.flags.view_is) in
+    omega (arith, rows, rows_len, flags_len, len)
+
+pub flag_classes-requires-clause-none : goal.flag_classes-requires-clause-none
+flag_classes-requires-clause-none g c =
+    subst NoFlags (sym (c.deref_mut.ensures.value ∙ ap (λ (column : Reserved Bool). column.items) c.flags.view_is))
+    c.self.invariant.none
+
+pub part_sphere-requires-clause-ordered : goal.part_sphere-requires-clause-ordered
+part_sphere-requires-clause-ordered g c = c.requires.ordered
+
+pub part_sphere-requires-clause-within : goal.part_sphere-requires-clause-within
+part_sphere-requires-clause-within g c = within c.self.view_is c.requires.within
+
+pub part_sphere-requires-clause-flags : goal.part_sphere-requires-clause-flags
+part_sphere-requires-clause-flags g c =
+    let at = (goal.at.part_sphere-requires-clause-flags g c).After-flag_classes in
+    let rows = within c.self.view_is c.requires.within in
+    let rows_len = c.self.invariant.rows_len in
+    let len = ap (λ (fs : List Bool). length fs) (c.deref.ensures.value ∙ set_flags g at) ∙ flags_long g at in
+    omega (arith, rows, rows_len, len)
+
+pub part_sphere-requires-clause-classed : goal.part_sphere-requires-clause-classed
+part_sphere-requires-clause-classed g c = classed c.self.view_is c.requires.classed
+
+pub part_sphere-requires-clause-heads : goal.part_sphere-requires-clause-heads
+part_sphere-requires-clause-heads g c =
+    let at = (goal.at.part_sphere-requires-clause-heads g c).After-flag_classes in
+    let rows = c.self.inside.order.rows in
+    let numbers = c.self.inside.order.numbers in
+    subst (FlagHeads rows numbers c.args.from c.args.to) (sym (c.deref.ensures.value ∙ set_flags g at))
+    (class_heads rows numbers c.args.from c.args.to c.flag_classes.new.flags
+    (classed c.self.view_is c.requires.classed) c.flag_classes.ensures)
+
+pub clear_flags-requires-clause-ordered : goal.clear_flags-requires-clause-ordered
+clear_flags-requires-clause-ordered g c = c.requires.ordered
+
+pub clear_flags-requires-clause-within : goal.clear_flags-requires-clause-within
+clear_flags-requires-clause-within g c =
+    let at = (goal.at.clear_flags-requires-clause-within g c).After-flag_classes in
+    let rows = within c.self.view_is c.requires.within in
+    let rows_len = c.self.invariant.rows_len in
+    let len = ap (λ (fs : List Bool). length fs) (c.deref_mut-2.ensures.value ∙ set_flags g at) ∙ flags_long g at in
+    omega (arith, rows, rows_len, len)
+
+pub invariant_of-self : goal.invariant_of-self
+invariant_of-self g c =
+    let at = (goal.at.invariant_of-self g c).After-flag_classes in
+    let was = c.self.invariant in
+    let parted = c.part_sphere.ensures.parted in
+    let read : c.deref_mut-2.result.now ≡ c.flag_classes.new.flags = c.deref_mut-2.ensures.value ∙ set_flags g at in
+    let left : (with_items (with_items c.flags.inside.items c.flag_classes.new.flags) c.clear_flags.new.flags).items
+    ≡ c.clear_flags.new.flags = with_items_is (with_items c.flags.inside.items c.flag_classes.new.flags)
+    c.clear_flags.new.flags (c.clear_flags.auto.flags ∙ c.deref_mut-2.ensures.len) in
+    record {
+      fits = was.fits;
+      ranked_room = c.part_sphere.ensures.room ∙ was.ranked_room;
+      starts_room = was.starts_room;
+      before_room = was.before_room;
+      flags_room = ap (λ (column : Reserved Bool). column.room) c.flags.view_is ∙ was.flags_room;
+      sets_room = was.sets_room;
+      rows_len = let len = parted.kept.len in let le = was.rows_len in omega (arith, len, le);
+      numbers_len = parted.len ∙ was.numbers_len;
+      before_len = was.before_len;
+      flags_len = ap (λ (fs : List Bool). length fs) left ∙ c.clear_flags.auto.flags
+          ∙ ap (λ (fs : List Bool). length fs) read ∙ flags_long g at;
+      sets_len = was.sets_len;
+      none = subst NoFlags (sym left) (class_cleared c.self.inside.order.rows c.self.inside.order.numbers c.args.from
+          c.args.to c.flag_classes.new.flags c.clear_flags.new.flags c.flag_classes.ensures
+          c.clear_flags.ensures.cleared
+          (λ row has. subst (λ (fs : List Bool). has_flag fs row ≡ true) read (c.clear_flags.ensures.fewer row has)));
+    }
 
 pub returns-clause-split : goal.returns-clause-split
 returns-clause-split g c =
@@ -40,3 +149,9 @@ returns-clause-kept g c =
       others = parted.others;
       len = parted.len;
     })
+
+pub returns-clause-others : goal.returns-clause-others
+returns-clause-others g c = ap (λ (s : Layers). record s { ranked = c.part_sphere.new.order }) c.self.view_is
+
+pub returns-clause-room : goal.returns-clause-room
+returns-clause-room g c = c.part_sphere.ensures.room ∙ ap (λ (s : Layers). s.ranked.room) c.self.view_is

@@ -3,7 +3,7 @@ use Rattle.std.specs.Vec.{with_items}
 use Rattle.std.proofs.lemmas.List.{with_items_is}
 use Rattle.cip_rows.specs.Kids.{kids_of, by_kids, AreCalm}
 use Rattle.cip_branches.specs.Layers.{Layers}
-use Rattle.cip_rows.specs.Parting.{FlagHeads, has_flag}
+use Rattle.cip_rows.specs.Parting.{FlagHeads, KeepsSphere, has_flag}
 use Rattle.cip_rows.specs.Reserved.{Reserved}
 use Rattle.cip_rows.specs.Rows.{IsRow, AreClassed, OrdersPlaces}
 use Rattle.cip_rows.specs.Stirring.{KnowParents, TieUnlessStirred, NoFlags}
@@ -45,6 +45,26 @@ read : (c : After-deref) → c.deref.result.now ≡ c.stir_above.new.flags
 read c = c.deref.ensures.value ∙ with_items_is c.flags.inside.items c.stir_above.new.flags
     (c.stir_above.auto.flags ∙ c.deref_mut.ensures.len)
 
+within : {seen now : Layers} {past : ℕ} → seen ≡ now → past ≤ length now.ranked.rows → past ≤ length seen.ranked.rows
+within {past = past} view was = subst (λ (s : Layers). past ≤ length s.ranked.rows) (sym view) was
+
+flags_long : (c : After-stir_above) → length c.stir_above.new.flags ≡ length c.self.inside.family.ups
+flags_long c = c.stir_above.auto.flags ∙ ap (λ (fs : List Bool). length fs) c.deref_mut.ensures.value
+    ∙ ap (λ (column : Reserved Bool). length column.items) c.flags.view_is ∙ c.self.invariant.flags_len
+
+pub stir_above-requires-clause-ordered : goal.stir_above-requires-clause-ordered
+stir_above-requires-clause-ordered c = c.requires.behind
+
+pub stir_above-requires-clause-within : goal.stir_above-requires-clause-within
+stir_above-requires-clause-within c = within c.self.view_is c.requires.within
+
+pub stir_above-requires-clause-family : goal.stir_above-requires-clause-family
+stir_above-requires-clause-family c = sym c.self.invariant.numbers_len
+
+pub stir_above-requires-clause-before : goal.stir_above-requires-clause-before
+stir_above-requires-clause-before c =
+    ap (λ (ns : List ℕ). length ns) c.as_slice.ensures ∙ c.self.invariant.before_len ∙ sym c.self.invariant.numbers_len
+
 pub stir_above-requires-clause-parents : goal.stir_above-requires-clause-parents
 stir_above-requires-clause-parents c =
     let ups = c.self.inside.family.ups in
@@ -76,6 +96,36 @@ returns-then-not-stir_above-clause-ordered c =
     subst (λ (s : Layers). OrdersPlaces (IsRow s.ranked.rows c.args.from c.args.to) (by_kids (kids_of s.kin)
     s.ranked.numbers) c.self.inside.order.numbers) c.self.view_is
     ((flagged_here at).stands (c.stir_above.ensures.none c.if-not-stir_above.true))
+
+pub refine_sphere-requires-clause-ordered : goal.refine_sphere-requires-clause-ordered
+refine_sphere-requires-clause-ordered c = c.requires.ordered
+
+pub refine_sphere-requires-clause-within : goal.refine_sphere-requires-clause-within
+refine_sphere-requires-clause-within c =
+    let rows = within c.self.view_is c.requires.within in
+    let behind = c.requires.behind in
+    omega (arith, rows, behind)
+
+pub refine_sphere-requires-clause-flags : goal.refine_sphere-requires-clause-flags
+refine_sphere-requires-clause-flags c =
+    let at = goal.at.refine_sphere-requires-clause-flags c in
+    let rows = within c.self.view_is c.requires.within in
+    let behind = c.requires.behind in
+    let rows_len = c.self.invariant.rows_len in
+    let len = ap (λ (fs : List Bool). length fs) (read at.After-deref) ∙ flags_long at.After-stir_above in
+    omega (arith, rows, behind, rows_len, len)
+
+pub refine_sphere-requires-clause-family : goal.refine_sphere-requires-clause-family
+refine_sphere-requires-clause-family c = sym c.self.invariant.numbers_len
+
+pub refine_sphere-requires-clause-sets : goal.refine_sphere-requires-clause-sets
+refine_sphere-requires-clause-sets c =
+    ap (λ (ns : List ℕ). length ns) c.deref_mut-2.ensures.value
+    ∙ ap (λ (column : Reserved ℕ). length column.items) c.sets.view_is
+    ∙ c.self.invariant.sets_len ∙ sym c.self.invariant.numbers_len
+
+pub refine_sphere-requires-clause-classed : goal.refine_sphere-requires-clause-classed
+refine_sphere-requires-clause-classed c = classed c.self.view_is c.requires.classed
 
 pub refine_sphere-requires-clause-known : goal.refine_sphere-requires-clause-known
 refine_sphere-requires-clause-known c =
@@ -133,3 +183,27 @@ pub returns-clause-ordered : goal.returns-clause-ordered
 returns-clause-ordered c =
     subst (λ (s : Layers). OrdersPlaces (IsRow s.ranked.rows c.args.from c.args.to) (by_kids (kids_of s.kin)
     s.ranked.numbers) c.refine_sphere.new.order.numbers) c.self.view_is c.refine_sphere.ensures.ordered
+
+pub clear_flags-requires-clause-ordered : goal.clear_flags-requires-clause-ordered
+clear_flags-requires-clause-ordered c = c.requires.ordered
+
+pub clear_flags-requires-clause-within : goal.clear_flags-requires-clause-within
+clear_flags-requires-clause-within c =
+    let at = (goal.at.clear_flags-requires-clause-within c).After-stir_above in
+    let rows = within c.self.view_is c.requires.within in
+    let behind = c.requires.behind in
+    let rows_len = c.self.invariant.rows_len in
+    let len = ap (λ (fs : List Bool). length fs) (c.deref_mut-3.ensures.value ∙ with_items_is c.flags.inside.items
+    c.stir_above.new.flags (c.stir_above.auto.flags ∙ c.deref_mut.ensures.len)) ∙ flags_long at in
+    omega (arith, rows, behind, rows_len, len)
+
+pub returns-clause-kept : goal.returns-clause-kept
+returns-clause-kept c =
+    subst (λ (s : Layers). KeepsSphere c.args.from c.args.to s.ranked.rows c.refine_sphere.new.order.rows
+    s.ranked.numbers c.refine_sphere.new.order.numbers) c.self.view_is c.refine_sphere.ensures.kept
+
+pub returns-clause-others : goal.returns-clause-others
+returns-clause-others c = ap (λ (s : Layers). record s { ranked = c.refine_sphere.new.order }) c.self.view_is
+
+pub returns-clause-room : goal.returns-clause-room
+returns-clause-room c = c.refine_sphere.ensures.room ∙ ap (λ (s : Layers). s.ranked.room) c.self.view_is

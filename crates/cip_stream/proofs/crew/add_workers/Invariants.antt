@@ -1,5 +1,5 @@
 use Rattle.std.proofs.Common.{◌≤◌, ◌-◌, vec_len}
-use Rattle.cip_stream.proofs.crew.new_workers.Given as goal
+use Rattle.cip_stream.proofs.crew.add_workers.Given as goal
 
 abbrev pub invariant-loop-alloc : goal.invariant-loop-alloc
 invariant-loop-alloc g l = vec_len l.workers ≤ l.fn.count

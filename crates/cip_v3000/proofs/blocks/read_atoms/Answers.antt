@@ -5,12 +5,12 @@ use Rattle.cip_reading.proofs.Rows.{step_read, step_refused, steps_read}
 use Rattle.cip_v3000.specs.Blocks.{seen_atoms}
 use Rattle.cip_v3000.specs.Grammar.{atom_row}
 use Rattle.cip_v3000.specs.Joining.{seen_all}
-use Rattle.cip_v3000.proofs.blocks.atom_block.Goals as goal
+use Rattle.cip_v3000.proofs.blocks.read_atoms.Goals as goal
 
 pub returns-in_err-read_atom-clause-value : goal.returns-in_err-read_atom-clause-value
 returns-in_err-read_atom-clause-value c =
-    let refused = err_from_is_err_and c.from_residual-in_err-read_atom.result
-    c.from_residual-in_err-read_atom.ensures.1 in
+    let refused = err_from_is_err_and c.from_residual.result
+    c.from_residual.ensures.1 in
     let joined = seen_all c.args.joined.now in
     rw (refused.1, refused.2) (fails_alike c.in_err-read_atom.field-0.0
     (atom_row joined (seen_atoms c.loop-row.block) c.loop-row.row) _ c.in_err-read_atom.ensures.value

@@ -1,8 +1,8 @@
 use Rattle.std.proofs.Common.{◌∙◌, sym, arith}
 use Rattle.cip_text.specs.Slices.{texts}
 use Rattle.cip_v3000.proofs.WordSteps.{word_goes_on, word_ends}
-use Rattle.cip_v3000.proofs.splitting.words.Goals.{then-is_cut+in_ok-push_word, else-is_cut}
-use Rattle.cip_v3000.proofs.splitting.words.Goals as goal
+use Rattle.cip_v3000.proofs.splitting.split.Goals.{then-is_cut+in_ok-push_word, else-is_cut}
+use Rattle.cip_v3000.proofs.splitting.split.Goals as goal
 
 pub loop-at-preserved : goal.loop-at-preserved
 loop-at-preserved c = elim c.if-is_cut.branch [

@@ -5,12 +5,12 @@ use Rattle.cip_reading.proofs.Rows.{step_read, step_refused, steps_read}
 use Rattle.cip_v3000.specs.Blocks.{seen_bonds}
 use Rattle.cip_v3000.specs.Grammar.{bond_row}
 use Rattle.cip_v3000.specs.Joining.{seen_all}
-use Rattle.cip_v3000.proofs.blocks.bond_rows.Goals as goal
+use Rattle.cip_v3000.proofs.blocks.read_bonds.Goals as goal
 
 pub returns-in_err-read_bond-clause-value : goal.returns-in_err-read_bond-clause-value
 returns-in_err-read_bond-clause-value c =
-    let refused = err_from_is_err_and c.from_residual-in_err-read_bond.result
-    c.from_residual-in_err-read_bond.ensures.1 in
+    let refused = err_from_is_err_and c.from_residual.result
+    c.from_residual.ensures.1 in
     let row = bond_row (seen_all c.args.joined.now) c.args.atoms.now c.args.first in
     rw (refused.1, refused.2) (fails_alike c.in_err-read_bond.field-0.0
     (row (seen_bonds c.loop-row.block) c.loop-row.row) _ c.in_err-read_bond.ensures.value

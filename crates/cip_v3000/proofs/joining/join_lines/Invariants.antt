@@ -2,7 +2,7 @@ use Rattle.std.proofs.Common.{◌≡◌, ◌≤◌, ◌-◌, length, map, All}
 use Rattle.cip_text.specs.Slices.{texts}
 use Rattle.cip_v3000.specs.JoinedLines.{joined_lines}
 use Rattle.cip_v3000.specs.Joining.{seen, with_before, rest_from, IsNumbered}
-use Rattle.cip_v3000.proofs.joining.joined_lines.Given as goal
+use Rattle.cip_v3000.proofs.joining.join_lines.Given as goal
 
 abbrev pub invariant-loop-place : goal.invariant-loop-place
 invariant-loop-place l = record {

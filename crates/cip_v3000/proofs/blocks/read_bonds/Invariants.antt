@@ -4,7 +4,7 @@ use Rattle.cip_reading.specs.Reading.{through}
 use Rattle.cip_v3000.specs.Blocks.{seen_bonds}
 use Rattle.cip_v3000.specs.Grammar.{bond_row, bond_rows}
 use Rattle.cip_v3000.specs.Joining.{seen_all}
-use Rattle.cip_v3000.proofs.blocks.bond_rows.Given as goal
+use Rattle.cip_v3000.proofs.blocks.read_bonds.Given as goal
 
 abbrev pub invariant-loop-row : goal.invariant-loop-row
 invariant-loop-row l = record {

@@ -3,11 +3,11 @@ use Rattle.std.proofs.lemmas.List.{map-append}
 use Rattle.std.proofs.lemmas.List.Elements.{All-push}
 use Rattle.cip_v3000.specs.Joining.{seen, IsNumbered}
 use Rattle.cip_v3000.proofs.Joined.{line_refused, line_continued, line_whole}
-use Rattle.cip_v3000.proofs.joining.joined_lines.Goals as goal
+use Rattle.cip_v3000.proofs.joining.join_lines.Goals as goal
 
 pub returns-then-not-begins_v30-clause-value : goal.returns-then-not-begins_v30-clause-value
 returns-then-not-begins_v30-clause-value c =
-    rw c.frame_fault-past.ensures
+    rw c.frame_fault.ensures
     (line_refused (map seen c.loop-place.found.items) c.args.lines.now c.loop-place.first c.loop-place.place _ _
     c.loop-place.invariant.first c.loop-place-test.true
     (sym c.begins_v30.ensures ∙ c.if-not-begins_v30.true) c.loop-place.invariant.so_far)

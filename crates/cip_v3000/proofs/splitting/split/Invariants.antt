@@ -1,7 +1,7 @@
 use Rattle.std.proofs.Common.{◌≡◌, ◌≤◌, ◌++◌, ◌-◌, take, drop, length}
 use Rattle.cip_text.specs.Slices.{texts}
 use Rattle.cip_v3000.specs.Words.{words_from, words_of}
-use Rattle.cip_v3000.proofs.splitting.words.Given as goal
+use Rattle.cip_v3000.proofs.splitting.split.Given as goal
 
 abbrev pub invariant-loop-at : goal.invariant-loop-at
 invariant-loop-at l =

@@ -4,7 +4,7 @@ use Rattle.cip_reading.specs.Reading.{through}
 use Rattle.cip_v3000.specs.Blocks.{seen_atoms}
 use Rattle.cip_v3000.specs.Grammar.{atom_row, atom_block}
 use Rattle.cip_v3000.specs.Joining.{seen_all}
-use Rattle.cip_v3000.proofs.blocks.atom_block.Given as goal
+use Rattle.cip_v3000.proofs.blocks.read_atoms.Given as goal
 
 abbrev pub invariant-loop-row : goal.invariant-loop-row
 invariant-loop-row l = record {
