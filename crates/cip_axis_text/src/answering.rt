@@ -1,6 +1,7 @@
 // The answer to a record by its further units.
 ghost use Rattle.std.specs.Prelude.{◌≡◌, ◌<◌, ◌-◌, ◌^◌, IfOk, length, map};
 ghost use Rattle.cip_text.specs.Slices.{texts};
+ghost use Rattle.cip_unit.specs.Drawings.{drawn_of};
 ghost use Rattle.cip_axis.specs.FurtherOutcomes.{AreFurtherFit};
 ghost use Rattle.cip_axis_text.specs.FurtherAnswers.{
   further_answer,
@@ -11,12 +12,11 @@ ghost use Rattle.cip_axis_text.specs.FurtherAnswers.{
 };
 
 use cip_axis::{FurtherSite, FurtherUnit, further, label_further, like};
-use cip_label::Setting;
+use cip_label::{Digraphs, Labeller, Setting};
 use cip_mol::{Molecule, ReadRefusal};
 use cip_molfile::read_molecule;
 use cip_print::{Answer, UnitAnswer, UnitAnswers, UnitName};
 use cip_rank::{Rules, Steps};
-use cip_record::RecordLabeller;
 use cip_unit::Drawn;
 use std::alloc::{AllocError, Global};
 use std::marker::Brand;
@@ -24,9 +24,9 @@ use std::sync::ledger::{Blank, Ledger};
 
 /// The answer to the lines of a record that has no label items, by its further units alone.
 #[tactic(auto, unfolding(crate::specs::FurtherAnswers::further_of_lines))]
-pub fn further_of_lines(
+pub fn further_of_lines<D: Digraphs>(
     alloc: Global,
-    labeller: &mut RecordLabeller,
+    labeller: &mut Labeller<D>,
     lines: &[&[u8]],
     rules: Rules,
 ) -> Result<Answer, AllocError>
@@ -41,27 +41,42 @@ pub fn further_of_lines(
     }
 }
 
-#[tactic(auto, unfolding(crate::specs::FurtherAnswers::further_of_molecule))]
-fn answer_molecule(
+fn answer_molecule<D: Digraphs>(
     alloc: Global,
-    labeller: &mut RecordLabeller,
+    labeller: &mut Labeller<D>,
     molecule: &Molecule,
     rules: Rules,
 ) -> Result<Answer, AllocError>
     ensures answer { IfOk result (λ answer. answer ≡ further_of_molecule rules labeller.old molecule.now) }
     ensures kept { labeller.new ≡ labeller.old }
 {
-    // Reading the atoms tells that there are few.
-    let _atoms = molecule.atoms();
     let drawn = Drawn::of(alloc, molecule)?;
-    let further = further(alloc, molecule, drawn.graph(), drawn.positions())?;
-    answer_drawn(alloc, labeller, &drawn, further.list(), rules)
+    answer_drawn(alloc, labeller, molecule, &drawn, rules)
 }
 
 // What is drawn stays with the caller, so that no end of this function gives it back.
-fn answer_drawn(
+#[tactic(auto, unfolding(crate::specs::FurtherAnswers::further_of_molecule))]
+fn answer_drawn<D: Digraphs>(
     alloc: Global,
-    labeller: &mut RecordLabeller,
+    labeller: &mut Labeller<D>,
+    molecule: &Molecule,
+    drawn: &Drawn,
+    rules: Rules,
+) -> Result<Answer, AllocError>
+    requires { drawn.now ≡ drawn_of molecule.now }
+    ensures answer { IfOk result (λ answer. answer ≡ further_of_molecule rules labeller.old molecule.now) }
+    ensures kept { labeller.new ≡ labeller.old }
+{
+    // Reading the atoms tells that there are few.
+    let _atoms = molecule.atoms();
+    let further = further(alloc, molecule, drawn.graph(), drawn.positions())?;
+    answer_further(alloc, labeller, drawn, further.list(), rules)
+}
+
+// The further units too stay with the caller.
+fn answer_further<D: Digraphs>(
+    alloc: Global,
+    labeller: &mut Labeller<D>,
     drawn: &Drawn,
     further: &[FurtherUnit],
     rules: Rules,
@@ -78,9 +93,9 @@ fn answer_drawn(
 }
 
 // Further units, each with its outcome.
-fn label_all(
+fn label_all<D: Digraphs>(
     alloc: Global,
-    labeller: &mut RecordLabeller,
+    labeller: &mut Labeller<D>,
     setting: &Setting<'_>,
     units: &[FurtherUnit],
 ) -> Result<UnitAnswers, AllocError>
@@ -89,13 +104,13 @@ fn label_all(
     ensures answers { IfOk result (λ answers. answers ≡ map (further_answer setting.now labeller.old) units.now) }
     ensures kept { labeller.new ≡ labeller.old }
 {
-    label_counted::<Brand>(alloc, labeller, setting, units, Blank::new(1))
+    label_counted::<D, Brand>(alloc, labeller, setting, units, Blank::new(1))
 }
 
 // The same with a counter of steps.
-fn label_counted<L: Ledger>(
+fn label_counted<D: Digraphs, L: Ledger>(
     alloc: Global,
-    labeller: &mut RecordLabeller,
+    labeller: &mut Labeller<D>,
     setting: &Setting<'_>,
     units: &[FurtherUnit],
     blank: Blank,
@@ -109,9 +124,25 @@ fn label_counted<L: Ledger>(
     ensures kept { labeller.new ≡ labeller.old }
 {
     let mut steps = Steps::<L>::open(blank);
+    label_each(alloc, labeller, setting, units, &mut steps)
+}
+
+// The counter stays with the caller, so that no unit gives it back.
+fn label_each<D: Digraphs, L: Ledger>(
+    alloc: Global,
+    labeller: &mut Labeller<D>,
+    setting: &Setting<'_>,
+    units: &[FurtherUnit],
+    steps: &mut Steps<L>,
+) -> Result<UnitAnswers, AllocError>
+    requires fit { AreFurtherFit setting.now.graph units.now }
+    requires few { length units.now < 2 ^ 32 }
+    ensures answers { IfOk result (λ answers. answers ≡ map (further_answer setting.now labeller.old) units.now) }
+    ensures kept { labeller.new ≡ labeller.old }
+{
     let mut answers = UnitAnswers::new(alloc);
     for unit in units {
-        let outcome = label_further(alloc, labeller, setting, unit, &mut steps)?;
+        let outcome = label_further(alloc, labeller, setting, unit, steps)?;
         answers.push(UnitAnswer {
             name: further_name(&unit.site),
             site: like(alloc, &unit.site),

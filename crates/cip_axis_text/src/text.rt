@@ -3,7 +3,9 @@ ghost use Rattle.std.specs.Prelude.{◌≡◌, ◌≤◌, ◌<◌, ◌-◌, ◌^
 ghost use Rattle.cip_axis_text.specs.AxesTexts.{are_axes_flagged, axes_of, axes_without_items, is_flagged_without_items};
 
 use crate::answering::further_of_lines;
+use cip_desk::{Errand, run_once};
 use cip_item::without_label_items;
+use cip_label::{Digraphs, Labeller};
 use cip_print::explain_text;
 use cip_rank::Rules;
 use cip_record::{RecordLabeller, is_flagged};
@@ -52,18 +54,61 @@ fn axes_text_once(
     ensures text { IfOk result (λ axes. axes.text ≡ axes_without_items rules nodes number lines.now) }
     ensures flagged { IfOk result (λ axes. axes.flagged ≡ is_flagged_without_items rules nodes lines.now) }
 {
-    let mut labeller = RecordLabeller::reserve(alloc, nodes)?;
-    let axes = axes_text_within(alloc, &mut labeller, lines, number, rules);
-    // given back by a call of its own: written out at the end of this function it takes a minute to prove
-    drop(labeller);
-    axes
+    let asked = AxesErrand {
+        lines,
+        number,
+        rules,
+    };
+    run_once(alloc, nodes, &asked)
+}
+
+// A record without label items whose further units are asked for.
+#[derive(Drop)]
+struct AxesErrand<'a, 'b> {
+    lines: &'a RecordLines<'b>,
+    number: u64,
+    rules: Rules,
+}
+
+impl Errand for AxesErrand<'_, '_> {
+    type Answer = AxesText;
+
+    ghost may = { λ asked. length asked.lines.now < 2 ^ 32 - 1 };
+
+    ghost answers = { λ asked bound axes.
+        (axes.text ≡ axes_without_items asked.rules bound asked.number asked.lines.now)
+        × (axes.flagged ≡ is_flagged_without_items asked.rules bound asked.lines.now) };
+
+    fn run<D: Digraphs>(
+        &self,
+        alloc: Global,
+        labeller: &mut Labeller<D>,
+    ) -> Result<AxesText, AllocError> {
+        tell_axes(alloc, labeller, self.lines, self.number, self.rules)
+    }
 }
 
 /// The same of a record that has no label items, in memory that was reserved before: once for many records.
-#[tactic(auto, unfolding(crate::specs::AxesTexts::axes_without_items, crate::specs::AxesTexts::is_flagged_without_items))]
 pub fn axes_text_within(
     alloc: Global,
     labeller: &mut RecordLabeller,
+    lines: &RecordLines,
+    number: u64,
+    rules: Rules,
+) -> Result<AxesText, AllocError>
+    requires few { length lines.now < 2 ^ 32 - 1 }
+    ensures text { IfOk result (λ axes. axes.text ≡ axes_without_items rules labeller.old number lines.now) }
+    ensures flagged { IfOk result (λ axes. axes.flagged ≡ is_flagged_without_items rules labeller.old lines.now) }
+    ensures kept { labeller.new ≡ labeller.old }
+{
+    tell_axes(alloc, labeller, lines, number, rules)
+}
+
+// Whoever grows and ranks the digraphs: a desk is large, so only the calls above name one.
+#[tactic(auto, unfolding(crate::specs::AxesTexts::axes_without_items, crate::specs::AxesTexts::is_flagged_without_items))]
+fn tell_axes<D: Digraphs>(
+    alloc: Global,
+    labeller: &mut Labeller<D>,
     lines: &RecordLines,
     number: u64,
     rules: Rules,

@@ -7,6 +7,7 @@ mod bench;
 mod branches;
 mod desk;
 mod early;
+mod errand;
 mod kept_root;
 mod memo;
 mod recalling;
@@ -14,3 +15,4 @@ mod rooted;
 mod whole;
 
 pub use desk::Desk;
+pub use errand::{Errand, run_once};

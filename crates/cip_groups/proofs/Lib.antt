@@ -1,6 +1,8 @@
 pub mod AtomSteps
 pub mod Decided
 pub mod GroupLines
+pub mod KindWords
+pub mod LinesSoFar
 pub mod NotedPlaces
 pub mod PlacedCentres
 pub mod SameKinds

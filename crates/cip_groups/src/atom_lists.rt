@@ -4,7 +4,7 @@ ghost use Rattle.std.specs.List.{list_all};
 ghost use Rattle.std.specs.Option.{option_map};
 ghost use Rattle.cip_text.specs.Slices.{texts};
 ghost use Rattle.cip_reading.specs.Fields.{number_stated};
-ghost use Rattle.cip_groups.specs.AtomLists.{is_numeral, is_count, is_counted, inner, with_names, names_of, atom_of, atoms_of, all_taken};
+ghost use Rattle.cip_groups.specs.AtomLists.{is_numeral, is_count, is_counted, inner, with_names, with_parts, names_of, atom_of, atoms_of, all_taken};
 ghost use Rattle.cip_groups.specs.declared.faults.GroupRefusal.TheVariants as refusals;
 ghost use Rattle.cip_groups.specs.Reading.{told_at, Gives};
 
@@ -78,10 +78,22 @@ fn push_names<'a>(
         return Err(refused(number, GroupCause::Word));
     };
     let parts = spaced_words(alloc, text)?;
-    if !is_counted(&parts) {
+    push_parts(number, names, &parts)
+}
+
+// Puts the names of a list behind the others.
+fn push_parts<'a>(
+    number: u32,
+    names: &mut Vec<&'a [u8]>,
+    parts: &[&'a [u8]],
+) -> Result<(), GroupRefusal>
+    ensures { Gives (λ _. texts names.new.items) result
+        (told_at number (with_parts (texts names.old.items) (texts parts.now))) }
+{
+    if !is_counted(parts) {
         return Err(refused(number, GroupCause::Word));
     }
-    push_behind_first(names, &parts)?;
+    push_behind_first(names, parts)?;
     Ok(())
 }
 

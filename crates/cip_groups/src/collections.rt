@@ -1,5 +1,5 @@
 // Collections, line after line.
-ghost use Rattle.std.specs.Prelude.{◌≡◌, ◌≤◌, ◌<◌, ◌-◌, ◌^◌, IfOk, Ok, Some, length, map, if◌then◌else◌};
+ghost use Rattle.std.specs.Prelude.{◌≡◌, ◌≤◌, ◌<◌, ◌-◌, ◌^◌, IfOk, IsOk, Ok, Some, length, map, if◌then◌else◌};
 ghost use Rattle.cip_text.specs.Bodies.{body_contents};
 ghost use Rattle.cip_text.specs.Slices.{texts};
 ghost use Rattle.cip_v3000.specs.declared.frames.FrameLine.TheVariants.{EndTable};
@@ -44,6 +44,12 @@ impl Found {
         self.groups = groups.with_line(kind, number, atoms)?;
         Ok(())
     }
+
+    fn into_groups(self) -> Groups
+        ensures { result ≡ self.groups }
+    {
+        self.groups
+    }
 }
 
 /// The groups of a record from which this molecule is read, or the first line with a cause and its first one.
@@ -57,7 +63,16 @@ pub fn read_groups(
     ensures { IfOk result (IsAnswer (body_contents bytes.now)) }
 {
     let lines = body_contents(alloc, bytes)?;
-    match read_table(alloc, &lines) {
+    lines_answer(alloc, &lines)
+}
+
+// Of the lines of a record, which stay with the caller.
+fn lines_answer(alloc: Global, lines: &[&[u8]]) -> Result<GroupsAnswer, AllocError>
+    requires few { length lines.now < 2 ^ 32 - 1 }
+    requires read { IsOk (molecule_of (texts lines.now)) }
+    ensures { IfOk result (IsAnswer (texts lines.now)) }
+{
+    match read_table(alloc, lines) {
         Ok(table) => table_answer(alloc, &table),
         Err(ReadRefusal::Fault(_)) => unreachable!(),
         Err(ReadRefusal::Memory) => Err(AllocError),
@@ -93,12 +108,32 @@ fn groups_from(
     ensures { Gives (λ groups. groups) result (groups_from indices.now nothing (map seen lines.now)) }
 {
     let mut found = nothing(alloc);
-    for line in lines {
-        if read_line(alloc, indices, line, &mut found)? {
-            return Ok(ended(line.number, found)?);
+    match read_lines(alloc, indices, lines, &mut found) {
+        Ok(()) => Ok(found.into_groups()),
+        Err(refusal) => {
+            // given back by a call of its own: written out here it takes three times as long to prove
+            drop(found);
+            Err(refusal)
         }
     }
-    Ok(found.groups)
+}
+
+// Reads lines up to the end of the table. What is found stays with the caller, so that no line gives it back.
+fn read_lines(
+    alloc: Global,
+    indices: &Indices,
+    lines: &[JoinedLine<'_>],
+    found: &mut Found,
+) -> Result<(), GroupRefusal>
+    requires few { length indices.now ≤ 1000000000 }
+    ensures { Gives (λ _. found.new.groups) result (groups_from indices.now found.old (map seen lines.now)) }
+{
+    for line in lines {
+        if read_line(alloc, indices, line, found)? {
+            return ended(line.number, found);
+        }
+    }
+    Ok(())
 }
 
 // Reads a line behind those before it, and says whether the table ends there.
@@ -147,16 +182,17 @@ fn nothing(alloc: Global) -> Found
     }
 }
 
-fn ended(number: u32, found: Found) -> Result<Groups, GroupFault>
-    ensures { result ≡ ended number found }
+// At the end of the table no collection is open.
+fn ended(number: u32, found: &Found) -> Result<(), GroupRefusal>
+    ensures { Gives (λ _. found.now.groups) result (ended number found.now) }
 {
     if found.inside {
-        return Err(GroupFault {
+        return Err(GroupRefusal::Fault(GroupFault {
             line: number,
             cause: GroupCause::Frame,
-        });
+        }));
     }
-    Ok(found.groups)
+    Ok(())
 }
 
 // Reads a line behind those before it; lines outside collections are passed over.

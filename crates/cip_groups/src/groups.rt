@@ -1,6 +1,6 @@
 // Groups of centres.
 ghost use Rattle.std.specs.Prelude.{◌≡◌, ◌++◌, [], IfOk, OnOk};
-ghost use Rattle.cip_groups.specs.Grouping.{with_line};
+ghost use Rattle.cip_groups.specs.Grouping.{kinds_of, with_line};
 
 use crate::faults::GroupFault;
 use crate::kinds::GroupKind;
@@ -105,17 +105,30 @@ impl Groups {
             mut names,
             mut items,
         } = self;
-        match names.place(kind) {
-            Some(place) => {
-                items[place].atoms.extend(&atoms)?;
-                Ok(Groups { names, items })
-            }
-            None => {
-                names.push(kind)?;
-                let atoms = Vertices::from_vec(atoms);
-                items.push(Group { kind, line, atoms })?;
-                Ok(Groups { names, items })
-            }
+        put_line(&mut names, &mut items, kind, line, atoms)?;
+        Ok(Groups { names, items })
+    }
+}
+
+// The groups stay with the caller, so that no end of this function gives them back.
+fn put_line(
+    names: &mut Names,
+    items: &mut Vec<Group>,
+    kind: GroupKind,
+    line: u32,
+    atoms: Vec<u32>,
+) -> Result<(), AllocError>
+    requires { names.old ≡ kinds_of items.old.items }
+    ensures names { OnOk result (names.new ≡ kinds_of items.new.items) }
+    ensures items { OnOk result (items.new.items ≡ with_line kind line atoms.items items.old.items) }
+{
+    match names.place(kind) {
+        Some(place) => items[place].atoms.extend(&atoms),
+        None => {
+            names.push(kind)?;
+            let atoms = Vertices::from_vec(atoms);
+            items.push(Group { kind, line, atoms })?;
+            Ok(())
         }
     }
 }

@@ -1,14 +1,13 @@
 // Both outcomes of the centres of groups.
-ghost use Rattle.std.specs.Prelude.{◌≡◌, ◌<◌, ◌^◌, IfOk, OnOk, length};
+ghost use Rattle.std.specs.Prelude.{◌≡◌, ◌<◌, ◌^◌, ◌++◌, IfOk, OnOk, length};
 ghost use Rattle.cip_digraph.specs.units.Inverted.{inverted};
 ghost use Rattle.cip_groups.specs.Outcomes.{IsTurned, both_by, outcome_at, turned_at, lines_of, all_lines};
 
 use crate::groups::Group;
 use crate::kinds::GroupKind;
 use crate::places::Centres;
-use cip_desk::Desk;
 use cip_digraph::Units;
-use cip_label::{Labeller, Setting};
+use cip_label::{Digraphs, Labeller, Setting};
 use cip_mol::Outcome;
 use cip_rank::Steps;
 use std::alloc::{AllocError, Global};
@@ -31,9 +30,9 @@ pub struct GroupLine {
 }
 
 /// The atoms of all groups with both outcomes of each.
-pub fn all_lines(
+pub fn all_lines<D: Digraphs>(
     alloc: Global,
-    labeller: &mut Labeller<Desk>,
+    labeller: &mut Labeller<D>,
     setting: &Setting<'_>,
     units: &Units,
     groups: &[Group],
@@ -44,46 +43,62 @@ pub fn all_lines(
     ensures kept { labeller.new ≡ labeller.old }
 {
     let centres = Centres::of(alloc, setting)?;
-    let mut turned = units.copy(alloc)?;
-    count_lines::<Brand>(
-        alloc,
-        labeller,
-        &centres,
-        &mut turned,
-        groups,
-        Blank::new(1),
-    )
+    count_lines::<D, Brand>(alloc, labeller, &centres, units, groups, Blank::new(1))
 }
 
-// The same with a counter of steps, and units that are turned for each group, and back.
-fn count_lines<L: Ledger>(
+// The same with a counter of steps.
+fn count_lines<D: Digraphs, L: Ledger>(
     alloc: Global,
-    labeller: &mut Labeller<Desk>,
+    labeller: &mut Labeller<D>,
     centres: &Centres<'_>,
-    units: &mut Units,
+    units: &Units,
     groups: &[Group],
     blank: Blank,
 ) -> Result<Vec<GroupLine>, AllocError>
     requires name { blank.name ≡ L.name }
     requires parts { blank.parts ≡ L.parts }
     requires one { 0 < blank.parts }
-    requires same { units.old ≡ centres.now.units }
+    requires same { units.now ≡ centres.now.units }
     ensures lines { IfOk result (λ lines. lines.items ≡ all_lines labeller.old centres.now groups.now) }
     ensures kept { labeller.new ≡ labeller.old }
 {
     let mut steps = Steps::<L>::open(blank);
+    let mut turned = units.copy(alloc)?;
+    join_lines(alloc, labeller, centres, &mut turned, groups, &mut steps)
+}
+
+// The same with units that are turned for each group, and back.
+fn join_lines<D: Digraphs, L: Ledger>(
+    alloc: Global,
+    labeller: &mut Labeller<D>,
+    centres: &Centres<'_>,
+    units: &mut Units,
+    groups: &[Group],
+    steps: &mut Steps<L>,
+) -> Result<Vec<GroupLine>, AllocError>
+    requires same { units.old ≡ centres.now.units }
+    ensures lines { IfOk result (λ lines. lines.items ≡ all_lines labeller.old centres.now groups.now) }
+    ensures kept { labeller.new ≡ labeller.old }
+{
     let mut lines = Vec::new(alloc);
     for group in groups {
-        let mut more = group_lines(alloc, labeller, centres, units, group, &mut steps)?;
-        lines.append(&mut more)?;
+        let more = group_lines(alloc, labeller, centres, units, group, steps)?;
+        push_all(&mut lines, more)?;
     }
     Ok(lines)
 }
 
+fn push_all(lines: &mut Vec<GroupLine>, mut more: Vec<GroupLine>) -> Result<(), AllocError>
+    ensures { OnOk result (lines.new.items ≡ lines.old.items ++ more.items) }
+{
+    lines.append(&mut more)?;
+    Ok(())
+}
+
 // A group without atoms costs no labelling.
-fn group_lines<L: Ledger>(
+fn group_lines<D: Digraphs, L: Ledger>(
     alloc: Global,
-    labeller: &mut Labeller<Desk>,
+    labeller: &mut Labeller<D>,
     centres: &Centres<'_>,
     units: &mut Units,
     group: &Group,
@@ -104,9 +119,9 @@ fn group_lines<L: Ledger>(
     Ok(lines)
 }
 
-fn turned_lines<L: Ledger>(
+fn turned_lines<D: Digraphs, L: Ledger>(
     alloc: Global,
-    labeller: &mut Labeller<Desk>,
+    labeller: &mut Labeller<D>,
     centres: &Centres<'_>,
     units: &Units,
     group: &Group,
@@ -127,9 +142,9 @@ fn turned_lines<L: Ledger>(
     atom_lines(alloc, labeller, centres, &turned, group, steps)
 }
 
-fn atom_lines<L: Ledger>(
+fn atom_lines<D: Digraphs, L: Ledger>(
     alloc: Global,
-    labeller: &mut Labeller<Desk>,
+    labeller: &mut Labeller<D>,
     centres: &Centres<'_>,
     turned: &Setting<'_>,
     group: &Group,
@@ -152,9 +167,9 @@ fn atom_lines<L: Ledger>(
 }
 
 // What is found of the centre at an atom, where there is one.
-fn both_at<L: Ledger>(
+fn both_at<D: Digraphs, L: Ledger>(
     alloc: Global,
-    labeller: &mut Labeller<Desk>,
+    labeller: &mut Labeller<D>,
     centres: &Centres<'_>,
     turned: &Setting<'_>,
     atom: u32,

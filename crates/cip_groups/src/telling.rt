@@ -10,16 +10,16 @@ ghost use Rattle.cip_label.specs.Settings.{setting_of};
 ghost use Rattle.cip_unit.specs.Drawings.{drawn_of};
 ghost use Rattle.cip_groups.specs.Outcomes.{all_lines};
 ghost use Rattle.cip_print.specs.Refusals.{refusal_line};
-ghost use Rattle.cip_groups.specs.Readings.{TellsRefusal};
+ghost use Rattle.cip_groups.specs.Readings.{TellsFault, TellsRefusal};
 ghost use Rattle.cip_groups.specs.Texts.{outcome_text, both_text, line_text, is_over, some_over, fault_line, of_lines, of_drawn, of_groups, of_table, of_molecule, of_contents, told_without_items, told_of, with_number};
 
 use crate::collections::groups_of;
 use crate::faults::{GroupFault, GroupRefusal};
 use crate::groups::Groups;
 use crate::outcomes::{BothOutcomes, GroupLine, all_lines};
-use cip_desk::Desk;
+use cip_desk::{Desk, Errand, run_once};
 use cip_item::without_label_items;
-use cip_label::{Labeller, Setting};
+use cip_label::{Digraphs, Labeller, Setting};
 use cip_mol::{Molecule, Outcome, ReadFault, ReadRefusal};
 use cip_print::refusal;
 use cip_rank::Rules;
@@ -67,15 +67,40 @@ fn tell_once(
     requires bounded { nodes ≤ 1000000 }
     ensures { IfOk result (λ told. told ≡ with_number number (told_without_items rules nodes lines.now)) }
 {
-    let mut labeller = Labeller::<Desk>::reserve(alloc, nodes)?;
-    let told = group_text_within(alloc, &mut labeller, lines, number, rules);
-    // given back by a call of its own: written out at the end of this function it takes a minute to prove
-    drop(labeller);
-    told
+    let asked = GroupsErrand {
+        lines,
+        number,
+        rules,
+    };
+    run_once(alloc, nodes, &asked)
+}
+
+// A record without label items whose groups are asked for.
+#[derive(Drop)]
+struct GroupsErrand<'a, 'b> {
+    lines: &'a RecordLines<'b>,
+    number: u64,
+    rules: Rules,
+}
+
+impl Errand for GroupsErrand<'_, '_> {
+    type Answer = GroupText;
+
+    ghost may = { λ asked. length asked.lines.now < 2 ^ 32 - 1 };
+
+    ghost answers = { λ asked bound told.
+        told ≡ with_number asked.number (told_without_items asked.rules bound asked.lines.now) };
+
+    fn run<D: Digraphs>(
+        &self,
+        alloc: Global,
+        labeller: &mut Labeller<D>,
+    ) -> Result<GroupText, AllocError> {
+        tell_record(alloc, labeller, self.lines, self.number, self.rules)
+    }
 }
 
 /// What is told of the groups of a record that has no label items, in memory that was reserved before.
-#[tactic(auto, unfolding(crate::specs::Texts::told_without_items))]
 pub fn group_text_within(
     alloc: Global,
     labeller: &mut Labeller<Desk>,
@@ -87,7 +112,30 @@ pub fn group_text_within(
     ensures told { IfOk result (λ told. told ≡ with_number number (told_without_items rules labeller.old lines.now)) }
     ensures kept { labeller.new ≡ labeller.old }
 {
+    tell_record(alloc, labeller, lines, number, rules)
+}
+
+// Whoever grows and ranks the digraphs: a desk is large, so only the calls above name one.
+#[tactic(auto, unfolding(crate::specs::Texts::told_without_items))]
+fn tell_record<D: Digraphs>(
+    alloc: Global,
+    labeller: &mut Labeller<D>,
+    lines: &RecordLines,
+    number: u64,
+    rules: Rules,
+) -> Result<GroupText, AllocError>
+    requires few { length lines.now < 2 ^ 32 - 1 }
+    ensures told { IfOk result (λ told. told ≡ with_number number (told_without_items rules labeller.old lines.now)) }
+    ensures kept { labeller.new ≡ labeller.old }
+{
     let told = tell_contents(alloc, labeller, lines.contents(), rules)?;
+    with_number(alloc, number, &told)
+}
+
+// What is told of a record, behind a line with its number.
+fn with_number(alloc: Global, number: u64, told: &GroupText) -> Result<GroupText, AllocError>
+    ensures { IfOk result (λ numbered. numbered ≡ with_number number told.now) }
+{
     let mut text = format!(in alloc; "record {number}\n")?.into_bytes();
     text.extend_from_slice(told.text.as_slice())?;
     Ok(GroupText {
@@ -96,9 +144,9 @@ pub fn group_text_within(
     })
 }
 
-fn tell_contents(
+fn tell_contents<D: Digraphs>(
     alloc: Global,
-    labeller: &mut Labeller<Desk>,
+    labeller: &mut Labeller<D>,
     lines: &[&[u8]],
     rules: Rules,
 ) -> Result<GroupText, AllocError>
@@ -113,9 +161,9 @@ fn tell_contents(
     }
 }
 
-fn tell_extended(
+fn tell_extended<D: Digraphs>(
     alloc: Global,
-    labeller: &mut Labeller<Desk>,
+    labeller: &mut Labeller<D>,
     lines: &[&[u8]],
     rules: Rules,
 ) -> Result<GroupText, AllocError>
@@ -168,9 +216,9 @@ fn flagged(text: Vec<u8>) -> GroupText
     }
 }
 
-fn tell_table(
+fn tell_table<D: Digraphs>(
     alloc: Global,
-    labeller: &mut Labeller<Desk>,
+    labeller: &mut Labeller<D>,
     table: &Table<'_>,
     rules: Rules,
 ) -> Result<GroupText, AllocError>
@@ -181,8 +229,16 @@ fn tell_table(
 {
     match groups_of(alloc, table) {
         Ok(groups) => tell_groups(alloc, labeller, &table.molecule, &groups, rules),
-        Err(GroupRefusal::Fault(fault)) => Ok(flagged(fault_line(alloc, fault)?)),
-        Err(GroupRefusal::Memory) => Err(AllocError),
+        Err(refusal) => tell_fault(alloc, refusal),
+    }
+}
+
+fn tell_fault(alloc: Global, refusal: GroupRefusal) -> Result<GroupText, AllocError>
+    ensures { IfOk result (TellsFault refusal) }
+{
+    match refusal {
+        GroupRefusal::Fault(fault) => Ok(flagged(fault_line(alloc, fault)?)),
+        GroupRefusal::Memory => Err(AllocError),
     }
 }
 
@@ -194,9 +250,9 @@ fn fault_line(alloc: Global, fault: GroupFault) -> Result<Vec<u8>, AllocError>
     Ok(format!(in alloc; "groups {line} {cause}\n")?.into_bytes())
 }
 
-fn tell_groups(
+fn tell_groups<D: Digraphs>(
     alloc: Global,
-    labeller: &mut Labeller<Desk>,
+    labeller: &mut Labeller<D>,
     molecule: &Molecule,
     groups: &Groups,
     rules: Rules,
@@ -205,14 +261,27 @@ fn tell_groups(
     ensures kept { labeller.new ≡ labeller.old }
 {
     let drawn = Drawn::of(alloc, molecule)?;
-    let lines = drawn_lines(alloc, labeller, &drawn, groups, rules)?;
-    of_lines(alloc, &lines)
+    tell_drawn(alloc, labeller, &drawn, groups, rules)
 }
 
 // What is drawn stays with the caller, so that no end of this function gives it back.
-fn drawn_lines(
+fn tell_drawn<D: Digraphs>(
     alloc: Global,
-    labeller: &mut Labeller<Desk>,
+    labeller: &mut Labeller<D>,
+    drawn: &Drawn,
+    groups: &Groups,
+    rules: Rules,
+) -> Result<GroupText, AllocError>
+    ensures told { IfOk result (λ told. told ≡ of_drawn rules labeller.old drawn.now groups.now) }
+    ensures kept { labeller.new ≡ labeller.old }
+{
+    let lines = drawn_lines(alloc, labeller, drawn, groups, rules)?;
+    of_lines(alloc, &lines)
+}
+
+fn drawn_lines<D: Digraphs>(
+    alloc: Global,
+    labeller: &mut Labeller<D>,
     drawn: &Drawn,
     groups: &Groups,
     rules: Rules,

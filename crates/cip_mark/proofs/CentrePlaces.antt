@@ -22,7 +22,7 @@ use Rattle.cip_digraph.specs.graph.Graph.{edges_at}
 use Rattle.cip_digraph.specs.units.Allenes.{axis_site, axis_sites, doubles, is_axis_unit}
 use Rattle.cip_digraph.specs.units.Centres.{is_centre}
 use Rattle.cip_digraph.specs.units.DoubleBonds.{bond_site, bond_sites, is_bond_unit}
-use Rattle.cip_digraph.specs.units.Units.{centre_site, sites_of, units_of}
+use Rattle.cip_digraph.specs.units.Units.{centre_site, sites_of}
 use Rattle.cip_label.specs.Settings.{setting_of, outcome_in}
 use Rattle.cip_unit.specs.Drawings.{Drawn, drawn_of}
 use Rattle.cip_rank.specs.declared.rules.Rules.{Rules}

@@ -1,5 +1,5 @@
 -- A mark that is set at a centre drawn in the plane. CTfile Formats, bond stereo; at which ligand it stands is own.
-use Rattle.std.specs.Prelude.{ℕ, List, [], ◌∷◌, map, length, Bool, true, false, cond, not, ◌&&◌, ◌==◌, nat_lt, None, Some}
+use Rattle.std.specs.Prelude.{◌≡◌, ℕ, List, [], ◌∷◌, map, length, Bool, true, false, cond, not, ◌&&◌, ◌==◌, nat_lt, None, Some}
 use Rattle.std.specs.List.{list_any}
 use Rattle.std.specs.declared.option.Option.{Option}
 use Rattle.cip_num.specs.declared.plane.Vec2.{Vec2}
@@ -7,7 +7,7 @@ use Rattle.cip_mol.specs.Drawing.{Drawing}
 use Rattle.cip_mol.specs.DrawnLigands.{drawn}
 use Rattle.cip_mol.specs.Geometry.{geometry_of}
 use Rattle.cip_mol.specs.Marks.{is_narrow_at, joins}
-use Rattle.cip_mol.specs.Points.{flat_steps}
+use Rattle.cip_mol.specs.Points.{flat_steps, is_spatial}
 use Rattle.cip_mol.specs.declared.molecule.Bond as molecules
 use Rattle.cip_mol.specs.declared.molecule.Mark.{Mark}
 use Rattle.cip_mol.specs.declared.molecule.Mark.TheVariants.{Plain, Up, Down, Either}
@@ -94,3 +94,10 @@ chosen drawing atom =
 -- a centre unit stands at the atom
 abbrev pub has_centre : Drawing → ℕ → Bool
 has_centre drawing atom = nat_lt atom (length drawing.atoms) && is_centre (graph_of drawing) atom
+
+-- the drawing of a flat molecule without the marks of the centre at an atom, and the centre's site
+pub record IsBareAt (drawing : Drawing) (atom : ℕ) (plain : Drawing) (site : Site) : Type 0 where
+  pub flat : is_spatial drawing.atoms ≡ false
+  pub centre : has_centre drawing atom ≡ true
+  pub is_bare : plain ≡ bare drawing atom
+  pub there : site ≡ centre_site (graph_of drawing) atom

@@ -1,10 +1,12 @@
 // The mark that gives a centre the asked letter.
 ghost use Rattle.std.specs.Prelude.{◌≡◌, false, true, IfOk};
+ghost use Rattle.cip_mol.specs.Drawing.{Drawing};
 ghost use Rattle.cip_mol.specs.Points.{is_spatial};
 ghost use Rattle.cip_digraph.specs.graph.DrawnGraph.{graph_of};
+ghost use Rattle.cip_digraph.specs.units.DrawnUnits.{units_in};
 ghost use Rattle.cip_digraph.specs.units.Units.{centre_site};
 ghost use Rattle.cip_mark.specs.FoundCentres.{found_at};
-ghost use Rattle.cip_mark.specs.Marking.{has_centre, marked};
+ghost use Rattle.cip_mark.specs.Marking.{has_centre, marked, IsBareAt};
 ghost use Rattle.cip_mol.specs.CentreLetters.{asks_small};
 ghost use Rattle.cip_mark.specs.SetLetters.{asks_r, by_outcome, is_r, is_small, mark_asked, mark_centre, mark_for, IsGiven};
 ghost use Rattle.cip_mark.specs.declared.letter.CentreRefusal.{CentreRefusal};
@@ -15,7 +17,7 @@ use crate::finding::{centre_place, find};
 use crate::letter::{CentreRefusal, Marked, Request};
 use crate::marking::{bare, marked};
 use cip_label::{Digraphs, Labeller};
-use cip_mol::{CentreLetter, Descriptor, Mark, Molecule, Outcome, Site};
+use cip_mol::{CentreLetter, Descriptor, Mark, Molecule, Outcome, Site, Unit};
 use cip_orient::orient;
 use cip_unit::Drawn;
 use std::alloc::{AllocError, Global};
@@ -38,7 +40,6 @@ pub fn mark_asked<D: Digraphs>(
     answer(alloc, labeller, molecule, request)
 }
 
-#[tactic(auto, unfolding(crate::specs::SetLetters::mark_asked))]
 fn answer<D: Digraphs>(
     alloc: Global,
     labeller: &mut Labeller<D>,
@@ -50,7 +51,23 @@ fn answer<D: Digraphs>(
     ensures kept { labeller.new ≡ labeller.old }
 {
     let drawn = Drawn::of(alloc, molecule)?;
-    let units = drawn.units().list();
+    answer_among(alloc, labeller, molecule, drawn.units().list(), request)
+}
+
+// What is drawn stays with the caller, so that no end of this function gives it back.
+#[tactic(auto, unfolding(crate::specs::SetLetters::mark_asked))]
+fn answer_among<D: Digraphs>(
+    alloc: Global,
+    labeller: &mut Labeller<D>,
+    molecule: &Molecule,
+    units: &[Unit],
+    request: Request,
+) -> Result<Result<Marked, CentreRefusal>, AllocError>
+    requires units { units.now ≡ units_in molecule.now }
+    ensures answer { IfOk result (λ answer. answer
+        ≡ mark_asked request.rules labeller.old molecule.now request.atom request.letter) }
+    ensures kept { labeller.new ≡ labeller.old }
+{
     match centre_place(units, request.atom) {
         Some(place) => mark_centre(alloc, labeller, molecule, &units[place].site, request),
         None => Ok(Err(CentreRefusal::NoCentre)),
@@ -74,11 +91,27 @@ fn mark_centre<D: Digraphs>(
         return Ok(Err(CentreRefusal::ThreeD));
     }
     let bare = bare(alloc, molecule, request.atom)?;
-    if shows_coincident(orient(alloc, &bare, site)) {
+    mark_bare(alloc, labeller, &bare, site, request)
+}
+
+// In the drawing without marks, which stays with the caller, so that no end of this function gives it back.
+fn mark_bare<D: Digraphs>(
+    alloc: Global,
+    labeller: &mut Labeller<D>,
+    bare: &Molecule,
+    site: &Site,
+    request: Request,
+) -> Result<Result<Marked, CentreRefusal>, AllocError>
+    requires { (drawing : Drawing) × IsBareAt drawing request.atom bare.now site.now }
+    ensures answer { IfOk result (λ answer. (drawing : Drawing) → IsBareAt drawing request.atom bare.now site.now →
+        answer ≡ mark_centre request.rules labeller.old drawing request.atom request.letter) }
+    ensures kept { labeller.new ≡ labeller.old }
+{
+    if shows_coincident(orient(alloc, bare, site)) {
         return Ok(Err(CentreRefusal::Coincident));
     }
-    match chosen(alloc, &bare, request.atom, site)? {
-        Some(neighbour) => mark_ligand(alloc, labeller, &bare, neighbour, request),
+    match chosen(alloc, bare, request.atom, site)? {
+        Some(neighbour) => mark_ligand(alloc, labeller, bare, neighbour, request),
         None => Ok(Err(CentreRefusal::NoBond)),
     }
 }

@@ -1,7 +1,9 @@
 // What is found of a centre.
 ghost use Rattle.std.specs.Prelude.{◌≡◌, ◌<◌, true, IfOk, Some, length, slice_get};
 ghost use Rattle.std.specs.List.{position};
+ghost use Rattle.cip_mol.specs.Drawing.{Drawing};
 ghost use Rattle.cip_mol.specs.declared.site.Unit as units;
+ghost use Rattle.cip_unit.specs.Drawings.{drawn_of};
 ghost use Rattle.cip_label.specs.Settings.{outcome_in, setting_of};
 ghost use Rattle.cip_mark.specs.FoundCentres.{found_at, is_centre_at};
 ghost use Rattle.cip_mark.specs.Marking.{has_centre};
@@ -43,13 +45,29 @@ pub fn find<D: Digraphs>(
     ensures kept { labeller.new ≡ labeller.old }
 {
     let drawn = Drawn::of(alloc, molecule)?;
+    find_drawn(alloc, labeller, &drawn, atom, rules)
+}
+
+// Of the centre at an atom of what is drawn, which stays with the caller, so that no end of this function gives it back.
+fn find_drawn<D: Digraphs>(
+    alloc: Global,
+    labeller: &mut Labeller<D>,
+    drawn: &Drawn,
+    atom: u32,
+    rules: Rules,
+) -> Result<Outcome, AllocError>
+    requires { (drawing : Drawing) × (drawn.now ≡ drawn_of drawing) × (has_centre drawing atom ≡ true) }
+    ensures found { IfOk result (λ outcome. (drawing : Drawing) → drawn.now ≡ drawn_of drawing →
+        outcome ≡ found_at rules labeller.old drawing atom) }
+    ensures kept { labeller.new ≡ labeller.old }
+{
     match centre_place(drawn.units().list(), atom) {
-        Some(place) => find_at(alloc, labeller, &drawn, place as u32, rules),
+        Some(place) => find_at(alloc, labeller, drawn, place as u32, rules),
         None => unreachable!(),
     }
 }
 
-// What is found of the unit at a place. What is drawn stays with the caller, so that no end of this function gives it back.
+// What is found of the unit at a place.
 fn find_at<D: Digraphs>(
     alloc: Global,
     labeller: &mut Labeller<D>,

@@ -14,9 +14,9 @@ ghost use Rattle.cip_record.specs.Answers.{
 };
 
 use crate::units::label_units;
-use cip_desk::Desk;
+use cip_desk::{Desk, Errand, run_once};
 use cip_item::without_label_items;
-use cip_label::{Labeller, Setting};
+use cip_label::{Digraphs, Labeller, Setting};
 use cip_mol::{Molecule, Outcome, ReadRefusal};
 use cip_molfile::read_molecule;
 use cip_print::{Answer, UnitAnswers};
@@ -59,15 +59,34 @@ fn label_once(
     ensures answer { IfOk result (λ answer. answer ≡ answer_without_items rules nodes lines.now) }
     ensures room { IfOk result HasRoom }
 {
-    let mut labeller = RecordLabeller::reserve(alloc, nodes)?;
-    let answer = label_within(alloc, &mut labeller, lines, rules);
-    // given back by a call of its own: written out at the end of this function it takes a minute to prove
-    drop(labeller);
-    answer
+    run_once(alloc, nodes, &RecordErrand { lines, rules })
+}
+
+// A record without label items that is to be answered.
+#[derive(Drop)]
+struct RecordErrand<'a, 'b> {
+    lines: &'a RecordLines<'b>,
+    rules: Rules,
+}
+
+impl Errand for RecordErrand<'_, '_> {
+    type Answer = Answer;
+
+    ghost may = { λ asked. length asked.lines.now < 2 ^ 32 - 1 };
+
+    ghost answers = { λ asked bound answer.
+        (answer ≡ answer_without_items asked.rules bound asked.lines.now) × HasRoom answer };
+
+    fn run<D: Digraphs>(
+        &self,
+        alloc: Global,
+        labeller: &mut Labeller<D>,
+    ) -> Result<Answer, AllocError> {
+        label_lines(alloc, labeller, self.lines, self.rules)
+    }
 }
 
 /// The answer to a record that has no label items, in memory that was reserved before: once for many records.
-#[tactic(auto, unfolding(crate::specs::Answers::answer_without_items))]
 pub fn label_within(
     alloc: Global,
     labeller: &mut RecordLabeller,
@@ -79,12 +98,28 @@ pub fn label_within(
     ensures room { IfOk result HasRoom }
     ensures kept { labeller.new ≡ labeller.old }
 {
+    label_lines(alloc, labeller, lines, rules)
+}
+
+// Whoever grows and ranks the digraphs: a desk is large, so only the calls above name one.
+#[tactic(auto, unfolding(crate::specs::Answers::answer_without_items))]
+fn label_lines<D: Digraphs>(
+    alloc: Global,
+    labeller: &mut Labeller<D>,
+    lines: &RecordLines,
+    rules: Rules,
+) -> Result<Answer, AllocError>
+    requires few { length lines.now < 2 ^ 32 - 1 }
+    ensures answer { IfOk result (λ answer. answer ≡ answer_without_items rules labeller.old lines.now) }
+    ensures room { IfOk result HasRoom }
+    ensures kept { labeller.new ≡ labeller.old }
+{
     answer_lines(alloc, labeller, lines.contents(), rules)
 }
 
-fn answer_lines(
+fn answer_lines<D: Digraphs>(
     alloc: Global,
-    labeller: &mut RecordLabeller,
+    labeller: &mut Labeller<D>,
     lines: &[&[u8]],
     rules: Rules,
 ) -> Result<Answer, AllocError>
@@ -100,9 +135,9 @@ fn answer_lines(
     }
 }
 
-fn answer_molecule(
+fn answer_molecule<D: Digraphs>(
     alloc: Global,
-    labeller: &mut RecordLabeller,
+    labeller: &mut Labeller<D>,
     molecule: &Molecule,
     rules: Rules,
 ) -> Result<Answer, AllocError>
@@ -115,9 +150,9 @@ fn answer_molecule(
 }
 
 // What is drawn stays with the caller, so that no end of this function gives it back.
-fn answer_drawn(
+fn answer_drawn<D: Digraphs>(
     alloc: Global,
-    labeller: &mut RecordLabeller,
+    labeller: &mut Labeller<D>,
     drawn: &Drawn,
     rules: Rules,
 ) -> Result<Answer, AllocError>

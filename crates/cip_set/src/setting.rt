@@ -2,11 +2,14 @@
 ghost use Rattle.std.specs.Prelude.{◌≡◌, ◌≤◌, ◌<◌, ◌-◌, ◌^◌, IfOk, length};
 ghost use Rattle.cip_mol.specs.Drawing.{Drawing};
 ghost use Rattle.cip_mark.specs.Marking.{with_mark};
+ghost use Rattle.cip_mark.specs.SetLetters.{mark_asked};
 ghost use Rattle.cip_mirror.specs.Changed.{changed_record};
-ghost use Rattle.cip_set.specs.SetAnswers.{refusal_of, set_answer, set_drawn, set_without_items, GivesLetter, IsFew};
+ghost use Rattle.cip_set.specs.SetAnswers.{refusal_of, set_answer, set_drawn, set_marked, set_without_items, GivesLetter, IsFew};
 
 use crate::answers::{SetAnswer, SetRefusal};
+use cip_desk::{Errand, run_once};
 use cip_item::without_label_items;
+use cip_label::{Digraphs, Labeller};
 use cip_mark::{CentreRefusal, Marked, Request, mark_asked, with_mark};
 use cip_mirror::changed_record;
 use cip_mol::{CentreLetter, Molecule, ReadRefusal};
@@ -16,6 +19,14 @@ use cip_record::RecordLabeller;
 use cip_text::{Bytes, RecordLines};
 use cip_v2000::is_v3000;
 use std::alloc::{AllocError, Global};
+
+// A letter that is asked for the centre at an atom, counted from 1, and by which wording of the rules it is labelled.
+#[derive(Clone, Copy)]
+struct Asked {
+    atom: u32,
+    letter: CentreLetter,
+    rules: Rules,
+}
 
 /// The record, without label items, in which the centre at an atom, counted from 1, has the asked letter, by a mark at
 /// its first ligand that can be marked. No digraph may have more than `nodes` nodes.
@@ -36,29 +47,54 @@ pub fn set_letter(
 {
     let bare = without_label_items(alloc, bytes)?;
     let lines = RecordLines::new(alloc, &bare)?;
-    set_once(alloc, &lines, atom, letter, nodes, rules)
+    let asked = Asked {
+        atom,
+        letter,
+        rules,
+    };
+    set_once(alloc, &lines, asked, nodes)
 }
 
 // In memory that is reserved for this record alone.
 fn set_once(
     alloc: Global,
     lines: &RecordLines,
-    atom: u32,
-    letter: CentreLetter,
+    asked: Asked,
     nodes: u32,
-    rules: Rules,
 ) -> Result<SetAnswer, AllocError>
     requires few { length lines.now < 2 ^ 32 - 1 }
     requires some { 1 ≤ nodes }
     requires bounded { nodes ≤ 1000000 }
-    ensures answer { IfOk result (λ answer. answer ≡ set_without_items rules nodes atom letter lines.now) }
+    ensures answer { IfOk result (λ answer. answer
+        ≡ set_without_items asked.rules nodes asked.atom asked.letter lines.now) }
     ensures few { IfOk result (λ answer. IsFew lines.now answer) }
 {
-    let mut labeller = RecordLabeller::reserve(alloc, nodes)?;
-    let answer = set_within(alloc, &mut labeller, lines, atom, letter, rules);
-    // given back by a call of its own: written out at the end of this function it takes a minute to prove
-    drop(labeller);
-    answer
+    run_once(alloc, nodes, &SetErrand { lines, asked })
+}
+
+// A record without label items in which a centre is to have a letter.
+#[derive(Drop)]
+struct SetErrand<'a, 'b> {
+    lines: &'a RecordLines<'b>,
+    asked: Asked,
+}
+
+impl Errand for SetErrand<'_, '_> {
+    type Answer = SetAnswer;
+
+    ghost may = { λ errand. length errand.lines.now < 2 ^ 32 - 1 };
+
+    ghost answers = { λ errand bound answer.
+        (answer ≡ set_without_items errand.asked.rules bound errand.asked.atom errand.asked.letter errand.lines.now)
+        × IsFew errand.lines.now answer };
+
+    fn run<D: Digraphs>(
+        &self,
+        alloc: Global,
+        labeller: &mut Labeller<D>,
+    ) -> Result<SetAnswer, AllocError> {
+        set_lines(alloc, labeller, self.lines, self.asked)
+    }
 }
 
 /// The same of a record that has no label items, with its lines at hand, in memory that was reserved before: once for
@@ -76,43 +112,91 @@ pub fn set_within(
     ensures few { IfOk result (λ answer. IsFew lines.now answer) }
     ensures kept { labeller.new ≡ labeller.old }
 {
-    answer_lines(alloc, labeller, lines, atom, letter, rules)
-}
-
-#[tactic(auto, unfolding(crate::specs::SetAnswers::set_without_items))]
-fn answer_lines(
-    alloc: Global,
-    labeller: &mut RecordLabeller,
-    lines: &RecordLines,
-    atom: u32,
-    letter: CentreLetter,
-    rules: Rules,
-) -> Result<SetAnswer, AllocError>
-    requires few { length lines.now < 2 ^ 32 - 1 }
-    ensures answer { IfOk result (λ answer. answer ≡ set_without_items rules labeller.old atom letter lines.now) }
-    ensures kept { labeller.new ≡ labeller.old }
-{
-    let molecule = match read_molecule(alloc, lines.contents()) {
-        Ok(molecule) => molecule,
-        Err(ReadRefusal::Fault(fault)) => {
-            return Ok(SetAnswer::Refused(SetRefusal::Grammar(fault)));
-        }
-        Err(ReadRefusal::Memory) => return Err(AllocError),
-    };
-    if is_v3000(lines.contents()) {
-        return Ok(SetAnswer::Refused(SetRefusal::OnlyV2000));
-    }
-    if atom == 0 {
-        return Ok(SetAnswer::Refused(SetRefusal::NoCentre));
-    }
-    let request = Request {
-        atom: atom - 1,
+    let asked = Asked {
+        atom,
         letter,
         rules,
     };
-    match mark_asked(alloc, labeller, &molecule, request)? {
+    set_lines(alloc, labeller, lines, asked)
+}
+
+// Whoever grows and ranks the digraphs: a desk is large, so only the calls above name one.
+fn set_lines<D: Digraphs>(
+    alloc: Global,
+    labeller: &mut Labeller<D>,
+    lines: &RecordLines,
+    asked: Asked,
+) -> Result<SetAnswer, AllocError>
+    requires few { length lines.now < 2 ^ 32 - 1 }
+    ensures answer { IfOk result (λ answer. answer
+        ≡ set_without_items asked.rules labeller.old asked.atom asked.letter lines.now) }
+    ensures few { IfOk result (λ answer. IsFew lines.now answer) }
+    ensures kept { labeller.new ≡ labeller.old }
+{
+    answer_lines(alloc, labeller, lines, asked)
+}
+
+#[tactic(auto, unfolding(crate::specs::SetAnswers::set_without_items))]
+fn answer_lines<D: Digraphs>(
+    alloc: Global,
+    labeller: &mut Labeller<D>,
+    lines: &RecordLines,
+    asked: Asked,
+) -> Result<SetAnswer, AllocError>
+    requires few { length lines.now < 2 ^ 32 - 1 }
+    ensures answer { IfOk result (λ answer. answer
+        ≡ set_without_items asked.rules labeller.old asked.atom asked.letter lines.now) }
+    ensures kept { labeller.new ≡ labeller.old }
+{
+    match read_molecule(alloc, lines.contents()) {
+        Ok(molecule) => answer_molecule(alloc, labeller, lines, &molecule, asked),
+        Err(ReadRefusal::Fault(fault)) => Ok(SetAnswer::Refused(SetRefusal::Grammar(fault))),
+        Err(ReadRefusal::Memory) => Err(AllocError),
+    }
+}
+
+// Of the molecule of these lines.
+fn answer_molecule<D: Digraphs>(
+    alloc: Global,
+    labeller: &mut Labeller<D>,
+    lines: &RecordLines,
+    molecule: &Molecule,
+    asked: Asked,
+) -> Result<SetAnswer, AllocError>
+    ensures answer { IfOk result (λ answer. answer
+        ≡ set_drawn asked.rules labeller.old asked.atom asked.letter lines.now molecule.now) }
+    ensures kept { labeller.new ≡ labeller.old }
+{
+    if is_v3000(lines.contents()) {
+        return Ok(SetAnswer::Refused(SetRefusal::OnlyV2000));
+    }
+    if asked.atom == 0 {
+        return Ok(SetAnswer::Refused(SetRefusal::NoCentre));
+    }
+    let request = Request {
+        atom: asked.atom - 1,
+        letter: asked.letter,
+        rules: asked.rules,
+    };
+    set_mark(alloc, labeller, molecule, request, lines.bytes())
+}
+
+// The record with the mark that is answered, where one is.
+fn set_mark<D: Digraphs>(
+    alloc: Global,
+    labeller: &mut Labeller<D>,
+    molecule: &Molecule,
+    request: Request,
+    bytes: &[u8],
+) -> Result<SetAnswer, AllocError>
+    ensures answer { IfOk result (λ answer. answer
+        ≡ set_marked bytes.now molecule.now request.atom
+        (mark_asked request.rules labeller.old molecule.now request.atom request.letter)) }
+    ensures kept { labeller.new ≡ labeller.old }
+{
+    match mark_asked(alloc, labeller, molecule, request)? {
         Ok(marked) => {
-            let text = changed(alloc, &molecule, request.atom, marked, lines.bytes())?;
+            let text = changed(alloc, molecule, request.atom, marked, bytes)?;
             Ok(SetAnswer::Written(Bytes::from_vec(text)))
         }
         Err(refusal) => Ok(SetAnswer::Refused(refusal_of(refusal))),

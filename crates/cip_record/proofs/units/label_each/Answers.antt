@@ -2,7 +2,7 @@ use Rattle.std.proofs.Common.{◌∙◌, ap, subst, ◌<◌, length}
 use Rattle.cip_digraph.specs.graph.Graph.{Graph}
 use Rattle.cip_record.specs.Images.{AreFound}
 use Rattle.cip_record.proofs.UnitLists.{has_room, next_unit}
-use Rattle.cip_record.proofs.units.label_counted.Goals as goal
+use Rattle.cip_record.proofs.units.label_each.Goals as goal
 
 pub push-requires : goal.push-requires
 push-requires g c =

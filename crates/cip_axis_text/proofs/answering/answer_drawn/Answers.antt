@@ -6,20 +6,20 @@ use Rattle.cip_unit.specs.Drawings.{Drawn}
 use Rattle.cip_axis.specs.FurtherOutcomes.{AreFurtherFit}
 use Rattle.cip_axis.proofs.FewFurther.{few_further}
 use Rattle.cip_axis.proofs.FurtherFit.{further_units_are_fit}
-use Rattle.cip_axis_text.proofs.answering.answer_molecule.Goals as goal
+use Rattle.cip_axis_text.proofs.answering.answer_drawn.Goals as goal
 
-pub answer_drawn-requires-clause-fit : goal.answer_drawn-requires-clause-fit
-answer_drawn-requires-clause-fit c =
+pub answer_further-requires-clause-fit : goal.answer_further-requires-clause-fit
+answer_further-requires-clause-fit g c =
     let graph = c.graph.result.now in
     subst (λ (shown : Graph). AreFurtherFit shown c.list.result.now) c.graph.ensures.value
     (subst (AreFurtherFit graph) (sym (c.list.ensures ∙ c.in_ok-further.ensures))
     (further_units_are_fit c.args.molecule.now graph c.positions.result.now
-    (subst IsSound (sym (c.graph.ensures.value ∙ ap (λ (d : Drawn). d.graph) c.in_ok-drawn.ensures))
+    (subst IsSound (sym (c.graph.ensures.value ∙ ap (λ (d : Drawn). d.graph) c.requires))
     (drawn_sound c.args.molecule.now c.atoms-atoms.ensures.sound))))
 
-pub answer_drawn-requires-clause-few : goal.answer_drawn-requires-clause-few
-answer_drawn-requires-clause-few c =
+pub answer_further-requires-clause-few : goal.answer_further-requires-clause-few
+answer_further-requires-clause-few g c =
     few_further c.args.molecule.now c.graph.result.now c.positions.result.now c.list.result.now
     c.atoms-atoms.ensures.range.few_atoms
-    (c.graph.ensures.value ∙ ap (λ (d : Drawn). d.graph) c.in_ok-drawn.ensures)
+    (c.graph.ensures.value ∙ ap (λ (d : Drawn). d.graph) c.requires)
     (c.list.ensures ∙ c.in_ok-further.ensures)

@@ -1,6 +1,6 @@
 use Rattle.std.proofs.Common.{◌≡◌, take}
 use Rattle.cip_groups.specs.Outcomes.{all_lines}
-use Rattle.cip_groups.proofs.outcomes.count_lines.Given as goal
+use Rattle.cip_groups.proofs.outcomes.join_lines.Given as goal
 
 abbrev pub invariant-loop-group : goal.invariant-loop-group
 invariant-loop-group g l = record {

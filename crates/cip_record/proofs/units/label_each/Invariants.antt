@@ -1,7 +1,7 @@
 use Rattle.std.proofs.Common.{◌≡◌, map, take}
 use Rattle.cip_record.specs.Answers.{unit_answer}
 use Rattle.cip_record.specs.Images.{AreFound}
-use Rattle.cip_record.proofs.units.label_counted.Given as goal
+use Rattle.cip_record.proofs.units.label_each.Given as goal
 
 abbrev pub invariant-loop-place : goal.invariant-loop-place
 invariant-loop-place g l = record {
