@@ -8,11 +8,11 @@ use Rattle.cip_stream.specs.Due.{are_flagged, due, verdict_of}
 use Rattle.cip_stream.specs.Endings.{Grew}
 use Rattle.cip_stream.specs.Limits.{answered}
 use Rattle.cip_stream.specs.Manner.{Manner}
-use Rattle.cip_words.specs.Help.{help}
-use Rattle.cip_words.specs.declared.settings.Settings.TheVariants as asked
 use Rattle.cip_stream.specs.declared.verdict.Verdict.{Verdict}
-use Rattle.cip_run.specs.declared.asked.Task.{Task}
-use Rattle.cip_run.specs.declared.asked.Task.TheVariants as tasks
+use Rattle.cip_words.specs.Help.{help}
+use Rattle.cip_words.specs.declared.settings.Action.TheVariants as does
+use Rattle.cip_words.specs.declared.settings.Task.{Task}
+use Rattle.cip_words.specs.declared.settings.Task.TheVariants as tasks
 use Rattle.cip_run.specs.declared.ending.Ending.{Ending}
 use Rattle.cip_run.specs.declared.ending.Ending.TheVariants as endings
 use Rattle.cip_run.specs.declared.ending.Missed.{Missed}
@@ -146,41 +146,28 @@ helping status old new meant end =
     is)) end refl
 
 pub workers_alike : WorkersChangeNothing
-workers_alike (asked.Annotate nodes workers rules) count limits bytes one other old new before now first second =
-    alike _ _ one other old.sink new.sink before.sink now.sink
-    (reading _ limits bytes one old new first.meant first.over first.done)
-    (reading _ limits bytes other before now second.meant second.over second.done)
-workers_alike (asked.Explain nodes workers rules) count limits bytes one other old new before now first second =
-    alike _ _ one other old.sink new.sink before.sink now.sink
-    (reading _ limits bytes one old new first.meant first.over first.done)
-    (reading _ limits bytes other before now second.meant second.over second.done)
-workers_alike (asked.Make start records) count limits bytes one other old new before now first second =
-    alike _ _ one other old.sink new.sink before.sink now.sink
-    (making start records one old.sink new.sink first.meant first.done)
-    (making start records other before.sink now.sink second.meant second.done)
-workers_alike (asked.Trial start records nodes workers rules) count limits bytes one other old new before now first
-    second =
-    alike _ _ one other old.sink new.sink before.sink now.sink
-    (trying _ one old.sink new.sink first.meant first.done)
-    (trying _ other before.sink now.sink second.meant second.done)
-workers_alike (asked.Set number atom letter nodes workers rules) count limits bytes one other old new before now first
+workers_alike (does.Read (tasks.Set number atom letter) labelling) count limits bytes one other old new before now first
     second =
     alike _ _ one other old.sink new.sink before.sink now.sink
     (changes (tasks.Set number atom letter) _ limits bytes one old new first.meant first.over first.done)
     (changes (tasks.Set number atom letter) _ limits bytes other before now second.meant second.over second.done)
-workers_alike (asked.Mirror nodes workers rules) count limits bytes one other old new before now first second =
+workers_alike (does.Read tasks.Mirror labelling) count limits bytes one other old new before now first second =
     alike _ _ one other old.sink new.sink before.sink now.sink
     (changes tasks.Mirror _ limits bytes one old new first.meant first.over first.done)
     (changes tasks.Mirror _ limits bytes other before now second.meant second.over second.done)
-workers_alike (asked.Groups nodes workers rules) count limits bytes one other old new before now first second =
+workers_alike (does.Read task labelling) count limits bytes one other old new before now first second =
     alike _ _ one other old.sink new.sink before.sink now.sink
     (reading _ limits bytes one old new first.meant first.over first.done)
     (reading _ limits bytes other before now second.meant second.over second.done)
-workers_alike (asked.Axes nodes workers rules) count limits bytes one other old new before now first second =
+workers_alike (does.Make series) count limits bytes one other old new before now first second =
     alike _ _ one other old.sink new.sink before.sink now.sink
-    (reading _ limits bytes one old new first.meant first.over first.done)
-    (reading _ limits bytes other before now second.meant second.over second.done)
-workers_alike asked.Help count limits bytes one other old new before now first second =
+    (making series.start series.records one old.sink new.sink first.meant first.done)
+    (making series.start series.records other before.sink now.sink second.meant second.done)
+workers_alike (does.Trial series labelling) count limits bytes one other old new before now first second =
+    alike _ _ one other old.sink new.sink before.sink now.sink
+    (trying _ one old.sink new.sink first.meant first.done)
+    (trying _ other before.sink now.sink second.meant second.done)
+workers_alike does.Help count limits bytes one other old new before now first second =
     alike _ _ one other old.sink new.sink before.sink now.sink
     (helping one old.sink new.sink first.meant first.done)
     (helping other before.sink now.sink second.meant second.done)

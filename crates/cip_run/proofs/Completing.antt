@@ -8,12 +8,16 @@ use Rattle.cip_stream.specs.Due.{due}
 use Rattle.cip_stream.specs.Endings.{Grew, IsLimited}
 use Rattle.cip_stream.specs.Limits.{limit_place}
 use Rattle.cip_stream.specs.Manner.{Manner}
-use Rattle.cip_words.specs.declared.settings.Settings.TheVariants as asked
+use Rattle.cip_words.specs.Settings.{action_of}
+use Rattle.cip_words.specs.declared.settings.Action.{Action}
+use Rattle.cip_words.specs.declared.settings.Action.TheVariants as does
+use Rattle.cip_words.specs.declared.settings.Task.{Task}
+use Rattle.cip_words.specs.declared.settings.Task.TheVariants as tasks
 use Rattle.cip_run.specs.ExitStatuses.{DONE, FLAGGED, OUT_OF_MEMORY, NOT_CHANGED}
-use Rattle.cip_run.specs.declared.asked.Task.{Task}
 use Rattle.cip_run.specs.declared.ending.Note.{Note}
-use Rattle.cip_run.specs.Completeness.{NeverFails, ReadsWell, RunsComplete}
-use Rattle.cip_run.specs.Statuses.{MeansOfChanging, MeansOfHelp, MeansOfMaking, MeansOfReading, MeansOfTrying, Stream, Streams}
+use Rattle.cip_run.specs.Completeness.{Completes, NeverFails, ReadsWell, RunsComplete, ends_of}
+use Rattle.cip_run.specs.Statuses.{MeansBy, MeansOf, MeansOfChanging, MeansOfHelp, MeansOfMaking, MeansOfReading, MeansOfTrying, Stream, Streams}
+use Rattle.cip_run.specs.Telling.{manner_of}
 use Rattle.cip_run.proofs.Meanings.{by_changing, by_helping, by_making, by_reading, by_trying}
 
 abbrev Ends : ℕ → Type 0
@@ -70,21 +74,25 @@ helping_completes status old new meant written =
     by_helping (λ s. status ≡ s → s ≡ DONE) status (λ is. refl) (λ is. absurd (written (meant.write_fault is).cause))
     meant.comes refl
 
-pub complete : RunsComplete
-complete (asked.Annotate nodes workers rules) limits status old new meant written =
-    λ read. reading_completes _ limits status old new meant written read
-complete (asked.Explain nodes workers rules) limits status old new meant written =
-    λ read. reading_completes _ limits status old new meant written read
-complete (asked.Make start records) limits status old new meant written =
-    making_completes start records status old.sink new.sink meant written
-complete (asked.Trial start records nodes workers rules) limits status old new meant written =
+task_completes : (task : Task) (manner : Manner Note) (limits : Limits) (status : ℕ) (old new : Streams)
+    → MeansOf task manner limits status old new → NeverFails old.sink new.sink → ReadsWell limits old.source new.source
+    → Contains (ends_of task) status
+task_completes (tasks.Set number atom letter) manner limits status old new meant written read =
+    changing_completes (tasks.Set number atom letter) manner limits status old new meant written read
+task_completes tasks.Mirror manner limits status old new meant written read =
+    changing_completes tasks.Mirror manner limits status old new meant written read
+task_completes task manner limits status old new meant written read =
+    reading_completes manner limits status old new meant written read
+
+completes : (action : Action) (limits : Limits) (status : ℕ) (old new : Streams)
+    → MeansBy action limits status old new → NeverFails old.sink new.sink → Completes action limits status old new
+completes (does.Read task labelling) limits status old new meant written =
+    λ read. task_completes task (manner_of task labelling) limits status old new meant written read
+completes (does.Make series) limits status old new meant written =
+    making_completes series.start series.records status old.sink new.sink meant written
+completes (does.Trial series labelling) limits status old new meant written =
     trying_completes _ status old.sink new.sink meant written
-complete (asked.Set number atom letter nodes workers rules) limits status old new meant written =
-    λ read. changing_completes _ _ limits status old new meant written read
-complete (asked.Mirror nodes workers rules) limits status old new meant written =
-    λ read. changing_completes _ _ limits status old new meant written read
-complete (asked.Groups nodes workers rules) limits status old new meant written =
-    λ read. reading_completes _ limits status old new meant written read
-complete (asked.Axes nodes workers rules) limits status old new meant written =
-    λ read. reading_completes _ limits status old new meant written read
-complete asked.Help limits status old new meant written = helping_completes status old.sink new.sink meant written
+completes does.Help limits status old new meant written = helping_completes status old.sink new.sink meant written
+
+pub complete : RunsComplete
+complete settings = completes (action_of settings)

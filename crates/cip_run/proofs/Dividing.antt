@@ -34,9 +34,9 @@ unlimited manner limits bytes status old new meant over end =
     (λ is. absurd (not_missed status manner limits old new meant is)) end refl
 
 pub parts_add_up : PartsAddUp
-parts_add_up nodes workers rules limits front behind whole one other old new front_old front_new behind_old behind_new
+parts_add_up labelling limits front behind whole one other old new front_old front_new behind_old behind_new
     closed done front_done behind_done =
-    let manner : Manner Note = annotating rules nodes in
+    let manner : Manner Note = annotating labelling.rules labelling.nodes in
     let parts : Divides manner limits front behind = streams_divide manner limits front behind
     (record { texts = λ a b bytes. refl; verdicts = λ a b bytes. refl }) closed
     (unlimited manner limits (front ++ behind) whole old new done.meant done.over done.done) in

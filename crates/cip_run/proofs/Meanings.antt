@@ -3,10 +3,17 @@ use Rattle.std.proofs.Common.{◌≡◌, ◌<◌, ℕ, zero, suc, List, [], ◌�
 use Rattle.std.specs.Prelude.{◌↔◌, ⊤, Contains}
 use Rattle.std.specs.List.{slice_index_or}
 use Rattle.cip_stream.specs.declared.limits.Limits.{Limits}
+use Rattle.cip_stream.specs.Manner.{Manner}
+use Rattle.cip_words.specs.Settings.{action_of}
+use Rattle.cip_words.specs.declared.settings.Action.{Action}
+use Rattle.cip_words.specs.declared.settings.Action.TheVariants as does
 use Rattle.cip_words.specs.declared.settings.Settings.{Settings}
-use Rattle.cip_words.specs.declared.settings.Settings.TheVariants as asked
+use Rattle.cip_words.specs.declared.settings.Task.{Task}
+use Rattle.cip_words.specs.declared.settings.Task.TheVariants as tasks
 use Rattle.cip_run.specs.ExitStatuses.{DONE, FLAGGED, WORDS_REFUSED, READ_FAULT, WRITE_FAULT, OUT_OF_MEMORY, LIMIT, NOT_CHANGED}
-use Rattle.cip_run.specs.Statuses.{Means, Streams}
+use Rattle.cip_run.specs.Statuses.{Means, MeansBy, MeansOf, Streams}
+use Rattle.cip_run.specs.Telling.{manner_of}
+use Rattle.cip_run.specs.declared.ending.Note.{Note}
 
 -- one of some statuses
 
@@ -57,37 +64,38 @@ pub by_end : (P : ℕ → Type 0) (status : ℕ) → P DONE → P FLAGGED → P 
 by_end P status done flagged missed =
     each P (DONE ∷ FLAGGED ∷ NOT_CHANGED ∷ []) status (done, (flagged, (missed, tt)))
 
-by_command : (P : ℕ → Type 0) → P DONE → P FLAGGED → P READ_FAULT → P WRITE_FAULT → P OUT_OF_MEMORY → P LIMIT
-    → P NOT_CHANGED → (settings : Settings) (limits : Limits) (status : ℕ) (old new : Streams)
-    → Means (Some settings) limits status old new → P status
-by_command P done flagged read write memory limit missed (asked.Annotate nodes workers rules) limits status old new meant =
-    by_reading P status done flagged read write memory limit meant.comes
-by_command P done flagged read write memory limit missed (asked.Explain nodes workers rules) limits status old new meant =
-    by_reading P status done flagged read write memory limit meant.comes
-by_command P done flagged read write memory limit missed (asked.Make start records) limits status old new meant =
-    by_making P status done write memory meant.comes
-by_command P done flagged read write memory limit missed (asked.Trial start records nodes workers rules) limits status old new
-    meant = by_trying P status done flagged write memory meant.comes
-by_command P done flagged read write memory limit missed (asked.Set number atom letter nodes workers rules) limits status
-    old new meant = by_changing P status done flagged read write memory limit missed meant.comes
-by_command P done flagged read write memory limit missed (asked.Mirror nodes workers rules) limits status old new meant =
+by_task : (P : ℕ → Type 0) → P DONE → P FLAGGED → P READ_FAULT → P WRITE_FAULT → P OUT_OF_MEMORY → P LIMIT
+    → P NOT_CHANGED → (task : Task) (manner : Manner Note) (limits : Limits) (status : ℕ) (old new : Streams)
+    → MeansOf task manner limits status old new → P status
+by_task P done flagged read write memory limit missed (tasks.Set number atom letter) manner limits status old new
+    meant = by_changing P status done flagged read write memory limit missed meant.comes
+by_task P done flagged read write memory limit missed tasks.Mirror manner limits status old new meant =
     by_changing P status done flagged read write memory limit missed meant.comes
-by_command P done flagged read write memory limit missed (asked.Groups nodes workers rules) limits status old new meant =
+by_task P done flagged read write memory limit missed task manner limits status old new meant =
     by_reading P status done flagged read write memory limit meant.comes
-by_command P done flagged read write memory limit missed (asked.Axes nodes workers rules) limits status old new meant =
-    by_reading P status done flagged read write memory limit meant.comes
-by_command P done flagged read write memory limit missed asked.Help limits status old new meant =
+
+by_action : (P : ℕ → Type 0) → P DONE → P FLAGGED → P READ_FAULT → P WRITE_FAULT → P OUT_OF_MEMORY → P LIMIT
+    → P NOT_CHANGED → (action : Action) (limits : Limits) (status : ℕ) (old new : Streams)
+    → MeansBy action limits status old new → P status
+by_action P done flagged read write memory limit missed (does.Read task labelling) limits status old new meant =
+    by_task P done flagged read write memory limit missed task (manner_of task labelling) limits status old new meant
+by_action P done flagged read write memory limit missed (does.Make series) limits status old new meant =
+    by_making P status done write memory meant.comes
+by_action P done flagged read write memory limit missed (does.Trial series labelling) limits status old new meant =
+    by_trying P status done flagged write memory meant.comes
+by_action P done flagged read write memory limit missed does.Help limits status old new meant =
     by_helping P status done write meant.comes
 
-accepted : (settings : Settings) (limits : Limits) (status : ℕ) (old new : Streams)
-    → Means (Some settings) limits status old new → status ≡ WORDS_REFUSED → ⊥
-accepted settings limits status old new meant =
-    by_command (λ s. s ≡ WORDS_REFUSED → ⊥) (λ is. omega (arith, is)) (λ is. omega (arith, is)) (λ is. omega (arith, is))
-    (λ is. omega (arith, is)) (λ is. omega (arith, is)) (λ is. omega (arith, is)) (λ is. omega (arith, is)) settings limits status old new meant
+accepted : (action : Action) (limits : Limits) (status : ℕ) (old new : Streams) → MeansBy action limits status old new
+    → status ≡ WORDS_REFUSED → ⊥
+accepted action limits status old new meant =
+    by_action (λ s. s ≡ WORDS_REFUSED → ⊥) (λ is. omega (arith, is)) (λ is. omega (arith, is)) (λ is. omega (arith, is))
+    (λ is. omega (arith, is)) (λ is. omega (arith, is)) (λ is. omega (arith, is)) (λ is. omega (arith, is))
+    action limits status old new meant
 
 -- words are refused exactly where they ask for nothing
 pub refused : (settings : Option Settings) (limits : Limits) (status : ℕ) (old new : Streams)
     → Means settings limits status old new → status ≡ WORDS_REFUSED ↔ (settings ≡ None)
 refused None limits status old new meant = (λ is. refl, λ none. meant)
 refused (Some settings) limits status old new meant =
-    (λ is. absurd (accepted settings limits status old new meant is), λ none. absurd (cc))
+    (λ is. absurd (accepted (action_of settings) limits status old new meant is), λ none. absurd (cc))

@@ -33,16 +33,17 @@ again_alike manner limits bytes text one other old new before now is stays flags
 }
 
 pub runs_repeat : RunsRepeat
-runs_repeat nodes workers others rules limits bytes text one other old new before now done empty took again says =
-    let manner : Manner Note = annotating rules nodes in
+runs_repeat labelling others limits bytes text one other old new before now done empty took again says =
+    let manner : Manner Note = annotating labelling.rules labelling.nodes in
     let first = reading manner limits bytes one old new done.meant done.over done.done in
     let second = reading manner limits text other before now again.meant again.over again.done in
     let is : text ≡ due manner limits bytes =
     grown_to old.sink.bytes new.sink.bytes text (due manner limits bytes) empty took first.written in
     let within = unlimited manner limits bytes one old new done.meant done.over done.done in
     let text_within = unlimited manner limits text other before now again.meant again.over again.done in
-    let stays : StreamStays rules nodes limits bytes =
-    streams_repeat rules nodes limits bytes within (sym (ap (limit_place limits) is) ∙ text_within) says in
+    let stays : StreamStays labelling.rules labelling.nodes limits bytes =
+    streams_repeat labelling.rules labelling.nodes limits bytes within
+    (sym (ap (limit_place limits) is) ∙ text_within) says in
     again_alike manner limits bytes text one other old.sink new.sink before.sink now.sink is
     (ap (due manner limits) is ∙ stays.text ∙ sym is)
     (ap (λ t. are_flagged manner (answered limits t)) is ∙ stays.flags) first second

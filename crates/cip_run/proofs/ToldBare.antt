@@ -3,42 +3,41 @@ use Rattle.std.proofs.Common.{◌≡◌, ◌==◌, ℕ, List, Bool, true, false,
 use Rattle.cip_item.proofs.Walking.{itself}
 use Rattle.cip_item.specs.Parts.{has_label_item, without_label_items}
 use Rattle.cip_mirror.proofs.MirrorReads.{mirror_reads}
-use Rattle.cip_mirror.specs.Answers as mirrors
 use Rattle.cip_mirror.specs.Answers.{GivesReflected, mirror_answer}
 use Rattle.cip_mirror.specs.declared.answers.MirrorAnswer.{MirrorAnswer}
 use Rattle.cip_mirror.specs.declared.answers.MirrorAnswer.TheVariants as mirrored
 use Rattle.cip_mol.specs.declared.centre_letter.CentreLetter.{CentreLetter}
-use Rattle.cip_rank.specs.declared.rules.Rules.{Rules}
 use Rattle.cip_set.proofs.SetReads.{set_records_are_read}
 use Rattle.cip_set.specs.SetAnswers.{GivesLetter, set_answer}
 use Rattle.cip_set.specs.declared.answers.SetAnswer.{SetAnswer}
 use Rattle.cip_set.specs.declared.answers.SetAnswer.TheVariants as sets
 use Rattle.cip_stream.specs.Batches.{Telling, telling}
+use Rattle.cip_words.specs.Ranges.{Labelling}
+use Rattle.cip_words.specs.declared.settings.Task.{Task}
+use Rattle.cip_words.specs.declared.settings.Task.TheVariants.{Set, Mirror}
 use Rattle.cip_run.specs.Changing.{Change, mirrored_to, reflected, set_to, unchanged, with_letter}
-use Rattle.cip_run.specs.Telling.{annotated, explained, is_flagged_record, manner_by}
+use Rattle.cip_run.specs.Telling.{annotated, explained, is_flagged_record, manner_of}
 use Rattle.cip_run.specs.TellingBare.{annotate_change, told_bare}
-use Rattle.cip_run.specs.declared.asked.Task.{Task}
-use Rattle.cip_run.specs.declared.asked.Task.TheVariants.{Annotate, Explain, Set, Mirror, Groups, Axes}
 use Rattle.cip_run.specs.declared.ending.Note.{Note}
 
-module _ (rules : Rules) (nodes : ℕ) where
+module _ (labelling : Labelling) where
   -- a record of bytes is told of by its bytes without label items
   abbrev of_change : Change → Telling Note
   of_change change = record {
-    text = annotated rules nodes change.bytes;
-    verdict = record { flagged = is_flagged_record rules nodes change.bytes; note = change.note };
+    text = annotated labelling.rules labelling.nodes change.bytes;
+    verdict = record { flagged = is_flagged_record labelling.rules labelling.nodes change.bytes; note = change.note };
   }
 
   abbrev bared : Change → Change
   bared change = record { bytes = without_label_items change.bytes; note = change.note }
 
-  bare_told : (change : Change) → annotate_change rules nodes (bared change) ≡ of_change change
+  bare_told : (change : Change) → annotate_change labelling (bared change) ≡ of_change change
   unfolding annotated is_flagged_record
   bare_told change = refl
 
   -- what was written has no label item, and where nothing was written the record stays
   set_bared : (bytes : List ℕ) (atom : ℕ) (letter : CentreLetter) (answer : SetAnswer)
-      → GivesLetter rules nodes atom letter bytes answer
+      → GivesLetter labelling.rules labelling.nodes atom letter bytes answer
       → bared (set_to bytes answer) ≡ set_to (without_label_items bytes) answer
   set_bared bytes atom letter (sets.Written text) gives =
       ap (λ bare. set_to bytes (sets.Written bare)) (itself text gives.free)
@@ -51,13 +50,14 @@ module _ (rules : Rules) (nodes : ℕ) where
   mirror_bared bytes (mirrored.Refused refusal) gives = refl
 
   letter_bared : (named atom : ℕ) (letter : CentreLetter) (number : ℕ) (bytes : List ℕ) (k : Bool)
-      → (number == named) ≡ k → bared (with_letter rules nodes named atom letter number bytes)
-      ≡ (if number == named then set_to (without_label_items bytes) (set_answer rules nodes atom letter bytes)
+      → (number == named) ≡ k → bared (with_letter labelling.rules labelling.nodes named atom letter number bytes)
+      ≡ (if number == named
+      then set_to (without_label_items bytes) (set_answer labelling.rules labelling.nodes atom letter bytes)
       else unchanged (without_label_items bytes))
   unfolding with_letter
   letter_bared named atom letter number bytes true k =
-      rw k (set_bared bytes atom letter (set_answer rules nodes atom letter bytes)
-      (set_records_are_read rules nodes atom letter bytes))
+      rw k (set_bared bytes atom letter (set_answer labelling.rules labelling.nodes atom letter bytes)
+      (set_records_are_read labelling.rules labelling.nodes atom letter bytes))
   letter_bared named atom letter number bytes false k = rw k refl
 
   reflected_bared : (bytes : List ℕ)
@@ -66,21 +66,18 @@ module _ (rules : Rules) (nodes : ℕ) where
   reflected_bared bytes = mirror_bared bytes (mirror_answer bytes) (mirror_reads bytes)
 
   pub bare_is_told : (task : Task) (number : ℕ) (bytes : List ℕ)
-      → told_bare rules nodes task number (without_label_items bytes)
-      ≡ telling (manner_by task rules nodes) number bytes
+      → told_bare labelling task number (without_label_items bytes)
+      ≡ telling (manner_of task labelling) number bytes
   unfolding annotated explained is_flagged_record
-  bare_is_told Annotate number bytes = refl
-  bare_is_told Explain number bytes = refl
   bare_is_told (Set named atom letter) number bytes =
-      ap (annotate_change rules nodes) (sym (letter_bared named atom letter number bytes (number == named) refl))
-      ∙ bare_told (with_letter rules nodes named atom letter number bytes)
+      ap (annotate_change labelling) (sym (letter_bared named atom letter number bytes (number == named) refl))
+      ∙ bare_told (with_letter labelling.rules labelling.nodes named atom letter number bytes)
   bare_is_told Mirror number bytes =
-      ap (annotate_change rules nodes) (sym (reflected_bared bytes)) ∙ bare_told (reflected bytes)
-  bare_is_told Groups number bytes = refl
-  bare_is_told Axes number bytes = refl
+      ap (annotate_change labelling) (sym (reflected_bared bytes)) ∙ bare_told (reflected bytes)
+  bare_is_told task number bytes = refl
 
   -- a record without label items, and one of which they were taken out
   pub told_itself : (task : Task) (number : ℕ) (bytes : List ℕ) → has_label_item bytes ≡ false
-      → told_bare rules nodes task number bytes ≡ telling (manner_by task rules nodes) number bytes
+      → told_bare labelling task number bytes ≡ telling (manner_of task labelling) number bytes
   told_itself task number bytes none =
-      ap (told_bare rules nodes task number) (sym (itself bytes none)) ∙ bare_is_told task number bytes
+      ap (told_bare labelling task number) (sym (itself bytes none)) ∙ bare_is_told task number bytes

@@ -11,19 +11,21 @@ use Rattle.cip_stream.specs.Endings.{AnswersTaken, Grew, GrewTo, IsLimited}
 use Rattle.cip_stream.specs.Limits.{answered, limit_place}
 use Rattle.cip_stream.specs.Manner.{Manner}
 use Rattle.cip_stream.specs.declared.verdict.Verdict.{Verdict}
-use Rattle.cip_words.specs.declared.settings.Settings.{Settings}
-use Rattle.cip_words.specs.declared.settings.Settings.TheVariants as asked
 use Rattle.cip_words.specs.Help.{help}
+use Rattle.cip_words.specs.Settings.{action_of}
+use Rattle.cip_words.specs.declared.settings.Action.{Action}
+use Rattle.cip_words.specs.declared.settings.Action.TheVariants as does
+use Rattle.cip_words.specs.declared.settings.Settings.{Settings}
+use Rattle.cip_words.specs.declared.settings.Task.{Task}
+use Rattle.cip_words.specs.declared.settings.Task.TheVariants as tasks
 use Rattle.cip_run.specs.ExitStatuses.{DONE, FLAGGED, WORDS_REFUSED, READ_FAULT, WRITE_FAULT, OUT_OF_MEMORY, LIMIT, NOT_CHANGED}
-use Rattle.cip_run.specs.declared.asked.Task.{Task}
-use Rattle.cip_run.specs.declared.asked.Task.TheVariants as tasks
 use Rattle.cip_run.specs.declared.ending.Ending.{Ending}
 use Rattle.cip_run.specs.declared.ending.Ending.TheVariants as endings
 use Rattle.cip_run.specs.declared.ending.Note.{Note}
 use Rattle.cip_run.specs.Endings.{ending_of, missed}
 use Rattle.cip_run.specs.Making.{GrewByMade, made_text}
-use Rattle.cip_run.specs.Telling.{annotating, explaining, grouping, mirroring, seeking, setting}
-use Rattle.cip_run.specs.Trying.{made_answers, some_flagged, summary}
+use Rattle.cip_run.specs.Telling.{manner_of}
+use Rattle.cip_run.specs.Trying.{answers_to, some_flagged, summary}
 
 -- A source or a sink at one time: the bytes that it has left or took, where it tells them, and how many of its calls
 -- failed.
@@ -119,13 +121,10 @@ pub record MeansOfChanging (task : Task) (manner : Manner Note) (limits : Limits
 
 -- by the task
 abbrev pub MeansOf : Task → Manner Note → Limits → ℕ → Streams → Streams → Type 0
-MeansOf tasks.Annotate manner limits status old new = MeansOfReading manner limits status old new
-MeansOf tasks.Explain manner limits status old new = MeansOfReading manner limits status old new
 MeansOf (tasks.Set named atom letter) manner limits status old new =
     MeansOfChanging (tasks.Set named atom letter) manner limits status old new
 MeansOf tasks.Mirror manner limits status old new = MeansOfChanging tasks.Mirror manner limits status old new
-MeansOf tasks.Groups manner limits status old new = MeansOfReading manner limits status old new
-MeansOf tasks.Axes manner limits status old new = MeansOfReading manner limits status old new
+MeansOf task manner limits status old new = MeansOfReading manner limits status old new
 
 -- `make`: the first so many records of a series
 pub record MeansOfMaking (start records status : ℕ) (old new : Stream) : Type 0 where
@@ -148,35 +147,28 @@ pub record MeansOfHelp (status : ℕ) (old new : Stream) : Type 0 where
   pub done : status ≡ DONE → Appends old.bytes new.bytes help
   pub write_fault : status ≡ WRITE_FAULT → BreaksOff help old new
 
+-- by what the command does
+abbrev pub MeansBy : Action → Limits → ℕ → Streams → Streams → Type 0
+MeansBy (does.Read task labelling) limits status old new =
+    MeansOf task (manner_of task labelling) limits status old new
+MeansBy (does.Make series) limits status old new = MeansOfMaking series.start series.records status old.sink new.sink
+MeansBy (does.Trial series labelling) limits status old new =
+    MeansOfTrying (answers_to series labelling series.records) status old.sink new.sink
+MeansBy does.Help limits status old new = MeansOfHelp status old.sink new.sink
+
 -- What each exit status means: words are refused exactly where they ask for nothing.
 abbrev pub Means : Option Settings → Limits → ℕ → Streams → Streams → Type 0
 Means None limits status old new = status ≡ WORDS_REFUSED
-Means (Some (asked.Annotate nodes workers rules)) limits status old new =
-    MeansOfReading (annotating rules nodes) limits status old new
-Means (Some (asked.Explain nodes workers rules)) limits status old new =
-    MeansOfReading (explaining rules nodes) limits status old new
-Means (Some (asked.Make start records)) limits status old new = MeansOfMaking start records status old.sink new.sink
-Means (Some (asked.Trial start records nodes workers rules)) limits status old new =
-    MeansOfTrying (made_answers rules nodes start records) status old.sink new.sink
-Means (Some (asked.Set number atom letter nodes workers rules)) limits status old new =
-    MeansOfChanging (tasks.Set number atom letter) (setting rules nodes number atom letter) limits status old new
-Means (Some (asked.Mirror nodes workers rules)) limits status old new =
-    MeansOfChanging tasks.Mirror (mirroring rules nodes) limits status old new
-Means (Some (asked.Groups nodes workers rules)) limits status old new =
-    MeansOfReading (grouping rules nodes) limits status old new
-Means (Some (asked.Axes nodes workers rules)) limits status old new =
-    MeansOfReading (seeking rules nodes) limits status old new
-Means (Some asked.Help) limits status old new = MeansOfHelp status old.sink new.sink
+Means (Some settings) limits status old new = MeansBy (action_of settings) limits status old new
 
 -- whether the source is read
+
+abbrev pub reads_by : Action → Bool
+reads_by (does.Read task labelling) = true
+reads_by (does.Make series) = false
+reads_by (does.Trial series labelling) = false
+reads_by does.Help = false
+
 abbrev pub reads : Option Settings → Bool
 reads None = false
-reads (Some (asked.Annotate nodes workers rules)) = true
-reads (Some (asked.Explain nodes workers rules)) = true
-reads (Some (asked.Make start records)) = false
-reads (Some (asked.Trial start records nodes workers rules)) = false
-reads (Some (asked.Set number atom letter nodes workers rules)) = true
-reads (Some (asked.Mirror nodes workers rules)) = true
-reads (Some (asked.Groups nodes workers rules)) = true
-reads (Some (asked.Axes nodes workers rules)) = true
-reads (Some asked.Help) = false
+reads (Some settings) = reads_by (action_of settings)

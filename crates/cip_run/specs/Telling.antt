@@ -12,10 +12,10 @@ use Rattle.cip_rank.specs.declared.rules.Rules.{Rules}
 use Rattle.cip_record.specs.Answers.{answer_by, is_flagged}
 use Rattle.cip_stream.specs.Manner.{Manner}
 use Rattle.cip_stream.specs.declared.verdict.Verdict.{Verdict}
+use Rattle.cip_words.specs.Ranges.{Labelling}
+use Rattle.cip_words.specs.declared.settings.Task.{Task}
+use Rattle.cip_words.specs.declared.settings.Task.TheVariants.{Annotate, Explain, Set, Mirror, Groups, Axes}
 use Rattle.cip_run.specs.Changing.{Change, reflected, with_letter}
-use Rattle.cip_run.specs.declared.asked.Asked.{Asked}
-use Rattle.cip_run.specs.declared.asked.Task.{Task}
-use Rattle.cip_run.specs.declared.asked.Task.TheVariants.{Annotate, Explain, Set, Mirror, Groups, Axes}
 use Rattle.cip_run.specs.declared.ending.Note.{Note}
 
 -- a record without its label items, with the item of its answer
@@ -86,13 +86,10 @@ seeking rules nodes = record {
   keeps_blank = false;
 }
 
-abbrev pub manner_by : Task → Rules → ℕ → Manner Note
-manner_by Annotate rules nodes = annotating rules nodes
-manner_by Explain rules nodes = explaining rules nodes
-manner_by (Set named atom letter) rules nodes = setting rules nodes named atom letter
-manner_by Mirror rules nodes = mirroring rules nodes
-manner_by Groups rules nodes = grouping rules nodes
-manner_by Axes rules nodes = seeking rules nodes
-
-abbrev pub manner_of : Asked → Manner Note
-manner_of asked = manner_by asked.task asked.rules asked.nodes
+abbrev pub manner_of : Task → Labelling → Manner Note
+manner_of Annotate labelling = annotating labelling.rules labelling.nodes
+manner_of Explain labelling = explaining labelling.rules labelling.nodes
+manner_of (Set named atom letter) labelling = setting labelling.rules labelling.nodes named atom letter
+manner_of Mirror labelling = mirroring labelling.rules labelling.nodes
+manner_of Groups labelling = grouping labelling.rules labelling.nodes
+manner_of Axes labelling = seeking labelling.rules labelling.nodes

@@ -13,6 +13,7 @@ use Rattle.cip_record.specs.Answers.{answer_by, is_flagged}
 use Rattle.cip_stream.specs.declared.stop.Stop.{Stop}
 use Rattle.cip_stream.specs.declared.stop.Stop.TheVariants as stops
 use Rattle.cip_stream.specs.Endings.{Grew}
+use Rattle.cip_words.specs.Ranges.{Labelling, Series}
 use Rattle.cip_run.specs.declared.series.Numbered.{Numbered}
 
 -- the answer to the made record of a number
@@ -20,13 +21,16 @@ unfoldable pub made_answer : Rules → ℕ → ℕ → ℕ → Answer
 made_answer rules nodes start number = answer_by rules nodes (made start number)
 
 abbrev pub answer_of : Numbered → Answer
-answer_of job = made_answer job.trial.rules job.trial.nodes job.trial.start job.number
+answer_of job = made_answer job.trial.labelling.rules job.trial.labelling.nodes job.trial.series.start job.number
 
 -- the answers to the first so many records of a series
 abbrev pub made_answers : Rules → ℕ → ℕ → ℕ → List Answer
 made_answers rules nodes start zero = []
 made_answers rules nodes start (suc before) =
     made_answers rules nodes start before ++ made_answer rules nodes start (before + 1) ∷ []
+
+abbrev pub answers_to : Series → Labelling → ℕ → List Answer
+answers_to series labelling count = made_answers labelling.rules labelling.nodes series.start count
 
 -- the line that counts the outcomes of their units
 abbrev pub summary : List Answer → List ℕ

@@ -1,11 +1,11 @@
 // What each command does, and how it ends.
-ghost use Rattle.std.specs.Prelude.{◌≤◌, ◌<◌, ◌+◌, ◌^◌};
+ghost use Rattle.std.specs.Prelude.{◌<◌, ◌+◌, ◌^◌};
 ghost use Rattle.cip_stream.specs.Reading.{TakesAtMost};
 ghost use Rattle.cip_run.specs.Endings.{status_of};
 ghost use Rattle.cip_run.specs.Runs.{IsMissed};
 ghost use Rattle.cip_run.specs.Statuses.{stream, streams, MeansOf, MeansOfMaking, MeansOfTrying, MeansOfHelp};
 ghost use Rattle.cip_run.specs.Telling.{manner_of};
-ghost use Rattle.cip_run.specs.Trying.{made_answers};
+ghost use Rattle.cip_run.specs.Trying.{answers_to};
 
 use crate::asked::Asked;
 use crate::ending::Ending;
@@ -15,7 +15,7 @@ use crate::trial::write_summary;
 use cip_batch::Gate;
 use cip_io::{Sink, Source, push_all};
 use cip_stream::{Crew, Limits, Stop, answer_stream};
-use cip_words::help_text;
+use cip_words::{Series, help_text};
 use std::alloc::Global;
 use std::thread::Threads;
 
@@ -29,23 +29,23 @@ pub fn answer_records<R: Threads + Sync, G: Gate + Sync, S: Source, K: Sink>(
 ) -> Ending
     requires record { limits.record < 2 ^ 31 }
     requires input { limits.input < 2 ^ 63 }
-    ensures meant { MeansOf asked.now.task (manner_of asked.now) limits (status_of result)
+    ensures meant { MeansOf asked.now.task (manner_of asked.now.task asked.now.labelling) limits (status_of result)
         (streams (S.left source.old) (S.faults source.old) (K.taken sink.old) (K.faults sink.old))
         (streams (S.left source.new) (S.faults source.new) (K.taken sink.new) (K.faults sink.new)) }
-    ensures missed { IsMissed asked.now.task (manner_of asked.now) limits (S.left source.old) result }
+    ensures missed { IsMissed asked.now.task (manner_of asked.now.task asked.now.labelling) limits
+        (S.left source.old) result }
     ensures bounded { TakesAtMost (limits.input + 1) (S.left source.old) (S.left source.new) }
 {
     let answered = answer_stream(crew, asked, limits, source, sink);
     Ending::after(asked.task, answered)
 }
 
-/// Writes the first so many records of a series.
-pub fn make<K: Sink>(alloc: Global, start: u32, records: u32, sink: &mut K) -> Ending
-    requires few { records ≤ 100000 }
-    ensures { MeansOfMaking start records (status_of result)
+/// Writes made records.
+pub fn make<K: Sink>(alloc: Global, series: Series, sink: &mut K) -> Ending
+    ensures { MeansOfMaking series.start series.records (status_of result)
         (stream (K.taken sink.old) (K.faults sink.old)) (stream (K.taken sink.new) (K.faults sink.new)) }
 {
-    match write_made(alloc, start, records, sink) {
+    match write_made(alloc, series, sink) {
         Ok(()) => Ending::Done,
         Err(Stop::WriteFault) => Ending::WriteFault,
         Err(_) => Ending::OutOfMemory,
@@ -58,8 +58,9 @@ pub fn try_made<R: Threads + Sync, G: Gate + Sync, K: Sink>(
     trial: &Trial,
     sink: &mut K,
 ) -> Ending
-    ensures { MeansOfTrying (made_answers trial.now.rules trial.now.nodes trial.now.start trial.now.records) (status_of result)
-        (stream (K.taken sink.old) (K.faults sink.old)) (stream (K.taken sink.new) (K.faults sink.new)) }
+    ensures { MeansOfTrying (answers_to trial.now.series trial.now.labelling trial.now.series.records)
+        (status_of result) (stream (K.taken sink.old) (K.faults sink.old))
+        (stream (K.taken sink.new) (K.faults sink.new)) }
 {
     match write_summary(crew, trial, sink) {
         Ok(false) => Ending::Done,

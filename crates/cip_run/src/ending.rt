@@ -2,12 +2,12 @@
 ghost use Rattle.std.specs.Prelude.{◌≡◌};
 ghost use Rattle.cip_run.specs.Endings.{ending_after, ending_of, line_of, missed, missed_line, refusal_line, status_of};
 
-use crate::asked::Task;
 use crate::status::{
     DONE, FLAGGED, LIMIT, NOT_CHANGED, OUT_OF_MEMORY, READ_FAULT, WORDS_REFUSED, WRITE_FAULT,
 };
 use cip_set::SetRefusal;
 use cip_stream::{Stop, Verdict};
+use cip_words::Task;
 
 /// Why a record isn't changed as it was asked.
 #[derive(Clone, Copy)]

@@ -7,20 +7,16 @@ ghost use Rattle.cip_run.specs.Making.{Makes, Writes};
 use cip_io::{Sink, push_all};
 use cip_make::record;
 use cip_stream::Stop;
+use cip_words::Series;
 use std::alloc::Global;
 
-/// Makes so many records in the series that starts at a number, and writes each before the next one is made.
-pub fn write_made<K: Sink>(
-    alloc: Global,
-    start: u32,
-    records: u32,
-    sink: &mut K,
-) -> Result<(), Stop>
-    requires few { records ≤ 100000 }
-    ensures made { Makes start records result (K.taken sink.old) (K.taken sink.new) }
+/// Makes the records of a series, and writes each before the next one is made.
+pub fn write_made<K: Sink>(alloc: Global, series: Series, sink: &mut K) -> Result<(), Stop>
+    ensures made { Makes series.start series.records result (K.taken sink.old) (K.taken sink.new) }
     ensures fault { IsErrOf result Stop.WriteFault → Rose (K.faults sink.old) (K.faults sink.new) }
     ensures later { K.faults sink.old ≤ K.faults sink.new }
 {
+    let Series { start, records } = series;
     for before in 0..records {
         write_record(alloc, start, before + 1, sink)?;
     }

@@ -1,20 +1,14 @@
 // Made records that are to be labelled.
 ghost use Rattle.std.specs.Prelude.{◌≤◌};
 
-use cip_rank::Rules;
+use cip_words::{Labelling, Series};
 use std::alloc::Global;
 
-/// Records of the series that starts at a number: how many there are, how many nodes a digraph of them may have, and the
-/// wording of Rule 1b.
+/// Made records, and by what they are labelled.
 #[derive(Clone, Copy)]
 pub struct Trial {
-    pub start: u32,
-    pub records: u32,
-    pub nodes: u32,
-    pub rules: Rules,
-    ghost few: { records ≤ 100000 },
-    ghost some: { 1 ≤ nodes },
-    ghost bounded: { nodes ≤ 1000000 },
+    pub series: Series,
+    pub labelling: Labelling,
 }
 
 /// One of the records by its number, which is from 1 on.

@@ -1,18 +1,23 @@
 // What is told of a record, by what is asked.
-ghost use Rattle.std.specs.Prelude.{◌≡◌, ◌≤◌, ◌<◌, ◌-◌, ◌^◌, IfOk, None, length};
-ghost use Rattle.cip_run.specs.Telling.{manner_of};
+ghost use Rattle.std.specs.Prelude.{◌≡◌, ◌≤◌, ◌<◌, ◌-◌, ◌^◌, IfOk, length};
+ghost use Rattle.cip_stream.specs.Batches.{telling};
+ghost use Rattle.cip_print.specs.Explaining.{explained};
+ghost use Rattle.cip_print.specs.Values.{HasRoom};
+ghost use Rattle.cip_record.specs.Answers.{is_flagged};
+ghost use Rattle.cip_run.specs.Telling.{manner_of, plainly, with_answer};
 ghost use Rattle.cip_run.specs.TellingBare.{annotate_change, axes_bare, explain_bare, groups_bare, mirror_bare, set_bare, told_bare};
 
-use crate::asked::{Asked, Task};
+use crate::asked::Asked;
 use crate::desk::Desk;
 use crate::ending::{Missed, Note};
 use cip_item::{has_label_item, lines_with_item, lines_without_label_items};
 use cip_mol::CentreLetter;
-use cip_print::{explain_text, item_values};
+use cip_print::{Answer, explain_text, item_values};
 use cip_record::is_flagged;
 use cip_set::{MirrorAnswer, SetAnswer, mirror_lines};
 use cip_stream::{Teller, Told, Verdict};
 use cip_text::RecordLines;
+use cip_words::{Labelling, Task};
 use std::alloc::{AllocError, Global};
 
 impl Teller for Asked {
@@ -20,10 +25,10 @@ impl Teller for Asked {
 
     type Note = Note;
 
-    ghost manner = { λ asked. manner_of asked };
+    ghost manner = { λ asked. manner_of asked.task asked.labelling };
 
     fn new_desk(&self, alloc: Global) -> Result<Desk, AllocError> {
-        Desk::reserve(alloc, self.nodes)
+        Desk::reserve(alloc, self.labelling.nodes)
     }
 
     fn tell(
@@ -34,7 +39,7 @@ impl Teller for Asked {
         bytes: &[u8],
     ) -> Result<Told<Note>, AllocError> {
         // A desk of `new_desk` fits already, and nothing is taken; but the contract allows any desk.
-        desk.fit(alloc, self.nodes)?;
+        desk.fit(alloc, self.labelling.nodes)?;
         self.tell_record(alloc, desk, number, bytes)
     }
 
@@ -53,9 +58,8 @@ impl Asked {
         bytes: &[u8],
     ) -> Result<Told<Note>, AllocError>
         requires few { length bytes.now ≤ 2 ^ 31 }
-        requires fit { desk.old ≡ self.now.nodes }
-        ensures text { IfOk result (λ told. told.text ≡ (manner_of self.now).text number bytes.now) }
-        ensures verdict { IfOk result (λ told. told.verdict ≡ (manner_of self.now).verdict number bytes.now) }
+        requires fit { desk.old ≡ self.now.labelling.nodes }
+        ensures { IfOk result (λ told. told ≡ telling (manner_of self.now.task self.now.labelling) number bytes.now) }
     {
         let lines = RecordLines::new(alloc, bytes)?;
         if !has_label_item(&lines) {
@@ -77,11 +81,8 @@ impl Asked {
         lines: &RecordLines,
     ) -> Result<Told<Note>, AllocError>
         requires few { length lines.now ≤ 2 ^ 31 }
-        requires fit { desk.old ≡ self.now.nodes }
-        ensures text { IfOk result (λ told. told.text
-            ≡ (told_bare self.now.rules self.now.nodes self.now.task number lines.now).text) }
-        ensures verdict { IfOk result (λ told. told.verdict
-            ≡ (told_bare self.now.rules self.now.nodes self.now.task number lines.now).verdict) }
+        requires fit { desk.old ≡ self.now.labelling.nodes }
+        ensures { IfOk result (λ told. told ≡ told_bare self.now.labelling self.now.task number lines.now) }
     {
         match self.task {
             Task::Annotate => self.annotate(alloc, desk, lines, None),
@@ -107,16 +108,54 @@ impl Asked {
         note: Option<Note>,
     ) -> Result<Told<Note>, AllocError>
         requires few { length lines.now < 2 ^ 32 - 1 }
-        requires fit { desk.old ≡ self.now.nodes }
-        ensures text { IfOk result (λ told. told.text
-            ≡ (annotate_change self.now.rules self.now.nodes (record { bytes = lines.now; note = note })).text) }
-        ensures verdict { IfOk result (λ told. told.verdict
-            ≡ (annotate_change self.now.rules self.now.nodes (record { bytes = lines.now; note = note })).verdict) }
+        requires fit { desk.old ≡ self.now.labelling.nodes }
+        ensures { IfOk result (λ told. told
+            ≡ annotate_change self.now.labelling (record { bytes = lines.now; note = note })) }
     {
-        let answer = desk.label(alloc, lines, self.rules)?;
-        let values = item_values(alloc, &answer, self.nodes, self.rules)?;
+        let answer = desk.label(alloc, lines, self.labelling.rules)?;
+        let told = self.with_answer(alloc, lines, &answer, note);
+        // given back by a call of its own, which is quicker to prove than an end that owns it
+        drop(answer);
+        told
+    }
+
+    // A changed record with its item, and a note on it.
+    fn annotate_text(
+        &self,
+        alloc: Global,
+        desk: &mut Desk,
+        text: &[u8],
+        note: Option<Note>,
+    ) -> Result<Told<Note>, AllocError>
+        requires few { length text.now < 2 ^ 32 - 1 }
+        requires fit { desk.old ≡ self.now.labelling.nodes }
+        ensures { IfOk result (λ told. told
+            ≡ annotate_change self.now.labelling (record { bytes = text.now; note = note })) }
+    {
+        let lines = RecordLines::new(alloc, text)?;
+        let told = self.annotate(alloc, desk, &lines, note);
+        drop(lines);
+        told
+    }
+
+    // The record with the item of its answer, and a note on it.
+    fn with_answer(
+        &self,
+        alloc: Global,
+        lines: &RecordLines,
+        answer: &Answer,
+        note: Option<Note>,
+    ) -> Result<Told<Note>, AllocError>
+        requires room { HasRoom answer.now }
+        ensures { IfOk result (λ told. told ≡ record {
+          text = with_answer self.now.labelling.rules self.now.labelling.nodes lines.now answer.now;
+          verdict = record { flagged = is_flagged answer.now; note = note };
+        }) }
+    {
+        let Labelling { nodes, rules, .. } = self.labelling;
+        let values = item_values(alloc, answer, nodes, rules)?;
         let text = lines_with_item(alloc, lines, &values)?;
-        let flagged = is_flagged(&answer);
+        let flagged = is_flagged(answer);
         Ok(Told {
             text,
             verdict: Verdict { flagged, note },
@@ -131,15 +170,13 @@ impl Asked {
         lines: &RecordLines,
     ) -> Result<Told<Note>, AllocError>
         requires few { length lines.now < 2 ^ 32 - 1 }
-        requires fit { desk.old ≡ self.now.nodes }
-        ensures text { IfOk result (λ told. told.text
-            ≡ (explain_bare self.now.rules self.now.nodes number lines.now).text) }
-        ensures verdict { IfOk result (λ told. told.verdict
-            ≡ (explain_bare self.now.rules self.now.nodes number lines.now).verdict) }
+        requires fit { desk.old ≡ self.now.labelling.nodes }
+        ensures { IfOk result (λ told. told ≡ explain_bare self.now.labelling number lines.now) }
     {
-        let answer = desk.label(alloc, lines, self.rules)?;
-        let text = explain_text(alloc, &answer, number)?;
-        Ok(plain(text, is_flagged(&answer)))
+        let answer = desk.label(alloc, lines, self.labelling.rules)?;
+        let told = explained(alloc, &answer, number);
+        drop(answer);
+        told
     }
 
     // The record in which the centre at an atom has the letter, with its item.
@@ -152,16 +189,13 @@ impl Asked {
         letter: CentreLetter,
     ) -> Result<Told<Note>, AllocError>
         requires few { length lines.now ≤ 2 ^ 31 }
-        requires fit { desk.old ≡ self.now.nodes }
-        ensures text { IfOk result (λ told. told.text ≡ (annotate_change self.now.rules self.now.nodes
-            (set_bare self.now.rules self.now.nodes 0 atom letter 0 lines.now)).text) }
-        ensures verdict { IfOk result (λ told. told.verdict ≡ (annotate_change self.now.rules self.now.nodes
-            (set_bare self.now.rules self.now.nodes 0 atom letter 0 lines.now)).verdict) }
+        requires fit { desk.old ≡ self.now.labelling.nodes }
+        ensures { IfOk result (λ told. told
+            ≡ annotate_change self.now.labelling (set_bare self.now.labelling 0 atom letter 0 lines.now)) }
     {
-        match desk.set(alloc, lines, atom, letter, self.rules)? {
+        match desk.set(alloc, lines, atom, letter, self.labelling.rules)? {
             SetAnswer::Written(text) => {
-                let changed = RecordLines::new(alloc, text.as_slice())?;
-                self.annotate(alloc, desk, &changed, Some(Note::Changed))
+                self.annotate_text(alloc, desk, text.as_slice(), Some(Note::Changed))
             }
             SetAnswer::Refused(refusal) => {
                 let note = Note::Missing(Missed::NotSet(refusal));
@@ -178,16 +212,13 @@ impl Asked {
         lines: &RecordLines,
     ) -> Result<Told<Note>, AllocError>
         requires few { length lines.now ≤ 2 ^ 31 }
-        requires fit { desk.old ≡ self.now.nodes }
-        ensures text { IfOk result (λ told. told.text
-            ≡ (annotate_change self.now.rules self.now.nodes (mirror_bare self.now.rules self.now.nodes lines.now)).text) }
-        ensures verdict { IfOk result (λ told. told.verdict ≡ (annotate_change self.now.rules self.now.nodes
-            (mirror_bare self.now.rules self.now.nodes lines.now)).verdict) }
+        requires fit { desk.old ≡ self.now.labelling.nodes }
+        ensures { IfOk result (λ told. told
+            ≡ annotate_change self.now.labelling (mirror_bare self.now.labelling lines.now)) }
     {
         match mirror_lines(alloc, lines)? {
             MirrorAnswer::Written(text) => {
-                let changed = RecordLines::new(alloc, text.as_slice())?;
-                self.annotate(alloc, desk, &changed, None)
+                self.annotate_text(alloc, desk, text.as_slice(), None)
             }
             MirrorAnswer::Refused(_) => {
                 let note = Note::Missing(Missed::NotMirrored);
@@ -204,13 +235,10 @@ impl Asked {
         lines: &RecordLines,
     ) -> Result<Told<Note>, AllocError>
         requires few { length lines.now < 2 ^ 32 - 1 }
-        requires fit { desk.old ≡ self.now.nodes }
-        ensures text { IfOk result (λ told. told.text
-            ≡ (groups_bare self.now.rules self.now.nodes number lines.now).text) }
-        ensures verdict { IfOk result (λ told. told.verdict
-            ≡ (groups_bare self.now.rules self.now.nodes number lines.now).verdict) }
+        requires fit { desk.old ≡ self.now.labelling.nodes }
+        ensures { IfOk result (λ told. told ≡ groups_bare self.now.labelling number lines.now) }
     {
-        let told = desk.groups(alloc, lines, number, self.rules)?;
+        let told = desk.groups(alloc, lines, number, self.labelling.rules)?;
         Ok(plain(told.text.into_vec(), told.flagged))
     }
 
@@ -223,21 +251,26 @@ impl Asked {
         lines: &RecordLines,
     ) -> Result<Told<Note>, AllocError>
         requires few { length lines.now < 2 ^ 32 - 1 }
-        requires fit { desk.old ≡ self.now.nodes }
-        ensures text { IfOk result (λ told. told.text
-            ≡ (axes_bare self.now.rules self.now.nodes number lines.now).text) }
-        ensures verdict { IfOk result (λ told. told.verdict
-            ≡ (axes_bare self.now.rules self.now.nodes number lines.now).verdict) }
+        requires fit { desk.old ≡ self.now.labelling.nodes }
+        ensures { IfOk result (λ told. told ≡ axes_bare self.now.labelling number lines.now) }
     {
-        let told = desk.axes(alloc, lines, number, self.rules)?;
+        let told = desk.axes(alloc, lines, number, self.labelling.rules)?;
         Ok(plain(told.text.into_vec(), told.flagged))
     }
 }
 
+// What is told of an answer.
+fn explained(alloc: Global, answer: &Answer, number: u64) -> Result<Told<Note>, AllocError>
+    ensures { IfOk result (λ told. told
+        ≡ record { text = explained number answer.now; verdict = plainly (is_flagged answer.now) }) }
+{
+    let text = explain_text(alloc, answer, number)?;
+    Ok(plain(text, is_flagged(answer)))
+}
+
 // A text without a note.
 fn plain(text: Vec<u8>, flagged: bool) -> Told<Note>
-    ensures text { result.text ≡ text.items }
-    ensures verdict { result.verdict ≡ record { flagged = flagged; note = None } }
+    ensures { result ≡ record { text = text.items; verdict = plainly flagged } }
 {
     Told {
         text,

@@ -1,7 +1,7 @@
 // Made records that are labelled.
 ghost use Rattle.std.specs.Prelude.{◌≡◌, ◌≤◌, ◌<◌, ◌+◌, ◌^◌, ◌++◌, IfOk, IsErrOf, fold, length, map};
 ghost use Rattle.cip_io.specs.Faults.{Rose};
-ghost use Rattle.cip_run.specs.Trying.{made_answer, made_answers, answer_of, counted, with_one, Sums};
+ghost use Rattle.cip_run.specs.Trying.{answer_of, answers_to, counted, with_one, Sums};
 
 use crate::desk::Desk;
 use crate::series::{Numbered, Trial};
@@ -32,10 +32,10 @@ impl Job for Numbered {
 
     #[tactic(auto, unfolding(crate::specs::Trying::made_answer))]
     fn work(&self, desk: &mut Desk) -> Result<Answer, AllocError> {
-        let bytes = record(self.alloc, self.trial.start, self.number)?;
+        let bytes = record(self.alloc, self.trial.series.start, self.number)?;
         // A desk of `new_clerks` fits already, and nothing is taken; but the contract allows any desk.
-        desk.fit(self.alloc, self.trial.nodes)?;
-        desk.answer(self.alloc, &bytes, self.trial.rules)
+        desk.fit(self.alloc, self.trial.labelling.nodes)?;
+        desk.answer(self.alloc, &bytes, self.trial.labelling.rules)
     }
 }
 
@@ -46,7 +46,7 @@ pub fn write_summary<R: Threads + Sync, G: Gate + Sync, K: Sink>(
     trial: &Trial,
     sink: &mut K,
 ) -> Result<bool, Stop>
-    ensures summed { Sums (made_answers trial.now.rules trial.now.nodes trial.now.start trial.now.records) result
+    ensures summed { Sums (answers_to trial.now.series trial.now.labelling trial.now.series.records) result
         (K.taken sink.old) (K.taken sink.new) }
     ensures fault { IsErrOf result Stop.WriteFault → Rose (K.faults sink.old) (K.faults sink.new) }
 {
@@ -97,15 +97,16 @@ fn count_made<R: Threads + Sync, G: Gate + Sync>(
     trial: &Trial,
 ) -> Result<Count, AllocError>
     ensures { IfOk result (λ count. count
-        ≡ counted (made_answers trial.now.rules trial.now.nodes trial.now.start trial.now.records)) }
+        ≡ counted (answers_to trial.now.series trial.now.labelling trial.now.series.records)) }
 {
-    let mut clerks = new_clerks(crew.alloc, trial.nodes, crew.workers)?;
+    let mut clerks = new_clerks(crew.alloc, trial.labelling.nodes, crew.workers)?;
     let mut count = Count {
         tally: Tally::new(),
         flagged: false,
     };
+    let records = trial.series.records;
     let mut done = 0;
-    while done < trial.records {
+    while done < records {
         let jobs = next_jobs(crew.alloc, trial, done, crew.workers)?;
         let answers = map_batch(crew.rt, crew.alloc, &jobs, &mut clerks, crew.gate)?;
         count.add_all(&answers);
@@ -138,15 +139,18 @@ fn next_jobs(
     done: u32,
     workers: u8,
 ) -> Result<Vec<Numbered>, AllocError>
-    requires within { done < trial.now.records }
+    requires within { done < trial.now.series.records }
     requires some { 1 ≤ workers }
     ensures jobs { IfOk result (λ jobs.
-        made_answers trial.now.rules trial.now.nodes trial.now.start done ++ map answer_of jobs.items
-        ≡ made_answers trial.now.rules trial.now.nodes trial.now.start (done + length jobs.items)) }
+        answers_to trial.now.series trial.now.labelling done ++ map answer_of jobs.items
+        ≡ answers_to trial.now.series trial.now.labelling (done + length jobs.items)) }
     ensures some { IfOk result (λ jobs. 0 < length jobs.items) }
-    ensures within { IfOk result (λ jobs. done + length jobs.items ≤ trial.now.records) }
+    ensures within { IfOk result (λ jobs. done + length jobs.items ≤ trial.now.series.records) }
 {
-    let end = trial.records.min(done + RECORDS * u32::from(workers));
+    let end = trial
+        .series
+        .records
+        .min(done + RECORDS * u32::from(workers));
     let mut jobs = Vec::with_capacity(alloc, (end - done) as usize)?;
     for before in done..end {
         jobs.push(Numbered {

@@ -1,6 +1,6 @@
 -- What the words of a command line ask for: a command's name, then names of its options, each at most once, and values
 -- in turn. Own.
-use Rattle.std.specs.Prelude.{ℕ, List, [], ◌∷◌, ◌==◌, String, string_bytes, Some, None, if◌then◌else◌}
+use Rattle.std.specs.Prelude.{ℕ, List, [], ◌∷◌, ◌==◌, ⊤, String, string_bytes, Some, None, if◌then◌else◌}
 use Rattle.std.specs.declared.option.Option.{Option}
 use Rattle.std.specs.declared.alloc.Global.{Global}
 use Rattle.std.specs.Option.{option_map}
@@ -14,7 +14,11 @@ use Rattle.cip_words.specs.declared.forms.Command.{Command}
 use Rattle.cip_words.specs.declared.forms.Command.TheVariants as commands
 use Rattle.cip_words.specs.Forms.{Form, forms}
 use Rattle.cip_words.specs.Options as options
-use Rattle.cip_words.specs.declared.settings.Labelling.{Labelling}
+use Rattle.cip_words.specs.Ranges.{CanLabel, CanMake, CanName, Labelling}
+use Rattle.cip_words.specs.declared.settings.Action.{Action}
+use Rattle.cip_words.specs.declared.settings.Action.TheVariants as does
+use Rattle.cip_words.specs.declared.settings.Task.{Task}
+use Rattle.cip_words.specs.declared.settings.Task.TheVariants as tasks
 use Rattle.cip_words.specs.declared.settings.Settings.{Settings}
 use Rattle.cip_words.specs.declared.settings.Settings.TheVariants.{Annotate, Explain, Make, Trial, Set, Mirror, Groups, Axes, Help}
 
@@ -61,11 +65,14 @@ labelling_of words = do
   rules ← rules_of words
   Some (record { nodes = nodes; workers = workers; rules = rules })
 
--- the settings of a command that asks for no more
-abbrev pub labels_as : (ℕ → ℕ → Rules → Settings) → List (String Global) → Option Settings
-labels_as settings words = do
-  labelling ← labelling_of words
-  Some (settings labelling.nodes labelling.workers labelling.rules)
+-- what a command asks for that has no options but those of labelling
+abbrev pub alone : Command → Labelling → Option Settings
+alone commands.Annotate labelling = Some (Annotate labelling.nodes labelling.workers labelling.rules)
+alone commands.Explain labelling = Some (Explain labelling.nodes labelling.workers labelling.rules)
+alone commands.Mirror labelling = Some (Mirror labelling.nodes labelling.workers labelling.rules)
+alone commands.Groups labelling = Some (Groups labelling.nodes labelling.workers labelling.rules)
+alone commands.Axes labelling = Some (Axes labelling.nodes labelling.workers labelling.rules)
+alone command labelling = None
 
 abbrev pub making_of : List (String Global) → Option Settings
 making_of words = do
@@ -90,15 +97,11 @@ setting_of words = do
 
 -- what a command asks for with these names and values
 abbrev pub asked : Command → List (String Global) → Option Settings
-asked commands.Annotate words = labels_as Annotate words
-asked commands.Explain words = labels_as Explain words
 asked commands.Make words = making_of words
 asked commands.Trial words = trial_of words
 asked commands.Set words = setting_of words
-asked commands.Mirror words = labels_as Mirror words
-asked commands.Groups words = labels_as Groups words
-asked commands.Axes words = labels_as Axes words
 asked commands.Help words = Some Help
+asked command words = labelling_of words >>= alone command
 
 abbrev pub asked_by : Form → List (String Global) → Option Settings
 asked_by form words = if are_pairs form.2 words then asked form.1 words else None
@@ -109,3 +112,36 @@ settings_of [] = None
 settings_of (name ∷ words) = do
   form ← form_of (string_bytes name) forms
   asked_by form words
+
+-- what a command does
+
+abbrev pub labelling_by : ℕ → ℕ → Rules → Labelling
+labelling_by nodes workers rules = record { nodes = nodes; workers = workers; rules = rules }
+
+abbrev pub action_of : Settings → Action
+action_of (Annotate nodes workers rules) = does.Read tasks.Annotate (labelling_by nodes workers rules)
+action_of (Explain nodes workers rules) = does.Read tasks.Explain (labelling_by nodes workers rules)
+action_of (Make start records) = does.Make (record { start = start; records = records })
+action_of (Trial start records nodes workers rules) =
+    does.Trial (record { start = start; records = records }) (labelling_by nodes workers rules)
+action_of (Set number atom letter nodes workers rules) =
+    does.Read (tasks.Set number atom letter) (labelling_by nodes workers rules)
+action_of (Mirror nodes workers rules) = does.Read tasks.Mirror (labelling_by nodes workers rules)
+action_of (Groups nodes workers rules) = does.Read tasks.Groups (labelling_by nodes workers rules)
+action_of (Axes nodes workers rules) = does.Read tasks.Axes (labelling_by nodes workers rules)
+action_of Help = does.Help
+
+-- the numbers of settings are in their ranges
+
+abbrev pub IsNamed : Task → Type 0
+IsNamed (tasks.Set number atom letter) = CanName number atom
+IsNamed task = ⊤
+
+abbrev pub IsWithin : Action → Type 0
+IsWithin (does.Read task labelling) = IsNamed task × CanLabel labelling.nodes labelling.workers
+IsWithin (does.Make series) = CanMake series.records
+IsWithin (does.Trial series labelling) = CanMake series.records × CanLabel labelling.nodes labelling.workers
+IsWithin does.Help = ⊤
+
+abbrev pub AreWithin : Settings → Type 0
+AreWithin settings = IsWithin (action_of settings)

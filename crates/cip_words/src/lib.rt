@@ -8,4 +8,4 @@ mod settings;
 mod values;
 
 pub use help::help_text;
-pub use settings::{Settings, read_words};
+pub use settings::{Action, Labelling, Series, Settings, Task, read_words};

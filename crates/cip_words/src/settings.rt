@@ -3,9 +3,9 @@ ghost use Rattle.std.specs.Prelude.{◌≡◌, IfSome, map};
 ghost use Rattle.std.specs.Option.{option_map};
 ghost use Rattle.cip_words.specs.Forms.{forms};
 ghost use Rattle.cip_words.specs.Settings.{form_of, letter_of, workers_of, rules_of, labelling_of, making_of, trial_of, setting_of};
-ghost use Rattle.cip_words.specs.Settings.{asked, settings_of};
+ghost use Rattle.cip_words.specs.Settings.{action_of, alone, asked, labelling_by, settings_of, AreWithin};
 ghost use Rattle.cip_words.specs.Letters.{letter_named};
-ghost use Rattle.cip_words.specs.Ranges.{AreWithin, CanLabel, IsBetween};
+ghost use Rattle.cip_words.specs.Ranges.{CanLabel, IsBetween};
 
 use crate::forms::{
     ATOM, Command, FORMS, Form, LETTER, NODES, RECORD, RECORDS, START, WORDING, WORKERS,
@@ -13,6 +13,7 @@ use crate::forms::{
 use crate::values::{are_pairs, once, set_to};
 use cip_mol::CentreLetter;
 use cip_rank::Rules;
+use std::marker::Model;
 
 /// What a command line asks for: the numbers of its options, the bound on the nodes of a digraph among them.
 #[derive(Clone, Copy)]
@@ -74,6 +75,164 @@ pub enum Settings {
     Help,
 }
 
+/// What a command does.
+#[derive(Clone, Copy)]
+pub enum Action {
+    /// It reads the source, and does this with each record.
+    Read(Task, Labelling),
+    /// It writes made records.
+    Make(Series),
+    /// It labels made records, and writes how many units have which outcome.
+    Trial(Series, Labelling),
+    /// It writes the forms of the commands.
+    Help,
+}
+
+/// What is done with each record of the source.
+#[derive(Clone, Copy)]
+pub enum Task {
+    /// Its answer is put into it as an item.
+    Annotate,
+    /// Its answer is written without it.
+    Explain,
+    /// The record of this number gets the mark that gives the centre at an atom its letter. Each record is annotated.
+    Set {
+        number: u32,
+        atom: u32,
+        letter: CentreLetter,
+    },
+    /// It is reflected, and annotated.
+    Mirror,
+    /// What is found of its stereo groups is written without it.
+    Groups,
+    /// What is found of its further units is written without it.
+    Axes,
+}
+
+/// What all commands that label ask for: how many nodes a digraph may have, from 1 to 1,000,000, how many workers label
+/// at once, from 1 to 16, and the wording of Rule 1b.
+#[derive(Clone, Copy)]
+pub struct Labelling {
+    pub nodes: u32,
+    pub workers: u8,
+    pub rules: Rules,
+}
+
+impl Model for Labelling {
+    ghost use Rattle.cip_words.specs.Ranges.{CanLabel, Labelling};
+
+    ghost Value = { Labelling };
+
+    ghost view = { λ l. record { nodes = l.nodes; workers = l.workers; rules = l.rules } };
+
+    ghost inverse = { λ l. record { nodes = l.nodes; workers = l.workers; rules = l.rules } };
+
+    ghost invariant = { λ l. CanLabel l.nodes l.workers };
+}
+
+/// Records that are made: the number at which their series starts, and how many there are, from 1 to 100,000.
+#[derive(Clone, Copy)]
+pub struct Series {
+    pub start: u32,
+    pub records: u32,
+}
+
+impl Model for Series {
+    ghost use Rattle.cip_words.specs.Ranges.{CanMake, Series};
+
+    ghost Value = { Series };
+
+    ghost view = { λ s. record { start = s.start; records = s.records } };
+
+    ghost inverse = { λ s. record { start = s.start; records = s.records } };
+
+    ghost invariant = { λ s. CanMake s.records };
+}
+
+impl Labelling {
+    fn new(nodes: u32, workers: u8, rules: Rules) -> Labelling
+        requires { CanLabel nodes workers }
+        ensures { result ≡ labelling_by nodes workers rules }
+    {
+        Labelling {
+            nodes,
+            workers,
+            rules,
+        }
+    }
+}
+
+impl Task {
+    fn set(number: u32, atom: u32, letter: CentreLetter) -> Task
+        ensures { result ≡ Task.Set number atom letter }
+    {
+        Task::Set {
+            number,
+            atom,
+            letter,
+        }
+    }
+}
+
+impl Settings {
+    /// What the command does.
+    pub fn action(self) -> Action
+        requires { AreWithin self }
+        ensures { result ≡ action_of self }
+    {
+        match self {
+            Settings::Annotate {
+                nodes,
+                workers,
+                rules,
+            } => Action::Read(Task::Annotate, Labelling::new(nodes, workers, rules)),
+            Settings::Explain {
+                nodes,
+                workers,
+                rules,
+            } => Action::Read(Task::Explain, Labelling::new(nodes, workers, rules)),
+            Settings::Make { start, records } => Action::Make(Series { start, records }),
+            Settings::Trial {
+                start,
+                records,
+                nodes,
+                workers,
+                rules,
+            } => Action::Trial(
+                Series { start, records },
+                Labelling::new(nodes, workers, rules),
+            ),
+            Settings::Set {
+                number,
+                atom,
+                letter,
+                nodes,
+                workers,
+                rules,
+            } => {
+                let labelling = Labelling::new(nodes, workers, rules);
+                Action::Read(Task::set(number, atom, letter), labelling)
+            }
+            Settings::Mirror {
+                nodes,
+                workers,
+                rules,
+            } => Action::Read(Task::Mirror, Labelling::new(nodes, workers, rules)),
+            Settings::Groups {
+                nodes,
+                workers,
+                rules,
+            } => Action::Read(Task::Groups, Labelling::new(nodes, workers, rules)),
+            Settings::Axes {
+                nodes,
+                workers,
+                rules,
+            } => Action::Read(Task::Axes, Labelling::new(nodes, workers, rules)),
+            Settings::Help => Action::Help,
+        }
+    }
+}
+
 /// What these words ask for. None where they are those of no command.
 #[tactic(auto, unfolding(crate::specs::Settings::settings_of))]
 pub fn read_words(words: &[String]) -> Option<Settings>
@@ -116,84 +275,56 @@ fn asked(command: Command, words: &[String]) -> Option<Settings>
     ensures within { IfSome result AreWithin }
 {
     match command {
-        Command::Annotate => {
-            let Labelling {
-                nodes,
-                workers,
-                rules,
-            } = read_labelling(words)?;
-            Some(Settings::Annotate {
-                nodes,
-                workers,
-                rules,
-            })
-        }
-        Command::Explain => {
-            let Labelling {
-                nodes,
-                workers,
-                rules,
-            } = read_labelling(words)?;
-            Some(Settings::Explain {
-                nodes,
-                workers,
-                rules,
-            })
-        }
         Command::Make => making(words),
         Command::Trial => trial(words),
         Command::Set => setting(words),
-        Command::Mirror => {
-            let Labelling {
-                nodes,
-                workers,
-                rules,
-            } = read_labelling(words)?;
-            Some(Settings::Mirror {
-                nodes,
-                workers,
-                rules,
-            })
-        }
-        Command::Groups => {
-            let Labelling {
-                nodes,
-                workers,
-                rules,
-            } = read_labelling(words)?;
-            Some(Settings::Groups {
-                nodes,
-                workers,
-                rules,
-            })
-        }
-        Command::Axes => {
-            let Labelling {
-                nodes,
-                workers,
-                rules,
-            } = read_labelling(words)?;
-            Some(Settings::Axes {
-                nodes,
-                workers,
-                rules,
-            })
-        }
         Command::Help => Some(Settings::Help),
+        _ => alone(command, read_labelling(words)?),
     }
 }
 
-// What all commands that label ask for: the bound on the nodes of a digraph, the workers and the wording.
-#[derive(Clone, Copy)]
-struct Labelling {
-    nodes: u32,
-    workers: u8,
-    rules: Rules,
+// What a command asks for that has no options but those of labelling. None where it has others.
+fn alone(command: Command, labelling: Labelling) -> Option<Settings>
+    ensures meant { result ≡ alone command labelling }
+    ensures within { IfSome result AreWithin }
+{
+    let Labelling {
+        nodes,
+        workers,
+        rules,
+    } = labelling;
+    match command {
+        Command::Annotate => Some(Settings::Annotate {
+            nodes,
+            workers,
+            rules,
+        }),
+        Command::Explain => Some(Settings::Explain {
+            nodes,
+            workers,
+            rules,
+        }),
+        Command::Mirror => Some(Settings::Mirror {
+            nodes,
+            workers,
+            rules,
+        }),
+        Command::Groups => Some(Settings::Groups {
+            nodes,
+            workers,
+            rules,
+        }),
+        Command::Axes => Some(Settings::Axes {
+            nodes,
+            workers,
+            rules,
+        }),
+        _ => None,
+    }
 }
 
 fn read_labelling(words: &[String]) -> Option<Labelling>
-    ensures meant { result ≡ labelling_of words.now }
-    ensures within { IfSome result (λ labelling. CanLabel labelling.nodes labelling.workers) }
+    ensures { result ≡ labelling_of words.now }
 {
     Some(Labelling {
         nodes: set_to(&NODES, words)?,

@@ -5,7 +5,8 @@ use Rattle.cip_run.proofs.commands.answer_records.Goals as goal
 
 pub returns-clause-meant : goal.returns-clause-meant
 returns-clause-meant g c =
-    rw c.after.ensures (meant c.args.asked.now.task (manner_of c.args.asked.now) c.args.limits
+    let asked = c.args.asked.now in
+    rw c.after.ensures (meant asked.task (manner_of asked.task asked.labelling) c.args.limits
     c.answer_stream-answered.result _ _ (record {
       ended = c.answer_stream-answered.ensures.ended;
       whole = c.answer_stream-answered.ensures.whole;
@@ -16,7 +17,8 @@ returns-clause-meant g c =
 
 pub returns-clause-missed : goal.returns-clause-missed
 returns-clause-missed g c =
-    rw c.after.ensures (told_missed c.args.asked.now.task (manner_of c.args.asked.now) c.args.limits
+    let asked = c.args.asked.now in
+    rw c.after.ensures (told_missed asked.task (manner_of asked.task asked.labelling) c.args.limits
     c.answer_stream-answered.result
     (streams (g.S.Source.left c.args.source.now) (g.S.Source.faults c.args.source.now)
     (g.K.Sink.taken c.args.sink.now) (g.K.Sink.faults c.args.sink.now))

@@ -1,6 +1,6 @@
 use Rattle.std.proofs.Common.{rules, length, map, ap, ◌+◌, ◌∙◌, ◌≡◌}
 use Rattle.std.proofs.lemmas.List.{length-map}
-use Rattle.cip_run.specs.Trying.{answer_of, made_answers}
+use Rattle.cip_run.specs.Trying.{answer_of, answers_to}
 use Rattle.cip_run.proofs.Counting.{as_many, batch_counted}
 use Rattle.cip_run.proofs.trial.count_made.Goals as goal
 
@@ -14,8 +14,8 @@ loop-done-preserved g c =
     let many : length answers ≡ length jobs = ap length found ∙ length-map jobs answer_of in
     record {
       so_far =
-          batch_counted (made_answers trial.rules trial.nodes trial.start c.loop-done.done) answers
-          (made_answers trial.rules trial.nodes trial.start (c.loop-done.done + c.len.result)) jobs
+          batch_counted (answers_to trial.series trial.labelling c.loop-done.done) answers
+          (answers_to trial.series trial.labelling (c.loop-done.done + c.len.result)) jobs
           c.loop-done.count c.add_all.new.self c.loop-done.invariant.so_far (search rules) found (search rules);
       records = search rules;
       within = search rules;
