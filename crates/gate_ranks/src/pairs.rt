@@ -4,7 +4,7 @@ ghost use Rattle.cip_branches.specs.Deciding.{AreFollowed};
 ghost use Rattle.cip_rows.specs.Keys.{AreKeyed};
 
 use crate::ranking::branches_of;
-use crate::trees::{DEEPEST, ROOM, case_of};
+use crate::trees::{Case, DEEPEST, ROOM, case_of};
 use cip_branches::Branches;
 use cip_digraph::Decision;
 use cip_ligands::{Asked, Descriptors, Readings, take_readings};
@@ -36,9 +36,22 @@ fn descriptors(rt: &impl Abort, alloc: Global, letters: &[u8]) -> Result<Descrip
 fn decided(rt: &impl Abort, alloc: Global, letters: &[u8]) -> Result<Option<Decision>, AllocError> {
     let case = case_of(alloc, b"00012 00000 0")?;
     let marks = descriptors(rt, alloc, letters)?;
+    decided_in(rt, alloc, &case, &marks)
+}
+
+// The same in a case, with the descriptors of its nodes.
+fn decided_in(
+    rt: &impl Abort,
+    alloc: Global,
+    case: &Case,
+    marks: &Descriptors,
+) -> Result<Option<Decision>, AllocError> {
     assert!(rt; marks.len() as usize == case.keys.len());
-    let branches = branches_of(rt, alloc, &case, DEEPEST)?;
-    decided_between(rt, alloc, &branches, &marks)
+    let branches = branches_of(rt, alloc, case, DEEPEST)?;
+    let decided = decided_between(rt, alloc, &branches, marks);
+    // given back by a call of its own: written out at the end of this function it takes a minute to prove
+    drop(branches);
+    decided
 }
 
 // What is decided between the branches at the first two places.
@@ -51,14 +64,16 @@ fn decided_between(
     requires followed { AreFollowed branches.now }
     requires keyed { AreKeyed (length marks.now.marks) branches.now.layers.kin }
 {
+    assert!(rt; branches.len() <= ROOM);
     let mut readings = Readings::reserve(alloc, ROOM)?;
     let mut asked = [Asked {
         first: 0,
         second: 1,
         decision: None,
     }];
-    assert!(rt; branches.len() <= ROOM);
     take_readings(branches, &mut readings, marks, &mut asked);
+    // as above
+    drop(readings);
     Ok(asked[0].decision)
 }
 

@@ -11,6 +11,7 @@ use crate::trees::{
     way_to,
 };
 use cip_branches::{Around, Branches};
+use cip_rank::Table;
 use rand_pcg::Pcg32;
 use std::alloc::{AllocError, Global};
 use std::process::Abort;
@@ -67,14 +68,25 @@ pub fn branches_of(
     ensures nodes { IfOk result (λ branches. AreKeyed (length case.now.keys.items) branches.layers.kin) }
 {
     let table = table_of(rt, alloc, &case.parents)?;
+    branches_in(rt, alloc, &table, case, depth)
+}
+
+// The same in the tree of the case.
+fn branches_in(
+    rt: &impl Abort,
+    alloc: Global,
+    table: &Table,
+    case: &Case,
+    depth: u32,
+) -> Result<Branches, AllocError>
+    ensures followed { IfOk result (λ branches. AreFollowed branches) }
+    ensures nodes { IfOk result (λ branches. AreKeyed (length case.now.keys.items) branches.layers.kin) }
+{
     let count = table.len();
     assert!(rt; case.from < count && count <= ROOM);
     assert!(rt; case.keys.len() == count as usize);
-    let way = way_to(alloc, &table, case.from)?;
-    let around = Around {
-        table: &table,
-        way: &way,
-    };
+    let way = way_to(alloc, table, case.from)?;
+    let around = Around { table, way: &way };
     let keys = Keys { list: &case.keys };
     follow(rt, alloc, &around, case.from, &keys, depth)
 }
@@ -91,7 +103,10 @@ fn ranked(
         assert!(rt; case.later.len() == case.keys.len());
         go_on(&mut branches, &Keys { list: &case.later });
     }
-    numbers_of(alloc, &branches)
+    let numbers = numbers_of(alloc, &branches);
+    // given back by a call of its own, which is quicker to prove than this function's end
+    drop(branches);
+    numbers
 }
 
 fn numbers_of(alloc: Global, branches: &Branches) -> Result<Vec<u32>, AllocError> {
@@ -135,12 +150,24 @@ fn order_one_as<T: Ord>(numbers: &[u32], others: &[T], number: &u32, other: &T) 
 // Whether the branches stand so at each depth.
 fn rank_as(rt: &impl Abort, alloc: Global, case: &Case, orders: &[u8]) -> Result<bool, Fail> {
     for (depth, order) in orders.split(|byte| *byte == b'/').enumerate() {
-        let depth = Some(u32::try_from(depth)?);
-        if !order_as(&ranked(rt, alloc, case, depth)?, order) {
+        let depth = u32::try_from(depth)?;
+        if !is_order(rt, alloc, case, Some(depth), order)? {
             return Ok(false);
         }
     }
     Ok(true)
+}
+
+// Whether the branches stand so, so many spheres down by the first rule, or over all spheres by both rules.
+fn is_order(
+    rt: &impl Abort,
+    alloc: Global,
+    case: &Case,
+    depth: Option<u32>,
+    order: &[u8],
+) -> Result<bool, AllocError> {
+    let numbers = ranked(rt, alloc, case, depth)?;
+    Ok(order_as(&numbers, order))
 }
 
 fn are_digits(numbers: &[u32], text: &[u8]) -> bool {
@@ -157,8 +184,19 @@ fn walk_as(
     wanted: &[u8],
 ) -> Result<bool, AllocError> {
     let branches = branches_of(rt, alloc, case, DEEPEST)?;
-    let walked = nodes_of(alloc, &branches)?;
-    let tie = wanted_of(alloc, &branches)?;
+    let are = are_walked(alloc, &branches, nodes, wanted);
+    drop(branches);
+    are
+}
+
+fn are_walked(
+    alloc: Global,
+    branches: &Branches,
+    nodes: &[u8],
+    wanted: &[u8],
+) -> Result<bool, AllocError> {
+    let walked = nodes_of(alloc, branches)?;
+    let tie = wanted_of(alloc, branches)?;
     let any = branches.any_wanted();
     Ok(are_digits(&walked, nodes) && are_digits(&tie, wanted) && any != wanted.is_empty())
 }
@@ -206,14 +244,18 @@ const WORKED: &str = "\
 0012 0000 3|0/0/0 2
 ";
 
+fn assert_worked(rt: &impl Abort, alloc: Global, worked: &[u8], stands: &[u8]) -> Result<(), Fail> {
+    let case = case_of(alloc, worked)?;
+    assert_stands(rt, alloc, &case, stands)
+}
+
 // As lines of a text the worked trees cost next to no proof, as an array of texts a minute.
 #[test]
 fn branches_rank_as_worked_by_hand(rt: HostRuntime) -> Result<(), Fail> {
     let mut count = 0u32;
     for line in WORKED.lines() {
         if let Some((worked, stands)) = line.split_once('|') {
-            let case = case_of(rt.alloc(), worked.as_bytes())?;
-            assert_stands(&rt, rt.alloc(), &case, stands.as_bytes())?;
+            assert_worked(&rt, rt.alloc(), worked.as_bytes(), stands.as_bytes())?;
             count = count.saturating_add(1);
         }
     }
@@ -234,14 +276,23 @@ const WORKED_BEHIND: &str = "\
 000113557 000000000 3 001000000|01
 ";
 
+fn assert_behind(
+    rt: &impl Abort,
+    alloc: Global,
+    worked: &[u8],
+    order: &[u8],
+) -> Result<(), AllocError> {
+    let case = case_of(alloc, worked)?;
+    assert!(rt; is_order(rt, alloc, &case, None, order)?);
+    Ok(())
+}
+
 #[test]
 fn a_later_rule_parts_what_ties(rt: HostRuntime) -> Result<(), Fail> {
     let mut count = 0u32;
     for line in WORKED_BEHIND.lines() {
         if let Some((worked, order)) = line.split_once('|') {
-            let case = case_of(rt.alloc(), worked.as_bytes())?;
-            let found = ranked(&rt, rt.alloc(), &case, None)?;
-            assert!(rt; order_as(&found, order.as_bytes()));
+            assert_behind(&rt, rt.alloc(), worked.as_bytes(), order.as_bytes())?;
             count = count.saturating_add(1);
         }
     }

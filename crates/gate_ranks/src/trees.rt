@@ -183,15 +183,19 @@ pub fn random_node(random: &mut Pcg32, case: &Case) -> u32 {
     }
 }
 
-#[test]
-fn tables_tell_parents_spheres_and_children(rt: HostRuntime) -> Result<(), Fail> {
-    let mut table = table_of(&rt, rt.alloc(), &[0, 0, 0, 0, 2, 2, 5])?;
+fn assert_told(rt: &impl Abort, table: &Table) {
     assert!(rt; table.len() == 7);
     assert!(rt; table.parent(0).is_none() && table.parent(6) == Some(5));
     assert!(rt; table.sphere(0) == 0 && table.sphere(6) == 3);
     assert!(rt; table.children(0) == (1, 4) && table.children(2) == (4, 6));
     let (first, past) = table.children(6);
     assert!(rt; first == past);
+}
+
+#[test]
+fn tables_tell_parents_spheres_and_children(rt: HostRuntime) -> Result<(), Fail> {
+    let mut table = table_of(&rt, rt.alloc(), &[0, 0, 0, 0, 2, 2, 5])?;
+    assert_told(&rt, &table);
     table.clear();
     assert!(rt; table.len() == 0);
     Ok(())

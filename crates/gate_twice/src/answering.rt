@@ -21,7 +21,7 @@ pub struct Worked;
 
 impl Caller for Worked {
     fn answer<R: Files + AllocGlobal>(&self, rt: &R, out: &mut Text, row: &Row) -> io::Result<()> {
-        if matches!(row.call(), "inside" | "images") {
+        if row.field(2).ends_with(".mol") {
             let record = fs::read(rt, row.field(2))?;
             answer_with(rt.alloc(), out, row, &record);
             return Ok(());

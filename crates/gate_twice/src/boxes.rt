@@ -14,23 +14,33 @@ use std::cmp::Ordering;
 
 /// How many nodes the digraph of atom 0 has up to a sphere, and how two of the atom's neighbours stand.
 pub fn two_stand(alloc: Global, out: &mut Text, row: &Row) {
-    match boxed(alloc, row, row.number(4)) {
-        Ok(Some(tree)) => push_counted(alloc, out, row, &tree),
+    let boxed = boxed(alloc, row, row.number(4));
+    match &boxed {
+        Ok(Some(tree)) => push_counted(alloc, out, row, tree),
         Ok(None) => out.push_str("no molecule"),
         Err(_) => out.miss(),
     }
+    // given back by a call of its own, here and below: quicker to prove than a function's end
+    drop(boxed);
 }
 
 // The digraph of atom 0 up to a sphere.
 fn boxed(alloc: Global, row: &Row, sphere: u32) -> Result<Option<PlainTree>, AllocError> {
-    match written(alloc, row)? {
-        Some(drawn) => Ok(Some(boxed_of(alloc, &drawn, sphere)?)),
-        None => Ok(None),
-    }
+    let drawn = written(alloc, row)?;
+    let tree = boxed_of(alloc, &drawn, sphere);
+    drop(drawn);
+    tree
 }
 
-fn boxed_of(alloc: Global, drawn: &Drawn, sphere: u32) -> Result<PlainTree, AllocError> {
-    plain_tree(alloc, &drawn.graph, &drawn.positions, 0, sphere)
+fn boxed_of(
+    alloc: Global,
+    drawn: &Option<Drawn>,
+    sphere: u32,
+) -> Result<Option<PlainTree>, AllocError> {
+    match drawn {
+        Some(drawn) => Ok(Some(plain_tree(alloc, &drawn.graph, &drawn.positions, 0, sphere)?)),
+        None => Ok(None),
+    }
 }
 
 fn push_counted(alloc: Global, out: &mut Text, row: &Row, tree: &PlainTree) {
@@ -44,12 +54,20 @@ fn push_counted(alloc: Global, out: &mut Text, row: &Row, tree: &PlainTree) {
 fn push_order(alloc: Global, out: &mut Text, row: &Row, tree: &PlainTree)
     requires few { node_count tree.now < 2 ^ 32 }
 {
-    let Ok(nodes) = tree.flat() else {
-        return out.miss();
-    };
+    let flat = tree.flat();
+    match &flat {
+        Ok(nodes) => push_order_in(alloc, out, row, tree, nodes),
+        Err(_) => out.miss(),
+    }
+    drop(flat);
+}
+
+fn push_order_in(alloc: Global, out: &mut Text, row: &Row, tree: &PlainTree, nodes: &Flat)
+    requires few { node_count tree.now < 2 ^ 32 }
+{
     match (
-        place_of(&nodes, row.number(5)),
-        place_of(&nodes, row.number(6)),
+        place_of(nodes, row.number(5)),
+        place_of(nodes, row.number(6)),
     ) {
         (Some(a), Some(b)) => push_stand(alloc, out, tree, a, b),
         _ => out.push_str("no neighbours"),
@@ -92,21 +110,29 @@ fn push_decision(out: &mut Text, decision: Decision) {
 
 /// The atom keys of the children of atom 0, ascending, each six times an atomic number.
 pub fn child_keys(alloc: Global, out: &mut Text, row: &Row) {
-    match boxed(alloc, row, 1) {
-        Ok(Some(tree)) => push_keys_of(alloc, out, &tree),
+    let boxed = boxed(alloc, row, 1);
+    match &boxed {
+        Ok(Some(tree)) => push_keys_of(alloc, out, tree),
         Ok(None) => out.push_str("no molecule"),
         Err(_) => out.miss(),
     }
+    drop(boxed);
 }
 
 fn push_keys_of(alloc: Global, out: &mut Text, tree: &PlainTree) {
     if tree.node_count().is_none() {
         return out.push_str("too many nodes");
     }
-    let Ok(nodes) = tree.flat() else {
-        return out.miss();
-    };
-    match keys_of(alloc, &nodes) {
+    let flat = tree.flat();
+    match &flat {
+        Ok(nodes) => push_keys_in(alloc, out, nodes),
+        Err(_) => out.miss(),
+    }
+    drop(flat);
+}
+
+fn push_keys_in(alloc: Global, out: &mut Text, nodes: &Flat) {
+    match keys_of(alloc, nodes) {
         Ok(keys) => push_numbers(out, &keys),
         Err(_) => out.miss(),
     }

@@ -21,11 +21,14 @@ const MOST_NODES: u32 = 1_000_000;
 /// How the ligands of atom 0 are settled within a bound, where the row has a unit at one atom or none, and what the arena
 /// then holds.
 pub fn settled<L: Ledger>(alloc: Global, out: &mut Text, row: &Row, steps: &mut Steps<L>) {
-    match written(alloc, row) {
-        Ok(Some(drawn)) => settle_drawn(alloc, out, row, &drawn, steps),
+    let written = written(alloc, row);
+    match &written {
+        Ok(Some(drawn)) => settle_drawn(alloc, out, row, drawn, steps),
         Ok(None) => out.push_str("no molecule"),
         Err(_) => out.miss(),
     }
+    // given back by a call of its own, here and below: quicker to prove than a function's end
+    drop(written);
 }
 
 fn settle_drawn<L: Ledger>(
@@ -123,11 +126,13 @@ fn push_arena(out: &mut Text, arena: &Arena) {
 
 /// How many nodes each sphere of the digraph of atom 0 has.
 pub fn spheres<L: Ledger>(alloc: Global, out: &mut Text, row: &Row, steps: &mut Steps<L>) {
-    match written(alloc, row) {
-        Ok(Some(drawn)) => push_spheres(alloc, out, &drawn, steps),
+    let written = written(alloc, row);
+    match &written {
+        Ok(Some(drawn)) => push_spheres(alloc, out, drawn, steps),
         Ok(None) => out.push_str("no molecule"),
         Err(_) => out.miss(),
     }
+    drop(written);
 }
 
 fn push_spheres<L: Ledger>(alloc: Global, out: &mut Text, drawn: &Drawn, steps: &mut Steps<L>) {
@@ -136,7 +141,8 @@ fn push_spheres<L: Ledger>(alloc: Global, out: &mut Text, drawn: &Drawn, steps: 
     };
     arena.start(&drawn.graph, 0);
     out.push_number(1);
-    push_grown(out, drawn, &mut arena, steps)
+    push_grown(out, drawn, &mut arena, steps);
+    drop(arena);
 }
 
 fn push_grown<L: Ledger>(out: &mut Text, drawn: &Drawn, arena: &mut Arena, steps: &mut Steps<L>)

@@ -1,5 +1,5 @@
 // Centres labelled as images of others, and each by itself.
-ghost use Rattle.std.specs.Prelude.{◌≡◌, ◌<◌, ◌-◌, ◌^◌, length};
+ghost use Rattle.std.specs.Prelude.{◌≡◌, ◌<◌, ◌-◌, ◌^◌, IfSome, length};
 ghost use Rattle.cip_digraph.specs.rings.Positions.{positions_of};
 
 use crate::molecules::read_molecule;
@@ -42,11 +42,14 @@ impl fmt::Display for Tally {
 /// For how many pairs of a record's centres one is found to be the image of the other, and for how many of these what is
 /// found by the image is wrong.
 pub fn images<L: Ledger>(alloc: Global, out: &mut Text, record: &[u8], steps: &mut Steps<L>) {
-    match read_molecule(alloc, record) {
-        Ok(Some(molecule)) => push_tally(out, compare_molecule(alloc, &molecule, steps)),
+    let read = read_molecule(alloc, record);
+    match &read {
+        Ok(Some(molecule)) => push_tally(out, compare_molecule(alloc, molecule, steps)),
         Ok(None) => out.push_str("no molecule"),
         Err(_) => out.miss(),
     }
+    // given back by a call of its own, here and below: quicker to prove than a function's end
+    drop(read);
 }
 
 fn push_tally(out: &mut Text, tally: Result<Tally, AllocError>) {
@@ -62,7 +65,9 @@ fn compare_molecule<L: Ledger>(
     steps: &mut Steps<L>,
 ) -> Result<Tally, AllocError> {
     let drawn = Drawn::of(alloc, molecule)?;
-    compare_drawn(alloc, &drawn, steps)
+    let tally = compare_drawn(alloc, &drawn, steps);
+    drop(drawn);
+    tally
 }
 
 fn compare_drawn<L: Ledger>(
@@ -73,7 +78,9 @@ fn compare_drawn<L: Ledger>(
     let units = drawn.units().list();
     let (graph, positions) = (drawn.graph(), drawn.positions());
     let setting = Setting::new(alloc, graph, positions, units, Rules::Wording2018)?;
-    compare_all(alloc, &setting, steps)
+    let tally = compare_all(alloc, &setting, steps);
+    drop(setting);
+    tally
 }
 
 fn compare_all<L: Ledger>(
@@ -126,44 +133,63 @@ fn compare_two<L: Ledger>(
     requires kept { kept < length setting.now.units }
     requires place { unit < length setting.now.units }
 {
-    if let Some(image) = found_of_image(alloc, setting, kept, unit, steps)? {
-        let plain = found_anew(alloc, setting, unit, steps)?;
-        tally.note(are_same(&image, &plain));
+    match found_of(alloc, setting, Some(kept), unit, steps)? {
+        Some(image) => compare_image(alloc, setting, unit, &image, tally, steps),
+        None => Ok(()),
+    }
+}
+
+// Compares what is found by the image with what is found of the unit by itself.
+fn compare_image<L: Ledger>(
+    alloc: Global,
+    setting: &Setting<'_>,
+    unit: u32,
+    image: &Outcome,
+    tally: &mut Tally,
+    steps: &mut Steps<L>,
+) -> Result<(), AllocError>
+    requires drawn { setting.now.positions ≡ positions_of setting.now.graph }
+    requires place { unit < length setting.now.units }
+{
+    if let Some(plain) = found_of(alloc, setting, None, unit, steps)? {
+        tally.note(are_same(image, &plain));
     }
     Ok(())
 }
 
-// What is found of a unit in memory of its own, where nothing is kept of another one.
-fn found_anew<L: Ledger>(
+// What is found of a unit by the other centre, if it is its image, or by itself. The memory is reserved for it alone, so
+// that nothing is kept of what was found before.
+fn found_of<L: Ledger>(
     alloc: Global,
     setting: &Setting<'_>,
+    kept: Option<u32>,
     unit: u32,
     steps: &mut Steps<L>,
-) -> Result<Outcome, AllocError>
-    requires { unit < length setting.now.units }
+) -> Result<Option<Outcome>, AllocError>
+    requires drawn { setting.now.positions ≡ positions_of setting.now.graph }
+    requires kept { IfSome kept (λ kept. kept < length setting.now.units) }
+    requires place { unit < length setting.now.units }
 {
     let mut labeller = Labeller::<Desk>::reserve(alloc, MOST_NODES)?;
-    let outcome = labeller.label(alloc, setting, unit, steps);
+    let outcome = match kept {
+        Some(kept) => label_behind(alloc, &mut labeller, setting, kept, unit, steps),
+        None => label_alone(alloc, &mut labeller, setting, unit, steps),
+    };
     // given back by a call of its own: written out at the end of this function it takes long to prove
     drop(labeller);
     outcome
 }
 
-fn found_of_image<L: Ledger>(
+fn label_alone<L: Ledger>(
     alloc: Global,
+    labeller: &mut Labeller<Desk>,
     setting: &Setting<'_>,
-    kept: u32,
     unit: u32,
     steps: &mut Steps<L>,
 ) -> Result<Option<Outcome>, AllocError>
-    requires drawn { setting.now.positions ≡ positions_of setting.now.graph }
-    requires kept { kept < length setting.now.units }
-    requires place { unit < length setting.now.units }
+    requires { unit < length setting.now.units }
 {
-    let mut labeller = Labeller::<Desk>::reserve(alloc, MOST_NODES)?;
-    let outcome = label_behind(alloc, &mut labeller, setting, kept, unit, steps);
-    drop(labeller);
-    outcome
+    Ok(Some(labeller.label(alloc, setting, unit, steps)?))
 }
 
 // The other centre is labelled before, so that its digraph is kept if it is costly.

@@ -2,6 +2,7 @@
 ghost use Rattle.std.specs.Prelude.{◌≡◌, ◌<◌, ◌≤◌, ◌^◌, true, length, map, IfOk};
 ghost use Rattle.cip_arena.specs.Growth.{Holds};
 ghost use Rattle.cip_digraph.specs.digraph.Telling.{TellsWhole};
+ghost use Rattle.cip_digraph.specs.graph.DrawnGraph.{graph_of};
 ghost use Rattle.cip_digraph.specs.units.Units.{sites_of};
 
 use crate::molecules::{Drawn, drawn_of, read_molecule};
@@ -30,15 +31,18 @@ pub fn inside<L: Ledger>(
     atom: u32,
     steps: &mut Steps<L>,
 ) {
-    match read_molecule(alloc, record) {
+    let read = read_molecule(alloc, record);
+    match &read {
         Ok(Some(molecule)) => {
-            if inside_molecule(alloc, out, &molecule, atom, steps).is_err() {
+            if inside_molecule(alloc, out, molecule, atom, steps).is_err() {
                 out.miss()
             }
         }
         Ok(None) => out.push_str("no molecule"),
         Err(_) => out.miss(),
     }
+    // given back by a call of its own, here and below: quicker to prove than a function's end
+    drop(read);
 }
 
 fn inside_molecule<L: Ledger>(
@@ -49,8 +53,24 @@ fn inside_molecule<L: Ledger>(
     steps: &mut Steps<L>,
 ) -> Result<(), AllocError> {
     let drawn = drawn_of(alloc, molecule)?;
+    let told = inside_units(alloc, out, molecule, &drawn, atom, steps);
+    drop(drawn);
+    told
+}
+
+fn inside_units<L: Ledger>(
+    alloc: Global,
+    out: &mut Text,
+    molecule: &Molecule,
+    drawn: &Drawn,
+    atom: u32,
+    steps: &mut Steps<L>,
+) -> Result<(), AllocError>
+    requires { drawn.now.graph ≡ graph_of molecule.now }
+{
     let units = units(alloc, molecule, &drawn.graph, &drawn.positions)?;
-    inside_drawn(alloc, out, &drawn, units.list(), atom, steps);
+    inside_drawn(alloc, out, drawn, units.list(), atom, steps);
+    drop(units);
     Ok(())
 }
 
@@ -71,10 +91,12 @@ fn inside_drawn<L: Ledger>(
         return out.miss();
     };
     arena.start(&drawn.graph, atom - 1);
-    if !grow_whole(drawn, &mut arena, steps) || arena.len() > MOST_NODES {
-        return out.push_str("no room");
+    if grow_whole(drawn, &mut arena, steps) && arena.len() <= MOST_NODES {
+        push_inside(alloc, out, &arena, drawn, units, atom - 1);
+    } else {
+        out.push_str("no room");
     }
-    push_inside(alloc, out, &arena, drawn, units, atom - 1)
+    drop(arena);
 }
 
 // Grows a digraph until there is no further node.

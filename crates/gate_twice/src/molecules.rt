@@ -31,8 +31,16 @@ pub fn drawn_of(alloc: Global, molecule: &Molecule) -> Result<Drawn, AllocError>
 
 /// What a record of version V2000 draws; none where it is refused.
 pub fn read_drawn(alloc: Global, bytes: &[u8]) -> Result<Option<Drawn>, AllocError> {
-    match read_molecule(alloc, bytes)? {
-        Some(molecule) => Ok(Some(drawn_of(alloc, &molecule)?)),
+    let molecule = read_molecule(alloc, bytes)?;
+    let drawn = drawn_if(alloc, &molecule);
+    drop(molecule);
+    drawn
+}
+
+/// What the drawing of a molecule has, if there is one.
+pub fn drawn_if(alloc: Global, molecule: &Option<Molecule>) -> Result<Option<Drawn>, AllocError> {
+    match molecule {
+        Some(molecule) => Ok(Some(drawn_of(alloc, molecule)?)),
         None => Ok(None),
     }
 }

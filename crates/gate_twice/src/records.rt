@@ -2,7 +2,7 @@
 ghost use Rattle.std.specs.Prelude.{◌≡◌, ◌<◌};
 
 use crate::counts::Counts;
-use crate::molecules::{read_drawn, title};
+use crate::molecules::{Drawn, read_drawn, title};
 use crate::roots::compare_roots;
 use cip_frame::Framer;
 use cip_make::record;
@@ -70,6 +70,19 @@ fn compare_worked<R: Files + Print + AllocGlobal, L: Ledger>(
     if framer.feed(&bytes).is_err() {
         return Err(io::Error::from(io::ErrorKind::Other));
     }
+    let compared = compare_waiting(rt, &mut framer, steps, total);
+    // given back by a call of its own, which is quicker to prove than this function's end
+    drop(framer);
+    compared
+}
+
+// Compares the records that wait in a framer.
+fn compare_waiting<R: Print + AllocGlobal, L: Ledger>(
+    rt: &R,
+    framer: &mut Framer,
+    steps: &mut Steps<L>,
+    total: &mut Total,
+) -> io::Result<()> {
     while let Some(record) = framer.next() {
         compare_record(rt, record.bytes.as_slice(), steps, total)?;
     }
@@ -95,13 +108,25 @@ fn compare_record<R: Print + AllocGlobal, L: Ledger>(
     steps: &mut Steps<L>,
     total: &mut Total,
 ) -> io::Result<()> {
-    let name = title(bytes);
+    let drawn = read_drawn(rt.alloc(), bytes)?;
+    let compared = compare_drawn(rt, title(bytes), &drawn, steps, total);
+    drop(drawn);
+    compared
+}
+
+fn compare_drawn<R: Print + AllocGlobal, L: Ledger>(
+    rt: &R,
+    name: &str,
+    drawn: &Option<Drawn>,
+    steps: &mut Steps<L>,
+    total: &mut Total,
+) -> io::Result<()> {
     let mut counts = Counts::none();
-    let Some(drawn) = read_drawn(rt.alloc(), bytes)? else {
+    let Some(drawn) = drawn else {
         total.add(counts, true);
         return println!(rt; "{name}: refused");
     };
-    let found = compare_roots(rt.alloc(), &drawn, NODES, steps, &mut counts)?;
+    let found = compare_roots(rt.alloc(), drawn, NODES, steps, &mut counts)?;
     total.add(counts, found.is_some());
     match found {
         None => println!(rt; "{name}: {counts}"),

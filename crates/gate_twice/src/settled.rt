@@ -34,6 +34,14 @@ fn ligands_of(alloc: Global, graph: &Graph, vertex: u32) -> Ligands
     ligands
 }
 
+// What is settled: a vertex by its ligands, and no units.
+#[derive(Drop)]
+struct Root<'a> {
+    vertex: u32,
+    ligands: Ligands,
+    units: MarkedUnits<'a>,
+}
+
 /// Settles a root by its first four neighbours, and where its digraph is whole takes Rules 1b and 2 too. Compares what was
 /// noted of each two, but where they are alike or settled behind the last sphere that is compared.
 pub fn compare_settled<L: Ledger>(
@@ -48,18 +56,37 @@ pub fn compare_settled<L: Ledger>(
     requires root { root < length drawn.now.graph.vertices }
     ensures room { HaveRoom tables.new }
 {
+    let root = Root {
+        vertex: root,
+        ligands: ligands_of(alloc, &drawn.graph, root),
+        units: MarkedUnits::of(alloc, &[], 0)?,
+    };
+    compare_root(alloc, drawn, tables, &root, steps, counts)
+}
+
+// The same of a root that stays with the caller, so that no end of this function gives it back.
+fn compare_root<L: Ledger>(
+    alloc: Global,
+    drawn: &Drawn,
+    tables: &mut Tables,
+    root: &Root<'_>,
+    steps: &mut Steps<L>,
+    counts: &mut Counts,
+) -> Result<Option<Difference>, AllocError>
+    requires room { HaveRoom tables.old }
+    requires root { root.now.vertex < length drawn.now.graph.vertices }
+    ensures room { HaveRoom tables.new }
+{
     let graph = &drawn.graph;
-    let units = MarkedUnits::of(alloc, &[], 0)?;
-    let ligands = ligands_of(alloc, graph, root);
-    tables.arena.start(graph, root);
-    tables.work.ask(&ligands);
+    tables.arena.start(graph, root.vertex);
+    tables.work.ask(&root.ligands);
     let settled = settle(
         &mut tables.arena,
         &mut tables.work,
         graph,
         &drawn.positions,
-        &units,
-        ligands.as_slice(),
+        &root.units,
+        root.ligands.as_slice(),
         Rules::Wording2018,
         steps,
     );
@@ -72,7 +99,7 @@ pub fn compare_settled<L: Ledger>(
             .work
             .constitute(&tables.arena, graph, &drawn.positions, Rules::Wording2018);
     }
-    let tree = plain_tree(alloc, graph, &drawn.positions, root, sphere)?;
+    let tree = plain_tree(alloc, graph, &drawn.positions, root.vertex, sphere)?;
     compare_noted(alloc, &tree, tables.work.noted(), counts)
 }
 

@@ -58,18 +58,51 @@ pub fn compare_sphere(
         arena.sphere()
     };
     let tree = plain_tree(alloc, &drawn.graph, &drawn.positions, extent.root, sphere)?;
+    let compared = compare_tree(alloc, drawn, tables, extent, &tree, counts);
+    // given back by a call of its own, here and below: quicker to prove than a function's end
+    drop(tree);
+    compared
+}
+
+// The same with the digraph in boxes, which stays with the caller, so that no end of this function gives it back.
+fn compare_tree(
+    alloc: Global,
+    drawn: &Drawn,
+    tables: &mut Tables,
+    extent: Extent,
+    tree: &PlainTree,
+    counts: &mut Counts,
+) -> Result<Option<Difference>, AllocError>
+    requires holds { Holds drawn.now.graph drawn.now.positions tables.old.arena }
+    requires whole { extent.is_whole ≡ true → next_size drawn.now.graph drawn.now.positions tables.old.arena ≡ 0 }
+    requires root { tables.old.arena.root ≡ extent.root }
+    requires low { extent.root < length drawn.now.graph.vertices }
+    requires room { HaveRoom tables.old }
+    requires fits { length tables.old.arena.nodes ≤ tables.old.arena.bound }
+    ensures room { HaveRoom tables.new }
+{
     let Some(count) = tree.node_count() else {
-        return Ok(Some(Difference::Node(arena.len())));
+        return Ok(Some(Difference::Node(tables.arena.len())));
     };
-    if let Some(node) = first_other(arena, &tree.flat()?) {
+    if let Some(node) = first_other_in(&tables.arena, tree)? {
         return Ok(Some(Difference::Node(node)));
     }
     counts.nodes = counts.nodes.saturating_add(u64::from(count));
     if extent.is_whole && extent.branches {
-        compare_whole(alloc, drawn, tables, extent.root, &tree, counts)
+        compare_whole(alloc, drawn, tables, extent.root, tree, counts)
     } else {
         Ok(None)
     }
+}
+
+// The first node of which the arena and the digraph in boxes tell otherwise.
+fn first_other_in(arena: &Arena, tree: &PlainTree) -> Result<Option<u32>, AllocError>
+    requires { node_count tree.now < 2 ^ 32 }
+{
+    let flat = tree.flat()?;
+    let other = first_other(arena, &flat);
+    drop(flat);
+    Ok(other)
 }
 
 // Compares what is decided between each two branches of a whole digraph, in both wordings.

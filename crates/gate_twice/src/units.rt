@@ -14,21 +14,31 @@ use std::alloc::Global;
 /// How many vertices and edges a molecule's graph has, the positions of an atom, how many atoms the smallest ring through
 /// its first bond has, and its units.
 pub fn units_told(alloc: Global, out: &mut Text, row: &Row) {
-    match molecule(alloc, row) {
-        Ok(Some(molecule)) => push_molecule(alloc, out, &molecule, row.number(4)),
+    let molecule = molecule(alloc, row);
+    match &molecule {
+        Ok(Some(molecule)) => push_molecule(alloc, out, molecule, row.number(4)),
         Ok(None) => out.push_str("no molecule"),
         Err(_) => out.miss(),
     }
+    // given back by a call of its own, here and below: quicker to prove than a function's end
+    drop(molecule);
 }
 
 fn push_molecule(alloc: Global, out: &mut Text, molecule: &Molecule, atom: u32) {
     let Ok(drawn) = drawn_of(alloc, molecule) else {
         return out.miss();
     };
+    push_drawn(alloc, out, molecule, &drawn, atom);
+    drop(drawn);
+}
+
+fn push_drawn(alloc: Global, out: &mut Text, molecule: &Molecule, drawn: &Drawn, atom: u32)
+    requires { drawn.now.graph ≡ graph_of molecule.now }
+{
     push_graph(out, &drawn.graph);
     push_positions(out, &drawn.graph, drawn.positions.of(atom));
     push_first_ring(alloc, out, &drawn.graph);
-    push_units(alloc, out, molecule, &drawn)
+    push_units(alloc, out, molecule, drawn)
 }
 
 fn push_graph(out: &mut Text, graph: &Graph) {

@@ -2,7 +2,7 @@
 ghost use Rattle.std.specs.Prelude.{◌≤◌, All, IfOk, length};
 ghost use Rattle.cip_mol.specs.Ranges.{IsAtom, IsBond};
 
-use crate::molecules::{Drawn, drawn_of};
+use crate::molecules::{Drawn, drawn_if};
 use cip_mol::{Atom, Bond, Mark, Molecule};
 use cip_num::Vec3;
 use gate_rows::Row;
@@ -13,21 +13,30 @@ type Ends = (u32, u32, u8);
 
 /// What the molecule of a row has, whose hydrogens stand behind its atoms.
 pub fn written(alloc: Global, row: &Row) -> Result<Option<Drawn>, AllocError> {
-    match molecule(alloc, row)? {
-        Some(molecule) => Ok(Some(drawn_of(alloc, &molecule)?)),
-        None => Ok(None),
-    }
+    let molecule = molecule(alloc, row)?;
+    let drawn = drawn_if(alloc, &molecule);
+    // given back by a call of its own, which is quicker to prove than this function's end
+    drop(molecule);
+    drawn
 }
 
 /// The molecule of a row, if it is one.
 pub fn molecule(alloc: Global, row: &Row) -> Result<Option<Molecule>, AllocError> {
-    let symbols = row.field(2).as_bytes();
     let ends = ends_of(alloc, row.field(3))?;
+    molecule_of(alloc, row.field(2).as_bytes(), &ends)
+}
+
+// The same by the symbols of its atoms and its bonds.
+fn molecule_of(
+    alloc: Global,
+    symbols: &[u8],
+    ends: &[Ends],
+) -> Result<Option<Molecule>, AllocError> {
     if symbols.len() > 100 || ends.len() > 100 {
         return Ok(None);
     }
     let atoms = atoms(alloc, symbols)?;
-    let bonds = bonds(alloc, &ends)?;
+    let bonds = bonds(alloc, ends)?;
     Ok(Molecule::new(alloc, atoms, bonds).ok())
 }
 

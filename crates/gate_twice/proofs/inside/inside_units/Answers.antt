@@ -2,7 +2,7 @@ use Rattle.std.proofs.Common.{◌∙◌, ap, map}
 use Rattle.std.proofs.lemmas.List.{map-id}
 use Rattle.std.proofs.lemmas.Simd.{map-map}
 use Rattle.cip_mol.specs.declared.site.Unit as units
-use Rattle.gate_twice.proofs.inside.inside_molecule.Goals as goal
+use Rattle.gate_twice.proofs.inside.inside_units.Goals as goal
 
 pub inside_drawn-requires : goal.inside_drawn-requires
 inside_drawn-requires g c = record {

@@ -1,6 +1,6 @@
 use Rattle.std.proofs.Common.{◌≤◌, arith, ap, ◌∙◌}
 use Rattle.gate_twice.proofs.Started.{started_one}
-use Rattle.gate_twice.proofs.settled.compare_settled.Goals as goal
+use Rattle.gate_twice.proofs.settled.compare_root.Goals as goal
 
 pub settle-settled-requires-clause-fits : goal.settle-settled-requires-clause-fits
 settle-settled-requires-clause-fits g c =
