@@ -25,7 +25,7 @@ from typing import Any, BinaryIO, Callable, Iterator, List, Optional, SupportsIn
 
 __all__ = ["NODES", "RULE_1B", "Error", "Label", "Labeller", "Labels", "NoMemory", "Refused", "Undefined",
            "library_version", "records"]
-__version__ = "13"
+__version__ = "14"
 
 Record = Union[str, bytes, bytearray, memoryview]
 

@@ -27,9 +27,9 @@ pub extern "C" fn cip_labeller_size() -> usize
 /// The version of the library.
 #[unsafe(no_mangle)]
 pub extern "C" fn cip_version() -> u32
-    ensures { result ≡ 13 }
+    ensures { result ≡ 14 }
 {
-    13
+    14
 }
 
 /// Makes a labeller at a pointer, behind which is room for it.
