@@ -16,7 +16,6 @@ pub mod Subtrees
 pub mod Told
 pub mod UnitLetters
 pub mod BelowNodes
-pub mod KeyOrders
 pub mod Members
 pub mod PathEnds
 pub mod Reaching

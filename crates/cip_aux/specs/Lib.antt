@@ -7,6 +7,5 @@ pub mod Neighbours
 pub mod Sights
 pub mod UnitsAt
 pub mod Below
-pub mod RootKeys
 pub mod Sources
 pub mod Whole

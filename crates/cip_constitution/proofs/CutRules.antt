@@ -32,7 +32,7 @@ use Rattle.cip_constitution.proofs.CutNodes.{IsOver, cut_over}
 use Rattle.cip_constitution.proofs.AllTie.{tie_total}
 use Rattle.cip_constitution.proofs.DifferTold.{IsFirst}
 use Rattle.cip_constitution.proofs.NamedNodes.{named_is}
-use Rattle.cip_constitution.proofs.NodeKeys.{keys_at}
+use Rattle.cip_ligands.proofs.NodeKeys.{keys_at}
 use Rattle.cip_constitution.proofs.SeenRules.{IsEnded as HasEnded, by_atoms, by_distances, by_masses}
 
 beyond : (xs : List ℕ) (i : ℕ) → length xs ≤ i → slice_index xs i ≡ 0

@@ -16,7 +16,6 @@ pub mod FollowedBranches
 pub mod FollowedEnds
 pub mod GoingOn
 pub mod NamedNodes
-pub mod NodeKeys
 pub mod NotedPairs
 pub mod Rounds
 pub mod SeenDistances

@@ -20,7 +20,7 @@ use Rattle.cip_digraph.proofs.Cut.{size, kids_far}
 use Rattle.cip_digraph.proofs.Lists.{all_by, all_append, all_replicate}
 use Rattle.cip_digraph.proofs.Numbered.{count_is, digraph_length, told_children}
 use Rattle.cip_digraph.proofs.Placing.{placed_parents}
-use Rattle.cip_constitution.proofs.NodeKeys.{keys_at}
+use Rattle.cip_ligands.proofs.NodeKeys.{keys_at}
 use Rattle.cip_constitution.specs.Following.{named}
 
 -- numbers of which none is below one before it

@@ -3,11 +3,11 @@ ghost use Rattle.std.specs.Prelude.{◌≡◌, ◌<◌, ◌≤◌, ◌+◌, ◌-
 ghost use Rattle.std.specs.List.{range_with_len};
 ghost use Rattle.cip_constitution.specs.Trials.{told, IsGrown, FollowsTo};
 
-use crate::keys::ByAtom;
 use crate::setting::Setting;
 use cip_arena::Arena;
 use cip_branches::{Around, Branches};
 use cip_digraph::Nodes;
+use cip_ligands::ByAtom;
 use cip_rows::Column;
 
 // Numbers the nodes behind the root.

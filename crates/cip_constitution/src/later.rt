@@ -8,12 +8,13 @@ ghost use Rattle.cip_rows.specs.Keys.{AreKeyed};
 ghost use Rattle.cip_rows.specs.Parting.{has_flag};
 ghost use Rattle.cip_constitution.specs.FollowedOut.{AreConstituted, AreFollowedOut, AreOrdered, with_flags};
 
-use crate::keys::{ByDistance, ByMass};
 use crate::work::Work;
 use cip_arena::Arena;
 use cip_branches::Branches;
 use cip_digraph::{Graph, Positions};
-use cip_ligands::{Asked, Marked, Readings, decide_configuration, decide_constitution};
+use cip_ligands::{
+    Asked, ByDistance, ByMass, Marked, Readings, decide_configuration, decide_constitution,
+};
 use cip_rank::Rules;
 
 // Flags the node at a place, where its branch is wanted still.

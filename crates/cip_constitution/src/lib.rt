@@ -8,7 +8,6 @@ mod closing;
 mod differing;
 mod ending;
 mod following;
-mod keys;
 mod later;
 mod noting;
 mod pairs;
@@ -18,7 +17,6 @@ mod standing;
 mod taking;
 mod work;
 
-pub use keys::{ByAtom, ByDistance, ByMass};
 pub use pairs::Pair;
 pub use settling::{Settled, settle};
 pub use work::Work;

@@ -6,9 +6,9 @@ ghost use Rattle.cip_branches.specs.Saving.{saved_of};
 ghost use Rattle.cip_constitution.specs.Alike.{TakesWhole, TakesBoth};
 ghost use Rattle.cip_mol.specs.declared.outcome.Rule.{Rule as AnyRule};
 
-use crate::keys::{ByDistance, ByMass};
 use cip_arena::Arena;
 use cip_branches::{Branches, SavedRanks};
+use cip_ligands::{ByDistance, ByMass};
 use cip_rank::{Keyed, Rules};
 
 // Takes a rule over branches by keys. No memory is taken.

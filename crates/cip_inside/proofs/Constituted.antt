@@ -24,9 +24,12 @@ use Rattle.cip_ligands.specs.Taking.{WantsNoMore}
 use Rattle.cip_ligands.proofs.FoundWithin.{same_found}
 use Rattle.cip_ligands.proofs.RulesReady.{ready_early}
 use Rattle.cip_aux.specs.Sights.{Sight, Shows}
-use Rattle.cip_inside.specs.Keys.{distance_keys, mass_keys}
+use Rattle.cip_inside.specs.Keys.{distance_keys}
+use Rattle.cip_digraph.specs.declared.nodes.Told.{Told}
+use Rattle.cip_ligands.specs.NodeKeys.{mass_keys}
+use Rattle.cip_ligands.proofs.NodeKeys.{keys_at}
 use Rattle.cip_inside.specs.Near.{ArePlaced, AreFollowedFrom, AreConstituted, seen_at, top_node}
-use Rattle.cip_inside.proofs.NodeKeys.{distance_key_is, mass_key_is}
+use Rattle.cip_inside.proofs.NodeKeys.{distance_key_is}
 
 -- a place of a sphere is one of all
 pub place_low : (now : Branched) → AreFollowed now → (t place : ℕ)
@@ -95,7 +98,7 @@ module _ (sight : Sight) (node : ℕ) (tops : List ℕ) (begin : List Asked)
         each = λ t place p.
             let number = slice_index old.layers.kin.nodes place in
             let low = node_low t place p in
-            mass_key_is sight.told number low
+            keys_at (λ (told : Told). pos told.mass) sight.told number low
             ∙ ap pos (shows.told.each number (omega (arith, low, told_len))).mass;
       }
 

@@ -18,7 +18,7 @@ use Rattle.cip_aux.specs.Neighbours.{neighbours_of}
 use Rattle.cip_letters.specs.Sides.{pair_sides}
 use Rattle.cip_aux.specs.Sights.{Sight, seen_sides}
 use Rattle.cip_inside.specs.Asking.{asked_pairs, side_at}
-use Rattle.cip_inside.specs.Narrowing.{Tell}
+use Rattle.cip_inside.specs.Narrowing.{SidesAreTold}
 use Rattle.cip_inside.specs.Near.{AreConstituted, AreOrdered, asked_tops, seen_at, top_node}
 use Rattle.cip_inside.proofs.AskedSides.{pairs_found, pairs_lone, pairs_within, tops_of}
 
@@ -73,7 +73,7 @@ module _ (inner : Inner) (node : ℕ) (ligands : List (Option ℕ))
 
 -- where all rules decide them
 pub ordered_early : (inner : Inner) (node : ℕ) (tops : List ℕ) (asked : List Asked) (ligands : List (Option ℕ))
-    → Tell inner.sight node tops asked ligands → (pairs turned : List Asked)
+    → SidesAreTold inner.sight node tops asked ligands → (pairs turned : List Asked)
     → ((mark : List ℕ → Option Descriptor) → AgreesInside inner mark
     → AreOrdered inner.sight node mark tops asked pairs turned)
     → AreEarly inner node false ligands (map side_at pairs) (map side_at turned)

@@ -39,8 +39,8 @@ use Rattle.cip_digraph.specs.rules.Orders.{all_tie, rule_1a}
 use Rattle.cip_mol.specs.declared.descriptor.Descriptor.{Descriptor}
 use Rattle.cip_mol.specs.declared.outcome.Rule.TheVariants.{R1a}
 use Rattle.cip_digraph.proofs.ExchangedOrders.{all_tie_total}
-use Rattle.cip_aux.specs.RootKeys.{root_keys}
-use Rattle.cip_aux.proofs.KeyOrders.{root_key_is}
+use Rattle.cip_ligands.specs.NodeKeys.{atomic_keys}
+use Rattle.cip_ligands.proofs.NodeKeys.{keys_at}
 use Rattle.cip_aux.proofs.SeenChildren.{seen_are}
 use Rattle.cip_aux.specs.Sights.{Sight, Shows, IsReal, path_at}
 use Rattle.cip_inside.specs.Near.{AreTops, AreFollowedFrom, seen_at, top_node}
@@ -60,7 +60,7 @@ pub record AreAround (sight : Sight) (way : List Bool) (from : ℕ) (tops : List
   pub followed : AreFollowed now
   pub decided : AreDecided (view_children sight.graph sight.positions (path_at sight.nodes from)) all_tie
       (λ node. pos (atomic_key sight.graph sight.positions node)) (node_at sight.nodes) now
-  pub numbered : AreDecided (kids_around (parents_of sight.told) way) all_tie (key_at (root_keys sight.told)) (λ n. n)
+  pub numbered : AreDecided (kids_around (parents_of sight.told) way) all_tie (key_at (atomic_keys sight.told)) (λ n. n)
       now
   pub seen : AreSeen (parents_of sight.told) way from now.first now.layers.kin.nodes
   pub away : (p : ℕ) → now.first ≤ p → p < length now.layers.kin.nodes
@@ -122,7 +122,7 @@ module _ (sight : Sight) (shows : Shows sight) (from : ℕ) (real : IsReal sight
   named = node_at sight.nodes
 
   abbrev keys : List ℤ
-  keys = root_keys sight.told
+  keys = atomic_keys sight.told
 
   abbrev around : ℕ → List ℕ
   around = kids_around parents way
@@ -144,7 +144,7 @@ module _ (sight : Sight) (shows : Shows sight) (from : ℕ) (real : IsReal sight
   named_key : (n : ℕ) → n < length parents → key_at keys n ≡ key (named n)
   named_key n lt =
       let len = shows.told.len in
-      root_key_is sight.told n (omega (arith, lt, told_len)) ∙ ap pos (shows.told.each n (omega (arith, lt, len))).atomic
+      keys_at (λ (told : Told). pos told.atomic) sight.told n (omega (arith, lt, told_len)) ∙ ap pos (shows.told.each n (omega (arith, lt, len))).atomic
 
   named_kids : (n : ℕ) → n < length parents → map named (around n) ≡ next (named n)
   named_kids n lt =

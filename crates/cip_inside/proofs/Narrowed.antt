@@ -5,7 +5,7 @@ use Rattle.std.specs.declared.option.Option.{Option}
 use Rattle.std.specs.declared.cmp.Ordering.{Ordering}
 use Rattle.std.proofs.lemmas.Bool.{or_left, or_right}
 use Rattle.std.proofs.lemmas.List.{get_or_default, map-append, take_more}
-use Rattle.std.proofs.lemmas.List.Elements.{All-contains, All-contains_itself, All-filter, Contains-get_or, filter-append}
+use Rattle.std.proofs.lemmas.List.Elements.{All-contains, All-contains_itself, All-filter, All-from_recursion, Contains-get_or, filter-append}
 use Rattle.cip_branches.specs.Deciding.{Branched}
 use Rattle.cip_rank.specs.Tree.{children_of}
 use Rattle.cip_reroot.specs.View.{parent_list}
@@ -25,7 +25,7 @@ use Rattle.cip_ligands.proofs.RulesGoOn.{order_told}
 use Rattle.cip_aux.specs.Neighbours.{neighbours_of}
 use Rattle.cip_aux.specs.Sights.{Sight, seen_sides}
 use Rattle.cip_inside.specs.Asking.{asked_between, asked_of, asked_pairs, branch_at, side_at}
-use Rattle.cip_inside.specs.Narrowing.{LeavesOpen, Tell, is_open_top, is_top_of, moved, open_tops}
+use Rattle.cip_inside.specs.Narrowing.{LeavesOpen, SidesAreTold, is_open_top, is_top_of, moved, open_tops}
 use Rattle.cip_inside.specs.Near.{AreConstituted, asked_tops, is_ligand, seen_at, top_node}
 use Rattle.cip_inside.proofs.AskedSides.{branch_low, branch_top, kept_in, pairs_found, pairs_within, tops_of}
 
@@ -331,3 +331,23 @@ module _ (sight : Sight) (node : ℕ) (tops : List ℕ) (asked_for : List (Optio
         ∙ all_open sight node tops others no_mark left.asked (have no_mark)
         ∙ sym (ap (list_all is_decided) (left.constituted.noted no_mark)) ∙ left.undone;
   }
+
+  -- by the tops as they stand then
+  module _ (ones now : List ℕ) (asked : List Asked) (are_tops : ones ≡ tops) (is_now : now ≡ others)
+      (is_asked : asked ≡ map (moved ones now) pairs) where
+    asked_is : asked ≡ map (moved tops others) pairs
+    asked_is = is_asked ∙ (λ i. map (moved (are_tops i) (is_now i)) pairs)
+
+    pub narrowed_within : All (AreWithin (length now)) asked
+    narrowed_within = subst (λ (ns : List ℕ). All (AreWithin (length ns)) asked) (sym is_now)
+        (subst (All (AreWithin (length others))) (sym asked_is)
+        (All-from_recursion (AreWithin (length others)) (map (moved tops others) pairs) all_moved))
+
+    pub narrowed_open : (still : List ℕ) (then : Branched) (found : List Asked) → still ≡ now
+        → AreConstituted sight node still then asked found → LeavesOpen sight node still then found ligands
+    narrowed_open still then found e constituted =
+        left_again sight node others still then then found found ligands
+        (narrowed_left then found
+        (subst (λ (ps : List Asked). AreConstituted sight node others then ps found) asked_is
+        (subst (λ (ns : List ℕ). AreConstituted sight node ns then asked found) (e ∙ is_now) constituted)))
+        (e ∙ is_now) refl refl

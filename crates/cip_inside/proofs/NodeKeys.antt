@@ -10,7 +10,7 @@ use Rattle.cip_digraph.specs.declared.nodes.Told.{Told}
 use Rattle.cip_digraph.specs.digraph.NodeList.{nothing_told, told_at}
 use Rattle.cip_digraph.specs.rules.Keys.{lower_precedes}
 use Rattle.cip_aux.specs.Sights.{Sight}
-use Rattle.cip_inside.specs.Keys.{distance_at, distance_keys, mass_keys}
+use Rattle.cip_inside.specs.Keys.{distance_at, distance_keys}
 
 pub lower_compare : (m n : ℕ) → int_cmp (lower_precedes m) (lower_precedes n) ≡ nat_cmp n m
 lower_compare zero zero = grind (arith, nat_tests)
@@ -25,7 +25,3 @@ distance_key_is sight from node h =
     let key : ℕ → ℤ = λ n. lower_precedes (distance_at sight from n) in
     get_or-map key (range_with_len 0 count) node 0 (pos 0) (omega (arith, length-range_with_len 0 count, h))
     ∙ ap key (get_or-range_with_len 0 count node 0 h ∙ omega arith)
-
-pub mass_key_is : (all : List Told) (node : ℕ) → node < length all
-    → key_at (mass_keys all) node ≡ pos (told_at all node).mass
-mass_key_is all node h = get_or-map (λ (told : Told). pos told.mass) all node nothing_told (pos 0) h

@@ -1,6 +1,9 @@
 -- Looks that are kept: they stand again as constitution left them, and each is one of this digraph.
-use Rattle.std.proofs.Common.{◌≡◌, ◌∙◌, ◌<◌, ◌==◌, ◌&&◌, ℕ, Bool, true, false, List, [], ◌∷◌, None, Some, All, length, map, get_or, slice_get, refl, sym, ap, subst, arith, eqb-true}
+use Rattle.std.proofs.Common.{◌≡◌, ◌∙◌, ◌<◌, ◌==◌, ◌&&◌, ◌++◌, ℕ, Bool, true, false, List, [], ◌∷◌, None, Some, Ok, Err, OnOk, OnErr, Result, All, length, map, get_or, slice_get, refl, sym, ap, subst, arith, eqb-true}
 use Rattle.std.specs.Option.{option_map}
+use Rattle.std.specs.declared.alloc.AllocError.{AllocError}
+use Rattle.std.proofs.Math.Seq.{get_or-append_seam}
+use Rattle.std.proofs.lemmas.List.Elements.{All-push}
 use Rattle.std.specs.Prelude.{unwrap_or}
 use Rattle.std.specs.declared.option.Option.{Option}
 use Rattle.std.proofs.lemmas.List.{length-map}
@@ -13,8 +16,8 @@ use Rattle.cip_ligands.specs.declared.asked.Asked.{Asked}
 use Rattle.cip_ligands.specs.Taking.{AreSame}
 use Rattle.cip_ligands.proofs.TakenSteps.{same_still, stands_back}
 use Rattle.cip_inside.specs.Narrowing.{LeavesOpen}
-use Rattle.cip_inside.specs.Near.{asked_tops}
-use Rattle.cip_inside.specs.OpenLooks.{IsOpen, Look, asks, looked_at, same_ligand, same_ligands}
+use Rattle.cip_inside.specs.Near.{Nearing, asked_tops}
+use Rattle.cip_inside.specs.OpenLooks.{AreOpen, IsOpen, Look, asks, looked_at, same_ligand, same_ligands}
 use Rattle.cip_inside.proofs.Narrowed.{left_again}
 
 pub stood : (bound : ℕ) (sight : Sight) (look : Look) (is : IsOpen bound sight look)
@@ -22,6 +25,48 @@ pub stood : (bound : ℕ) (sight : Sight) (look : Look) (is : IsOpen bound sight
 stood bound sight look is =
     ap (λ (s : Saved). restored s look.branched) is.ranks
     ∙ stands_back is.begin look.branched look.ranks.room is.left.constituted.placed.followed is.same
+
+-- the branches of a look that stand so again leave the same pairs open
+pub stands_open : (bound : ℕ) (sight : Sight) (look : Look) (is : IsOpen bound sight look) (near : Nearing) (room : ℕ)
+    → near ≡ record { bound = room; tops = looked_at sight look; now = restored look.ranks look.branched }
+    → (pairs : List Asked) → pairs ≡ look.pairs → LeavesOpen sight look.node near.tops near.now pairs look.ligands
+stands_open bound sight look is near room e pairs same =
+    left_again sight look.node (looked_at sight look) near.tops is.begin near.now look.pairs pairs look.ligands is.left
+    (ap (λ (n : Nearing). n.tops) e) (ap (λ (n : Nearing). n.now) e ∙ stood bound sight look is) same
+
+-- and a look whose branches have other ranks since is open still
+pub open_still : (bound : ℕ) (sight : Sight) (look later : Look) → IsOpen bound sight look → (now then : Branched)
+    → now ≡ restored look.ranks look.branched → AreSame now then → then.layers.kin.room ≡ bound
+    → later ≡ record look { branched = then } → IsOpen bound sight later
+open_still bound sight look later is now then e same room f = subst (IsOpen bound sight) (sym f) (record {
+  begin = is.begin;
+  left = is.left;
+  ranks = is.ranks;
+  numbers = is.numbers;
+  same = subst (λ (b : Branched). AreSame b then) (e ∙ stood bound sight look is) same;
+  room = room;
+})
+
+-- one look more
+pub pushed_open : (bound : ℕ) (sight : Sight) (result : Result Unit AllocError) (before now : List Look) (look : Look)
+    → OnOk result (now ≡ before ++ look ∷ []) → OnErr result (now ≡ before) → AreOpen bound sight before
+    → IsOpen bound sight look → AreOpen bound sight now
+pushed_open bound sight (Ok done) before now look added refused are is = record {
+  room = are.room;
+  each = subst (All (IsOpen bound sight)) (sym added) (All-push (IsOpen bound sight) before look are.each is);
+}
+pushed_open bound sight (Err cause) before now look added refused are is =
+    subst (AreOpen bound sight) (sym refused) are
+
+pub last_is : (result : Result Unit AllocError) (before now : List Look) (look : Look) (node : ℕ)
+    (ligands : List (Option ℕ)) → OnOk result (now ≡ before ++ look ∷ []) → look.node ≡ node → look.ligands ≡ ligands
+    → OnOk result ((l : Look) → slice_get now (length before) ≡ Some l → (l.node ≡ node) × (l.ligands ≡ ligands))
+last_is (Ok done) before now look node ligands added e f = λ l at.
+    let same : l ≡ look =
+    sym (get_or_from_slice_get now (length before) l look at)
+    ∙ ap (λ (ls : List Look). get_or ls (length before) look) added ∙ get_or-append_seam before look [] look in
+    (ap (λ (k : Look). k.node) same ∙ e, ap (λ (k : Look). k.ligands) same ∙ f)
+last_is (Err cause) before now look node ligands added e f = tt
 
 -- one of them
 pub at_place : {X : Type 0} (P : X → Type 0) (xs : List X) (place : ℕ) (x : X) → All P xs → slice_get xs place ≡ Some x → P x

@@ -29,9 +29,6 @@ pub record KnowSteps (sight : Sight) (from count : ℕ) (steps : List ℕ) : Typ
       → slice_index steps node ≡ apart (path_at sight.nodes from) (path_at sight.nodes node)
   pub few : (node : ℕ) → node < count → slice_index steps node ≤ length sight.told + node
 
-abbrev pub mass_keys : List Told → List ℤ
-mass_keys all = map (λ told. pos told.mass) all
-
 -- A node on the way from the root to one, so far from the root as the paths of this one and another go together. So many
 -- steps lead from the root to each of them.
 pub record IsMeet (sight : Sight) (from node meet : ℕ) : Type 0 where

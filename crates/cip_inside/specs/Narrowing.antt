@@ -13,7 +13,7 @@ use Rattle.cip_inside.specs.Asking.{asked_between, asked_of, side_at}
 use Rattle.cip_inside.specs.Near.{AreConstituted, seen_at, top_node}
 
 -- what all rules decide between these pairs of branches tells how ligands stand, whichever descriptors there are
-pub record Tell (sight : Sight) (node : ℕ) (tops : List ℕ) (asked : List Asked) (ligands : List (Option ℕ)) : Type 0
+pub record SidesAreTold (sight : Sight) (node : ℕ) (tops : List ℕ) (asked : List Asked) (ligands : List (Option ℕ)) : Type 0
   where
     pub each : (mark : List ℕ → Option Descriptor) (r_first : Bool)
         → map side_at (map (with_found (λ a b. order (seen_at sight node mark) r_first (top_node sight tops a)
@@ -24,7 +24,7 @@ pub record LeavesOpen (sight : Sight) (node : ℕ) (tops : List ℕ) (now : Bran
     (ligands : List (Option ℕ)) : Type 0 where
   pub asked : List Asked
   pub within : AllByRecursion (AreWithin (length tops)) asked
-  pub tell : Tell sight node tops asked ligands
+  pub tell : SidesAreTold sight node tops asked ligands
   pub constituted : AreConstituted sight node tops now asked pairs
   pub undone : list_all is_decided pairs ≡ false
 

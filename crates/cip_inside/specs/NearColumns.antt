@@ -12,5 +12,6 @@ pub record HaveRoom (a : Inside) : Type 0 where
   pub branches : a.branches.layers.kin.room ≡ a.bound
   pub tops : a.tops.room ≡ a.bound + 1
   pub steps : a.steps.room ≡ a.bound
+  pub readings : a.readings.bound ≡ a.bound
   pub way : a.bound ≤ vec_capacity a.way
   pub off : (k : ℕ) → slice_index_or a.way.items k false ≡ false

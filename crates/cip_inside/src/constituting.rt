@@ -9,12 +9,11 @@ ghost use Rattle.cip_inside.specs.Near.{AreTops, AreConstituted};
 
 use crate::distances::Distances;
 use crate::following::follow_all;
-use crate::masses::Masses;
 use crate::stepping::{SeenFrom, count_steps};
 use cip_aux::Whole;
 use cip_branches::Branches;
 use cip_digraph::Nodes;
-use cip_ligands::{Asked, are_decided, decide_constitution};
+use cip_ligands::{Asked, ByMass, are_decided, decide_constitution};
 use cip_rows::Column;
 
 /// Follows the branches below some neighbours of a node by Rule 1a, as it is seen by these flags of the way there, and
@@ -52,6 +51,6 @@ pub fn constitute<N: Nodes>(
         known: steps.as_slice(),
         from: from.node,
     };
-    let masses = Masses { nodes };
+    let masses = ByMass { nodes };
     decide_constitution(branches, &distances, &masses, asked)
 }

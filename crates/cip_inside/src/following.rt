@@ -7,10 +7,10 @@ ghost use Rattle.cip_ligands.specs.Asking.{AreWithin};
 ghost use Rattle.cip_inside.specs.Keys.{IsFlagged};
 ghost use Rattle.cip_inside.specs.Near.{AreTops, AreFollowedFrom};
 
-use cip_aux::{RootKeys, Whole};
+use cip_aux::Whole;
 use cip_branches::{Around, Branches};
 use cip_digraph::Nodes;
-use cip_ligands::{Asked, note};
+use cip_ligands::{Asked, ByAtom, note};
 use cip_mol::Rule;
 
 // Whether some branches tie and go on.
@@ -43,7 +43,7 @@ pub fn follow_all<N: Nodes>(
 {
     let nodes = whole.nodes();
     let table = nodes.table();
-    let keys = RootKeys { nodes };
+    let keys = ByAtom { nodes };
     let around = Around { table, way };
     let _count = table.len();
     branches.begin(tops, &keys);

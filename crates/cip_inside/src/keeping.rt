@@ -1,17 +1,17 @@
 // Looks into a digraph of which those are kept that constitution leaves open.
-ghost use Rattle.std.specs.Prelude.{◌≡◌, ◌<◌, ◌≤◌, ℕ, List, true, false, All, Contains, IfOk, IfSome, Some, length, map, slice_get};
+ghost use Rattle.std.specs.Prelude.{◌≡◌, ◌<◌, ◌≤◌, ◌+◌, ℕ, List, true, false, All, Contains, IfOk, IfSome, OnOk, Some, length, map, slice_get};
 ghost use Rattle.std.specs.declared.option.Option.{Option};
 ghost use Rattle.cip_aux.specs.Early.{AreEarly};
 ghost use Rattle.cip_aux.specs.Inner.{Inner as AnyInner, Ready};
 ghost use Rattle.cip_aux.specs.Neighbours.{neighbours_of};
 ghost use Rattle.cip_aux.specs.Sights.{IsReal, sight_of};
-ghost use Rattle.cip_branches.specs.Saving.{saved_of};
+ghost use Rattle.cip_branches.specs.Saving.{restored, saved_of};
 ghost use Rattle.cip_digraph.specs.digraph.NodeList.{parents_of};
 ghost use Rattle.cip_ligands.specs.Taking.{AreSame};
-ghost use Rattle.cip_inside.specs.Asking.{side_at};
-ghost use Rattle.cip_inside.specs.Narrowing.{LeavesOpen};
+ghost use Rattle.cip_inside.specs.Asking.{asked_pairs, side_at};
+ghost use Rattle.cip_inside.specs.Narrowing.{LeavesOpen, open_tops};
 ghost use Rattle.cip_inside.specs.Near.{ArePlaced, AreTops, asked_tops};
-ghost use Rattle.cip_inside.specs.OpenLooks.{AreOpen, IsOpen, look_of};
+ghost use Rattle.cip_inside.specs.OpenLooks.{Look as AnyLook, AreOpen, IsOpen, look_of, looked_at};
 ghost use Rattle.cip_inside.specs.declared.open_looks.OpenLook.{OpenLook as OpenedLook};
 
 use crate::asking::{ask_all, both_sides};
@@ -20,10 +20,11 @@ use crate::near::Near;
 use crate::open_looks::{OpenLook, OpenLooks};
 use crate::sights::configure;
 use cip_aux::{Decided, Inner, Whole};
-use cip_branches::{Branches, SavedRanks};
+use cip_branches::SavedRanks;
 use cip_digraph::Nodes;
 use cip_letters::MOST_PAIRS;
-use cip_ligands::{Asked, Readings};
+use cip_ligands::Asked;
+use cip_rank::both;
 use smallvec::SmallVec;
 use std::alloc::{AllocError, Global};
 
@@ -51,12 +52,11 @@ fn settled(alloc: Global, pairs: &[Asked]) -> Result<Decided, AllocError>
 fn configured<N: Nodes>(
     alloc: Global,
     near: &mut Near,
-    readings: &mut Readings,
     inner: &Inner<'_, N>,
     node: u32,
     pairs: &mut [Asked],
 ) -> Result<Decided, AllocError>
-    requires room { length inner.now.sight.told ≤ readings.old.bound }
+    requires room { length inner.now.sight.told ≤ near.old.bound }
     requires ready { Ready inner.now node }
     requires tops { AreTops (parents_of inner.now.sight.told) node near.old.tops }
     requires placed { ArePlaced inner.now.sight node near.old.tops near.old.now }
@@ -66,87 +66,83 @@ fn configured<N: Nodes>(
         found.sides.turned.items) }
     ensures same { AreSame near.old.now near.new.now }
     ensures bound { near.new.bound ≡ near.old.bound }
-    ensures readings { readings.new.bound ≡ readings.old.bound }
 {
     let mut turned = SmallVec::<Asked, MOST_PAIRS>::from_slice(alloc, pairs)?;
     let others = turned.as_mut_slice();
-    configure(near, readings, inner, node, pairs, others);
+    configure(near, inner, node, pairs, others);
     Ok(Decided {
         sides: both_sides(alloc, pairs, others)?,
         by_constitution: false,
     })
 }
 
-// Takes the branches of a look, which constitution left open, and leaves others.
-fn taken(
-    alloc: Global,
-    near: &mut Near,
-    blank: Branches,
-    asked: &Look<'_>,
-    tops: Tops,
-    pairs: &[Asked],
-) -> Result<OpenLook, AllocError>
-    requires blank { blank.layers.kin.room ≡ near.old.bound }
-    ensures node { IfOk result (λ look. look.node ≡ asked.now.node) }
-    ensures ligands { IfOk result (λ look. look.ligands.items ≡ asked.now.ligands.now) }
-    ensures looked { IfOk result (λ look. look.tops.items ≡ tops.items) }
-    ensures pairs { IfOk result (λ look. look.pairs.items ≡ pairs.now) }
-    ensures branches { IfOk result (λ look. look.branches ≡ near.old.now) }
-    ensures ranks { IfOk result (λ look. look.ranks ≡ saved_of look.ranks.room near.old.now) }
-    ensures numbers { IfOk result (λ look. length near.old.now.layers.ranked.numbers
-        ≡ length near.old.now.layers.kin.ups) }
-    ensures room { IfOk result (λ look. look.branches.layers.kin.room ≡ near.old.bound) }
-    ensures bound { near.new.bound ≡ near.old.bound }
-    ensures tops { near.new.tops ≡ near.old.tops }
+// Lets the branches of an open look stand as constitution left them.
+fn reopen<N: Nodes>(near: &mut Near, whole: &Whole<'_, N>, look: &mut OpenLook)
+    requires bound { length whole.now.told ≤ near.old.bound }
+    requires node { look.old.node < length whole.now.told }
+    requires open { IsOpen near.old.bound (sight_of whole.now) (look_of look.old) }
+    ensures near { near.new ≡ record {
+      bound = near.old.bound;
+      tops = looked_at (sight_of whole.now) (look_of look.old);
+      now = restored look.old.ranks look.old.branches;
+    } }
+    ensures look { look.new ≡ record look.old { branches = near.old.now } }
+    ensures room { look.new.branches.layers.kin.room ≡ near.new.bound }
 {
-    let ligands = SmallVec::<Option<u32>, MOST_LIGANDS>::from_slice(alloc, asked.ligands)?;
-    let pairs = SmallVec::<Asked, MOST_PAIRS>::from_slice(alloc, pairs)?;
-    let mut branches = blank;
-    let mut ranks = SavedRanks::reserve(alloc, near.len())?;
-    near.save(&mut ranks);
-    near.swap(&mut branches);
-    Ok(OpenLook {
-        node: asked.node,
-        ligands,
-        tops,
-        pairs,
-        branches,
-        ranks,
-    })
+    near.begin(whole, look.node, look.tops.as_slice());
+    near.swap(&mut look.branches);
+    near.restore(&look.ranks);
 }
 
 // Goes on with an open look from where constitution left its branches, by the descriptors that count.
 fn go_on<N: Nodes>(
     alloc: Global,
     near: &mut Near,
-    readings: &mut Readings,
     inner: &Inner<'_, N>,
     look: &mut OpenLook,
 ) -> Result<Decided, AllocError>
     requires bound { length inner.now.sight.told ≤ near.old.bound }
-    requires room { near.old.bound ≤ readings.old.bound }
     requires ready { Ready inner.now look.old.node }
     requires open { IsOpen near.old.bound inner.now.sight (look_of look.old) }
     ensures early { IfOk result (λ found. AreEarly inner.now look.old.node found.by_constitution look.old.ligands.items
         found.sides.natural.items found.sides.turned.items) }
     ensures open { IsOpen near.old.bound inner.now.sight (look_of look.new) }
     ensures near { near.new.bound ≡ near.old.bound }
-    ensures readings { readings.new.bound ≡ readings.old.bound }
 {
     let mut pairs = SmallVec::<Asked, MOST_PAIRS>::from_slice(alloc, look.pairs.as_slice())?;
-    near.begin(inner.whole(), look.node, look.tops.as_slice());
-    near.swap(&mut look.branches);
-    near.restore(&look.ranks);
-    let found = configured(
-        alloc,
-        near,
-        readings,
-        inner,
-        look.node,
-        pairs.as_mut_slice(),
-    );
+    let node = look.node;
+    reopen(near, inner.whole(), look);
+    let found = configured(alloc, near, inner, node, pairs.as_mut_slice());
+    drop(pairs);
     near.swap(&mut look.branches);
     found
+}
+
+// Asks about the same pairs by the branches of open ones alone, whose tops these are.
+fn look_anew<N: Nodes>(
+    near: &mut Near,
+    whole: &Whole<'_, N>,
+    asked: &Look<'_>,
+    before: &[u32],
+    open: &[Option<u32>],
+    pairs: &mut [Asked],
+)
+    requires room { length whole.now.told ≤ near.old.bound }
+    requires node { asked.now.node < length whole.now.told }
+    requires real { IsReal (sight_of whole.now).nodes asked.now.node }
+    requires before { before.now ≡ near.old.tops }
+    requires open { open.now ≡ open_tops near.old.tops pairs.old }
+    requires tops { near.old.tops ≡ asked_tops (parents_of whole.now.told) asked.now.ligands.now asked.now.node }
+    requires left { LeavesOpen (sight_of whole.now) asked.now.node near.old.tops near.old.now pairs.old
+        asked.now.ligands.now }
+    ensures tops { near.new.tops ≡ asked_tops (parents_of whole.now.told) open.now asked.now.node }
+    ensures left { LeavesOpen (sight_of whole.now) asked.now.node near.new.tops near.new.now pairs.new
+        asked.now.ligands.now }
+    ensures bound { near.new.bound ≡ near.old.bound }
+{
+    near.begin(whole, asked.node, open);
+    move_all(near, before, pairs);
+    near.constitution(whole, asked.node, pairs);
 }
 
 // Begins anew with the branches of open pairs alone where the others hold most places, so that these needn't be kept.
@@ -173,25 +169,92 @@ fn narrowed<N: Nodes>(
         return Tops::from_slice(alloc, asked.ligands);
     }
     let before = SmallVec::<u32, MOST_LIGANDS>::from_slice(alloc, near.tops())?;
-    let open = open_tops(alloc, near.tops(), pairs)?;
-    near.begin(whole, asked.node, open.as_slice());
-    move_all(near, before.as_slice(), pairs);
-    near.constitution(whole, asked.node, pairs);
+    let open = open_tops(alloc, before.as_slice(), pairs)?;
+    look_anew(
+        near,
+        whole,
+        asked,
+        before.as_slice(),
+        open.as_slice(),
+        pairs,
+    );
     Ok(open)
 }
 
-// Keeps a look that constitution leaves open, and goes on with it.
+// Takes the branches of a look, which constitution left open, and leaves others.
+fn taken(
+    alloc: Global,
+    near: &mut Near,
+    asked: &Look<'_>,
+    tops: Tops,
+    pairs: &[Asked],
+    kept: &mut OpenLooks,
+) -> Result<OpenLook, AllocError>
+    ensures node { IfOk result (λ look. look.node ≡ asked.now.node) }
+    ensures ligands { IfOk result (λ look. look.ligands.items ≡ asked.now.ligands.now) }
+    ensures looked { IfOk result (λ look. look.tops.items ≡ tops.items) }
+    ensures pairs { IfOk result (λ look. look.pairs.items ≡ pairs.now) }
+    ensures branches { IfOk result (λ look. look.branches ≡ near.old.now) }
+    ensures ranks { IfOk result (λ look. look.ranks ≡ saved_of look.ranks.room near.old.now) }
+    ensures numbers { IfOk result (λ look. length near.old.now.layers.ranked.numbers
+        ≡ length near.old.now.layers.kin.ups) }
+    ensures room { IfOk result (λ look. look.branches.layers.kin.room ≡ near.old.bound) }
+    ensures bound { near.new.bound ≡ near.old.bound }
+    ensures kept { kept.new ≡ kept.old }
+{
+    let ligands = SmallVec::<Option<u32>, MOST_LIGANDS>::from_slice(alloc, asked.ligands)?;
+    let pairs = SmallVec::<Asked, MOST_PAIRS>::from_slice(alloc, pairs)?;
+    let (mut ranks, mut branches) = both(
+        SavedRanks::reserve(alloc, near.len())?,
+        kept.blank(alloc, near.room()),
+    )?;
+    near.save(&mut ranks);
+    near.swap(&mut branches);
+    Ok(OpenLook {
+        node: asked.node,
+        ligands,
+        tops,
+        pairs,
+        branches,
+        ranks,
+    })
+}
+
+// Keeps a look that constitution leaves open, behind the others.
 fn keep<N: Nodes>(
     alloc: Global,
     near: &mut Near,
-    readings: &mut Readings,
+    whole: &Whole<'_, N>,
+    asked: &Look<'_>,
+    pairs: &mut [Asked],
+    kept: &mut OpenLooks,
+) -> Result<(), AllocError>
+    requires node { asked.now.node < length whole.now.told }
+    requires real { IsReal (sight_of whole.now).nodes asked.now.node }
+    requires tops { near.old.tops ≡ asked_tops (parents_of whole.now.told) asked.now.ligands.now asked.now.node }
+    requires left { LeavesOpen (sight_of whole.now) asked.now.node near.old.tops near.old.now pairs.old
+        asked.now.ligands.now }
+    requires open { AreOpen near.old.bound (sight_of whole.now) kept.old }
+    ensures more { OnOk result (length kept.new ≡ length kept.old + 1) }
+    ensures last { OnOk result ((look : AnyLook) → slice_get kept.new (length kept.old) ≡ Some look
+        → (look.node ≡ asked.now.node) × (look.ligands ≡ asked.now.ligands.now)) }
+    ensures open { AreOpen near.old.bound (sight_of whole.now) kept.new }
+    ensures near { near.new.bound ≡ near.old.bound }
+{
+    let tops = narrowed(alloc, near, whole, asked, pairs)?;
+    let look = taken(alloc, near, asked, tops, pairs, kept)?;
+    kept.push(look)
+}
+
+// Goes on with a look that constitution leaves open, and keeps it where there is room.
+fn look_on<N: Nodes>(
+    alloc: Global,
+    near: &mut Near,
     inner: &Inner<'_, N>,
     asked: &Look<'_>,
     pairs: &mut [Asked],
     kept: &mut OpenLooks,
 ) -> Result<Decided, AllocError>
-    requires bound { length inner.now.sight.told ≤ near.old.bound }
-    requires room { near.old.bound ≤ readings.old.bound }
     requires ready { Ready inner.now asked.now.node }
     requires tops { near.old.tops ≡ asked_tops (parents_of inner.now.sight.told) asked.now.ligands.now asked.now.node }
     requires left { LeavesOpen inner.now.sight asked.now.node near.old.tops near.old.now pairs.old
@@ -201,27 +264,52 @@ fn keep<N: Nodes>(
         found.sides.natural.items found.sides.turned.items) }
     ensures open { AreOpen near.old.bound inner.now.sight kept.new }
     ensures near { near.new.bound ≡ near.old.bound }
-    ensures readings { readings.new.bound ≡ readings.old.bound }
 {
-    let tops = narrowed(alloc, near, inner.whole(), asked, pairs)?;
-    let blank = kept.blank(alloc, near.room())?;
-    let mut look = taken(alloc, near, blank, asked, tops, pairs)?;
-    let decided = go_on(alloc, near, readings, inner, &mut look)?;
-    kept.push(look)?;
-    Ok(decided)
+    if !kept.has_room(near.len()) {
+        return configured(alloc, near, inner, asked.node, pairs);
+    }
+    let place = kept.len();
+    keep(alloc, near, inner.whole(), asked, pairs, kept)?;
+    kept.go_on(alloc, near, inner, place)
 }
 
-/// Looks from a node at ligands whose branches were begun, and keeps the look where constitution leaves it open and there
-/// is room.
+// Looks by branches that were begun.
+fn look_at<N: Nodes>(
+    alloc: Global,
+    near: &mut Near,
+    inner: &Inner<'_, N>,
+    asked: &Look<'_>,
+    pairs: &mut [Asked],
+    kept: &mut OpenLooks,
+) -> Result<Decided, AllocError>
+    requires ready { Ready inner.now asked.now.node }
+    requires next { All (λ ligand. IfSome ligand (Contains (neighbours_of (parents_of inner.now.sight.told)
+        asked.now.node))) asked.now.ligands.now }
+    requires tops { near.old.tops ≡ asked_tops (parents_of inner.now.sight.told) asked.now.ligands.now asked.now.node }
+    requires pairs { pairs.old ≡ asked_pairs near.old.tops asked.now.ligands.now }
+    requires open { AreOpen near.old.bound inner.now.sight kept.old }
+    ensures early { IfOk result (λ found. AreEarly inner.now asked.now.node found.by_constitution asked.now.ligands.now
+        found.sides.natural.items found.sides.turned.items) }
+    ensures open { AreOpen near.old.bound inner.now.sight kept.new }
+    ensures near { near.new.bound ≡ near.old.bound }
+{
+    if near.is_empty() {
+        return settled(alloc, pairs);
+    }
+    if near.constitution(inner.whole(), asked.node, pairs) {
+        return settled(alloc, pairs);
+    }
+    look_on(alloc, near, inner, asked, pairs, kept)
+}
+
+/// Looks from a node at ligands, and keeps the look where constitution leaves it open and there is room.
 pub fn look_first<N: Nodes>(
     alloc: Global,
     near: &mut Near,
-    readings: &mut Readings,
     inner: &Inner<'_, N>,
     asked: &Look<'_>,
     kept: &mut OpenLooks,
 ) -> Result<Decided, AllocError>
-    requires room { near.old.bound ≤ readings.old.bound }
     requires ready { Ready inner.now asked.now.node }
     requires next { All (λ ligand. IfSome ligand (Contains (neighbours_of (parents_of inner.now.sight.told)
         asked.now.node))) asked.now.ligands.now }
@@ -230,34 +318,22 @@ pub fn look_first<N: Nodes>(
         found.sides.natural.items found.sides.turned.items) }
     ensures open { AreOpen near.old.bound inner.now.sight kept.new }
     ensures near { near.new.bound ≡ near.old.bound }
-    ensures readings { readings.new.bound ≡ readings.old.bound }
 {
-    let whole = inner.whole();
-    near.begin(whole, asked.node, asked.ligands);
+    near.begin(inner.whole(), asked.node, asked.ligands);
     let mut pairs = ask_all(alloc, near, asked.ligands)?;
-    let found = pairs.as_mut_slice();
-    if near.is_empty() {
-        return settled(alloc, found);
-    }
-    if near.constitution(whole, asked.node, found) {
-        return settled(alloc, found);
-    }
-    if !kept.has_room(near.len()) {
-        return configured(alloc, near, readings, inner, asked.node, found);
-    }
-    keep(alloc, near, readings, inner, asked, found, kept)
+    let found = look_at(alloc, near, inner, asked, pairs.as_mut_slice(), kept);
+    drop(pairs);
+    found
 }
 
 /// Goes on with the look at a place of those that are kept.
 pub fn look_again<N: Nodes>(
     alloc: Global,
     near: &mut Near,
-    readings: &mut Readings,
     inner: &Inner<'_, N>,
     looks: &mut [OpenLook],
     place: usize,
 ) -> Result<Decided, AllocError>
-    requires room { near.old.bound ≤ readings.old.bound }
     requires place { place < length looks.old }
     requires ready { (look : OpenedLook) → slice_get looks.old place ≡ Some look → Ready inner.now look.node }
     requires open { AreOpen near.old.bound inner.now.sight (map look_of looks.old) }
@@ -266,7 +342,6 @@ pub fn look_again<N: Nodes>(
         found.sides.turned.items) }
     ensures open { AreOpen near.old.bound inner.now.sight (map look_of looks.new) }
     ensures near { near.new.bound ≡ near.old.bound }
-    ensures readings { readings.new.bound ≡ readings.old.bound }
 {
-    go_on(alloc, near, readings, inner, &mut looks[place])
+    go_on(alloc, near, inner, &mut looks[place])
 }

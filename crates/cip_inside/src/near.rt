@@ -33,7 +33,7 @@ use std::alloc::{AllocError, Global};
 use std::marker::Model;
 use std::mem;
 
-/// The branches of a node's ligands, in memory that is taken at once.
+/// The branches of a node's ligands, and what ranks them, in memory that is taken at once.
 #[derive(Drop)]
 pub struct Near {
     bound: u32,
@@ -44,6 +44,8 @@ pub struct Near {
     way: Vec<bool>,
     // how many steps each node is away from that one
     steps: Column<u32>,
+    // those of Rule 4b
+    readings: Readings,
 }
 
 impl Model for Near {
@@ -67,13 +69,18 @@ impl Near {
         let way = Vec::with_capacity(alloc, bound as usize)?;
         let columns = both(way, Column::reserve(alloc, bound + 1))?;
         let columns = both(columns, Column::reserve(alloc, bound))?;
-        let (((way, tops), steps), branches) = both(columns, Branches::reserve(alloc, bound))?;
+        let ranked = both(
+            Branches::reserve(alloc, bound)?,
+            Readings::reserve(alloc, bound),
+        );
+        let (((way, tops), steps), (branches, readings)) = both(columns, ranked)?;
         Ok(Near {
             bound,
             branches,
             tops,
             way,
             steps,
+            readings,
         })
     }
 
@@ -208,16 +215,10 @@ impl Near {
 
     /// Takes Rules 3 to 5 where constitution leaves a pair undecided, the last one both ways, by the descriptors of the
     /// nodes in the branches that are wanted still. What was decided before stays. No memory is taken.
-    pub fn configuration<M: Marked>(
-        &mut self,
-        readings: &mut Readings,
-        marks: &M,
-        asked: &mut [Asked],
-        turned: &mut [Asked],
-    )
+    pub fn configuration<M: Marked>(&mut self, marks: &M, asked: &mut [Asked], turned: &mut [Asked])
         requires followed { AreFollowed self.old.now }
         requires keyed { AreKeyed (length (M.marks marks.now)) self.old.now.layers.kin }
-        requires room { length self.old.now.layers.kin.ups ≤ readings.old.bound }
+        requires room { length self.old.now.layers.kin.ups ≤ self.old.bound }
         requires len { length turned.old ≡ length asked.old }
         ensures decided { (sight : Sight) (node : ℕ) (begin : List AnyAsked) (mark : List ℕ → Option AnyDescriptor)
             → AllByRecursion (AreWithin (length self.old.tops)) begin
@@ -228,8 +229,7 @@ impl Near {
         ensures same { AreSame self.old.now self.new.now }
         ensures tops { self.new.tops ≡ self.old.tops }
         ensures bound { self.new.bound ≡ self.old.bound }
-        ensures readings { readings.new.bound ≡ readings.old.bound }
     {
-        decide_configuration(&mut self.branches, readings, marks, asked, turned);
+        decide_configuration(&mut self.branches, &mut self.readings, marks, asked, turned);
     }
 }

@@ -1,6 +1,6 @@
 // Looks that constitution leaves open, with their branches as they stand behind Rule 2: asked again with other descriptors
 // they need no rule of constitution.
-ghost use Rattle.std.specs.Prelude.{◌≡◌, ◌<◌, ◌≤◌, ◌+◌, ◌^◌, ◌++◌, ◌∷◌, [], true, IfOk, IfSome, OnErr, OnOk, Some, length, slice_get};
+ghost use Rattle.std.specs.Prelude.{◌≡◌, ◌<◌, ◌≤◌, ◌+◌, ◌^◌, ◌++◌, ◌∷◌, [], true, false, IfOk, IfSome, OnErr, OnOk, Some, length, slice_get};
 ghost use Rattle.cip_aux.specs.Early.{AreEarly};
 ghost use Rattle.cip_aux.specs.Inner.{Ready};
 ghost use Rattle.cip_inside.specs.OpenLooks.{Look as AnyLook, AreOpen, asks, look_of, same_ligand, same_ligands};
@@ -12,7 +12,7 @@ use cip_aux::{Decided, Inner};
 use cip_branches::{Branches, SavedRanks};
 use cip_digraph::Nodes;
 use cip_letters::MOST_PAIRS;
-use cip_ligands::{Asked, Readings};
+use cip_ligands::Asked;
 use smallvec::SmallVec;
 use std::alloc::{AllocError, Global};
 use std::marker::Model;
@@ -77,9 +77,21 @@ impl OpenLooks {
         ensures { self.new ≡ [] }
     {
         self.left = places;
-        while let Some(look) = self.looks.pop() {
-            // what finds no place here is let go
-            let _ = self.spare.push(look.branches);
+        while self.forget_last() {}
+    }
+
+    // Forgets the last look but for the memory of its branches, and says whether there was one.
+    fn forget_last(&mut self) -> bool
+        ensures shorter { result ≡ true → length self.new + 1 ≡ length self.old }
+        ensures none { result ≡ false → self.new ≡ [] }
+    {
+        match self.looks.pop() {
+            Some(look) => {
+                // what finds no place here is let go
+                let _ = self.spare.push(branches_of(look));
+                true
+            }
+            None => false,
         }
     }
 
@@ -89,12 +101,17 @@ impl OpenLooks {
         ensures room { IfOk result (λ branches. branches.layers.kin.room ≡ room) }
         ensures same { self.new ≡ self.old }
     {
-        while let Some(branches) = self.spare.pop() {
-            if branches.room() == room {
-                return Ok(branches);
-            }
+        match self.spare.pop() {
+            Some(branches) => fitting(alloc, branches, room),
+            None => Branches::reserve(alloc, room),
         }
-        Branches::reserve(alloc, room)
+    }
+
+    /// How many there are.
+    pub fn len(&self) -> usize
+        ensures { result ≡ length self.now }
+    {
+        self.looks.len()
     }
 
     /// Whether a look with so many places can be kept.
@@ -121,11 +138,9 @@ impl OpenLooks {
         &mut self,
         alloc: Global,
         near: &mut Near,
-        readings: &mut Readings,
         inner: &Inner<'_, N>,
         place: usize,
     ) -> Result<Decided, AllocError>
-        requires room { near.old.bound ≤ readings.old.bound }
         requires place { place < length self.old }
         requires ready { (look : AnyLook) → slice_get self.old place ≡ Some look → Ready inner.now look.node }
         requires open { AreOpen near.old.bound inner.now.sight self.old }
@@ -134,16 +149,8 @@ impl OpenLooks {
             found.sides.turned.items) }
         ensures open { AreOpen near.old.bound inner.now.sight self.new }
         ensures near { near.new.bound ≡ near.old.bound }
-        ensures readings { readings.new.bound ≡ readings.old.bound }
     {
-        look_again(
-            alloc,
-            near,
-            readings,
-            inner,
-            self.looks.as_mut_slice(),
-            place,
-        )
+        look_again(alloc, near, inner, self.looks.as_mut_slice(), place)
     }
 
     /// Keeps one more.
@@ -155,6 +162,22 @@ impl OpenLooks {
         self.looks.push(look)?;
         Ok(())
     }
+}
+
+fn branches_of(look: OpenLook) -> Branches {
+    look.branches
+}
+
+// These branches, or others where they have another room.
+fn fitting(alloc: Global, branches: Branches, room: u32) -> Result<Branches, AllocError>
+    requires { room + 1 < 2 ^ 32 }
+    ensures { IfOk result (λ branches. branches.layers.kin.room ≡ room) }
+{
+    if branches.room() == room {
+        return Ok(branches);
+    }
+    drop(branches);
+    Branches::reserve(alloc, room)
 }
 
 fn is_same(one: Option<u32>, other: Option<u32>) -> bool

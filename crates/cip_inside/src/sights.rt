@@ -18,8 +18,7 @@ use crate::near::Near;
 use crate::open_looks::OpenLooks;
 use cip_aux::{Decided, Inner, Viewer};
 use cip_digraph::Nodes;
-use cip_ligands::{Asked, Marked, Readings};
-use cip_rank::both;
+use cip_ligands::{Asked, Marked};
 use std::alloc::{AllocError, Global};
 use std::marker::Model;
 
@@ -27,19 +26,15 @@ use std::marker::Model;
 #[derive(Drop)]
 pub struct Sights {
     near: Near,
-    readings: Readings,
     kept: OpenLooks,
 }
 
 impl Model for Sights {
-    ghost use Rattle.std.specs.Prelude.{◌≡◌};
     ghost use Rattle.cip_inside.specs.Room.{Room};
 
     ghost Value = { Room };
 
     ghost view = { λ sights. record { bound = sights.near.bound; looks = sights.kept } };
-
-    ghost invariant = { λ sights. sights.readings.bound ≡ sights.near.bound };
 }
 
 // Whether all branches that are wanted lead down from the node whose descriptors count.
@@ -54,13 +49,12 @@ fn all_inside<N: Nodes>(near: &Near, inner: &Inner<'_, N>, node: u32) -> bool
 // Decides pairs of branches that constitution leaves open, with the descriptors that count.
 pub(crate) fn configure<N: Nodes>(
     near: &mut Near,
-    readings: &mut Readings,
     inner: &Inner<'_, N>,
     node: u32,
     pairs: &mut [Asked],
     turned: &mut [Asked],
 )
-    requires room { length inner.now.sight.told ≤ readings.old.bound }
+    requires room { length inner.now.sight.told ≤ near.old.bound }
     requires ready { Ready inner.now node }
     requires tops { AreTops (parents_of inner.now.sight.told) node near.old.tops }
     requires placed { ArePlaced inner.now.sight node near.old.tops near.old.now }
@@ -72,10 +66,9 @@ pub(crate) fn configure<N: Nodes>(
         → AreOrdered inner.now.sight node mark near.old.tops begin pairs.new turned.new }
     ensures same { AreSame near.old.now near.new.now }
     ensures bound { near.new.bound ≡ near.old.bound }
-    ensures readings { readings.new.bound ≡ readings.old.bound }
 {
     if all_inside(near, inner, node) {
-        near.configuration(readings, inner.marks(), pairs, turned);
+        near.configuration(inner.marks(), pairs, turned);
         return;
     }
     let table = inner.whole().nodes().table();
@@ -84,7 +77,7 @@ pub(crate) fn configure<N: Nodes>(
         from: inner.from(),
         marks: inner.marks(),
     };
-    near.configuration(readings, &marks, pairs, turned);
+    near.configuration(&marks, pairs, turned);
 }
 
 impl Sights {
@@ -93,13 +86,8 @@ impl Sights {
         requires { bound < 2 ^ 31 }
         ensures { IfOk result (λ sights. sights ≡ record { bound = bound; looks = [] }) }
     {
-        let (near, readings) = both(
-            Near::reserve(alloc, bound)?,
-            Readings::reserve(alloc, bound),
-        )?;
         Ok(Sights {
-            near,
-            readings,
+            near: Near::reserve(alloc, bound)?,
             kept: OpenLooks::none(alloc),
         })
     }
@@ -125,12 +113,11 @@ impl Viewer for Sights {
         ligands: &[Option<u32>],
     ) -> Result<Decided, AllocError> {
         let near = &mut self.near;
-        let readings = &mut self.readings;
         match self.kept.find(node, ligands) {
-            Some(place) => self.kept.go_on(alloc, near, readings, inner, place),
+            Some(place) => self.kept.go_on(alloc, near, inner, place),
             None => {
                 let asked = Look { node, ligands };
-                look_first(alloc, near, readings, inner, &asked, &mut self.kept)
+                look_first(alloc, near, inner, &asked, &mut self.kept)
             }
         }
     }

@@ -6,6 +6,7 @@ pub mod FoundWithin
 pub mod MarkedKeys
 pub mod MarkedPlaces
 pub mod MovedOrders
+pub mod NodeKeys
 pub mod Noted
 pub mod ReadingKeys
 pub mod ReadingsFound

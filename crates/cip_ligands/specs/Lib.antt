@@ -7,6 +7,7 @@ pub mod MarkColumns
 pub mod Marked
 pub mod Marks
 pub mod Moving
+pub mod NodeKeys
 pub mod Orders
 pub mod Readings
 pub mod Taking

@@ -8,7 +8,7 @@ use Rattle.cip_digraph.proofs.Lists.{by_recursion}
 use Rattle.cip_ligands.specs.Asking.{AreWithin}
 use Rattle.cip_aux.specs.Sights.{sight_of}
 use Rattle.cip_aux.proofs.Told.{whole_shows}
-use Rattle.cip_inside.specs.Keys.{mass_keys}
+use Rattle.cip_ligands.specs.NodeKeys.{mass_keys}
 use Rattle.cip_inside.specs.Near.{seen_at}
 use Rattle.cip_inside.proofs.Constituted.{constituted_early, constituted_next, distances_are, masses_are}
 use Rattle.cip_inside.proofs.constituting.constitute.Goals as goal

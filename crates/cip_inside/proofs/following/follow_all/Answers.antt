@@ -8,7 +8,7 @@ use Rattle.cip_digraph.proofs.Lists.{by_recursion}
 use Rattle.cip_ligands.specs.Asking.{AreWithin, found_between, with_found}
 use Rattle.cip_ligands.proofs.FoundWithin.{nothing_found}
 use Rattle.cip_digraph.specs.digraph.NodeList.{parents_of}
-use Rattle.cip_aux.specs.RootKeys.{root_keys}
+use Rattle.cip_ligands.specs.NodeKeys.{atomic_keys}
 use Rattle.cip_aux.specs.Sights.{sight_of}
 use Rattle.cip_aux.proofs.Told.{whole_shows}
 use Rattle.cip_inside.proofs.FollowedViews.{IsNoted, told_len, tops_few, tops_keyed, around_first, around_room, around_last, around_next, around_followed, more_noted}
@@ -51,7 +51,7 @@ loop-keys-init g c =
     let on = c.requires.way.each in
     let tops = c.args.tops.now in
     let around = around_first sight shows c.args.node c.requires.real c.args.way.now on tops c.requires.tops new
-    (subst (λ (all : List Told). Begins tops (root_keys all) new.layers) c.nodes-nodes.ensures.told
+    (subst (λ (all : List Told). Begins tops (atomic_keys all) new.layers) c.nodes-nodes.ensures.told
     c.begin.ensures.begun) c.begin.ensures.followed c.begin.ensures.first c.begin.ensures.last c.begin.ensures.chosen in
     let within = by_recursion (AreWithin (length tops)) c.args.asked.now c.requires.within in
     record {
@@ -125,9 +125,9 @@ loop-keys-preserved g c =
     let same = c.loop-keys.invariant.room in
     let room = c.requires.room in
     let walks = subst (λ (ps : List ℕ). Follows old.layers old.first old.last (length ps)
-    (kids_around ps c.args.way.now) old.wanted (root_keys c.args.whole.now.told) new.layers) parents
+    (kids_around ps c.args.way.now) old.wanted (atomic_keys c.args.whole.now.told) new.layers) parents
     (subst (λ (all : List Told). Follows old.layers old.first old.last (length c.table-table.result.now.parents)
-    (kids_around c.table-table.result.now.parents c.args.way.now) old.wanted (root_keys all) new.layers)
+    (kids_around c.table-table.result.now.parents c.args.way.now) old.wanted (atomic_keys all) new.layers)
     c.nodes-nodes.ensures.told c.follow.ensures.walked) in
     let last = c.last-depth.ensures.last in
     let tops = c.args.tops.now in

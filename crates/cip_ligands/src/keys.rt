@@ -1,7 +1,8 @@
 // The keys of a digraph's nodes, as ranking takes them.
-ghost use Rattle.std.specs.Prelude.{pos, map, length};
+ghost use Rattle.std.specs.Prelude.{map, length};
 ghost use Rattle.cip_digraph.specs.rules.Keys.{lower_precedes};
 ghost use Rattle.cip_digraph.specs.digraph.NodeList.{distance_told};
+ghost use Rattle.cip_ligands.specs.NodeKeys.{atomic_keys, mass_keys};
 
 use cip_digraph::Nodes;
 use cip_rank::{Keyed, Rules};
@@ -16,7 +17,7 @@ pub struct ByAtom<'a, N: Nodes> {
 impl<N: Nodes> Keyed for ByAtom<'_, N> {
     ghost nodes = { λ keys. length (N.nodes keys.nodes.now) };
 
-    ghost key = { λ keys. map (λ told. pos told.atomic) (N.nodes keys.nodes.now) };
+    ghost key = { λ keys. atomic_keys (N.nodes keys.nodes.now) };
 
     #[tactic(auto, using(crate::proofs::NodeKeys::atoms_compare))]
     fn compare(&self, a: u32, b: u32) -> Ordering {
@@ -53,7 +54,7 @@ pub struct ByMass<'a, N: Nodes> {
 impl<N: Nodes> Keyed for ByMass<'_, N> {
     ghost nodes = { λ keys. length (N.nodes keys.nodes.now) };
 
-    ghost key = { λ keys. map (λ told. pos told.mass) (N.nodes keys.nodes.now) };
+    ghost key = { λ keys. mass_keys (N.nodes keys.nodes.now) };
 
     #[tactic(auto, using(crate::proofs::NodeKeys::masses_compare))]
     fn compare(&self, a: u32, b: u32) -> Ordering {

@@ -8,6 +8,7 @@ use Rattle.cip_rank.specs.declared.rules.Rules.{Rules}
 use Rattle.cip_digraph.specs.declared.nodes.Told.{Told}
 use Rattle.cip_digraph.specs.rules.Keys.{lower_precedes}
 use Rattle.cip_digraph.specs.digraph.NodeList.{nothing_told, told_at, distance_told}
+use Rattle.cip_ligands.specs.NodeKeys.{atomic_keys, mass_keys}
 
 pub keys_at : (f : Told → ℤ) (all : List Told) (a : ℕ) → a < length all → key_at (map f all) a ≡ f (told_at all a)
 keys_at f all a lt = get_or-map f all a nothing_told (pos 0) lt
@@ -25,13 +26,12 @@ by_number f all a b la lb =
     ∙ pos_cmp (f (told_at all a)) (f (told_at all b)))
 
 pub atoms_compare : (all : List Told) (a b : ℕ) → a < length all → b < length all
-    → nat_cmp (told_at all a).atomic (told_at all b).atomic ≡ int_cmp (key_at (map (λ told. pos told.atomic) all) a)
-    (key_at (map (λ told. pos told.atomic) all) b)
+    → nat_cmp (told_at all a).atomic (told_at all b).atomic
+    ≡ int_cmp (key_at (atomic_keys all) a) (key_at (atomic_keys all) b)
 atoms_compare all a b la lb = by_number (λ (told : Told). told.atomic) all a b la lb
 
 pub masses_compare : (all : List Told) (a b : ℕ) → a < length all → b < length all
-    → nat_cmp (told_at all a).mass (told_at all b).mass ≡ int_cmp (key_at (map (λ told. pos told.mass) all) a)
-    (key_at (map (λ told. pos told.mass) all) b)
+    → nat_cmp (told_at all a).mass (told_at all b).mass ≡ int_cmp (key_at (mass_keys all) a) (key_at (mass_keys all) b)
 masses_compare all a b la lb = by_number (λ (told : Told). told.mass) all a b la lb
 
 lower_cmp : (m n : ℕ) → int_cmp (lower_precedes m) (lower_precedes n) ≡ nat_cmp n m

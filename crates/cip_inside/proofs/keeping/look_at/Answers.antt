@@ -1,0 +1,58 @@
+use Rattle.std.proofs.Common.{◌∙◌, ℕ, List, All, length, sym, ap, subst}
+use Rattle.std.proofs.lemmas.List.Elements.{All-from_recursion}
+use Rattle.cip_aux.specs.Sights.{Sight}
+use Rattle.cip_ligands.specs.declared.asked.Asked.{Asked}
+use Rattle.cip_ligands.specs.Asking.{AreWithin}
+use Rattle.cip_inside.specs.Asking.{asked_pairs}
+use Rattle.cip_inside.specs.Near.{AreConstituted}
+use Rattle.cip_inside.proofs.AskedSides.{pairs_within}
+use Rattle.cip_inside.proofs.EarlySides.{decided_early, lone_early}
+use Rattle.cip_inside.proofs.Narrowed.{constituted_left}
+use Rattle.cip_inside.proofs.keeping.look_at.Goals as goal
+
+pub returns-then-is_empty-clause-early : goal.returns-then-is_empty-clause-early
+returns-then-is_empty-clause-early g c =
+    let inner = c.args.inner.now in
+    let asked = c.args.asked.now in
+    c.settled.ensures inner asked.node asked.ligands.now
+    (lone_early inner asked.node asked.ligands.now c.requires.next c.args.near.now.tops c.requires.tops c.args.pairs.now
+    (ap (λ (ns : List ℕ). length ns) (c.is_empty.ensures.none c.if-is_empty.true)) c.requires.pairs)
+
+pub constitution-requires-clause-within : goal.constitution-requires-clause-within
+constitution-requires-clause-within g c =
+    let tops = c.args.near.now.tops in
+    let ligands = c.args.asked.now.ligands.now in
+    subst (All (AreWithin (length tops))) (sym c.requires.pairs)
+    (All-from_recursion (AreWithin (length tops)) (asked_pairs tops ligands)
+    (pairs_within tops (c.is_empty.ensures.some c.if-is_empty.false) ligands))
+
+pub returns-then-constitution-clause-early : goal.returns-then-constitution-clause-early
+returns-then-constitution-clause-early g c =
+    let inner = c.args.inner.now in
+    let asked = c.args.asked.now in
+    let ligands = asked.ligands.now in
+    let tops = c.args.near.now.tops in
+    let near = c.constitution.new.self in
+    let pairs = c.constitution.new.asked in
+    c.settled-then-constitution.ensures inner asked.node ligands
+    (decided_early inner asked.node ligands c.requires.next tops c.requires.tops near.now pairs
+    (c.is_empty.ensures.some c.if-is_empty.false)
+    (subst (λ (ns : List ℕ). AreConstituted inner.sight asked.node ns near.now (asked_pairs tops ligands) pairs)
+    c.constitution.ensures.tops
+    (subst (λ (begin : List Asked). AreConstituted inner.sight asked.node near.tops near.now begin pairs)
+    c.requires.pairs
+    (subst (λ (sight : Sight). AreConstituted sight asked.node near.tops near.now c.args.pairs.now pairs)
+    c.whole.ensures c.constitution.ensures.constituted)))
+    (sym c.constitution.ensures.all ∙ c.if-constitution.true))
+
+pub look_on-requires-clause-left : goal.look_on-requires-clause-left
+look_on-requires-clause-left g c =
+    let sight = c.args.inner.now.sight in
+    let asked = c.args.asked.now in
+    let near = c.constitution.new.self in
+    constituted_left sight asked.node asked.ligands.now c.requires.next c.args.near.now.tops near.tops c.requires.tops
+    c.constitution.ensures.tops (c.is_empty.ensures.some c.if-is_empty.false) near.now c.args.pairs.now
+    c.constitution.new.asked c.requires.pairs
+    (subst (λ (s : Sight). AreConstituted s asked.node near.tops near.now c.args.pairs.now c.constitution.new.asked)
+    c.whole.ensures c.constitution.ensures.constituted)
+    (sym c.constitution.ensures.all ∙ c.if-constitution.false)

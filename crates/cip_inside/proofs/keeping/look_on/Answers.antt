@@ -1,0 +1,46 @@
+use Rattle.std.proofs.Common.{◌≡◌, ◌∙◌, ◌<◌, ℕ, List, IfOk, length, sym, ap, subst, arith}
+use Rattle.std.specs.Prelude.{Some, slice_get}
+use Rattle.std.specs.declared.option.Option.{Option}
+use Rattle.cip_aux.specs.Early.{AreEarly}
+use Rattle.cip_aux.specs.Inner.{Ready}
+use Rattle.cip_aux.specs.Sights.{IsReal, Sight}
+use Rattle.cip_digraph.specs.digraph.NodeList.{parents_of}
+use Rattle.cip_inside.specs.Narrowing.{LeavesOpen}
+use Rattle.cip_inside.specs.Near.{asked_tops}
+use Rattle.cip_inside.specs.OpenLooks.{AreOpen}
+use Rattle.cip_inside.proofs.OpenAgain.{some_at}
+use Rattle.cip_inside.proofs.keeping.look_on.Goals as goal
+
+pub keep-requires-clause-real : goal.keep-requires-clause-real
+keep-requires-clause-real g c =
+    subst (λ (s : Sight). IsReal s.nodes c.args.asked.now.node) (sym c.whole.ensures) c.requires.ready.real
+
+pub keep-requires-clause-tops : goal.keep-requires-clause-tops
+keep-requires-clause-tops g c =
+    let asked = c.args.asked.now in
+    c.requires.tops
+    ∙ ap (λ (s : Sight). asked_tops (parents_of s.told) asked.ligands.now asked.node) (sym c.whole.ensures)
+
+pub keep-requires-clause-left : goal.keep-requires-clause-left
+keep-requires-clause-left g c =
+    let asked = c.args.asked.now in
+    let near = c.args.near.now in
+    subst (λ (s : Sight). LeavesOpen s asked.node near.tops near.now c.args.pairs.now asked.ligands.now)
+    (sym c.whole.ensures) c.requires.left
+
+pub keep-requires-clause-open : goal.keep-requires-clause-open
+keep-requires-clause-open g c =
+    subst (λ (s : Sight). AreOpen c.args.near.now.bound s c.args.kept.now) (sym c.whole.ensures) c.requires.open
+
+pub returns-clause-early : goal.returns-clause-early
+returns-clause-early g c =
+    let inner = c.args.inner.now in
+    let place = c.len-place.ensures in
+    let more = c.in_ok-keep.ensures.more in
+    let found = some_at c.keep.new.kept c.len-place.result (omega (arith, place, more)) in
+    let last = c.in_ok-keep.ensures.last found.0
+    (subst (λ n. slice_get c.keep.new.kept n ≡ Some found.0) place found.1) in
+    subst (λ (n : ℕ). IfOk c.go_on.result (λ d. AreEarly inner n d.by_constitution c.args.asked.now.ligands.now
+    d.sides.natural.items d.sides.turned.items)) last.0
+    (subst (λ (ls : List (Option ℕ)). IfOk c.go_on.result (λ d. AreEarly inner found.0.node d.by_constitution ls
+    d.sides.natural.items d.sides.turned.items)) last.1 (c.go_on.ensures.early found.0 found.1))
