@@ -1,6 +1,6 @@
 -- What another numbering keeps: each unit goes to a unit, and what is found of it goes along. Own, after IUPAC 2013,
 -- P-92: ranking rests on the structure, not on numbers.
-use Rattle.std.specs.Prelude.{◌≡◌, ◌+◌, ℕ, List, map, length, sum, cond, nat_lt}
+use Rattle.std.specs.Prelude.{◌≡◌, ◌+◌, ℕ, map, length, sum, cond, nat_lt}
 use Rattle.std.specs.List.{range_with_len}
 use Rattle.cip_rank.specs.declared.rules.Rules.{Rules}
 use Rattle.cip_mol.specs.Bonds as bonds

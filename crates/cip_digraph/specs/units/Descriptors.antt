@@ -1,11 +1,14 @@
 -- The descriptor of a unit from its sense and the ranks of its ligands. IUPAC 2013, P-91.2 and P-93: R, S, Z, E, M and
 -- P; r, s, m and p where Rule 5 turns them; seqCis and seqTrans for bonds in that case are own.
-use Rattle.std.specs.Prelude.{ℕ, zero, suc, Bool, true, false, not, List, [], ◌∷◌, map, flat_map, if◌then◌else◌}
+use Rattle.std.specs.Prelude.{ℕ, zero, suc, Bool, true, false, not, List, [], ◌∷◌, None, Some, map, flat_map, if◌then◌else◌}
+use Rattle.std.specs.declared.option.Option.{Option}
 use Rattle.cip_mol.specs.declared.descriptor.Descriptor.{Descriptor}
 use Rattle.cip_mol.specs.declared.descriptor.Descriptor.TheVariants.{R, S, SmallR, SmallS, M, P, SmallM, SmallP, Z, E, SeqCis, SeqTrans}
 use Rattle.cip_mol.specs.declared.descriptor.Sense.{Sense}
 use Rattle.cip_mol.specs.declared.descriptor.Sense.TheVariants.{Plus, Minus}
 use Rattle.cip_mol.specs.FlatCentres.{inversions}
+use Rattle.cip_mol.specs.declared.ends.Shape.{Shape}
+use Rattle.cip_mol.specs.declared.ends.Shape.TheVariants.{Flat, Crossed}
 use Rattle.cip_mol.specs.declared.site.Site.{Site}
 use Rattle.cip_mol.specs.declared.site.Site.TheVariants.{Centre, Bond, Axis}
 use Rattle.cip_digraph.specs.units.Ranked.{Root, ranks, turned_ranks, decisions, last_reason, Reason}
@@ -28,13 +31,22 @@ abbrev pub sense_in_rank : Sense → List (List ℕ) → Sense
 sense_in_rank sense [] = sense
 sense_in_rank sense (places ∷ others) = turned_if (is_odd (inversions places)) (sense_in_rank sense others)
 
+-- how the ligands of two ends lie; a centre has one end
+abbrev pub shape_of : Site → Option Shape
+shape_of (Centre at ligands) = None
+shape_of (Bond a b first second) = Some Flat
+shape_of (Axis a middle b first second) = Some Crossed
+
+abbrev pub capital_by : Option Shape → Sense → Descriptor
+capital_by None Plus = S
+capital_by None Minus = R
+capital_by (Some Flat) Plus = Z
+capital_by (Some Flat) Minus = E
+capital_by (Some Crossed) Plus = P
+capital_by (Some Crossed) Minus = M
+
 abbrev pub capital : Site → Sense → Descriptor
-capital (Centre at ligands) Plus = S
-capital (Centre at ligands) Minus = R
-capital (Bond a b first second) Plus = Z
-capital (Bond a b first second) Minus = E
-capital (Axis a middle b first second) Plus = P
-capital (Axis a middle b first second) Minus = M
+capital site sense = capital_by (shape_of site) sense
 
 abbrev pub small : Descriptor → Descriptor
 small R = SmallR

@@ -28,7 +28,7 @@ module _ (drawing other : Drawing) (image : ℕ → ℕ) (sound : bonds.IsSound 
       → (s : SiteImage (carry drawing image) site two)
       → IsCarriedGeometry s.odd (geometry_of drawing site) (geometry_of other two)
   senses site two h k s =
-      site_sense drawing other image r sound their_sound s.odd site two s.carried
+      site_sense drawing other image r sound their_sound s.odd site two s.carried.shape s.carried.ends
       (sites_listed drawing (drawn_sound drawing sound) site h)
       (sites_listed other (drawn_sound other their_sound) two k)
 

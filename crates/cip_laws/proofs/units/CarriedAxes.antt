@@ -17,7 +17,7 @@ use Rattle.cip_carried.specs.Images.{Among}
 use Rattle.cip_carried.proofs.lists.Among.{among_map, from_map, among_filter, from_filter, among_left, among_right, from_append, among_flat, from_flat, among_arranged, among_range, from_range}
 use Rattle.cip_carried.specs.Renamed.{Way, ways, way_image, IsRenamed}
 use Rattle.cip_carried.proofs.graph.CarriedPositions.{degree_carried, passed_moved, tos_are}
-use Rattle.cip_laws.proofs.units.CarriedSites.{SiteImage, centre_image, centre_carried, z_same, SameUnit, end_bonds_carried, outer_moved, three_same, three_crossed, two_same, two_crossed, pair_forward, pair_crossed, IsBondCore, bond_of, bond_among, FoundBond, found_bond, core_back, core_there, core_from}
+use Rattle.cip_laws.proofs.units.CarriedSites.{SiteImage, pair_image, centre_image, centre_carried, z_same, SameUnit, end_bonds_carried, outer_moved, three_same, three_crossed, two_same, two_crossed, pair_forward, pair_crossed, IsBondCore, bond_of, bond_among, FoundBond, found_bond, core_back, core_there, core_from}
 use Rattle.cip_laws.proofs.graph.WaySymmetry.{back_way, leads_back}
 use Rattle.cip_carried.proofs.lists.Truths.{and_parts, and_both}
 
@@ -271,7 +271,7 @@ module _ (graph other : Graph) (image : ℕ → ℕ) (r : IsRenamed graph other 
             bond_of other (image f.a) (image f.w.to),
             in_bonds other _ (bond_among other (image f.a) (way_image image f.w) core drawn e),
             subst (λ s. SiteImage image s (bond_of other (image f.a) (image f.w.to))) (sym f.is)
-                (record { odd = pair.0; carried = pair.1 }),
+                (pair_image graph other image r _ _ _ _ _ _ refl refl refl refl pair),
           )
       by false e =
           let pair =
@@ -284,7 +284,7 @@ module _ (graph other : Graph) (image : ℕ → ℕ) (r : IsRenamed graph other 
                 (bond_among other (image f.w.to) (back_way other (image f.a) (way_image image f.w)) back
                 (lower_drawn other (image f.a) (image f.w.to) lower drawn) lower),
             subst (λ s. SiteImage image s (bond_of other (image f.w.to) (image f.a))) (sym f.is)
-                (record { odd = pair.0; carried = pair.1 }),
+                (pair_image graph other image r _ _ _ _ _ _ refl refl refl refl pair),
           )
 
   bond_back : (two : Site) → FoundBond other two → (site : Site) × Among site sites × SiteImage image site two
@@ -318,7 +318,7 @@ module _ (graph other : Graph) (image : ℕ → ℕ) (r : IsRenamed graph other 
           (two_same graph other image r a w.to) apart in (
             bond_of graph a w.to,
             in_bonds graph _ (bond_among graph a w found.1 drawn e),
-            subst (SiteImage image (bond_of graph a w.to)) (sym is) (record { odd = pair.0; carried = pair.1 }),
+            subst (SiteImage image (bond_of graph a w.to)) (sym is) (pair_image graph other image r _ _ _ _ _ _ refl refl refl refl pair),
           )
       by false e =
           let pair =
@@ -329,7 +329,7 @@ module _ (graph other : Graph) (image : ℕ → ℕ) (r : IsRenamed graph other 
             in_bonds graph _
                 (bond_among graph w.to (back_way graph a w) (core_back graph sound deloc a w found.1)
                 (lower_drawn graph a w.to lower drawn) lower),
-            subst (SiteImage image (bond_of graph w.to a)) (sym is) (record { odd = pair.0; carried = pair.1 }),
+            subst (SiteImage image (bond_of graph w.to a)) (sym is) (pair_image graph other image r _ _ _ _ _ _ refl refl refl refl pair),
           )
 
   axis_image_there : (site : Site) → FoundAxis graph site → (two : Site) × Among two theirs × SiteImage image site two
@@ -353,7 +353,7 @@ module _ (graph other : Graph) (image : ℕ → ℕ) (r : IsRenamed graph other 
             axis_of other (image f.a) (image f.middle) (image f.b),
             in_axes other _ (axis_among other (image f.a) (image f.middle) (image f.b) core drawn e),
             subst (λ s. SiteImage image s (axis_of other (image f.a) (image f.middle) (image f.b))) (sym f.is)
-                (record { odd = pair.0; carried = (refl, pair.1) }),
+                (pair_image graph other image r _ _ _ _ _ _ refl refl refl refl pair),
           )
       by false e =
           let pair =
@@ -367,7 +367,7 @@ module _ (graph other : Graph) (image : ℕ → ℕ) (r : IsRenamed graph other 
                 (axis_among other (image f.b) (image f.middle) (image f.a) back
                 (lower_drawn other (image f.a) (image f.b) lower drawn) lower),
             subst (λ s. SiteImage image s (axis_of other (image f.b) (image f.middle) (image f.a))) (sym f.is)
-                (record { odd = pair.0; carried = (refl, pair.1) }),
+                (pair_image graph other image r _ _ _ _ _ _ refl refl refl refl pair),
           )
 
   axis_image_back : (two : Site) → FoundAxis other two → (site : Site) × Among site sites × SiteImage image site two
@@ -407,7 +407,7 @@ module _ (graph other : Graph) (image : ℕ → ℕ) (r : IsRenamed graph other 
             axis_of graph a m b,
             in_axes graph _ (axis_among graph a m b found.2 drawn e),
             subst
-                (SiteImage image (axis_of graph a m b)) (sym is) (record { odd = pair.0; carried = (refl, pair.1) }),
+                (SiteImage image (axis_of graph a m b)) (sym is) (pair_image graph other image r _ _ _ _ _ _ refl refl refl refl pair),
           )
       by false e =
           let pair =
@@ -418,7 +418,7 @@ module _ (graph other : Graph) (image : ℕ → ℕ) (r : IsRenamed graph other 
             in_axes graph _
                 (axis_among graph b m a (axis_back graph sound a m b found.2) (lower_drawn graph a b lower drawn)
                 lower),
-            subst (SiteImage image (axis_of graph b m a)) (sym is) (record { odd = pair.0; carried = (refl, pair.1) }),
+            subst (SiteImage image (axis_of graph b m a)) (sym is) (pair_image graph other image r _ _ _ _ _ _ refl refl refl refl pair),
           )
 
   pub sites_there : (site : Site) → Among site sites → (two : Site) × Among two theirs × SiteImage image site two

@@ -11,9 +11,10 @@ use Rattle.cip_mol.specs.declared.site.Site.{Site}
 use Rattle.cip_mol.specs.declared.site.Site.TheVariants.{Bond}
 use Rattle.cip_digraph.specs.rings.Alternating.{is_in}
 use Rattle.cip_digraph.specs.units.Centres.{is_centre_by, drawn_neighbours, is_centre, centre_ligands}
-use Rattle.cip_digraph.specs.units.Descriptors.{is_odd}
+use Rattle.cip_digraph.specs.units.Descriptors.{is_odd, shape_of}
 use Rattle.cip_digraph.specs.units.DoubleBonds.{is_double_end, multiples, outer_neighbours, has_end_bonds, is_bond_end, end_ligands, is_bond_unit, bond_site, bond_sites}
-use Rattle.cip_digraph.specs.units.Ends.{end_at}
+use Rattle.cip_digraph.specs.units.Ends.{End, end_at, ends_of}
+use Rattle.cip_mol.specs.Ends.{between_of}
 use Rattle.cip_digraph.specs.declared.graph.Vertex.{Vertex}
 use Rattle.cip_digraph.specs.graph.Graph.{Graph, vertex_at, edges_at, neighbours, other_end}
 use Rattle.cip_digraph.specs.rings.Positions.{positions_of, is_delocalised}
@@ -24,6 +25,7 @@ use Rattle.cip_carried.specs.Images.{Among, ligand_image}
 use Rattle.cip_carried.proofs.lists.Among.{among_map, from_map, among_filter, from_filter, among_flat, from_flat, among_range, from_range}
 use Rattle.cip_carried.proofs.lists.Arranged.{filter_arranged}
 use Rattle.cip_carried.proofs.lists.CarriedLists.{filter_carried, any_carried, in_carried}
+use Rattle.cip_carried.proofs.digraph.CarriedEnds.{one_goes}
 use Rattle.cip_carried.proofs.digraph.CarriedNodes.{delocalised_carried}
 use Rattle.cip_carried.specs.Renamed.{Way, way, ways, way_image, IsRenamed}
 use Rattle.cip_carried.proofs.graph.CarriedPositions.{degree_carried, neighbours_moved, passed_moved, positions_renamed}
@@ -108,7 +110,37 @@ module _ (graph other : Graph) (image : ℕ → ℕ) (r : IsRenamed graph other 
   pub centre_image : (v : ℕ) → SiteImage image (centre_site graph v) (centre_site other (image v))
   centre_image v = let e =
       carried_end image v (centre_ligands graph v) (centre_ligands other (image v)) (centre_ligands_moved v) in
-      record { odd = e.0; carried = e.1 }
+      record {
+        odd = e.0;
+        carried = record {
+          shape = refl;
+          between = refl;
+          ends = one_goes image e.0 (end_at v (centre_ligands graph v))
+              (end_at (image v) (centre_ligands other (image v))) e.1;
+        };
+      }
+
+  -- a bond or an axis with its ends
+  pub pair_image : (one two : Site) (near far first second : End) → shape_of two ≡ shape_of one
+      → between_of two ≡ map image (between_of one) → ends_of one ≡ near ∷ far ∷ []
+      → ends_of two ≡ first ∷ second ∷ [] → (odd : Bool) × IsCarriedPair image odd near far first second
+      → SiteImage image one two
+  pair_image one two near far first second shape between ones twos pair = record {
+    odd = pair.0;
+    carried = record {
+      shape = shape;
+      between = between;
+      ends = inr (record {
+        near = near;
+        far = far;
+        first = first;
+        second = second;
+        are_ones = ones;
+        are_others = twos;
+        carried = pair.1;
+      });
+    };
+  }
 
   -- units of bonds and axes, whichever way their atoms are listed
   abbrev pub SameUnit : List ℕ → List ℕ → Type 0

@@ -17,11 +17,12 @@ use Rattle.cip_mol.specs.declared.site.Site.TheVariants.{Centre, Bond, Axis}
 use Rattle.cip_mol.proofs.ExchangedLigands.{exchange_turns_centres}
 use Rattle.cip_mol.proofs.ExchangedAtEnd.{exchange_turns_bonds, exchange_turns_axes}
 use Rattle.cip_mol.proofs.ExchangedEnds.{exchanged_ends_keep_bonds, exchanged_ends_keep_axes}
-use Rattle.cip_digraph.specs.units.Descriptors.{is_odd}
-use Rattle.cip_digraph.specs.units.Ends.{End, end_at}
+use Rattle.cip_digraph.specs.units.Descriptors.{is_odd, shape_of}
+use Rattle.cip_digraph.specs.units.Ends.{End, end_at, ends_of}
 use Rattle.cip_digraph.specs.graph.Renumbering.{IsRenumbering}
 use Rattle.cip_carried.specs.Images.{ligand_image}
-use Rattle.cip_carried.specs.CarriedUnits.{IsCarriedEnd, AreCarriedEnds, IsCarriedSite, IsCarriedGeometry}
+use Rattle.cip_carried.specs.CarriedUnits.{IsCarriedEnd, AreCarriedEnds, AreEndsCarried, IsCarriedGeometry}
+use Rattle.cip_carried.proofs.digraph.CarriedEnds.{end_of, pair_of}
 use Rattle.cip_carried.specs.Exchanged.{IsExchanged, turned_twice}
 use Rattle.cip_laws.proofs.drawings.RenamedGeometry.{centre_renamed, bond_renamed, axis_renamed}
 use Rattle.cip_laws.proofs.graph.RenumberedGraph.{carry, drawn_same}
@@ -223,28 +224,31 @@ module _ (drawing other : Drawing) (image : ℕ → ℕ) (r : IsRenumbering draw
       ∙ ap (λ o. flip o (axis_geometry drawing a b ks ls)) (sym x.sum)
 
   -- the sense of a site that is listed as units are
-  pub site_sense : (odd : Bool) (site two : Site) → IsCarriedSite c odd site two → IsSiteListed drawing site
-      → IsSiteListed other two → IsCarriedGeometry odd (geometry_of drawing site) (geometry_of other two)
-  site_sense odd (Centre at ls) (Centre there ts) s l t =
+  pub site_sense : (odd : Bool) (site two : Site) → shape_of two ≡ shape_of site
+      → AreEndsCarried c odd (ends_of site) (ends_of two) → IsSiteListed drawing site → IsSiteListed other two
+      → IsCarriedGeometry odd (geometry_of drawing site) (geometry_of other two)
+  site_sense odd (Centre at ls) (Centre there ts) shape ends l t =
       flip_geometry odd (centre_geometry drawing at ls) (centre_geometry other there ts)
-      (centre_sense odd at there ls ts s l.0 l.1 t.1)
-  site_sense odd (Bond a b first second) (Bond d e third fourth) s l t =
-      flip_geometry odd (bond_geometry drawing a b first second) (bond_geometry other d e third fourth) (elim s.ends [
+      (centre_sense odd at there ls ts (end_of c odd (end_at at ls) (end_at there ts) ends) l.0 l.1 t.1)
+  site_sense odd (Bond a b first second) (Bond d e third fourth) shape ends l t =
+      let pair = pair_of c odd (end_at a first) (end_at b second) (end_at d third) (end_at e fourth) ends in
+      flip_geometry odd (bond_geometry drawing a b first second) (bond_geometry other d e third fourth) (elim pair.ends [
         | inl x ↦ bond_forward odd a b d e first second third fourth x l.0 l.1 t.0.ligands t.1.ligands
         | inr x ↦
             sym (exchanged_ends_keep_bonds other d e third fourth)
             ∙ bond_forward odd a b e d first second fourth third x l.0 l.1 t.1.ligands t.0.ligands
       ])
-  site_sense odd (Axis a middle b first second) (Axis d inner e third fourth) s l t =
-      flip_geometry odd (axis_geometry drawing a b first second) (axis_geometry other d e third fourth) (elim s.1.ends [
+  site_sense odd (Axis a middle b first second) (Axis d inner e third fourth) shape ends l t =
+      let pair = pair_of c odd (end_at a first) (end_at b second) (end_at d third) (end_at e fourth) ends in
+      flip_geometry odd (axis_geometry drawing a b first second) (axis_geometry other d e third fourth) (elim pair.ends [
         | inl x ↦ axis_forward odd a b d e first second third fourth x l.0 l.1 t.0.ligands t.1.ligands
         | inr x ↦
             sym (exchanged_ends_keep_axes other d e third fourth)
             ∙ axis_forward odd a b e d first second fourth third x l.0 l.1 t.1.ligands t.0.ligands
       ])
-  site_sense odd (Centre at ls) (Bond d e third fourth) s l t = absurd s
-  site_sense odd (Centre at ls) (Axis d inner e third fourth) s l t = absurd s
-  site_sense odd (Bond a b first second) (Centre there ts) s l t = absurd s
-  site_sense odd (Bond a b first second) (Axis d inner e third fourth) s l t = absurd s
-  site_sense odd (Axis a middle b first second) (Centre there ts) s l t = absurd s
-  site_sense odd (Axis a middle b first second) (Bond d e third fourth) s l t = absurd s
+  site_sense odd (Centre at ls) (Bond d e third fourth) shape ends l t = cc
+  site_sense odd (Centre at ls) (Axis d inner e third fourth) shape ends l t = cc
+  site_sense odd (Bond a b first second) (Centre there ts) shape ends l t = cc
+  site_sense odd (Bond a b first second) (Axis d inner e third fourth) shape ends l t = cc
+  site_sense odd (Axis a middle b first second) (Centre there ts) shape ends l t = cc
+  site_sense odd (Axis a middle b first second) (Bond d e third fourth) shape ends l t = cc

@@ -6,9 +6,8 @@ use Rattle.cip_mol.specs.Bonds as bonds
 use Rattle.cip_mol.specs.Drawing.{Drawing}
 use Rattle.cip_mol.specs.declared.site.Geometry.{Geometry}
 use Rattle.cip_mol.specs.declared.site.Site.{Site}
-use Rattle.cip_mol.specs.declared.site.Site.TheVariants.{Centre, Bond, Axis}
 use Rattle.cip_mol.specs.declared.site.Unit as units
-use Rattle.cip_digraph.specs.units.Ends.{End, end_at, ends_of}
+use Rattle.cip_digraph.specs.units.Ends.{End, ends_of}
 use Rattle.cip_digraph.specs.graph.Graph.{Graph}
 use Rattle.cip_digraph.specs.graph.Hydrogens.{hydrogens_of}
 use Rattle.cip_digraph.specs.outcome.Outcomes.{cost, outcome_of}
@@ -16,7 +15,7 @@ use Rattle.cip_digraph.specs.rings.Positions.{positions_of}
 use Rattle.cip_digraph.specs.graph.Renumbering.{hydrogen_number, IsRenumbering}
 use Rattle.cip_digraph.specs.graph.SoundGraphs.{IsSound}
 use Rattle.cip_digraph.specs.units.Units.{sites_of, units_of}
-use Rattle.cip_carried.specs.Images.{Among, ligand_image, IsImageEnd, IsImageSite, IsImageOutcome, CostsGo}
+use Rattle.cip_carried.specs.Images.{Among, ligand_image, AreCrossed, AreForward, IsImageEnd, IsImageSite, IsImageOutcome, CostsGo, crossed}
 use Rattle.cip_laws.proofs.units.AloneSites.{shown, units_alone}
 use Rattle.cip_carried.proofs.lists.Among.{among_map, from_map}
 use Rattle.cip_laws.proofs.units.CarriedAxes.{DelocalisedAtBoth, sites_there, sites_back}
@@ -24,7 +23,7 @@ use Rattle.cip_carried.specs.Renamed.{IsRenamed}
 use Rattle.cip_carried.proofs.outcomes.CarriedOutcomes.{outcome_carried, costs_carried}
 use Rattle.cip_carried.proofs.graph.CarriedPositions.{positions_renamed}
 use Rattle.cip_laws.proofs.units.CarriedSites.{SiteImage}
-use Rattle.cip_carried.specs.CarriedUnits.{IsCarriedEnd, IsCarriedPair, IsCarriedSite, IsCarriedGeometry, IsCarriedUnit, UnitsMatch}
+use Rattle.cip_carried.specs.CarriedUnits.{AreEndsCarried, IsCarriedEnd, IsCarriedPair, IsCarriedSite, IsCarriedGeometry, IsCarriedUnit, UnitsMatch}
 use Rattle.cip_carried.proofs.lists.Exchanges.{permutation_from}
 use Rattle.cip_laws.proofs.graph.HydrogenPlaces.{IsPlaced}
 use Rattle.cip_laws.proofs.drawings.RenumberedAtoms.{image_onto, hydrogens_same}
@@ -39,27 +38,35 @@ end_is image odd one two e =
           permutation_from e.places (map (ligand_image image) one.ligands) two.ligands e.exchanged;
     }
 
-pub pair_is : (image : ℕ → ℕ) (odd : Bool) (a b c d : End) → IsCarriedPair image odd a b c d
+pair_is : (image : ℕ → ℕ) (odd : Bool) (a b c d : End) → IsCarriedPair image odd a b c d
     → InPairs (IsImageEnd image) (a ∷ b ∷ []) (c ∷ d ∷ []) ⊎ InPairs (IsImageEnd image) (a ∷ b ∷ []) (d ∷ c ∷ [])
 pair_is image odd a b c d p = elim p.ends [
   | inl e ↦ inl (end_is image e.first a c e.near, (end_is image e.second b d e.far, tt))
   | inr e ↦ inr (end_is image e.first a d e.near, (end_is image e.second b c e.far, tt))
 ]
 
-pub site_is : (image : ℕ → ℕ) (odd : Bool) (one two : Site) → IsCarriedSite image odd one two
-    → IsImageSite image one two
-site_is image odd (Centre at ligands) (Centre there thirds) c =
-    (end_is image odd (end_at at ligands) (end_at there thirds) c, tt)
-site_is image odd (Bond a b first second) (Bond e f third fourth) c =
-    pair_is image odd (end_at a first) (end_at b second) (end_at e third) (end_at f fourth) c
-site_is image odd (Axis a middle b first second) (Axis e inner f third fourth) c =
-    (c.0, pair_is image odd (end_at a first) (end_at b second) (end_at e third) (end_at f fourth) c.1)
-site_is image odd (Centre at ligands) (Bond e f third fourth) c = c
-site_is image odd (Centre at ligands) (Axis e inner f third fourth) c = c
-site_is image odd (Bond a b first second) (Centre there thirds) c = c
-site_is image odd (Bond a b first second) (Axis e inner f third fourth) c = c
-site_is image odd (Axis a middle b first second) (Centre there thirds) c = c
-site_is image odd (Axis a middle b first second) (Bond e f third fourth) c = c
+ends_by : (image : ℕ → ℕ) (odd : Bool) (ones twos : List End) → AreEndsCarried image odd ones twos
+    → InPairs (IsImageEnd image) ones twos ⊎ InPairs (IsImageEnd image) ones (crossed twos)
+ends_by image odd ones twos (inl c) =
+    inl (subst (λ ends. InPairs (IsImageEnd image) ends twos) (sym c.is_one)
+    (subst (InPairs (IsImageEnd image) (c.one ∷ [])) (sym c.is_other)
+    (end_is image odd c.one c.other c.carried, tt)))
+ends_by image odd ones twos (inr c) =
+    subst (λ ends. InPairs (IsImageEnd image) ends twos ⊎ InPairs (IsImageEnd image) ends (crossed twos)) (sym c.are_ones)
+    (subst (λ ends. InPairs (IsImageEnd image) (c.near ∷ c.far ∷ []) ends
+    ⊎ InPairs (IsImageEnd image) (c.near ∷ c.far ∷ []) (crossed ends)) (sym c.are_others)
+    (pair_is image odd c.near c.far c.first c.second c.carried))
+
+pub ends_are : (image : ℕ → ℕ) (odd : Bool) (one two : Site) → AreEndsCarried image odd (ends_of one) (ends_of two)
+    → AreForward image one two ⊎ AreCrossed image one two
+ends_are image odd one two ends = ends_by image odd (ends_of one) (ends_of two) ends
+
+site_is : (image : ℕ → ℕ) (odd : Bool) (one two : Site) → IsCarriedSite image odd one two → IsImageSite image one two
+site_is image odd one two c = record {
+  shape = c.shape;
+  between = c.between;
+  ends = ends_are image odd one two c.ends;
+}
 
 module _ (graph other : Graph) (image : ℕ → ℕ) (r : IsRenamed graph other image)
     (onto : (w : ℕ) → (v : ℕ) × (w ≡ image v)) (sound : IsSound graph) (their_sound : IsSound other)
@@ -114,7 +121,7 @@ module _ (graph other : Graph) (image : ℕ → ℕ) (r : IsRenamed graph other 
             (positions_renamed graph other image r) sound all image_units units_match bound one found.0 found.2,
         costs_carried rules graph other (positions_of graph) (positions_of other) image r
             (positions_renamed graph other image r) sound all image_units units_match found.2.odd one.site found.0.site
-            found.2.site,
+            found.2.site.ends,
       )
 
   pub outcome_back : (rules : Rules) (bound : ℕ) (two : units.Unit) → Among two image_units
@@ -132,7 +139,7 @@ module _ (graph other : Graph) (image : ℕ → ℕ) (r : IsRenamed graph other 
             (positions_renamed graph other image r) sound all image_units units_match bound found.0 two found.2,
         costs_carried rules graph other (positions_of graph) (positions_of other) image r
             (positions_renamed graph other image r) sound all image_units units_match found.2.odd found.0.site two.site
-            found.2.site,
+            found.2.site.ends,
       )
 
 -- each vertex of the other drawing is an image
