@@ -5,6 +5,7 @@ pub mod Grows
 pub mod Lengths
 pub mod Marked
 pub mod Masses
+pub mod Neighbours
 pub mod Sized
 pub mod Ups
 pub mod Walked

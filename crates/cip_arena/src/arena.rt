@@ -161,7 +161,6 @@ impl Arena {
         node_size(graph, &self.nodes, node)
     }
 
-    #[tactic(auto, using(crate::proofs::Sized::size_next, crate::proofs::Sized::size_after, crate::proofs::Sized::node_kept, crate::proofs::Added::keeps_then))]
     fn make_sphere<L: Ledger>(
         &mut self,
         graph: &Graph,
@@ -188,7 +187,6 @@ impl Arena {
         }
     }
 
-    #[tactic(auto, using(crate::proofs::Sized::edge_kept, crate::proofs::Added::keeps_then))]
     fn make_children<L: Ledger>(
         &mut self,
         graph: &Graph,
@@ -221,7 +219,6 @@ impl Arena {
         }
     }
 
-    #[tactic(auto)]
     fn make_edge<L: Ledger>(
         &mut self,
         graph: &Graph,
@@ -253,7 +250,6 @@ impl Arena {
         }
     }
 
-    #[tactic(auto, using(crate::proofs::Walked::none_above, crate::proofs::Walked::parent_above, crate::proofs::Walked::parent_found, crate::proofs::Added::keeps_append))]
     fn make_neighbour<L: Ledger>(
         &mut self,
         graph: &Graph,
@@ -309,7 +305,6 @@ impl Arena {
         }
     }
 
-    #[tactic(auto, using(crate::proofs::Added::last_added))]
     fn add<L: Ledger>(&mut self, node: Told, steps: &mut Steps<L>) -> u32
         requires room { length self.old.nodes < self.old.bound }
         requires below { node.parent < length self.old.nodes }

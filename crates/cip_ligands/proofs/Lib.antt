@@ -16,4 +16,5 @@ pub mod RulesInTurn
 pub mod RulesReady
 pub mod TakenNone
 pub mod TakenSteps
+pub mod TwinsAside
 pub mod UnmarkedBranches

@@ -674,20 +674,21 @@ pub readings_found : {N : Type 0} (seen : Seen N) (named : ℕ → N) (from : Br
     → new ≡ map (with_found (decided_by seen true R4b (node_in named from))) asked
 readings_found seen named from followed may stands ends tall marks are asked new within takes =
     let room = takes.room in
+    let compared = takes.compared in
     let f = found seen named from followed may stands ends tall marks are room in
     let sides = found_by seen named from followed may stands ends tall marks are room
     (map (side_of from) (range_with_len 0 (length from.wanted))) takes.sides takes.sides_now takes.sides_taken
     (sides_ask seen named from followed may stands ends tall marks are room) in
     let higher = found_by seen named from followed may stands ends tall marks are room
-    (map (between (read_as from (s_higher takes.sides) false)) asked) takes.higher takes.higher_now takes.higher_taken
+    (map (between (read_as from (s_higher takes.sides) false)) asked) compared.higher compared.higher_now compared.higher_taken
     (hi_asks seen named from followed may stands ends tall marks are room takes.sides sides asked within) in
     let lower = found_open seen named from followed may stands ends tall marks are room
-    (map (between (read_as from (s_higher takes.sides) true)) takes.higher) takes.lower takes.lower_now
-    takes.lower_decided takes.lower_taken
+    (map (between (read_as from (s_higher takes.sides) true)) compared.higher) compared.lower compared.lower_now
+    compared.lower_decided compared.lower_taken
     (subst (λ (all : List Asked). AllByRecursion (AsksAmong (IsReading from)) (map (between (read_as from
     (s_higher takes.sides) true)) all)) (sym higher)
     (lo_asks seen named from followed may stands ends tall marks are room takes.sides sides asked within)) in
-    takes.named ∙ ap (map (between (base_of (length from.layers.kin.ups)))) (lower
+    compared.named ∙ ap (map (between (base_of (length from.layers.kin.ups)))) (lower
     ∙ ap (λ (all : List Asked). map (with_found f) (map (between (read_as from (s_higher takes.sides) true)) all))
     higher)
     ∙ all_pairs seen named from followed may stands ends tall marks are room takes.sides sides asked within

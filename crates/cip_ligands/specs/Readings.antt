@@ -91,23 +91,30 @@ pub record IsAside (begin : Branched) (saved : Saved) (now : Branched) : Type 0 
   pub end : now.last ≡ begin.last
   pub count : length now.wanted ≡ length begin.wanted
 
--- First it is asked which reading of each branch is the higher one; then the higher ones are compared, and where two of
--- them tie the lower ones.
+-- and these branches are twins of others
+pub record AreTwinsAside (from : Branched) (saved : Saved) (now : Branched) : Type 0 where
+  pub aside : IsAside (twins_of now.layers.kin.room from) saved now
+
+-- where it is known which reading of each branch is the higher one, these are compared, and where two of them tie the
+-- lower ones
+pub record ComparesReadings (from begin : Branched) (keys : List ℤ) (sides asked new : List Asked) : Type 0 where
+  pub higher : List Asked
+  pub higher_now : Branched
+  pub higher_taken : TakesRule begin keys R4b (map (between (read_as from (s_higher sides) false)) asked) higher_now
+      higher
+  pub lower : List Asked
+  pub lower_now : Branched
+  pub lower_decided : list_all is_decided (map (between (read_as from (s_higher sides) true)) higher) ≡ true
+      → lower ≡ map (between (read_as from (s_higher sides) true)) higher
+  pub lower_taken : list_all is_decided (map (between (read_as from (s_higher sides) true)) higher) ≡ false
+      → TakesRule begin keys R4b (map (between (read_as from (s_higher sides) true)) higher) lower_now lower
+  pub named : new ≡ map (between (base_of (length from.layers.kin.ups))) lower
+
+-- First it is asked which reading of each branch is the higher one; then they are compared.
 pub record TakesReadings (from : Branched) (marks : List (Option Descriptor)) (asked new : List Asked) : Type 0 where
   pub room : ℕ
   pub sides : List Asked
   pub sides_now : Branched
   pub sides_taken : TakesRule (twins_of room from) (reading_keys marks from) R4b (map (side_of from)
       (range_with_len 0 (length from.wanted))) sides_now sides
-  pub higher : List Asked
-  pub higher_now : Branched
-  pub higher_taken : TakesRule (twins_of room from) (reading_keys marks from) R4b (map (between (read_as from
-      (s_higher sides) false)) asked) higher_now higher
-  pub lower : List Asked
-  pub lower_now : Branched
-  pub lower_decided : list_all is_decided (map (between (read_as from (s_higher sides) true)) higher) ≡ true
-      → lower ≡ map (between (read_as from (s_higher sides) true)) higher
-  pub lower_taken : list_all is_decided (map (between (read_as from (s_higher sides) true)) higher) ≡ false
-      → TakesRule (twins_of room from) (reading_keys marks from) R4b (map (between (read_as from (s_higher sides) true))
-      higher) lower_now lower
-  pub named : new ≡ map (between (base_of (length from.layers.kin.ups))) lower
+  pub compared : ComparesReadings from (twins_of room from) (reading_keys marks from) sides asked new

@@ -14,8 +14,8 @@ ghost use Rattle.cip_ligands.specs.Asking.{AreWithin, is_decided, with_found};
 ghost use Rattle.cip_ligands.specs.Deciding.{AreDecidedBy};
 ghost use Rattle.cip_ligands.specs.Marked.{AreMarksOf};
 ghost use Rattle.cip_ligands.specs.Orders.{decided_by};
-ghost use Rattle.cip_ligands.specs.Readings.{twin_of, side_of, s_higher, base_of, reading_of, read_as, between};
-ghost use Rattle.cip_ligands.specs.Readings.{reading_key, reading_keys, IsAside, TakesReadings};
+ghost use Rattle.cip_ligands.specs.Readings.{twin_of, side_of, is_second, s_higher, base_of, reading_of, read_as, between};
+ghost use Rattle.cip_ligands.specs.Readings.{reading_key, reading_keys, AreTwinsAside, ComparesReadings, TakesReadings};
 ghost use Rattle.cip_ligands.specs.Taking.{TakesRule};
 
 use crate::asked::{Asked, are_decided};
@@ -192,17 +192,21 @@ fn ask_sides(branches: &Branches, sides: &mut Column<Asked>)
     }
 }
 
+// Whether the second of the two readings that a pair asks about is the higher one.
+fn is_second(one: Asked) -> bool
+    ensures { result ≡ is_second one.decision }
+{
+    match one.decision {
+        Some(found) => found.side == Ordering::Less,
+        None => false,
+    }
+}
+
 // Whether the reading with S is the higher one of a branch.
 fn is_s_higher(sides: &[Asked], branch: u32) -> bool
     ensures { result ≡ has_flag (s_higher sides.now) branch }
 {
-    match sides.get(branch as usize) {
-        Some(one) => match one.decision {
-            Some(found) => found.side == Ordering::Less,
-            None => false,
-        },
-        None => false,
-    }
+    (branch as usize) < sides.len() && is_second(sides[branch as usize])
 }
 
 // The lower or the higher reading of a branch.
@@ -259,6 +263,23 @@ fn name_all(count: u32, asked: &mut [Asked])
     }
 }
 
+// Lets twins stand for both readings of branches, and sets their ranks aside.
+fn set_aside(branches: &Branches, twins: &mut Branches, saved: &mut SavedRanks)
+    requires followed { AreFollowed branches.now }
+    requires some { 0 < length branches.now.layers.kin.ups }
+    requires room { length branches.now.layers.kin.ups + length branches.now.layers.kin.ups ≤ twins.old.layers.kin.room }
+    requires saved_room { length branches.now.layers.kin.ups + length branches.now.layers.kin.ups ≤ saved.old.room }
+    ensures aside { AreTwinsAside branches.now saved.new twins.new }
+    ensures keyed { AreKeyed (length branches.now.layers.kin.ups + length branches.now.layers.kin.ups)
+        twins.new.layers.kin }
+    ensures room { twins.new.layers.kin.room ≡ twins.old.layers.kin.room }
+    ensures saved_room { saved.new.room ≡ saved.old.room }
+    ensures may { MayDouble branches.now }
+{
+    twins.fill_twins(branches);
+    twins.save(saved);
+}
+
 // Takes the rule over twins whose ranks were set aside.
 fn take_again<K: Keyed>(
     branches: &Branches,
@@ -267,11 +288,11 @@ fn take_again<K: Keyed>(
     keys: &K,
     asked: &mut [Asked],
 )
-    requires aside { IsAside (twins_of twins.old.layers.kin.room branches.now) saved.now twins.old }
+    requires aside { AreTwinsAside branches.now saved.now twins.old }
     requires keyed { AreKeyed (K.nodes keys.now) twins.old.layers.kin }
-    ensures taken { TakesRule (twins_of twins.old.layers.kin.room branches.now) (K.key keys.now) R4b asked.old twins.new
+    ensures taken { TakesRule (twins_of twins.new.layers.kin.room branches.now) (K.key keys.now) R4b asked.old twins.new
         asked.new }
-    ensures aside { IsAside (twins_of twins.old.layers.kin.room branches.now) saved.now twins.new }
+    ensures aside { AreTwinsAside branches.now saved.now twins.new }
     ensures kin { twins.new.layers.kin ≡ twins.old.layers.kin }
 {
     let _places = branches.len();
@@ -287,10 +308,10 @@ fn take_open<K: Keyed>(
     keys: &K,
     asked: &mut [Asked],
 )
-    requires aside { IsAside (twins_of twins.old.layers.kin.room branches.now) saved.now twins.old }
+    requires aside { AreTwinsAside branches.now saved.now twins.old }
     requires keyed { AreKeyed (K.nodes keys.now) twins.old.layers.kin }
     ensures decided { list_all is_decided asked.old ≡ true → asked.new ≡ asked.old }
-    ensures taken { list_all is_decided asked.old ≡ false → TakesRule (twins_of twins.old.layers.kin.room branches.now)
+    ensures taken { list_all is_decided asked.old ≡ false → TakesRule (twins_of twins.new.layers.kin.room branches.now)
         (K.key keys.now) R4b asked.old twins.new asked.new }
     ensures kin { twins.new.layers.kin ≡ twins.old.layers.kin }
 {
@@ -307,16 +328,39 @@ fn take_sides<K: Keyed>(
     keys: &K,
     sides: &mut Column<Asked>,
 )
-    requires aside { IsAside (twins_of twins.old.layers.kin.room branches.now) saved.now twins.old }
+    requires aside { AreTwinsAside branches.now saved.now twins.old }
     requires keyed { AreKeyed (K.nodes keys.now) twins.old.layers.kin }
-    ensures taken { TakesRule (twins_of twins.old.layers.kin.room branches.now) (K.key keys.now) R4b sides.old.items
+    ensures taken { TakesRule (twins_of twins.new.layers.kin.room branches.now) (K.key keys.now) R4b sides.old.items
         twins.new sides.new.items }
-    ensures aside { IsAside (twins_of twins.old.layers.kin.room branches.now) saved.now twins.new }
+    ensures aside { AreTwinsAside branches.now saved.now twins.new }
     ensures kin { twins.new.layers.kin ≡ twins.old.layers.kin }
     ensures room { sides.new.room ≡ sides.old.room }
 {
     let sides = &mut sides.items;
     take_again(branches, twins, saved, keys, sides);
+}
+
+// Compares the higher readings of branches, and where two of them tie the lower ones.
+fn take_pairs<K: Keyed>(
+    branches: &Branches,
+    twins: &mut Branches,
+    saved: &SavedRanks,
+    keys: &K,
+    sides: &[Asked],
+    asked: &mut [Asked],
+)
+    requires aside { AreTwinsAside branches.now saved.now twins.old }
+    requires keyed { AreKeyed (K.nodes keys.now) twins.old.layers.kin }
+    requires few { length branches.now.layers.kin.ups + length branches.now.layers.kin.ups < 2 ^ 32 }
+    ensures compared { ComparesReadings branches.now (twins_of twins.old.layers.kin.room branches.now) (K.key keys.now)
+        sides.now asked.old asked.new }
+    ensures kin { twins.new.layers.kin ≡ twins.old.layers.kin }
+{
+    read_all(branches, sides, false, asked);
+    take_again(branches, twins, saved, keys, asked);
+    read_all(branches, sides, true, asked);
+    take_open(branches, twins, saved, keys, asked);
+    name_all(branches.len(), asked);
 }
 
 // Takes the rule over both readings of branches.
@@ -342,15 +386,10 @@ fn take_with<M: Marked>(
     ensures may { MayDouble keys.now.branches.now }
 {
     let branches = keys.branches;
-    twins.fill_twins(branches);
-    twins.save(saved);
+    set_aside(branches, twins, saved);
     ask_sides(branches, sides);
     take_sides(branches, twins, saved, keys, sides);
-    read_all(branches, sides.as_slice(), false, asked);
-    take_again(branches, twins, saved, keys, asked);
-    read_all(branches, sides.as_slice(), true, asked);
-    take_open(branches, twins, saved, keys, asked);
-    name_all(branches.len(), asked);
+    take_pairs(branches, twins, saved, keys, sides.as_slice(), asked);
 }
 
 /// What Rule 4b decides between branches that stand by Rule 4a: the higher readings of two decide, and where they tie

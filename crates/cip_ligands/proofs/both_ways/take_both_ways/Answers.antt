@@ -58,3 +58,16 @@ returns-clause-turned g c =
     c.take_rule-2.new.branches c.take_rule-2.new.asked) back
     (subst (λ (pairs : List Asked). TakesRule c.restore.new.self (g.T.Keyed.key c.args.turned_keys.now) R5 pairs
     c.take_rule-2.new.branches c.take_rule-2.new.asked) c.copy_from_slice.ensures.after c.take_rule-2.ensures.taken)
+
+pub returns-clause-decided : goal.returns-clause-decided
+returns-clause-decided g c = record { now = c.take_rule.new.branches; takes = c.take_rule.ensures.taken }
+
+pub returns-clause-followed : goal.returns-clause-followed
+returns-clause-followed g c = c.take_rule-2.ensures.followed
+
+pub returns-clause-kin : goal.returns-clause-kin
+returns-clause-kin g c =
+    c.take_rule-2.ensures.kin ∙ ap (λ (b : Branched). b.layers.kin) c.restore.ensures ∙ c.take_rule.ensures.kin
+
+pub returns-clause-room : goal.returns-clause-room
+returns-clause-room g c = ap (λ (s : Saved). s.room) c.save.ensures.saved

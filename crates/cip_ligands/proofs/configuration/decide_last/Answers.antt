@@ -1,5 +1,6 @@
-use Rattle.std.proofs.Common.{◌∙◌, false, true}
+use Rattle.std.proofs.Common.{◌∙◌, false, true, ap, arith}
 use Rattle.cip_mol.specs.declared.outcome.Rule.TheVariants.{R5}
+use Rattle.cip_ligands.specs.Readings.{Readied}
 use Rattle.cip_ligands.proofs.MarkedKeys.{taken_by_marks, taken_by_none, uncounted_turned}
 use Rattle.cip_ligands.proofs.TakenSteps.{same_branches, same_still}
 use Rattle.cip_ligands.proofs.configuration.decide_last.Goals as goal
@@ -43,3 +44,37 @@ pub returns-clause-same : goal.returns-clause-same
 returns-clause-same g c =
     same_branches c.args.branches.now _ R5 c.args.asked.now c.take_both_ways.new.branches c.take_both_ways.new.turned
     c.take_both_ways.ensures.turned
+
+pub take_both_ways-requires-clause-followed : goal.take_both_ways-requires-clause-followed
+take_both_ways-requires-clause-followed g c = c.requires.followed
+
+pub take_both_ways-requires-clause-keyed : goal.take_both_ways-requires-clause-keyed
+take_both_ways-requires-clause-keyed g c = c.requires.keyed
+
+pub take_both_ways-requires-clause-turned_keyed : goal.take_both_ways-requires-clause-turned_keyed
+take_both_ways-requires-clause-turned_keyed g c = c.requires.keyed
+
+pub take_both_ways-requires-clause-room : goal.take_both_ways-requires-clause-room
+take_both_ways-requires-clause-room g c =
+    let bound = ap (λ (r : Readied). r.bound) c.readings.view_is in
+    let room = c.requires.room in
+    let saved = c.readings.invariant.saved_room in
+    omega (arith, bound, room, saved)
+
+pub take_both_ways-requires-clause-len : goal.take_both_ways-requires-clause-len
+take_both_ways-requires-clause-len g c = c.requires.len
+
+pub invariant_of-readings : goal.invariant_of-readings
+invariant_of-readings g c = record {
+  few = c.readings.invariant.few;
+  twins_room = c.readings.invariant.twins_room;
+  saved_room = c.take_both_ways.ensures.room ∙ c.readings.invariant.saved_room;
+  sides_room = c.readings.invariant.sides_room;
+  values_room = c.readings.invariant.values_room;
+}
+
+pub returns-clause-kin : goal.returns-clause-kin
+returns-clause-kin g c = c.take_both_ways.ensures.kin
+
+pub returns-clause-bound : goal.returns-clause-bound
+returns-clause-bound g c = ap (λ (r : Readied). r.bound) c.readings.view_is

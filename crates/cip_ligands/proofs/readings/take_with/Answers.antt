@@ -1,79 +1,64 @@
-use Rattle.std.proofs.Common.{◌≡◌, false, true, List, ◌+◌, length, map, sym, ap, ◌∙◌, subst}
-use Rattle.std.specs.List.{list_all}
+use Rattle.std.proofs.Common.{◌+◌, List, length, sym, ap, ◌∙◌, subst}
 use Rattle.cip_mol.specs.declared.outcome.Rule.TheVariants.{R4b}
-use Rattle.cip_branches.specs.Deciding.{Branched}
-use Rattle.cip_rows.specs.Kin.{Kin}
-use Rattle.cip_rows.specs.Keys.{AreKeyed}
-use Rattle.cip_rows.specs.Reserved.{Reserved}
 use Rattle.cip_branches.specs.Twins.{twins_of}
-use Rattle.cip_rows.proofs.TwinPlaces.{twins_keyed}
+use Rattle.cip_rows.specs.Keys.{AreKeyed}
+use Rattle.cip_rows.specs.Kin.{Kin}
+use Rattle.cip_rows.specs.Reserved.{Reserved}
 use Rattle.cip_ligands.specs.declared.asked.Asked.{Asked}
-use Rattle.cip_ligands.specs.Asking.{is_decided}
-use Rattle.cip_ligands.specs.Readings.{reading_keys, s_higher, base_of, read_as, between}
+use Rattle.cip_ligands.specs.Readings.{reading_keys, ComparesReadings}
 use Rattle.cip_ligands.specs.Taking.{TakesRule}
 use Rattle.cip_ligands.proofs.readings.take_with.Goals as goal
 
+pub ask_sides-requires-clause-few : goal.ask_sides-requires-clause-few
+ask_sides-requires-clause-few g c = c.requires.few
+
+pub ask_sides-requires-clause-room : goal.ask_sides-requires-clause-room
+ask_sides-requires-clause-room g c = c.requires.sides_room
+
+pub take_sides-requires-clause-aside : goal.take_sides-requires-clause-aside
+take_sides-requires-clause-aside g c = c.set_aside.ensures.aside
+
 pub take_sides-requires-clause-keyed : goal.take_sides-requires-clause-keyed
-take_sides-requires-clause-keyed g c =
-    let from = c.args.keys.now.branches.now in
-    subst (λ (t : Branched). AreKeyed (length from.layers.kin.ups + length from.layers.kin.ups) t.layers.kin)
-    (sym c.fill_twins.ensures.twins) (twins_keyed c.args.twins.now.layers.kin.room from.layers.kin)
+take_sides-requires-clause-keyed g c = c.set_aside.ensures.keyed
 
-pub take_again-requires-clause-keyed : goal.take_again-requires-clause-keyed
-take_again-requires-clause-keyed g c =
-    let from = c.args.keys.now.branches.now in
-    let first = subst (λ (t : Branched). AreKeyed (length from.layers.kin.ups + length from.layers.kin.ups)
-    t.layers.kin)
-    (sym c.fill_twins.ensures.twins) (twins_keyed c.args.twins.now.layers.kin.room from.layers.kin) in
-    subst (λ (k : Kin). AreKeyed (length from.layers.kin.ups + length from.layers.kin.ups) k)
-    (sym c.take_sides.ensures.kin) first
+pub take_pairs-requires-clause-aside : goal.take_pairs-requires-clause-aside
+take_pairs-requires-clause-aside g c = c.take_sides.ensures.aside
 
-pub take_open-requires-clause-keyed : goal.take_open-requires-clause-keyed
-take_open-requires-clause-keyed g c =
+pub take_pairs-requires-clause-keyed : goal.take_pairs-requires-clause-keyed
+take_pairs-requires-clause-keyed g c =
     let from = c.args.keys.now.branches.now in
-    let first = subst (λ (t : Branched). AreKeyed (length from.layers.kin.ups + length from.layers.kin.ups)
-    t.layers.kin)
-    (sym c.fill_twins.ensures.twins) (twins_keyed c.args.twins.now.layers.kin.room from.layers.kin) in
     subst (λ (k : Kin). AreKeyed (length from.layers.kin.ups + length from.layers.kin.ups) k)
-    (sym (c.take_again.ensures.kin ∙ c.take_sides.ensures.kin)) first
+    (sym c.take_sides.ensures.kin) c.set_aside.ensures.keyed
+
+pub take_pairs-requires-clause-few : goal.take_pairs-requires-clause-few
+take_pairs-requires-clause-few g c = c.requires.few
+
+pub returns-clause-room : goal.returns-clause-room
+returns-clause-room g c =
+    ap (λ (k : Kin). k.room) (c.take_pairs.ensures.kin ∙ c.take_sides.ensures.kin) ∙ c.set_aside.ensures.room
+
+pub returns-clause-saved_room : goal.returns-clause-saved_room
+returns-clause-saved_room g c = c.set_aside.ensures.saved_room
+
+pub returns-clause-sides_room : goal.returns-clause-sides_room
+returns-clause-sides_room g c =
+    c.take_sides.ensures.room ∙ ap (λ (r : Reserved Asked). r.room) c.ask_sides.ensures
+
+pub returns-clause-may : goal.returns-clause-may
+returns-clause-may g c = c.set_aside.ensures.may
 
 pub returns-clause-taken : goal.returns-clause-taken
 returns-clause-taken g c =
     let from = c.args.keys.now.branches.now in
-    let room = c.args.twins.now.layers.kin.room in
+    let twins = c.take_sides.new.twins in
     let keys = reading_keys (g.M.Marked.marks c.args.keys.now.marks.now) from in
-    let room_one = ap (λ (t : Branched). t.layers.kin.room) c.fill_twins.ensures.twins in
-    let room_two = ap (λ (k : Kin). k.room) c.take_sides.ensures.kin ∙ room_one in
-    let room_three = ap (λ (k : Kin). k.room) c.take_again.ensures.kin ∙ room_two in
     let sides = c.take_sides.new.sides.items in
-    let reads : c.read_all-2.new.asked ≡ map (between (read_as from (s_higher sides) true)) c.take_again.new.asked =
-    c.read_all-2.ensures
-    ∙ ap (λ (all : List Asked). map (between (read_as from (s_higher all) true)) c.take_again.new.asked)
-    c.as_slice-2.ensures in
     record {
-      room = room;
+      room = twins.layers.kin.room;
       sides = sides;
-      sides_now = c.take_sides.new.twins;
-      sides_taken = subst (λ (asked : List Asked). TakesRule (twins_of room from) keys R4b asked
-          c.take_sides.new.twins sides)
-          (ap (λ (r : Reserved Asked). r.items) c.ask_sides.ensures)
-          (subst (λ r. TakesRule (twins_of r from) keys R4b c.ask_sides.new.sides.items c.take_sides.new.twins sides)
-          room_one c.take_sides.ensures.taken);
-      higher = c.take_again.new.asked;
-      higher_now = c.take_again.new.twins;
-      higher_taken = subst (λ (asked : List Asked). TakesRule (twins_of room from) keys R4b asked
-          c.take_again.new.twins c.take_again.new.asked)
-          (c.read_all.ensures ∙ ap (λ (all : List Asked). map (between (read_as from (s_higher all) false))
-          c.args.asked.now)
-          c.as_slice.ensures)
-          (subst (λ r. TakesRule (twins_of r from) keys R4b c.read_all.new.asked c.take_again.new.twins
-          c.take_again.new.asked) room_two c.take_again.ensures.taken);
-      lower = c.take_open.new.asked;
-      lower_now = c.take_open.new.twins;
-      lower_decided = λ done. c.take_open.ensures.decided (ap (list_all is_decided) reads ∙ done) ∙ reads;
-      lower_taken = λ left. subst (λ (asked : List Asked). TakesRule (twins_of room from) keys R4b asked
-          c.take_open.new.twins c.take_open.new.asked) reads
-          (subst (λ r. TakesRule (twins_of r from) keys R4b c.read_all-2.new.asked c.take_open.new.twins
-          c.take_open.new.asked) room_three (c.take_open.ensures.taken (ap (list_all is_decided) reads ∙ left)));
-      named = c.name_all.ensures ∙ ap (λ n. map (between (base_of n)) c.take_open.new.asked) c.len.ensures.count;
+      sides_now = twins;
+      sides_taken = subst (λ (asked : List Asked). TakesRule (twins_of twins.layers.kin.room from) keys R4b asked twins
+          sides) (ap (λ (r : Reserved Asked). r.items) c.ask_sides.ensures) c.take_sides.ensures.taken;
+      compared = subst (λ (all : List Asked). ComparesReadings from (twins_of twins.layers.kin.room from) keys all
+          c.args.asked.now c.take_pairs.new.asked) c.as_slice.ensures c.take_pairs.ensures.compared;
     }

@@ -27,7 +27,7 @@ loop-far-preserved g c =
     let far = c.loop-far.far in
     let now = c.deepen.new.self in
     let next : suc far ≡ far + 1 = omega arith in
-    let last = ap (λ (b : Branched). b.last) c.deepen.ensures.others in
+    let last : now.last ≡ c.loop-far.branches.last = ap (λ (b : Branched). b.last) c.deepen.ensures.others in
     let was = ap (λ (b : Branched). b.last) c.next_rule.ensures.others in
     let stands = c.loop-far.invariant.end in
     let read = c.last-last.ensures.last in
@@ -55,3 +55,41 @@ pub returns-clause-wanted : goal.returns-clause-wanted
 returns-clause-wanted g c =
     fewer_wanted c.args.branches.now (g.K.Keyed.key c.args.keys.now) c.args.rule c.args.asked.now c.loop-far.far
     c.loop-far.branches c.loop-far.asked c.loop-far.invariant.so_far
+
+pub deepen-requires-clause-followed : goal.deepen-requires-clause-followed
+deepen-requires-clause-followed g c = c.loop-far.invariant.followed
+
+pub returns-then-are_decided-clause-taken : goal.returns-then-are_decided-clause-taken
+returns-then-are_decided-clause-taken g c =
+    let last = c.last-last.ensures.last ∙ ap (λ (b : Branched). b.last) c.next_rule.ensures.others in
+    let lt = c.loop-far-test.true in
+    record {
+      far = c.loop-far.far;
+      within = omega (arith, last, lt);
+      so_far = c.loop-far.invariant.so_far;
+      early = λ early. sym c.are_decided.ensures ∙ c.if-are_decided.true;
+    }
+
+pub returns-then-are_decided-clause-followed : goal.returns-then-are_decided-clause-followed
+returns-then-are_decided-clause-followed g c = c.loop-far.invariant.followed
+
+pub returns-then-are_decided-clause-kin : goal.returns-then-are_decided-clause-kin
+returns-then-are_decided-clause-kin g c = c.loop-far.invariant.kin
+
+pub returns-clause-taken : goal.returns-clause-taken
+returns-clause-taken g c =
+    let last = c.last-last.ensures.last ∙ ap (λ (b : Branched). b.last) c.next_rule.ensures.others in
+    let end = c.loop-far-test.false in
+    let within = c.loop-far.auto.far-end in
+    record {
+      far = c.loop-far.far;
+      within = omega (arith, last, within);
+      so_far = c.loop-far.invariant.so_far;
+      early = λ early. absurd (omega (arith, last, end, early));
+    }
+
+pub returns-clause-followed : goal.returns-clause-followed
+returns-clause-followed g c = c.loop-far.invariant.followed
+
+pub returns-clause-kin : goal.returns-clause-kin
+returns-clause-kin g c = c.loop-far.invariant.kin

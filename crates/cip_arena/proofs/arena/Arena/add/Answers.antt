@@ -17,11 +17,13 @@ use Rattle.std.proofs.Common.{
   ◌∷◌,
   ◌++◌,
 }
-use Rattle.std.proofs.lemmas.Grind.{common_steps}
+use Rattle.std.proofs.lemmas.List.{length-map}
+use Rattle.cip_rank.specs.Tree.{last_parent}
+use Rattle.cip_arena.specs.Growth.{Growth}
 use Rattle.cip_digraph.specs.declared.nodes.Told.{Told}
 use Rattle.cip_digraph.specs.digraph.NodeList.{told_at, parents_of}
 use Rattle.cip_arena.specs.Walk.{IsEarlier, IsMarked}
-use Rattle.cip_arena.proofs.Added.{parents_added, earlier_added, near_added}
+use Rattle.cip_arena.proofs.Added.{parents_added, earlier_added, near_added, last_added}
 use Rattle.cip_arena.proofs.Marked.{marked_added}
 use Rattle.cip_arena.proofs.arena.Arena.add.Goals as goal
 
@@ -35,11 +37,11 @@ invariant_of-self g c =
     let below : t.parent < length ts = subst (λ a. t.parent < length a.nodes) (sym c.self.view_is) c.requires.below in
     let near : t.as_printed ≤ length ts = subst (λ a. t.as_printed ≤ length a.nodes) (sym c.self.view_is)
     c.requires.near in
-    let items : c.push_reserved.new.self.items ≡ ts ++ t ∷ [] = grind (arith, common_steps) in
+    let items : c.push_reserved.new.self.items ≡ ts ++ t ∷ [] = c.push_reserved.ensures.items in
     let more : length c.push_reserved.new.self.items ≡ length ts + 1 = ap length items ∙ length-append ts (t ∷ []) in
     record {
       few = inv.few;
-      table_bound = grind (arith, common_steps);
+      table_bound = ap (λ tree. tree.bound) c.push-number.ensures.pushed ∙ inv.table_bound;
       parents = ap (λ tree. tree.parents) c.push-number.ensures.pushed ∙ ap (λ ps. ps ++ t.parent ∷ []) inv.parents
           ∙ sym (parents_added ts t) ∙ ap parents_of (sym items);
       fits = omega (arith, more, room);
@@ -54,3 +56,53 @@ invariant_of-self g c =
           (subst (λ (flags : List Bool). IsMarked flags (ts ++ t ∷ [])) (sym c.mark_vertex.ensures.marked)
           (marked_added c.self.inside.present.items ts t inv.marked));
     }
+
+pub push-number-requires-clause-room : goal.push-number-requires-clause-room
+push-number-requires-clause-room g c =
+    let ts = c.self.inside.nodes.items in
+    let len : length c.self.inside.table.parents ≡ length ts = ap (λ (ps : List ℕ). length ps) c.self.invariant.parents
+    ∙ length-map ts (λ (n : Told). n.parent) in
+    let room : length ts < c.self.inside.bound = subst (λ (a : Growth). length a.nodes < a.bound) (sym c.self.view_is)
+    c.requires.room in
+    let bound = c.self.invariant.table_bound in
+    omega (arith, len, room, bound)
+
+pub push-number-requires-clause-below : goal.push-number-requires-clause-below
+push-number-requires-clause-below g c =
+    let ts = c.self.inside.nodes.items in
+    let len : length c.self.inside.table.parents ≡ length ts = ap (λ (ps : List ℕ). length ps) c.self.invariant.parents
+    ∙ length-map ts (λ (n : Told). n.parent) in
+    let below : c.args.node.parent < length ts = subst (λ (a : Growth). c.args.node.parent < length a.nodes)
+    (sym c.self.view_is) c.requires.below in
+    omega (arith, len, below)
+
+pub push-number-requires-clause-root : goal.push-number-requires-clause-root
+push-number-requires-clause-root g c =
+    let ts = c.self.inside.nodes.items in
+    let len : length c.self.inside.table.parents ≡ length ts = ap (λ (ps : List ℕ). length ps) c.self.invariant.parents
+    ∙ length-map ts (λ (n : Told). n.parent) in
+    let below : c.args.node.parent < length ts = subst (λ (a : Growth). c.args.node.parent < length a.nodes)
+    (sym c.self.view_is) c.requires.below in
+    (tt, omega (arith, len, below))
+
+pub push-number-requires-clause-ordered : goal.push-number-requires-clause-ordered
+push-number-requires-clause-ordered g c =
+    subst (λ (ps : List ℕ). last_parent ps ≤ c.args.node.parent) (sym c.self.invariant.parents)
+    (subst (λ (a : Growth). last_parent (parents_of a.nodes) ≤ c.args.node.parent) (sym c.self.view_is)
+    c.requires.in_order)
+
+pub returns-clause-added : goal.returns-clause-added
+returns-clause-added g c =
+    ap {A = List Told} {B = Growth} (λ ns. record {
+      bound = c.self.inside.bound;
+      root = c.self.inside.root;
+      sphere = c.self.inside.sphere;
+      first = c.self.inside.first;
+      nodes = ns;
+    }) c.push_reserved.ensures.items
+    ∙ ap (λ (a : Growth). record a { nodes = a.nodes ++ c.args.node ∷ [] }) c.self.view_is
+
+pub returns-clause-last : goal.returns-clause-last
+returns-clause-last g c =
+    ap (λ (all : List Told). last_parent (parents_of all)) c.push_reserved.ensures.items
+    ∙ last_added c.self.inside.nodes.items c.args.node

@@ -1,19 +1,31 @@
-use Rattle.std.proofs.Common.{◌≡◌, ◌≤◌, ◌+◌, arith, ap, sym, ◌∙◌, subst, get_or, take, false, List, Some}
-use Rattle.std.specs.List.{sum_by}
+use Rattle.std.proofs.Common.{◌≡◌, ◌<◌, ◌≤◌, ◌+◌, ℕ, arith, ap, sym, ◌∙◌, subst, refl, get_or, take, length, false, List, None, Some}
+use Rattle.std.specs.declared.option.Option.{Option}
+use Rattle.std.specs.List.{sum_by, fold}
 use Rattle.std.proofs.lemmas.Grind.{common_steps}
 use Rattle.std.proofs.lemmas.List.Sums.{sum_by_more, sum_by_more_le, fold_more}
-use Rattle.cip_digraph.specs.digraph.NodeList.{told_at}
+use Rattle.cip_digraph.specs.digraph.NodeList.{nothing_told, told_at}
+use Rattle.cip_digraph.specs.graph.Graph.{edges_at}
+use Rattle.std.proofs.lemmas.List.{get_or_read_under, take_all}
 use Rattle.cip_digraph.specs.declared.nodes.Told.{Told}
 use Rattle.cip_digraph.specs.declared.graph.Edge.{Edge}
 use Rattle.cip_arena.specs.Growth.{Growth}
 use Rattle.cip_arena.specs.Walk.{IsEarlier}
-use Rattle.cip_arena.specs.Making.{edge_size, node_size, size_at, real_vertex, with_edge}
+use Rattle.cip_arena.specs.Making.{children_at, edge_size, node_size, size_at, real_vertex, with_edge}
 use Rattle.cip_arena.proofs.Sized.{edge_kept}
 use Rattle.cip_arena.proofs.Added.{keeps_then}
 use Rattle.cip_arena.proofs.arena.Arena.make_children.Goals as goal
 
 abbrev no_edge : Edge
 no_edge = record { a = 0; b = 0; order = 0; counted = false }
+
+-- what was read is the vertex of a real node
+real_read : (items old : List Told) (node : ℕ) (read : Told) (found vertex : Option ℕ) → items ≡ old → node < length old
+    → read ≡ get_or items node read → found ≡ real_vertex read → found ≡ vertex
+    → real_vertex (told_at old node) ≡ vertex
+real_read items old node read found vertex same lt is told then =
+    let low : node < length items = subst (λ (ts : List Told). node < length ts) (sym same) lt in
+    let here : read ≡ told_at items node = get_or_read_under items node (length items) read nothing_told is low refl in
+    ap real_vertex (sym (here ∙ ap (λ (ts : List Told). told_at ts node) same)) ∙ sym told ∙ then
 
 pub make_edge-requires-clause-room : goal.make_edge-requires-clause-room
 make_edge-requires-clause-room g c =
@@ -63,3 +75,82 @@ loop-edge-preserved g c =
       last = c.make_edge.ensures.last;
       cost = omega (arith, inv.cost, c.make_edge.ensures.cost);
     }
+
+pub make_edge-requires-clause-within : goal.make_edge-requires-clause-within
+make_edge-requires-clause-within g c =
+    let kept = c.loop-edge.invariant.kept.longer in
+    let within = c.requires.within in
+    omega (arith, kept, within)
+
+pub make_edge-requires-clause-last : goal.make_edge-requires-clause-last
+make_edge-requires-clause-last g c = c.loop-edge.invariant.last
+
+pub returns-in_default-clause-made : goal.returns-in_default-clause-made
+returns-in_default-clause-made g c =
+    let old = c.args.self.now.nodes in
+    let none = real_read c.self.inside.nodes.items old c.args.node c.index.result.now c.real_vertex.result None
+    (ap (λ (a : Growth). a.nodes) c.self.view_is) c.requires.within c.index.ensures c.real_vertex.ensures
+    c.in_default.is in
+    ap {A = List Told} {B = Growth} (λ ns. record c.args.self.now { nodes = ns })
+    (sym (ap (children_at c.args.graph.now c.args.positions.now old c.args.node) none))
+
+pub returns-in_default-clause-last : goal.returns-in_default-clause-last
+returns-in_default-clause-last g c = c.requires.last
+
+pub returns-in_default-clause-size : goal.returns-in_default-clause-size
+returns-in_default-clause-size g c =
+    let old = c.args.self.now.nodes in
+    let none = real_read c.self.inside.nodes.items old c.args.node c.index.result.now c.real_vertex.result None
+    (ap (λ (a : Growth). a.nodes) c.self.view_is) c.requires.within c.index.ensures c.real_vertex.ensures
+    c.in_default.is in
+    let size : node_size c.args.graph.now old c.args.node ≡ 0 = ap (size_at c.args.graph.now old c.args.node) none in
+    omega (arith, size)
+
+pub loop-edge-init : goal.loop-edge-init
+loop-edge-init g c =
+    record {
+      self = refl;
+      kept = record { longer = omega arith; same = λ k lt. refl };
+      size = omega arith;
+      last = c.requires.last;
+      cost = refl;
+    }
+
+pub returns-clause-made : goal.returns-clause-made
+returns-clause-made g c =
+    let old = c.args.self.now.nodes in
+    let real = real_read c.self.inside.nodes.items old c.args.node c.index.result.now c.real_vertex.result (Some c.in-Some.vertex)
+    (ap (λ (a : Growth). a.nodes) c.self.view_is) c.requires.within c.index.ensures c.real_vertex.ensures
+    c.in-Some.is in
+    let es = c.edges_at-edge-items.result.now in
+    let all : take c.loop-edge.edge-index es ≡ edges_at c.args.graph.now c.in-Some.vertex =
+    take_all c.loop-edge.edge-index es c.loop-edge-test.false ∙ c.edges_at-edge-items.ensures.value in
+    c.loop-edge.invariant.self
+    ∙ ap {A = List Told} {B = Growth} (λ ns. record c.args.self.now { nodes = ns })
+    (ap (fold (with_edge c.args.graph.now c.args.positions.now c.args.node c.in-Some.vertex) old) all
+    ∙ sym (ap (children_at c.args.graph.now c.args.positions.now old c.args.node) real))
+
+pub returns-clause-last : goal.returns-clause-last
+returns-clause-last g c = c.loop-edge.invariant.last
+
+pub returns-clause-kept : goal.returns-clause-kept
+returns-clause-kept g c = c.loop-edge.invariant.kept
+
+pub returns-clause-size : goal.returns-clause-size
+returns-clause-size g c =
+    let old = c.args.self.now.nodes in
+    let real = real_read c.self.inside.nodes.items old c.args.node c.index.result.now c.real_vertex.result (Some c.in-Some.vertex)
+    (ap (λ (a : Growth). a.nodes) c.self.view_is) c.requires.within c.index.ensures c.real_vertex.ensures
+    c.in-Some.is in
+    let es = c.edges_at-edge-items.result.now in
+    let all : take c.loop-edge.edge-index es ≡ edges_at c.args.graph.now c.in-Some.vertex =
+    take_all c.loop-edge.edge-index es c.loop-edge-test.false ∙ c.edges_at-edge-items.ensures.value in
+    let size = c.loop-edge.invariant.size in
+    let whole : sum_by (edge_size old c.args.node c.in-Some.vertex) (take c.loop-edge.edge-index es)
+    ≡ node_size c.args.graph.now old c.args.node =
+    ap (sum_by (edge_size old c.args.node c.in-Some.vertex)) all
+    ∙ sym (ap (size_at c.args.graph.now old c.args.node) real) in
+    omega (arith, size, whole)
+
+pub returns-clause-cost : goal.returns-clause-cost
+returns-clause-cost g c = c.loop-edge.invariant.cost

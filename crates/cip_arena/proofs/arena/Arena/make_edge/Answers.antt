@@ -1,4 +1,4 @@
-use Rattle.std.proofs.Common.{rules, arith, ap}
+use Rattle.std.proofs.Common.{arith, ap}
 use Rattle.std.proofs.lemmas.Grind.{common_steps}
 use Rattle.cip_arena.proofs.Added.{keeps_more, keeps_twice}
 use Rattle.cip_arena.proofs.arena.Arena.make_edge.Goals as goal

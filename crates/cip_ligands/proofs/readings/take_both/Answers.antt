@@ -1,0 +1,67 @@
+use Rattle.std.proofs.Common.{ap, ◌∙◌, arith}
+use Rattle.cip_ligands.specs.Readings.{Readied}
+use Rattle.cip_ligands.proofs.readings.take_both.Goals as goal
+
+pub write_values-requires-clause-few : goal.write_values-requires-clause-few
+write_values-requires-clause-few g c =
+    let bound = ap (λ (r : Readied). r.bound) c.readings.view_is in
+    let room = c.requires.room in
+    let few = c.readings.invariant.few in
+    omega (arith, bound, room, few)
+
+pub write_values-requires-clause-room : goal.write_values-requires-clause-room
+write_values-requires-clause-room g c =
+    let bound = ap (λ (r : Readied). r.bound) c.readings.view_is in
+    let room = c.requires.room in
+    let values = c.readings.invariant.values_room in
+    omega (arith, bound, room, values)
+
+pub take_with-requires-clause-few : goal.take_with-requires-clause-few
+take_with-requires-clause-few g c =
+    let bound = ap (λ (r : Readied). r.bound) c.readings.view_is in
+    let room = c.requires.room in
+    let few = c.readings.invariant.few in
+    omega (arith, bound, room, few)
+
+pub take_with-requires-clause-room : goal.take_with-requires-clause-room
+take_with-requires-clause-room g c =
+    let bound = ap (λ (r : Readied). r.bound) c.readings.view_is in
+    let room = c.requires.room in
+    let twins = c.readings.invariant.twins_room in
+    omega (arith, bound, room, twins)
+
+pub take_with-requires-clause-saved_room : goal.take_with-requires-clause-saved_room
+take_with-requires-clause-saved_room g c =
+    let bound = ap (λ (r : Readied). r.bound) c.readings.view_is in
+    let room = c.requires.room in
+    let saved = c.readings.invariant.saved_room in
+    omega (arith, bound, room, saved)
+
+pub take_with-requires-clause-sides_room : goal.take_with-requires-clause-sides_room
+take_with-requires-clause-sides_room g c =
+    let bound = ap (λ (r : Readied). r.bound) c.readings.view_is in
+    let room = c.requires.room in
+    let sides = c.readings.invariant.sides_room in
+    let tops = c.branch_count-branches.ensures.tops in
+    omega (arith, bound, room, sides, tops)
+
+pub invariant_of-readings : goal.invariant_of-readings
+invariant_of-readings g c = record {
+  few = c.readings.invariant.few;
+  twins_room = c.take_with.ensures.room ∙ c.readings.invariant.twins_room;
+  saved_room = c.take_with.ensures.saved_room ∙ c.readings.invariant.saved_room;
+  sides_room = c.take_with.ensures.sides_room ∙ c.readings.invariant.sides_room;
+  values_room = c.write_values.ensures.room ∙ c.readings.invariant.values_room;
+}
+
+pub returns-clause-taken : goal.returns-clause-taken
+returns-clause-taken g c = λ some. c.take_with.ensures.taken
+
+pub returns-clause-may : goal.returns-clause-may
+returns-clause-may g c = λ some. c.take_with.ensures.may
+
+pub returns-clause-tops : goal.returns-clause-tops
+returns-clause-tops g c = c.branch_count-branches.ensures.tops
+
+pub returns-clause-bound : goal.returns-clause-bound
+returns-clause-bound g c = ap (λ (r : Readied). r.bound) c.readings.view_is

@@ -1,0 +1,57 @@
+use Rattle.std.proofs.Common.{List, map, sym, ap, ◌∙◌, subst}
+use Rattle.cip_mol.specs.declared.outcome.Rule.TheVariants.{R4b}
+use Rattle.cip_branches.specs.Twins.{twins_of}
+use Rattle.cip_rows.specs.Keys.{AreKeyed}
+use Rattle.cip_rows.specs.Kin.{Kin}
+use Rattle.cip_ligands.specs.declared.asked.Asked.{Asked}
+use Rattle.std.specs.List.{list_all}
+use Rattle.cip_ligands.specs.Asking.{is_decided}
+use Rattle.cip_ligands.specs.Readings.{base_of, between}
+use Rattle.cip_ligands.specs.Taking.{TakesRule}
+use Rattle.cip_ligands.proofs.readings.take_pairs.Goals as goal
+
+pub read_all-requires : goal.read_all-requires
+read_all-requires g c = c.requires.few
+
+pub take_again-requires-clause-aside : goal.take_again-requires-clause-aside
+take_again-requires-clause-aside g c = c.requires.aside
+
+pub take_again-requires-clause-keyed : goal.take_again-requires-clause-keyed
+take_again-requires-clause-keyed g c = c.requires.keyed
+
+pub read_all-requires-2 : goal.read_all-requires-2
+read_all-requires-2 g c = c.requires.few
+
+pub take_open-requires-clause-aside : goal.take_open-requires-clause-aside
+take_open-requires-clause-aside g c = c.take_again.ensures.aside
+
+pub take_open-requires-clause-keyed : goal.take_open-requires-clause-keyed
+take_open-requires-clause-keyed g c =
+    subst (λ (k : Kin). AreKeyed (g.K.Keyed.nodes c.args.keys.now) k) (sym c.take_again.ensures.kin) c.requires.keyed
+
+pub returns-clause-kin : goal.returns-clause-kin
+returns-clause-kin g c = c.take_open.ensures.kin ∙ c.take_again.ensures.kin
+
+pub returns-clause-compared : goal.returns-clause-compared
+returns-clause-compared g c =
+    let from = c.args.branches.now in
+    let keys = g.K.Keyed.key c.args.keys.now in
+    let once = ap (λ (k : Kin). k.room) c.take_again.ensures.kin in
+    let twice = ap (λ (k : Kin). k.room) c.take_open.ensures.kin ∙ once in
+    let reads = c.read_all-2.ensures in
+    record {
+      higher = c.take_again.new.asked;
+      higher_now = c.take_again.new.twins;
+      higher_taken = subst (λ (asked : List Asked). TakesRule (twins_of c.args.twins.now.layers.kin.room from) keys R4b
+          asked c.take_again.new.twins c.take_again.new.asked) c.read_all.ensures
+          (subst (λ r. TakesRule (twins_of r from) keys R4b c.read_all.new.asked c.take_again.new.twins
+          c.take_again.new.asked) once c.take_again.ensures.taken);
+      lower = c.take_open.new.asked;
+      lower_now = c.take_open.new.twins;
+      lower_decided = λ done. c.take_open.ensures.decided (ap (list_all is_decided) reads ∙ done) ∙ reads;
+      lower_taken = λ left. subst (λ (asked : List Asked). TakesRule (twins_of c.args.twins.now.layers.kin.room from)
+          keys R4b asked c.take_open.new.twins c.take_open.new.asked) reads
+          (subst (λ r. TakesRule (twins_of r from) keys R4b c.read_all-2.new.asked c.take_open.new.twins
+          c.take_open.new.asked) twice (c.take_open.ensures.taken (ap (list_all is_decided) reads ∙ left)));
+      named = c.name_all.ensures ∙ ap (λ n. map (between (base_of n)) c.take_open.new.asked) c.len.ensures.count;
+    }
