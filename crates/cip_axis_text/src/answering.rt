@@ -35,7 +35,12 @@ pub fn further_of_lines<D: Digraphs>(
     ensures kept { labeller.new ≡ labeller.old }
 {
     match read_molecule(alloc, lines) {
-        Ok(molecule) => answer_molecule(alloc, labeller, &molecule, rules),
+        Ok(molecule) => {
+            let answer = answer_molecule(alloc, labeller, &molecule, rules);
+            // given back by a call of its own, which is quicker to prove than an end that owns it
+            drop(molecule);
+            answer
+        }
         Err(ReadRefusal::Fault(fault)) => Ok(Answer::Refused(fault)),
         Err(ReadRefusal::Memory) => Err(AllocError),
     }
@@ -51,7 +56,9 @@ fn answer_molecule<D: Digraphs>(
     ensures kept { labeller.new ≡ labeller.old }
 {
     let drawn = Drawn::of(alloc, molecule)?;
-    answer_drawn(alloc, labeller, molecule, &drawn, rules)
+    let answer = answer_drawn(alloc, labeller, molecule, &drawn, rules);
+    drop(drawn);
+    answer
 }
 
 // What is drawn stays with the caller, so that no end of this function gives it back.
@@ -70,7 +77,9 @@ fn answer_drawn<D: Digraphs>(
     // Reading the atoms tells that there are few.
     let _atoms = molecule.atoms();
     let further = further(alloc, molecule, drawn.graph(), drawn.positions())?;
-    answer_further(alloc, labeller, drawn, further.list(), rules)
+    let answer = answer_further(alloc, labeller, drawn, further.list(), rules);
+    drop(further);
+    answer
 }
 
 // The further units too stay with the caller.

@@ -18,7 +18,6 @@ use cip_mol::{Molecule, ReadRefusal};
 use cip_text::body_contents;
 use cip_v3000::{FrameLine, Indices, JoinedLine, Table, is_frame, read_table, text_of, words};
 use std::alloc::{AllocError, Global};
-use std::mem;
 
 /// What was read of the lines before: whether a collection is open, the atoms that stand in a group line, the groups.
 #[derive(Drop)]
@@ -30,18 +29,11 @@ pub struct Found {
 
 impl Found {
     // Puts these atoms of a group line to those of its group.
-    fn put(
-        &mut self,
-        alloc: Global,
-        number: u32,
-        kind: GroupKind,
-        atoms: Vec<u32>,
-    ) -> Result<(), GroupRefusal>
+    fn put(&mut self, number: u32, kind: GroupKind, atoms: Vec<u32>) -> Result<(), GroupRefusal>
         ensures { Gives (λ _. self.new) result (with_atoms number self.old kind atoms.items) }
     {
         take_all(number, &mut self.taken, &atoms)?;
-        let groups = mem::replace(&mut self.groups, Groups::new(alloc));
-        self.groups = groups.with_line(kind, number, atoms)?;
+        self.groups.put_line(kind, number, atoms)?;
         Ok(())
     }
 
@@ -73,7 +65,12 @@ fn lines_answer(alloc: Global, lines: &[&[u8]]) -> Result<GroupsAnswer, AllocErr
     ensures { IfOk result (IsAnswer (texts lines.now)) }
 {
     match read_table(alloc, lines) {
-        Ok(table) => table_answer(alloc, &table),
+        Ok(table) => {
+            let answer = table_answer(alloc, &table);
+            // given back by a call of its own, which is quicker to prove than an end that owns it
+            drop(table);
+            answer
+        }
         Err(ReadRefusal::Fault(_)) => unreachable!(),
         Err(ReadRefusal::Memory) => Err(AllocError),
     }
@@ -251,5 +248,5 @@ fn read_kind(
 {
     let names = names_of(alloc, number, words)?;
     let atoms = atoms_of(alloc, number, indices, &names)?;
-    found.put(alloc, number, kind, atoms)
+    found.put(number, kind, atoms)
 }

@@ -46,7 +46,7 @@ pub struct GroupFault {
 }
 
 /// Why there are no groups: what is wrong with a line, or want of memory.
-#[derive(Drop)]
+#[derive(Clone, Copy)]
 pub enum GroupRefusal {
     Fault(GroupFault),
     Memory,

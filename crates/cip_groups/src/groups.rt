@@ -1,6 +1,8 @@
 // Groups of centres.
-ghost use Rattle.std.specs.Prelude.{◌≡◌, ◌++◌, [], IfOk, OnOk};
+ghost use Rattle.std.specs.Prelude.{◌≡◌, ◌++◌, ◌∷◌, [], IfOk, OnOk, false};
+ghost use Rattle.std.specs.List.{list_any};
 ghost use Rattle.cip_groups.specs.Grouping.{kinds_of, with_line};
+ghost use Rattle.cip_groups.specs.Names.{same_kind};
 
 use crate::faults::GroupFault;
 use crate::kinds::GroupKind;
@@ -101,16 +103,24 @@ impl Groups {
     ) -> Result<Groups, AllocError>
         ensures { IfOk result (λ groups. groups ≡ with_line kind line atoms.items self) }
     {
-        let Groups {
-            mut names,
-            mut items,
-        } = self;
-        put_line(&mut names, &mut items, kind, line, atoms)?;
-        Ok(Groups { names, items })
+        let mut groups = self;
+        groups.put_line(kind, line, atoms)?;
+        Ok(groups)
+    }
+
+    /// The same in place.
+    pub(crate) fn put_line(
+        &mut self,
+        kind: GroupKind,
+        line: u32,
+        atoms: Vec<u32>,
+    ) -> Result<(), AllocError>
+        ensures { OnOk result (self.new ≡ with_line kind line atoms.items self.old) }
+    {
+        put_line(&mut self.names, &mut self.items, kind, line, atoms)
     }
 }
 
-// The groups stay with the caller, so that no end of this function gives them back.
 fn put_line(
     names: &mut Names,
     items: &mut Vec<Group>,
@@ -119,18 +129,33 @@ fn put_line(
     atoms: Vec<u32>,
 ) -> Result<(), AllocError>
     requires { names.old ≡ kinds_of items.old.items }
-    ensures names { OnOk result (names.new ≡ kinds_of items.new.items) }
+    ensures names { names.new ≡ kinds_of items.new.items }
     ensures items { OnOk result (items.new.items ≡ with_line kind line atoms.items items.old.items) }
 {
     match names.place(kind) {
         Some(place) => items[place].atoms.extend(&atoms),
         None => {
-            names.push(kind)?;
             let atoms = Vertices::from_vec(atoms);
-            items.push(Group { kind, line, atoms })?;
-            Ok(())
+            push_group(names, items, Group { kind, line, atoms })
         }
     }
+}
+
+// A group goes again where no memory is found for its name, so that each group has one.
+fn push_group(names: &mut Names, items: &mut Vec<Group>, group: Group) -> Result<(), AllocError>
+    requires named { names.old ≡ kinds_of items.old.items }
+    requires absent { list_any (same_kind group.kind) names.old ≡ false }
+    ensures names { names.new ≡ kinds_of items.new.items }
+    ensures items { OnOk result (items.new.items ≡ items.old.items ++ group ∷ []) }
+{
+    let before = items.len();
+    let kind = group.kind;
+    items.push(group)?;
+    let named = names.push(kind);
+    if named.is_err() {
+        items.truncate(before);
+    }
+    named
 }
 
 /// The groups of a record, or why it has none.

@@ -1,5 +1,5 @@
 // A table of the names of groups.
-ghost use Rattle.std.specs.Prelude.{◌≡◌, ◌<◌, ◌++◌, ◌∷◌, [], IfSome, IsNone, OnOk, false, length, position};
+ghost use Rattle.std.specs.Prelude.{◌≡◌, ◌<◌, ◌++◌, ◌∷◌, [], IfSome, IsNone, OnErr, OnOk, false, length, position};
 ghost use Rattle.std.specs.List.{list_any};
 ghost use Rattle.cip_groups.specs.Names.{same_kind};
 
@@ -36,7 +36,8 @@ impl Names {
     /// Adds a name that isn't there yet at the end.
     pub fn push(&mut self, kind: GroupKind) -> Result<(), AllocError>
         requires absent { list_any (same_kind kind) self.old ≡ false }
-        ensures { OnOk result (self.new ≡ self.old ++ kind ∷ []) }
+        ensures added { OnOk result (self.new ≡ self.old ++ kind ∷ []) }
+        ensures kept { OnErr result (self.new ≡ self.old) }
     {
         self.set.insert(kind)?;
         Ok(())

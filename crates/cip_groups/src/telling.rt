@@ -172,7 +172,12 @@ fn tell_extended<D: Digraphs>(
     ensures kept { labeller.new ≡ labeller.old }
 {
     match read_table(alloc, lines) {
-        Ok(table) => tell_table(alloc, labeller, &table, rules),
+        Ok(table) => {
+            let told = tell_table(alloc, labeller, &table, rules);
+            // given back by a call of its own, here and below: that is quicker to prove than an end that owns it
+            drop(table);
+            told
+        }
         Err(refusal) => tell_refusal(alloc, refusal),
     }
 }
@@ -228,7 +233,11 @@ fn tell_table<D: Digraphs>(
     ensures kept { labeller.new ≡ labeller.old }
 {
     match groups_of(alloc, table) {
-        Ok(groups) => tell_groups(alloc, labeller, &table.molecule, &groups, rules),
+        Ok(groups) => {
+            let told = tell_groups(alloc, labeller, &table.molecule, &groups, rules);
+            drop(groups);
+            told
+        }
         Err(refusal) => tell_fault(alloc, refusal),
     }
 }
@@ -261,7 +270,9 @@ fn tell_groups<D: Digraphs>(
     ensures kept { labeller.new ≡ labeller.old }
 {
     let drawn = Drawn::of(alloc, molecule)?;
-    tell_drawn(alloc, labeller, &drawn, groups, rules)
+    let told = tell_drawn(alloc, labeller, &drawn, groups, rules);
+    drop(drawn);
+    told
 }
 
 // What is drawn stays with the caller, so that no end of this function gives it back.

@@ -129,7 +129,12 @@ fn answer_lines<D: Digraphs>(
     ensures kept { labeller.new ≡ labeller.old }
 {
     match read_molecule(alloc, lines) {
-        Ok(molecule) => answer_molecule(alloc, labeller, &molecule, rules),
+        Ok(molecule) => {
+            let answer = answer_molecule(alloc, labeller, &molecule, rules);
+            // given back by a call of its own, which is quicker to prove than an end that owns it
+            drop(molecule);
+            answer
+        }
         Err(ReadRefusal::Fault(fault)) => Ok(Answer::Refused(fault)),
         Err(ReadRefusal::Memory) => Err(AllocError),
     }
@@ -146,7 +151,9 @@ fn answer_molecule<D: Digraphs>(
     ensures kept { labeller.new ≡ labeller.old }
 {
     let drawn = Drawn::of(alloc, molecule)?;
-    answer_drawn(alloc, labeller, &drawn, rules)
+    let answer = answer_drawn(alloc, labeller, &drawn, rules);
+    drop(drawn);
+    answer
 }
 
 // What is drawn stays with the caller, so that no end of this function gives it back.

@@ -7,11 +7,9 @@ use Rattle.cip_groups.proofs.groups.put_line.Goals as goal
 
 pub returns-in-Some-clause-names : goal.returns-in-Some-clause-names
 returns-in-Some-clause-names c =
-    on_ok_weaker c.extend.result
-    (λ _. c.requires
+    c.requires
     ∙ sym (kinds_stay c.args.items.now.items c.in-Some.place c.index_mut.result.now c.extend.new.self
-    c.index_mut.ensures.value))
-    c.extend.ensures
+    c.index_mut.ensures.value)
 
 pub returns-in-Some-clause-items : goal.returns-in-Some-clause-items
 returns-in-Some-clause-items c =
@@ -23,10 +21,12 @@ returns-in-Some-clause-items c =
     (more ∙ ap (λ (atoms : List ℕ). c.index_mut.result.now.atoms ++ atoms) c.deref.ensures.value))
     c.extend.ensures
 
-pub returns-in_ok-push-in-None-2-clause-items : goal.returns-in_ok-push-in-None-2-clause-items
-returns-in_ok-push-in-None-2-clause-items c =
-    c.in_ok-push-in-None-2.ensures.items
+pub returns-in-None-clause-items : goal.returns-in-None-clause-items
+returns-in-None-clause-items c =
+    on_ok_weaker c.push_group.result
+    (λ pushed. pushed
     ∙ ap (λ (atoms : List ℕ). c.args.items.now.items
     ++ record { kind = c.args.kind; line = c.args.line; atoms = atoms } ∷ []) c.from_vec-atoms.ensures
     ∙ line_new c.args.kind c.args.line c.args.atoms.items c.args.items.now.items
-    (c.in-None.ensures.value ∙ ap (position (same_kind c.args.kind)) c.requires)
+    (c.in-None.ensures.value ∙ ap (position (same_kind c.args.kind)) c.requires))
+    c.push_group.ensures.items

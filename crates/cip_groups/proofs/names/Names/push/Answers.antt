@@ -4,8 +4,8 @@ use Rattle.cip_groups.specs.Names.{same_kind}
 use Rattle.cip_groups.proofs.SameKinds.{any_same}
 use Rattle.cip_groups.proofs.names.Names.push.Goals as goal
 
-pub returns : goal.returns
-returns c =
+pub returns-clause-added : goal.returns-clause-added
+returns-clause-added c =
     let keys = c.self.inside.set.keys in
     c.in_ok-insert.ensures.keys
     ∙ ap (λ found. cond found keys (keys ++ c.args.kind ∷ []))
