@@ -13,7 +13,7 @@ use crate::teller::{Teller, Told};
 use crate::verdict::Verdict;
 use crate::writing::write_all;
 use cip_batch::{Gate, Job};
-use cip_frame::{Framer, Tail};
+use cip_frame::{Framer, Record, Tail};
 use cip_io::{Sink, push_all};
 use cip_text::Bytes;
 use std::alloc::{AllocError, Global};
@@ -103,6 +103,13 @@ impl<'a, T: Teller + Sync> Batch<'a, T> {
         self.waiting.len() >= self.full || self.bytes >= BYTES
     }
 
+    // Whether blank lines behind the last record are written.
+    fn keeps_blank(&self) -> bool
+        ensures { result ≡ (T.manner self.now.teller).keeps_blank }
+    {
+        self.teller.keeps_blank()
+    }
+
     // Puts a record behind the others.
     fn push(&mut self, bytes: Bytes) -> Result<(), AllocError>
         requires short { length bytes ≤ 2 ^ 31 }
@@ -119,6 +126,31 @@ impl<'a, T: Teller + Sync> Batch<'a, T> {
             bytes,
         })?;
         Ok(())
+    }
+
+    // Answers its records, and writes the answers in their order. Says what they add to the end of the run.
+    fn answer<R: Threads + Sync, G: Gate + Sync, K: Sink>(
+        &self,
+        desks: &mut Desks<'_, R, G, T>,
+        sink: &mut K,
+    ) -> Result<Verdict<T::Note>, Stop>
+        ensures answered { Answers (T.manner self.now.teller) self.now.first self.now.records result
+            (K.taken sink.old) (K.taken sink.new) }
+        ensures fault { IsErrOf result Stop.WriteFault → Rose (K.faults sink.old) (K.faults sink.new) }
+        ensures later { K.faults sink.old ≤ K.faults sink.new }
+    {
+        let found = desks.answer(&self.waiting)?;
+        write_all(self.alloc, &found, sink)
+    }
+
+    // Its records were answered, and those that come are numbered on.
+    fn empty(&mut self)
+        requires room { self.old.first + length self.old.records < 2 ^ 64 }
+        ensures { self.new ≡ record self.old { first = self.old.first + length self.old.records; records = [] } }
+    {
+        self.first += self.waiting.len() as u64;
+        self.waiting.clear();
+        self.bytes = 0;
     }
 }
 
@@ -187,11 +219,8 @@ pub fn answer_batch<'a, R: Threads + Sync, G: Gate + Sync, T: Teller + Sync, K: 
     ensures fault { IsErrOf result Stop.WriteFault → Rose (K.faults sink.old) (K.faults sink.new) }
     ensures later { K.faults sink.old ≤ K.faults sink.new }
 {
-    let found = desks.answer(&batch.waiting)?;
-    let verdict = write_all(batch.alloc, &found, sink)?;
-    batch.first += batch.waiting.len() as u64;
-    batch.waiting.clear();
-    batch.bytes = 0;
+    let verdict = batch.answer(desks, sink)?;
+    batch.empty();
     Ok(verdict)
 }
 
@@ -232,16 +261,52 @@ pub fn answer_tail<'a, R: Threads + Sync, G: Gate + Sync, T: Teller + Sync, K: S
 {
     match tail {
         Tail::Nothing => answer_batch(desks, batch, sink),
-        Tail::Blank(bytes) => {
-            let verdict = answer_batch(desks, batch, sink)?;
-            write_blank(batch.teller.keeps_blank(), bytes.as_slice(), sink)?;
-            Ok(verdict)
+        Tail::Blank(lines) => {
+            let answered = answer_with_blank(desks, lines.as_slice(), batch, sink);
+            // given back by a call of its own, which is quicker to prove than this function's end
+            drop(lines);
+            answered
         }
-        Tail::Last(last) => {
-            batch.push(last.bytes)?;
-            answer_batch(desks, batch, sink)
-        }
+        Tail::Last(last) => answer_with_last(desks, last, batch, sink),
     }
+}
+
+// Answers the last batch, and writes the blank lines behind it where they are kept.
+fn answer_with_blank<'a, R: Threads + Sync, G: Gate + Sync, T: Teller + Sync, K: Sink>(
+    desks: &mut Desks<'_, R, G, T>,
+    lines: &[u8],
+    batch: &mut Batch<'a, T>,
+    sink: &mut K,
+) -> Result<Verdict<T::Note>, Stop>
+    requires room { batch.old.first + length batch.old.records < 2 ^ 64 }
+    ensures answered { (rest : List ℕ) → Tail.Blank lines.now ≡ tail_of rest
+        → AnswersTail (T.manner batch.old.teller) batch.old.first batch.old.records rest result
+        (K.taken sink.old) (K.taken sink.new) }
+    ensures fault { IsErrOf result Stop.WriteFault → Rose (K.faults sink.old) (K.faults sink.new) }
+    ensures later { K.faults sink.old ≤ K.faults sink.new }
+{
+    let verdict = answer_batch(desks, batch, sink)?;
+    write_blank(batch.keeps_blank(), lines, sink)?;
+    Ok(verdict)
+}
+
+// Answers the last batch, into which a record without its terminator line goes.
+fn answer_with_last<'a, R: Threads + Sync, G: Gate + Sync, T: Teller + Sync, K: Sink>(
+    desks: &mut Desks<'_, R, G, T>,
+    last: Record,
+    batch: &mut Batch<'a, T>,
+    sink: &mut K,
+) -> Result<Verdict<T::Note>, Stop>
+    requires small { length last.bytes ≤ 2 ^ 31 }
+    requires room { batch.old.first + length batch.old.records < 2 ^ 64 - 1 }
+    ensures answered { (rest : List ℕ) → Tail.Last last ≡ tail_of rest
+        → AnswersTail (T.manner batch.old.teller) batch.old.first batch.old.records rest result
+        (K.taken sink.old) (K.taken sink.new) }
+    ensures fault { IsErrOf result Stop.WriteFault → Rose (K.faults sink.old) (K.faults sink.new) }
+    ensures later { K.faults sink.old ≤ K.faults sink.new }
+{
+    batch.push(last.bytes)?;
+    answer_batch(desks, batch, sink)
 }
 
 // Writes blank lines where they are kept.

@@ -1,50 +1,29 @@
 // Molecules of carbon atoms and single bonds, which are checked.
 ghost use Rattle.std.specs.Prelude.{◌≡◌, ◌<◌, ◌≤◌, All, IfOk, IfSome, length};
-ghost use Rattle.cip_mol.specs.Ranges.{IsAtom, IsBond};
+ghost use Rattle.cip_mol.specs.Ranges.{IsAtom};
 
-use crate::lists::lines;
-use cip_mol::{Atom, Bond, Mark, MolFault, Molecule};
-use cip_num::Vec3;
+use crate::drawings::{bonds, carbon};
+use crate::lists::{Line, lines};
+use cip_mol::{Atom, MolFault, Molecule};
 use gate_rows::{Row, Text};
 use std::alloc::{AllocError, Global};
 
 /// Why the molecule of a row is none; nothing where it is one.
 pub fn fault(alloc: Global, out: &mut Text, row: &Row) {
-    let mut ends = Vec::new(alloc);
-    if push_ends(alloc, &mut ends, row).is_err() {
+    let mut drawn = Vec::new(alloc);
+    if push_lines(alloc, &mut drawn, row).is_err() {
         return out.miss();
     }
-    push_fault(alloc, out, row.number(2) as usize, &ends)
+    push_fault(alloc, out, row.number(2) as usize, &drawn)
 }
 
-// Adds the ends of the bonds of a row: so many of the first atom, and those that are listed.
-fn push_ends(alloc: Global, ends: &mut Vec<(u32, u32)>, row: &Row) -> Result<(), AllocError> {
-    push_ends_at_first(ends, row.number(3))?;
+// Adds the bonds of a row: so many of the first atom, and those that are listed.
+fn push_lines(alloc: Global, drawn: &mut Vec<Line>, row: &Row) -> Result<(), AllocError> {
+    for other in 1..=row.number(3) {
+        drawn.push((0, other, b'-'))?;
+    }
     let listed = lines(alloc, row.field(4))?;
-    for (a, b, _) in &listed {
-        ends.push((*a, *b))?;
-    }
-    Ok(())
-}
-
-fn push_ends_at_first(ends: &mut Vec<(u32, u32)>, others: u32) -> Result<(), AllocError> {
-    for other in 1..=others {
-        ends.push((0, other))?;
-    }
-    Ok(())
-}
-
-fn carbon() -> Atom
-    ensures { IsAtom result }
-{
-    Atom {
-        z: 6,
-        isotope: 0,
-        charge: 0,
-        radical: 0,
-        valence_mark: 0,
-        at: Vec3 { x: 0, y: 0, z: 0 },
-    }
+    drawn.extend_from_slice(&listed)
 }
 
 fn carbons(alloc: Global, count: usize) -> Result<Vec<Atom>, AllocError>
@@ -52,48 +31,29 @@ fn carbons(alloc: Global, count: usize) -> Result<Vec<Atom>, AllocError>
     ensures count { IfOk result (λ atoms. length atoms.items ≡ count) }
     ensures each { IfOk result (λ atoms. All IsAtom atoms.items) }
 {
-    vec![in alloc; carbon(); count]
+    vec![in alloc; carbon((0, 0, 0)); count]
 }
 
-fn single(a: u32, b: u32) -> Bond
-    ensures { IsBond result }
-{
-    Bond {
-        a,
-        b,
-        order: 1,
-        mark: Mark::Plain,
-    }
-}
-
-fn singles(alloc: Global, ends: &[(u32, u32)]) -> Result<Vec<Bond>, AllocError>
-    requires { length ends.now ≤ 32768 }
-    ensures count { IfOk result (λ bonds. length bonds.items ≡ length ends.now) }
-    ensures each { IfOk result (λ bonds. All IsBond bonds.items) }
-{
-    ends.iter().map(|&(a, b)| single(a, b)).collect(alloc)
-}
-
-// Carbon atoms and single bonds between these ends.
+// Carbon atoms with these bonds.
 fn molecule(
     alloc: Global,
     atoms: usize,
-    ends: &[(u32, u32)],
+    drawn: &[Line],
 ) -> Result<Result<Molecule, MolFault>, AllocError>
     requires atoms { atoms ≤ 16384 }
-    requires bonds { length ends.now ≤ 32768 }
+    requires bonds { length drawn.now ≤ 32768 }
 {
     let atoms = carbons(alloc, atoms)?;
-    let bonds = singles(alloc, ends)?;
+    let bonds = bonds(alloc, drawn)?;
     Ok(Molecule::new(alloc, atoms, bonds))
 }
 
 // What is said of such a molecule: nothing where it is sound.
-fn push_fault(alloc: Global, out: &mut Text, atoms: usize, ends: &[(u32, u32)]) {
-    if atoms > 16_384 || ends.len() > 32_768 {
+fn push_fault(alloc: Global, out: &mut Text, atoms: usize, drawn: &[Line]) {
+    if atoms > 16_384 || drawn.len() > 32_768 {
         return out.push_str("out of range");
     }
-    match molecule(alloc, atoms, ends) {
+    match molecule(alloc, atoms, drawn) {
         Ok(Ok(_)) => {}
         Ok(Err(fault)) => write!(out, "{fault}"),
         Err(_) => out.miss(),
@@ -104,13 +64,13 @@ fn push_fault(alloc: Global, out: &mut Text, atoms: usize, ends: &[(u32, u32)]) 
 /// many bonds it has, whether it lies in the plane, and of one atom its neighbours and how many bonds. Behind them, what
 /// is said of a want of memory.
 pub fn lattice(alloc: Global, out: &mut Text) {
-    let Ok(ends) = lattice_ends(alloc) else {
+    let Ok(drawn) = lattice_lines(alloc) else {
         return out.miss();
     };
-    if ends.len() > 32_768 {
+    if drawn.len() > 32_768 {
         return out.push_str("out of range");
     }
-    let Ok(lattice) = molecule(alloc, 16_384, &ends) else {
+    let Ok(lattice) = molecule(alloc, 16_384, &drawn) else {
         return out.miss();
     };
     push_lattice(out, &lattice)
@@ -142,13 +102,13 @@ fn push_at_200(out: &mut Text, lattice: &Molecule)
     write!(out, " {neighbours:?} {bonds}")
 }
 
-fn lattice_ends(alloc: Global) -> Result<Vec<(u32, u32)>, AllocError> {
-    let mut ends = Vec::new(alloc);
+fn lattice_lines(alloc: Global) -> Result<Vec<Line>, AllocError> {
+    let mut drawn = Vec::new(alloc);
     for atom in 0..16_384u32 {
-        ends.push((atom, (atom + 1) % 16_384))?;
-        ends.push((atom, (atom + 128) % 16_384))?;
+        drawn.push((atom, (atom + 1) % 16_384, b'-'))?;
+        drawn.push((atom, (atom + 128) % 16_384, b'-'))?;
     }
-    Ok(ends)
+    Ok(drawn)
 }
 
 /// The neighbours of an atom in a row of three that is renumbered once, and of one where it is renumbered twice and
@@ -205,7 +165,7 @@ fn row_of_three(alloc: Global) -> Result<Option<Molecule>, AllocError>
     ensures bonds { IfOk result (λ row. IfSome row (λ molecule. length molecule.bonds ≡ 2)) }
 {
     let atoms = carbons(alloc, 3)?;
-    let bonds = singles(alloc, &[(0, 2), (1, 2)])?;
+    let bonds = bonds(alloc, &[(0, 2, b'-'), (1, 2, b'-')])?;
     match Molecule::new(alloc, atoms, bonds) {
         Ok(molecule) => Ok(Some(molecule)),
         Err(_) => Ok(None),

@@ -9,6 +9,7 @@ mod carbons;
 mod changing;
 mod command_lines;
 mod directions;
+mod drawings;
 mod elements;
 mod further;
 mod labelled;

@@ -1,12 +1,12 @@
 // What drawings of centres, bonds and axes show.
-ghost use Rattle.std.specs.Prelude.{◌<◌, ◌≤◌, All, IfOk, IfSome, IsTrue, length};
+ghost use Rattle.std.specs.Prelude.{◌<◌, ◌≤◌, All, IfOk, IfSome, length};
 ghost use Rattle.cip_mol.specs.DrawnLigands.{drawn};
-ghost use Rattle.cip_mol.specs.Ranges.{IsAtom, IsBond, IsPlace};
+ghost use Rattle.cip_mol.specs.Ranges.{IsAtom};
 ghost use Rattle.cip_mol.specs.Sites.{IsSite};
 
+use crate::drawings::{bonds, carbon};
 use crate::lists::{Line, Point, lines, numbers, points};
-use cip_mol::{Atom, Bond, Cause, Geometry, Ligand, Ligands, Mark, Molecule, Sense, Site};
-use cip_num::Vec3;
+use cip_mol::{Atom, Cause, Geometry, Ligand, Ligands, Molecule, Sense, Site};
 use cip_orient::{drawn_of, orient};
 use gate_rows::{Row, Text};
 use std::alloc::{AllocError, Global};
@@ -46,61 +46,11 @@ fn shown(alloc: Global, molecule: &Molecule, site: &Option<Site>) -> &'static st
     }
 }
 
-fn is_place(point: Vec3) -> bool
-    ensures { IsTrue result → IsPlace point }
-{
-    point.x.unsigned_abs() <= 500_000_000
-        && point.y.unsigned_abs() <= 500_000_000
-        && point.z.unsigned_abs() <= 500_000_000
-}
-
-// A carbon atom, at the origin where the point is out of range.
-fn carbon(point: Point) -> Atom
-    ensures { IsAtom result }
-{
-    let (x, y, z) = point;
-    let at = Vec3 { x, y, z };
-    Atom {
-        z: 6,
-        isotope: 0,
-        charge: 0,
-        radical: 0,
-        valence_mark: 0,
-        at: if is_place(at) {
-            at
-        } else {
-            Vec3 { x: 0, y: 0, z: 0 }
-        },
-    }
-}
-
-fn bond(line: Line) -> Bond
-    ensures { IsBond result }
-{
-    let (a, b, drawn) = line;
-    let (order, mark) = match drawn {
-        b'^' => (1, Mark::Up),
-        b'v' => (1, Mark::Down),
-        b'~' => (1, Mark::Either),
-        b'=' => (2, Mark::Plain),
-        b'x' => (2, Mark::Either),
-        _ => (1, Mark::Plain),
-    };
-    Bond { a, b, order, mark }
-}
-
 fn atoms(alloc: Global, points: &[Point]) -> Result<Vec<Atom>, AllocError>
     ensures many { IfOk result (λ atoms. length atoms.items ≤ length points.now) }
     ensures each { IfOk result (λ atoms. All IsAtom atoms.items) }
 {
     points.iter().map(|point| carbon(*point)).collect(alloc)
-}
-
-fn bonds(alloc: Global, lines: &[Line]) -> Result<Vec<Bond>, AllocError>
-    ensures many { IfOk result (λ bonds. length bonds.items ≤ length lines.now) }
-    ensures each { IfOk result (λ bonds. All IsBond bonds.items) }
-{
-    lines.iter().map(|line| bond(*line)).collect(alloc)
 }
 
 fn molecule(

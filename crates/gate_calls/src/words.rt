@@ -1,7 +1,10 @@
 // Words of a command line, and what they ask for.
+ghost use Rattle.std.specs.Prelude.{IfSome};
+ghost use Rattle.cip_words.specs.Settings.{AreWithin};
+
 use cip_mol::CentreLetter;
 use cip_rank::Rules;
-use cip_words::{Settings, help_text, read_words};
+use cip_words::{Action, Labelling, Series, Settings, Task, help_text, read_words};
 use gate_rows::Text;
 use std::alloc::{AllocError, Global};
 
@@ -37,39 +40,62 @@ pub fn words(alloc: Global, line: &str) -> Result<Vec<String>, AllocError> {
     Ok(words)
 }
 
-// The settings as a line: the command, and the values of its options in the order of the help text.
-fn push_settings(out: &mut Text, settings: Option<Settings>) {
-    let Some(settings) = settings else {
-        return out.push_str("refused");
-    };
-    out.push_str(name_of(settings));
-    push_own_options(out, settings);
-    push_labelling(out, labelling(settings))
+// What settings ask for as a line: the command, and the values of its options in the order of the help text.
+fn push_settings(out: &mut Text, settings: Option<Settings>)
+    requires { IfSome settings AreWithin }
+{
+    match settings {
+        Some(settings) => push_action(out, settings.action()),
+        None => out.push_str("refused"),
+    }
 }
 
-fn push_own_options(out: &mut Text, settings: Settings) {
-    match settings {
-        Settings::Make { start, records } => write!(out, " {start} {records}"),
-        Settings::Trial { start, records, .. } => write!(out, " {start} {records}"),
-        Settings::Set {
+fn push_action(out: &mut Text, action: Action) {
+    match action {
+        Action::Read(task, labelling) => {
+            push_task(out, task);
+            push_labelling(out, labelling)
+        }
+        Action::Make(series) => push_series(out, "make", series),
+        Action::Trial(series, labelling) => {
+            push_series(out, "trial", series);
+            push_labelling(out, labelling)
+        }
+        Action::Help => out.push_str("help"),
+    }
+}
+
+fn push_task(out: &mut Text, task: Task) {
+    match task {
+        Task::Annotate => out.push_str("annotate"),
+        Task::Explain => out.push_str("explain"),
+        Task::Set {
             number,
             atom,
             letter,
-            ..
         } => push_setting(out, number, atom, letter),
-        _ => {}
+        Task::Mirror => out.push_str("mirror"),
+        Task::Groups => out.push_str("groups"),
+        Task::Axes => out.push_str("axes"),
     }
 }
 
 fn push_setting(out: &mut Text, number: u32, atom: u32, letter: CentreLetter) {
     let letter = spelled(letter);
-    write!(out, " {number} {atom} {letter}")
+    write!(out, "set {number} {atom} {letter}")
 }
 
-fn push_labelling(out: &mut Text, labelling: Option<(u32, u8, Rules)>) {
-    let Some((nodes, workers, rules)) = labelling else {
-        return;
-    };
+fn push_series(out: &mut Text, command: &str, series: Series) {
+    let Series { start, records } = series;
+    write!(out, "{command} {start} {records}")
+}
+
+fn push_labelling(out: &mut Text, labelling: Labelling) {
+    let Labelling {
+        nodes,
+        workers,
+        rules,
+    } = labelling;
     let year = year(rules);
     write!(out, " {nodes} {workers} {year}")
 }
@@ -87,63 +113,5 @@ fn spelled(letter: CentreLetter) -> char {
         CentreLetter::S => 'S',
         CentreLetter::SmallR => 'r',
         CentreLetter::SmallS => 's',
-    }
-}
-
-fn name_of(settings: Settings) -> &'static str {
-    match settings {
-        Settings::Annotate { .. } => "annotate",
-        Settings::Explain { .. } => "explain",
-        Settings::Make { .. } => "make",
-        Settings::Trial { .. } => "trial",
-        Settings::Set { .. } => "set",
-        Settings::Mirror { .. } => "mirror",
-        Settings::Groups { .. } => "groups",
-        Settings::Axes { .. } => "axes",
-        Settings::Help => "help",
-    }
-}
-
-// The bound, the workers and the wording of a command that labels.
-fn labelling(settings: Settings) -> Option<(u32, u8, Rules)> {
-    match settings {
-        Settings::Annotate {
-            nodes,
-            workers,
-            rules,
-        }
-        | Settings::Explain {
-            nodes,
-            workers,
-            rules,
-        }
-        | Settings::Mirror {
-            nodes,
-            workers,
-            rules,
-        }
-        | Settings::Groups {
-            nodes,
-            workers,
-            rules,
-        }
-        | Settings::Axes {
-            nodes,
-            workers,
-            rules,
-        }
-        | Settings::Trial {
-            nodes,
-            workers,
-            rules,
-            ..
-        }
-        | Settings::Set {
-            nodes,
-            workers,
-            rules,
-            ..
-        } => Some((nodes, workers, rules)),
-        Settings::Make { .. } | Settings::Help => None,
     }
 }

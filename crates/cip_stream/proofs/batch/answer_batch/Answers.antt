@@ -1,32 +1,24 @@
-use Rattle.std.proofs.Common.{◌≡◌, map, ap, ◌∙◌}
+use Rattle.std.proofs.Common.{ap, refl}
 use Rattle.std.proofs.lemmas.Result.{err_from_is_err_and}
-use Rattle.cip_stream.specs.Batches.{telling, told_from}
-use Rattle.cip_stream.proofs.Batches.{no_memory}
+use Rattle.cip_stream.specs.Batches.{Gathered}
 use Rattle.cip_stream.proofs.batch.answer_batch.Goals as goal
 
-pub returns-in_err-found-clause-answered : goal.returns-in_err-found-clause-answered
-returns-in_err-found-clause-answered g c =
+pub returns-in_err-verdict : goal.returns-in_err-verdict
+returns-in_err-verdict g c =
     let p = err_from_is_err_and c.from_residual.result c.from_residual.ensures.1 in
-    let batch = c.args.batch.now in
-    rw (p.1, p.2) (no_memory (g.T.Teller.manner batch.teller) batch.first batch.records (g.K.Sink.taken c.args.sink.now))
+    rw (p.1, p.2) (record {
+      answered = c.in_err-verdict.ensures.answered;
+      emptied = tt;
+      teller = refl;
+      fault = c.in_err-verdict.ensures.fault;
+      later = c.in_err-verdict.ensures.later;
+    })
 
-pub returns-in_err-verdict-clause-answered : goal.returns-in_err-verdict-clause-answered
-returns-in_err-verdict-clause-answered g c =
-    let p = err_from_is_err_and c.from_residual-in_err-verdict.result c.from_residual-in_err-verdict.ensures.1 in
-    let batch = c.args.batch.now in
-    let manner = g.T.Teller.manner batch.teller in
-    let told : c.deref-2.result.now ≡ told_from manner batch.first batch.records =
-    c.deref-2.ensures.value ∙ c.in_ok-found.ensures
-    ∙ ap (map (λ w. telling (g.T.Teller.manner w.teller.now) w.number w.bytes)) c.deref.ensures.value
-    ∙ c.batch.invariant ∙ ap (λ b. told_from (g.T.Teller.manner b.teller) b.first b.records) c.batch.view_is in
-    rw (p.1, p.2) (c.in_err-verdict.ensures.answered manner batch.first batch.records told)
-
-pub returns-clause-answered : goal.returns-clause-answered
-returns-clause-answered g c =
-    let batch = c.args.batch.now in
-    let manner = g.T.Teller.manner batch.teller in
-    let told : c.deref-2.result.now ≡ told_from manner batch.first batch.records =
-    c.deref-2.ensures.value ∙ c.in_ok-found.ensures
-    ∙ ap (map (λ w. telling (g.T.Teller.manner w.teller.now) w.number w.bytes)) c.deref.ensures.value
-    ∙ c.batch.invariant ∙ ap (λ b. told_from (g.T.Teller.manner b.teller) b.first b.records) c.batch.view_is in
-    c.in_ok-verdict.ensures.answered manner batch.first batch.records told
+pub returns : goal.returns
+returns g c = record {
+  answered = c.in_ok-verdict.ensures.answered;
+  emptied = c.empty.ensures;
+  teller = ap (λ (batch : Gathered _). batch.teller) c.empty.ensures;
+  fault = c.in_ok-verdict.ensures.fault;
+  later = c.in_ok-verdict.ensures.later;
+}
