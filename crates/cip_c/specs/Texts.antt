@@ -9,6 +9,8 @@ use Rattle.cip_record.specs.Answers.{answer_by}
 use Rattle.cip_undefined.specs.Answers.{undefined_by}
 use Rattle.cip_undefined.specs.Texts.{undefined_text}
 use Rattle.cip_c.specs.declared.settings.Settings.{Settings}
+use Rattle.cip_c.specs.declared.texts.Text.{Text}
+use Rattle.cip_c.specs.declared.texts.Text.TheVariants.{Annotated, Values, Explained, Undefined}
 
 -- the value lines of a record's item
 abbrev pub item_values : Settings → List ℕ → List (List ℕ)
@@ -33,3 +35,10 @@ explained_text number settings bytes = explained number (answer_by settings.rule
 -- what is told of the undefined units of a record
 abbrev pub undefined_told : Settings → List ℕ → List ℕ
 undefined_told settings bytes = undefined_text (undefined_by settings.rules settings.nodes bytes)
+
+-- the text that is asked for
+abbrev pub text_of : Text → Settings → List ℕ → List ℕ
+text_of Annotated = annotated
+text_of Values = values_text
+text_of (Explained number) = explained_text number
+text_of Undefined = undefined_told

@@ -4,13 +4,14 @@ ghost use types.Logic.{sem};
 ghost use Rattle.cip_c.specs.declared.settings.Settings.{Settings};
 ghost use Rattle.cip_c.specs.Making.{IsMade, made, settings_of};
 ghost use Rattle.cip_c.specs.Pointers.{Passed, given, given_bytes, given_room, unless_null};
-ghost use Rattle.cip_c.specs.Texts.{annotated, explained_text, undefined_told, values_text};
+ghost use Rattle.cip_c.specs.Texts.{annotated, explained_text, text_of, undefined_told, values_text};
 ghost use Rattle.cip_c.specs.Writing.{IsTold, due, written};
 ghost use Rattle.cip_c.specs.contracts.slot.Slot.{the_row};
 
 use crate::codes::NULL_POINTER;
 use crate::slot::{Slot, make, release};
-use crate::writing::{annotate, explain, write_undefined, write_values};
+use crate::texts::Text;
+use crate::writing::write;
 use std::alloc::Global;
 use std::slice::{from_raw_parts, from_raw_parts_mut};
 
@@ -78,20 +79,7 @@ pub unsafe extern "C" fn cip_annotate(
         ∗ ⌜ unless_null labeller (unless_null bytes (unless_null text
         (IsTold (due annotated passed.labeller passed.bytes) result) result) result) result ⌝ }
 {
-    if labeller.is_null() {
-        return NULL_POINTER;
-    }
-    if bytes.is_null() {
-        return NULL_POINTER;
-    }
-    if text.is_null() {
-        return NULL_POINTER;
-    }
-    annotate(
-        &mut *(labeller as *mut Slot),
-        from_raw_parts(bytes, length),
-        from_raw_parts_mut(text, room),
-    )
+    write_at(labeller, Text::Annotated, bytes, length, text, room)
 }
 
 /// `cip_annotate` for the value lines alone.
@@ -111,20 +99,7 @@ pub unsafe extern "C" fn cip_values(
         ∗ ⌜ unless_null labeller (unless_null bytes (unless_null text
         (IsTold (due values_text passed.labeller passed.bytes) result) result) result) result ⌝ }
 {
-    if labeller.is_null() {
-        return NULL_POINTER;
-    }
-    if bytes.is_null() {
-        return NULL_POINTER;
-    }
-    if text.is_null() {
-        return NULL_POINTER;
-    }
-    write_values(
-        &mut *(labeller as *mut Slot),
-        from_raw_parts(bytes, length),
-        from_raw_parts_mut(text, room),
-    )
+    write_at(labeller, Text::Values, bytes, length, text, room)
 }
 
 /// `cip_annotate` for what is found of the record of this number.
@@ -146,21 +121,7 @@ pub unsafe extern "C" fn cip_explain(
         ∗ ⌜ unless_null labeller (unless_null bytes (unless_null text
         (IsTold (due (explained_text number) passed.labeller passed.bytes) result) result) result) result ⌝ }
 {
-    if labeller.is_null() {
-        return NULL_POINTER;
-    }
-    if bytes.is_null() {
-        return NULL_POINTER;
-    }
-    if text.is_null() {
-        return NULL_POINTER;
-    }
-    explain(
-        &mut *(labeller as *mut Slot),
-        number,
-        from_raw_parts(bytes, length),
-        from_raw_parts_mut(text, room),
-    )
+    write_at(labeller, Text::Explained(number), bytes, length, text, room)
 }
 
 /// `cip_annotate` for the undefined units alone.
@@ -180,6 +141,26 @@ pub unsafe extern "C" fn cip_undefined(
         ∗ ⌜ unless_null labeller (unless_null bytes (unless_null text
         (IsTold (due undefined_told passed.labeller passed.bytes) result) result) result) result ⌝ }
 {
+    write_at(labeller, Text::Undefined, bytes, length, text, room)
+}
+
+// Writes the text that is asked for, where no pointer is null.
+unsafe fn write_at(
+    labeller: *mut u8,
+    asked: Text,
+    bytes: *const u8,
+    length: usize,
+    text: *mut u8,
+    room: usize,
+) -> i64
+    ghost passed: { Passed (Option Settings) }
+    requires* { sem 𝓛 (given the_row labeller passed.labeller) ∗ sem 𝓛 (given_bytes length bytes passed.bytes)
+        ∗ sem 𝓛 (given_bytes room text passed.text) }
+    ensures* { sem 𝓛 (given the_row labeller passed.labeller) ∗ sem 𝓛 (given_bytes length bytes passed.bytes)
+        ∗ sem 𝓛 (given_bytes room text (written result (due (text_of asked) passed.labeller passed.bytes) passed.text))
+        ∗ ⌜ unless_null labeller (unless_null bytes (unless_null text
+        (IsTold (due (text_of asked) passed.labeller passed.bytes) result) result) result) result ⌝ }
+{
     if labeller.is_null() {
         return NULL_POINTER;
     }
@@ -189,8 +170,9 @@ pub unsafe extern "C" fn cip_undefined(
     if text.is_null() {
         return NULL_POINTER;
     }
-    write_undefined(
+    write(
         &mut *(labeller as *mut Slot),
+        asked,
         from_raw_parts(bytes, length),
         from_raw_parts_mut(text, room),
     )

@@ -3,9 +3,10 @@ ghost use Rattle.std.specs.Prelude.{◌≡◌, ◌≤◌, ◌<◌, ◌-◌, ◌^
 ghost use Rattle.std.specs.List.{flat_map};
 ghost use Rattle.cip_print.specs.Values.{values_of, HasRoom};
 ghost use Rattle.cip_record.specs.Answers.{answer_without_items};
-ghost use Rattle.cip_c.specs.Texts.{annotated, ended_line, explained_text, undefined_told, values_text};
+ghost use Rattle.cip_c.specs.Texts.{annotated, ended_line, explained_text, text_of, undefined_told, values_text};
 
 use crate::settings::Settings;
+use crate::texts::Text;
 use cip_item::{Texts, lines_with_item, without_label_items};
 use cip_print::{Answer, explain_text, item_values};
 use cip_record::{RecordLabeller, label_within};
@@ -51,8 +52,22 @@ impl Labeller {
         })
     }
 
-    /// The record with its item, whose label items are taken out first.
-    pub(crate) fn annotated(&mut self, bytes: &[u8]) -> Result<Vec<u8>, AllocError>
+    /// The text of a record that is asked for.
+    pub(crate) fn text(&mut self, asked: Text, bytes: &[u8]) -> Result<Vec<u8>, AllocError>
+        requires few { length bytes.now ≤ LONGEST }
+        ensures text { IfOk result (λ text. text.items ≡ text_of asked self.old bytes.now) }
+        ensures kept { self.new ≡ self.old }
+    {
+        match asked {
+            Text::Annotated => self.annotated(bytes),
+            Text::Values => self.values(bytes),
+            Text::Explained(number) => self.explained(number, bytes),
+            Text::Undefined => self.undefined_told(bytes),
+        }
+    }
+
+    // The record with its item, whose label items are taken out first.
+    fn annotated(&mut self, bytes: &[u8]) -> Result<Vec<u8>, AllocError>
         requires few { length bytes.now ≤ LONGEST }
         ensures text { IfOk result (λ text. text.items ≡ annotated self.old bytes.now) }
         ensures kept { self.new ≡ self.old }
@@ -63,8 +78,8 @@ impl Labeller {
         lines_with_item(self.alloc, &lines, &values)
     }
 
-    /// The value lines of a record's item, each ended by LF.
-    pub(crate) fn values(&mut self, bytes: &[u8]) -> Result<Vec<u8>, AllocError>
+    // The value lines of a record's item, each ended by LF.
+    fn values(&mut self, bytes: &[u8]) -> Result<Vec<u8>, AllocError>
         requires few { length bytes.now ≤ LONGEST }
         ensures text { IfOk result (λ text. text.items ≡ values_text self.old bytes.now) }
         ensures kept { self.new ≡ self.old }
@@ -75,8 +90,8 @@ impl Labeller {
         ended_lines(self.alloc, &values)
     }
 
-    /// What is found of the record of this number, to be read beside its drawing.
-    pub(crate) fn explained(&mut self, number: u64, bytes: &[u8]) -> Result<Vec<u8>, AllocError>
+    // What is found of the record of this number, to be read beside its drawing.
+    fn explained(&mut self, number: u64, bytes: &[u8]) -> Result<Vec<u8>, AllocError>
         requires few { length bytes.now ≤ LONGEST }
         ensures text { IfOk result (λ text. text.items ≡ explained_text number self.old bytes.now) }
         ensures kept { self.new ≡ self.old }
@@ -87,8 +102,8 @@ impl Labeller {
         explain_text(self.alloc, &answer, number)
     }
 
-    /// What is told of the undefined units of a record.
-    pub(crate) fn undefined_told(&mut self, bytes: &[u8]) -> Result<Vec<u8>, AllocError>
+    // What is told of the undefined units of a record.
+    fn undefined_told(&mut self, bytes: &[u8]) -> Result<Vec<u8>, AllocError>
         requires few { length bytes.now ≤ LONGEST }
         ensures text { IfOk result (λ text. text.items ≡ undefined_told self.old bytes.now) }
         ensures kept { self.new ≡ self.old }

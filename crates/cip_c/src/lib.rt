@@ -6,4 +6,5 @@ mod crossing;
 mod labeller;
 mod settings;
 mod slot;
+mod texts;
 mod writing;

@@ -1,19 +1,20 @@
 // Texts written into memory that a caller gives.
 ghost use Rattle.std.specs.Prelude.{◌≡◌, length, pos, MatchResult, Ok};
-ghost use Rattle.cip_c.specs.Texts.{annotated, explained_text, undefined_told, values_text};
+ghost use Rattle.cip_c.specs.Texts.{text_of};
 ghost use Rattle.cip_c.specs.Writing.{IsTold, due, written};
 
 use crate::codes::{NO_MEMORY, NOT_MADE, RECORD_TOO_LONG};
 use crate::labeller::LONGEST;
 use crate::slot::Slot;
+use crate::texts::Text;
 use std::alloc::AllocError;
 
-/// Writes the record with its item, or the front of it. The answer is how many bytes the whole has, or why nothing is
-/// written.
-pub(crate) fn annotate(slot: &mut Slot, bytes: &[u8], text: &mut [u8]) -> i64
+/// Writes the text of a record that is asked for, or the front of it. The answer is how many bytes the whole has, or
+/// why nothing is written.
+pub(crate) fn write(slot: &mut Slot, asked: Text, bytes: &[u8], text: &mut [u8]) -> i64
     ensures kept { slot.new ≡ slot.old }
-    ensures told { IsTold (due annotated slot.old bytes.now) result }
-    ensures written { text.new ≡ written result (due annotated slot.old bytes.now) text.old }
+    ensures told { IsTold (due (text_of asked) slot.old bytes.now) result }
+    ensures written { text.new ≡ written result (due (text_of asked) slot.old bytes.now) text.old }
 {
     let Some(labeller) = &mut slot.labeller else {
         return NOT_MADE;
@@ -21,52 +22,7 @@ pub(crate) fn annotate(slot: &mut Slot, bytes: &[u8], text: &mut [u8]) -> i64
     if bytes.len() > LONGEST {
         return RECORD_TOO_LONG;
     }
-    put(labeller.annotated(bytes), text)
-}
-
-/// `annotate` for the value lines alone.
-pub(crate) fn write_values(slot: &mut Slot, bytes: &[u8], text: &mut [u8]) -> i64
-    ensures kept { slot.new ≡ slot.old }
-    ensures told { IsTold (due values_text slot.old bytes.now) result }
-    ensures written { text.new ≡ written result (due values_text slot.old bytes.now) text.old }
-{
-    let Some(labeller) = &mut slot.labeller else {
-        return NOT_MADE;
-    };
-    if bytes.len() > LONGEST {
-        return RECORD_TOO_LONG;
-    }
-    put(labeller.values(bytes), text)
-}
-
-/// `annotate` for what is found of the record of this number.
-pub(crate) fn explain(slot: &mut Slot, number: u64, bytes: &[u8], text: &mut [u8]) -> i64
-    ensures kept { slot.new ≡ slot.old }
-    ensures told { IsTold (due (explained_text number) slot.old bytes.now) result }
-    ensures written { text.new ≡ written result (due (explained_text number) slot.old bytes.now) text.old }
-{
-    let Some(labeller) = &mut slot.labeller else {
-        return NOT_MADE;
-    };
-    if bytes.len() > LONGEST {
-        return RECORD_TOO_LONG;
-    }
-    put(labeller.explained(number, bytes), text)
-}
-
-/// `annotate` for what is told of the undefined units alone.
-pub(crate) fn write_undefined(slot: &mut Slot, bytes: &[u8], text: &mut [u8]) -> i64
-    ensures kept { slot.new ≡ slot.old }
-    ensures told { IsTold (due undefined_told slot.old bytes.now) result }
-    ensures written { text.new ≡ written result (due undefined_told slot.old bytes.now) text.old }
-{
-    let Some(labeller) = &mut slot.labeller else {
-        return NOT_MADE;
-    };
-    if bytes.len() > LONGEST {
-        return RECORD_TOO_LONG;
-    }
-    put(labeller.undefined_told(bytes), text)
+    put(labeller.text(asked, bytes), text)
 }
 
 // Writes a text or its front, where there was memory for it.

@@ -14,6 +14,7 @@ use Rattle.cip_words.specs.declared.forms.Command.{Command}
 use Rattle.cip_words.specs.declared.forms.Command.TheVariants as commands
 use Rattle.cip_words.specs.Forms.{Form, forms}
 use Rattle.cip_words.specs.Options as options
+use Rattle.cip_words.specs.Options.{Named}
 use Rattle.cip_words.specs.Ranges.{CanLabel, CanMake, CanName, Labelling}
 use Rattle.cip_words.specs.declared.settings.Action.{Action}
 use Rattle.cip_words.specs.declared.settings.Action.TheVariants as does
@@ -103,15 +104,16 @@ asked commands.Set words = setting_of words
 asked commands.Help words = Some Help
 asked command words = labelling_of words >>= alone command
 
-abbrev pub asked_by : Form → List (String Global) → Option Settings
-asked_by form words = if are_pairs form.2 words then asked form.1 words else None
+-- the same where these are its options
+abbrev pub asked_by : Command → List Named → List (String Global) → Option Settings
+asked_by command options words = if are_pairs options words then asked command words else None
 
 -- what the words ask for; none where they are those of no command
 unfoldable pub settings_of : List (String Global) → Option Settings
 settings_of [] = None
 settings_of (name ∷ words) = do
   form ← form_of (string_bytes name) forms
-  asked_by form words
+  asked_by form.1 form.2 words
 
 -- what a command does
 

@@ -3,12 +3,12 @@ ghost use Rattle.std.specs.Prelude.{◌≡◌, IfSome, map};
 ghost use Rattle.std.specs.Option.{option_map};
 ghost use Rattle.cip_words.specs.Forms.{forms};
 ghost use Rattle.cip_words.specs.Settings.{form_of, letter_of, workers_of, rules_of, labelling_of, making_of, trial_of, setting_of};
-ghost use Rattle.cip_words.specs.Settings.{action_of, alone, asked, labelling_by, settings_of, AreWithin};
+ghost use Rattle.cip_words.specs.Settings.{action_of, alone, asked, asked_by, labelling_by, settings_of, AreWithin};
 ghost use Rattle.cip_words.specs.Letters.{letter_named};
 ghost use Rattle.cip_words.specs.Ranges.{CanLabel, IsBetween};
 
 use crate::forms::{
-    ATOM, Command, FORMS, Form, LETTER, NODES, RECORD, RECORDS, START, WORDING, WORKERS,
+    ATOM, Command, FORMS, Form, LETTER, NODES, Named, RECORD, RECORDS, START, WORDING, WORKERS,
 };
 use crate::values::{are_pairs, once, set_to};
 use cip_mol::CentreLetter;
@@ -243,10 +243,18 @@ pub fn read_words(words: &[String]) -> Option<Settings>
         return None;
     };
     let (_, command, choices) = form_named(name.as_bytes())?;
-    if !are_pairs(choices, rest) {
+    asked_by(command, choices, rest)
+}
+
+// What a command with these options asks for with these words.
+fn asked_by(command: Command, choices: &[Named], words: &[String]) -> Option<Settings>
+    ensures meant { result ≡ asked_by command (map (λ choice. (choice.0.now, choice.1)) choices.now) words.now }
+    ensures within { IfSome result AreWithin }
+{
+    if !are_pairs(choices, words) {
         return None;
     }
-    asked(command, rest)
+    asked(command, words)
 }
 
 // The command of this name.

@@ -1,5 +1,5 @@
 -- `cip_release` meets its contract: a walk of its MIR by hand. What lies behind the pointer is lent for the call.
-use Rattle.std.proofs.Common.{◌≡◌, ℕ, ℤ, pos, negsuc, ◌<◌, ◌^◌, ◌-◌, List, [], ◌∷◌, refl, ap, lit<, w64}
+use Rattle.std.proofs.Common.{◌≡◌, ℕ, ℤ, pos, negsuc, ◌^◌, ◌-◌, List, [], ◌∷◌, refl, ap, lit<, w64}
 use Rattle.std.specs.Prelude.{None, Option}
 use Rattle.std.proofs.raw_atomic.Walks.{proved}
 use seplogic.Ra.Ura.{Ura}
