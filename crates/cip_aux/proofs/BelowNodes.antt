@@ -9,8 +9,8 @@ use Rattle.cip_digraph.specs.graph.Graph.{Graph}
 use Rattle.cip_digraph.specs.graph.SoundGraphs.{IsSound}
 use Rattle.cip_digraph.specs.digraph.Telling.{node_at}
 use Rattle.cip_digraph.specs.digraph.View.{is_end_of}
-use Rattle.cip_reroot.specs.View.{is_above, on_way}
-use Rattle.cip_reroot.proofs.Way.{to_above, above_le, fuel_free}
+use Rattle.cip_rank.specs.View.{is_above, on_way}
+use Rattle.cip_rank.proofs.Way.{to_above, above_le, fuel_free}
 use Rattle.cip_aux.specs.Below.{is_below}
 use Rattle.cip_aux.specs.Whole.{IsWhole}
 use Rattle.cip_aux.proofs.PathEnds.{end_long, end_more}

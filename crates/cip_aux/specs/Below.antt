@@ -2,7 +2,7 @@
 use Rattle.std.specs.Prelude.{◌==◌, ℕ, Bool, false, cond, List, None, slice_index, slice_index_or}
 use Rattle.std.specs.declared.option.Option.{Option}
 use Rattle.cip_mol.specs.declared.descriptor.Descriptor.{Descriptor}
-use Rattle.cip_reroot.specs.View.{on_way}
+use Rattle.cip_rank.specs.View.{on_way}
 
 -- the parent of such a node is the other one, or below it
 abbrev pub is_below : List ℕ → ℕ → ℕ → Bool

@@ -5,7 +5,7 @@ use Rattle.std.proofs.lemmas.Bool.{cases_lt}
 use Rattle.cip_rank.specs.Tree.{children_from, children_of}
 use Rattle.cip_rank.proofs.Children.{children_are}
 use Rattle.cip_rank.proofs.Descending.{all_by}
-use Rattle.cip_reroot.proofs.ChildrenSeen.{all_append}
+use Rattle.cip_rank.proofs.ChildrenSeen.{all_append}
 use Rattle.cip_branches.specs.Rising.{Rises, IsAscending, kids_list}
 
 -- numbers that rise between two limits are few

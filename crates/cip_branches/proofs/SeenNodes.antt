@@ -3,10 +3,10 @@ use Rattle.std.proofs.Common.{◌≡◌, ◌<◌, ◌≤◌, ◌+◌, ◌-◌, �
 use Rattle.std.specs.List.{AllByRecursion, flat_map}
 use Rattle.std.proofs.lemmas.List.{get_or_append_left}
 use Rattle.cip_rank.specs.Tree.{IsTree}
-use Rattle.cip_reroot.specs.View.{on_way, children_seen}
-use Rattle.cip_reroot.proofs.ChildrenSeen.{all_append, all_at, off_below, off_view}
-use Rattle.cip_reroot.proofs.Times.{times, times_append, at_most}
-use Rattle.cip_reroot.proofs.Walked.{each_node}
+use Rattle.cip_rank.specs.View.{on_way, children_seen}
+use Rattle.cip_rank.proofs.ChildrenSeen.{all_append, all_at, off_below, off_view}
+use Rattle.cip_rank.proofs.Times.{times, times_append, at_most}
+use Rattle.cip_rank.proofs.Walked.{each_node}
 use Rattle.cip_branches.specs.Around.{kids_around}
 use Rattle.cip_rows.specs.Kin.{Kin}
 use Rattle.cip_rows.specs.Parting.{has_flag}

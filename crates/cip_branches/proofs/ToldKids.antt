@@ -2,7 +2,7 @@
 use Rattle.std.proofs.Common.{◌≡◌, ◌<◌, ◌≤◌, ◌+◌, ◌++◌, ◌∷◌, ℕ, zero, suc, Bool, true, false, cond, List, [], length, slice_index, refl, sym, ap, ◌∙◌, arith, append_assoc, length-append}
 use Rattle.std.specs.List.{AllByRecursion, flat_map}
 use Rattle.cip_rank.proofs.Children.{next_index}
-use Rattle.cip_reroot.proofs.ChildrenSeen.{all_append}
+use Rattle.cip_rank.proofs.ChildrenSeen.{all_append}
 use Rattle.cip_rows.specs.Kin.{Kin}
 use Rattle.cip_rows.specs.Parting.{has_flag}
 use Rattle.cip_branches.specs.Rising.{kids_list}

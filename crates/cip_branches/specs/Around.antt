@@ -1,6 +1,6 @@
 -- The neighbours of a node that lead away from the one that a tree is seen from. Own.
 use Rattle.std.specs.Prelude.{ℕ, Bool, not, List, filter}
-use Rattle.cip_reroot.specs.View.{children_off}
+use Rattle.cip_rank.specs.View.{children_off}
 use Rattle.cip_rows.specs.Parting.{has_flag}
 
 -- those nodes that have no flag

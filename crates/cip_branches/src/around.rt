@@ -1,7 +1,7 @@
 // The neighbours of nodes that lead away from the one that a tree is seen from.
 ghost use Rattle.std.specs.Prelude.{◌≡◌, ◌<◌, ◌≤◌, ◌+◌, [], ◌∷◌, length};
 ghost use Rattle.cip_rank.specs.Tree.{children_of};
-ghost use Rattle.cip_reroot.specs.View.{parent_list};
+ghost use Rattle.cip_rank.specs.View.{parent_list};
 ghost use Rattle.cip_branches.specs.Around.{kept_off, kids_around};
 ghost use Rattle.cip_branches.specs.Layers.{with_nodes};
 

@@ -19,8 +19,8 @@ use Rattle.cip_label.specs.Settings.{Setting, cost_in}
 use Rattle.cip_label.specs.Standing.{RankedAs}
 use Rattle.cip_label.specs.declared.digraphs.Ranking.TheVariants.{Known}
 use Rattle.cip_constitution.specs.Pairs.{pairs_of}
-use Rattle.cip_early.specs.ToldEarly.{found_early, is_told_early, noted_early}
-use Rattle.cip_early.proofs.NeighbourNodes.{neighbour_further}
+use Rattle.cip_desk.specs.ToldEarly.{found_early, is_told_early, noted_early}
+use Rattle.cip_desk.proofs.NeighbourNodes.{neighbour_further}
 use Rattle.cip_desk.specs.Standing.{Standing, standing_of}
 use Rattle.cip_desk.proofs.EarlyStanding.{stands_first}
 use Rattle.cip_desk.proofs.PairedStanding.{named_already}

@@ -1,4 +1,7 @@
+pub mod Branches
+pub mod Counting
 pub mod Desks
 pub mod Keeping
 pub mod Rooting
 pub mod Standing
+pub mod ToldEarly

@@ -17,12 +17,12 @@ ghost use Rattle.cip_desk.specs.Standing.{both_as, standing_of};
 
 use crate::bench::Bench;
 use crate::branches::{Branches, take_noted};
+use crate::early::RootedLigands;
 use crate::memo::Found;
 use crate::rooted::Rooted;
 use crate::whole::{Tables, rank_whole};
 use cip_arena::Arena;
 use cip_constitution::{Settled, Work, settle};
-use cip_early::RootedLigands;
 use cip_label::{Ranking, Setting};
 use cip_mol::Ligands;
 use cip_rank::Steps;

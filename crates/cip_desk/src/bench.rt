@@ -9,13 +9,13 @@ ghost use Rattle.cip_desk.specs.Standing.{standing_of};
 
 use crate::anew::rank_anew;
 use crate::branches::Branches;
+use crate::early::RootedLigands;
 use crate::kept_root::KeptRoot;
 use crate::memo::{Found, Memo};
 use crate::recalling::recall;
 use crate::whole::{Tables, is_costly};
 use cip_arena::Arena;
 use cip_constitution::Work;
-use cip_early::RootedLigands;
 use cip_label::Ranking;
 use cip_rank::{Steps, both};
 use std::alloc::{AllocError, Global};

@@ -4,9 +4,9 @@ ghost use Rattle.cip_desk.specs.Standing.{standing_of};
 
 use crate::bench::{Bench, rank_late};
 use crate::branches::Branches;
-use crate::early::rank_early;
+use crate::early::{Early, RootedLigands};
+use crate::told_early::rank_early;
 use cip_digraph::Decision;
-use cip_early::{Early, RootedLigands};
 use cip_label::{Digraphs, Ranking, Setting};
 use cip_mol::Ligands;
 use cip_rank::{Steps, both};

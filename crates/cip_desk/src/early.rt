@@ -1,32 +1,98 @@
-// Roots whose ligands two spheres tell apart: no digraph is grown.
-ghost use Rattle.std.specs.Prelude.{◌≡◌, true, IfOk, Ok};
-ghost use Rattle.cip_early.specs.ToldEarly.{is_told_early};
+// Roots whose ligands two spheres tell apart.
+ghost use Rattle.std.specs.Prelude.{◌≡◌, [], IfOk, OnOk, Ok, true};
 ghost use Rattle.cip_label.specs.Fitting.{IsFit};
-ghost use Rattle.cip_label.specs.Standing.{RankedAs};
-ghost use Rattle.cip_label.specs.declared.digraphs.Ranking.TheVariants.{Known};
-ghost use Rattle.cip_desk.specs.Standing.{standing_of};
+ghost use Rattle.cip_desk.specs.Branches.{answers_of, branches_of};
+ghost use Rattle.cip_desk.specs.ToldEarly.{is_told_early, noted_early};
 
-use crate::branches::Branches;
-use cip_early::{Early, RootedLigands};
+use crate::counting::are_few;
+use crate::noting::note_each;
+use crate::root::Root;
+use crate::shown::{Shown, show_all};
+use cip_label::Setting;
+use cip_ligands::{Asked, are_decided};
+use cip_mol::{Ligand, Ligands};
 use std::alloc::{AllocError, Global};
+use std::marker::Model;
 
-/// Ranks the ligands of a root where two spheres tell them apart, and answers whether they do.
-pub fn rank_early(
-    alloc: Global,
-    rooted: &RootedLigands<'_, '_>,
-    early: &mut Early,
-    branches: &mut Branches,
-) -> Result<bool, AllocError>
-    requires fit { IsFit rooted.now.setting.now.graph rooted.now.root rooted.now.ligands.now }
-    ensures told { IfOk result (λ told. told ≡ is_told_early rooted.now.setting.now rooted.now.root
-        rooted.now.ligands.now rooted.now.bound) }
-    ensures ranked { result ≡ Ok true → RankedAs rooted.now.setting.now rooted.now.bound rooted.now.root
-        rooted.now.ligands.now (standing_of branches.new) Known }
-{
-    let _graph = rooted.setting.graph();
-    let told = early.tell(alloc, rooted)?;
-    if told {
-        branches.take_named(early.noted())?;
+/// At most four ligands make so many pairs.
+const MOST_PAIRS: usize = 6;
+
+const MOST_LIGANDS: usize = 4;
+
+/// A root with its ligands, and how many nodes may be looked at.
+#[derive(Clone, Copy)]
+pub struct RootedLigands<'a, 's> {
+    pub setting: &'a Setting<'s>,
+    pub root: u32,
+    pub ligands: &'a Ligands,
+    pub bound: u32,
+}
+
+/// What two spheres decide between the ligands of a root, in memory used for one root after the other.
+#[derive(Drop)]
+pub struct Early {
+    shown: Vec<Shown>,
+    noted: Vec<Asked>,
+}
+
+impl Model for Early {
+    ghost use Rattle.std.specs.Prelude.{List};
+    ghost use Rattle.cip_ligands.specs.declared.asked.Asked as asked;
+
+    ghost Value = { List asked.Asked };
+
+    ghost view = { λ early. early.noted.items };
+}
+
+impl Early {
+    /// Nothing is noted yet. There is room for four ligands.
+    pub fn reserve(alloc: Global) -> Result<Early, AllocError>
+        ensures { IfOk result (λ early. early ≡ []) }
+    {
+        Ok(Early {
+            shown: Vec::with_capacity(alloc, MOST_LIGANDS)?,
+            noted: Vec::with_capacity(alloc, MOST_PAIRS)?,
+        })
     }
-    Ok(told)
+
+    /// Whether two spheres of at most `bound` nodes tell each two ligands apart; then it's noted what is decided
+    /// between each two.
+    pub fn tell(
+        &mut self,
+        alloc: Global,
+        rooted: &RootedLigands<'_, '_>,
+    ) -> Result<bool, AllocError>
+        requires fit { IsFit rooted.now.setting.now.graph rooted.now.root rooted.now.ligands.now }
+        ensures told { IfOk result (λ told. told ≡ is_told_early rooted.now.setting.now rooted.now.root
+            rooted.now.ligands.now rooted.now.bound) }
+        ensures noted { result ≡ Ok true → self.new ≡ noted_early rooted.now.setting.now rooted.now.root
+            rooted.now.ligands.now }
+    {
+        let root = Root {
+            graph: rooted.setting.graph(),
+            positions: rooted.setting.positions(),
+            at: rooted.root,
+        };
+        if !are_few(&root, rooted.bound) {
+            return Ok(false);
+        }
+        self.note(alloc, &root, rooted.ligands.as_slice())?;
+        Ok(are_decided(&self.noted))
+    }
+
+    // Notes what two spheres decide between each two ligands.
+    fn note(&mut self, alloc: Global, root: &Root<'_>, ligands: &[Ligand]) -> Result<(), AllocError>
+        ensures { OnOk result (self.new ≡ answers_of (branches_of root.now.graph.now root.now.positions.now
+            root.now.at ligands.now)) }
+    {
+        show_all(alloc, root, ligands, &mut self.shown)?;
+        note_each(&self.shown, &mut self.noted)
+    }
+
+    /// The vertices of each two ligands, with what is decided between them.
+    pub fn noted(&self) -> &[Asked]
+        ensures { result.now ≡ self.now }
+    {
+        &self.noted
+    }
 }

@@ -2,8 +2,8 @@
 ghost use Rattle.std.specs.Prelude.{◌≡◌, true, IfOk};
 ghost use Rattle.cip_desk.specs.Keeping.{kept_of};
 
+use crate::early::RootedLigands;
 use cip_digraph::{Graph, Positions};
-use cip_early::RootedLigands;
 use cip_label::Setting;
 use cip_mol::{Ligand, Ligands, copy_ligands};
 use cip_rank::Rules;

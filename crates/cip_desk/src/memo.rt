@@ -2,8 +2,8 @@
 ghost use Rattle.std.specs.Prelude.{◌≡◌, None, Some, IfSome};
 ghost use Rattle.cip_desk.specs.Keeping.{kept_of, ranking_in};
 
+use crate::early::RootedLigands;
 use crate::kept_root::KeptRoot;
-use cip_early::RootedLigands;
 use cip_label::Ranking;
 
 /// How far what was found of a root rests on the senses of units.

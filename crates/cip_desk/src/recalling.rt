@@ -8,10 +8,10 @@ ghost use Rattle.cip_desk.specs.Standing.{standing_of};
 
 use crate::bench::Bench;
 use crate::branches::Branches;
+use crate::early::RootedLigands;
 use crate::memo::Found;
 use crate::rooted::Rooted;
 use crate::whole::rank_open;
-use cip_early::RootedLigands;
 use cip_label::Ranking;
 use std::alloc::{AllocError, Global};
 

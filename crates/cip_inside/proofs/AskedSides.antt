@@ -8,7 +8,7 @@ use Rattle.std.proofs.lemmas.Bool.{cases_order, or_left, or_right}
 use Rattle.std.proofs.lemmas.List.{get_or_default, map-append}
 use Rattle.cip_branches.proofs.WalkedPlaces.{by_range}
 use Rattle.cip_rank.specs.Tree.{children_of}
-use Rattle.cip_reroot.specs.View.{parent_list}
+use Rattle.cip_rank.specs.View.{parent_list}
 use Rattle.cip_digraph.specs.digraph.Digraph.{Node}
 use Rattle.cip_digraph.specs.rules.Decisions.{order}
 use Rattle.cip_digraph.specs.rules.Orders.{Seen}

@@ -3,7 +3,7 @@ use Rattle.std.proofs.Common.{◌≡◌, ◌<◌, ◌≤◌, ◌++◌, ◌∷◌
 use Rattle.std.proofs.lemmas.List.Elements.{filter-append}
 use Rattle.std.specs.List.{list_any}
 use Rattle.std.specs.declared.option.Option.{Option}
-use Rattle.cip_reroot.specs.View.{parent_list}
+use Rattle.cip_rank.specs.View.{parent_list}
 use Rattle.cip_inside.specs.Near.{AreTops, asked_tops, is_ligand}
 
 pub some_few : (test : ℕ → Bool) (ns : List ℕ) → length (filter test ns) ≤ length ns

@@ -9,8 +9,8 @@ use Rattle.cip_digraph.specs.digraph.View.{apart, real_at, view_children, height
 use Rattle.cip_digraph.specs.graph.Graph.{Graph}
 use Rattle.cip_digraph.specs.graph.SoundGraphs.{IsSound}
 use Rattle.cip_digraph.specs.outcome.Deciding.{nodes_below}
-use Rattle.cip_reroot.specs.View.{children_seen}
-use Rattle.cip_reroot.proofs.ChildrenSeen.{view_below}
+use Rattle.cip_rank.specs.View.{children_seen}
+use Rattle.cip_rank.proofs.ChildrenSeen.{view_below}
 use Rattle.cip_aux.specs.Whole.{IsWhole}
 use Rattle.cip_aux.proofs.Members.{all_images}
 use Rattle.cip_aux.proofs.PathEnds.{apart_itself}

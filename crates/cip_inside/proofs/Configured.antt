@@ -5,8 +5,8 @@ use Rattle.std.specs.declared.option.Option.{Option}
 use Rattle.std.proofs.lemmas.Bool.{cases_order}
 use Rattle.cip_rank.specs.Tree.{IsTree, children_of}
 use Rattle.cip_rank.proofs.Children.{IsChild, children_are}
-use Rattle.cip_reroot.specs.View.{on_way, parent_list}
-use Rattle.cip_reroot.proofs.ChildrenSeen.{all_append, all_at, all_kept}
+use Rattle.cip_rank.specs.View.{on_way, parent_list}
+use Rattle.cip_rank.proofs.ChildrenSeen.{all_append, all_at, all_kept}
 use Rattle.cip_rows.specs.Parting.{has_flag}
 use Rattle.cip_branches.specs.Deciding.{Branched}
 use Rattle.cip_rows.specs.Keys.{AreKeyed}

@@ -15,7 +15,7 @@ use Rattle.cip_rows.specs.Kin.{Kin}
 use Rattle.cip_rows.specs.Keys.{AreKeyed}
 use Rattle.cip_branches.specs.Standing.{node_in, WantedIn, AreKeysOf}
 use Rattle.cip_branches.specs.Turning.{in_sphere}
-use Rattle.cip_reroot.specs.View.{on_way}
+use Rattle.cip_rank.specs.View.{on_way}
 use Rattle.cip_aux.proofs.WholeTold.{parents_len}
 use Rattle.cip_ligands.specs.declared.asked.Asked.{Asked}
 use Rattle.cip_ligands.specs.Asking.{AreWithin, is_decided, with_found}

@@ -7,7 +7,7 @@ use Rattle.std.proofs.lemmas.List.{get_or-map, length-map}
 use Rattle.std.proofs.lemmas.List.FromFn.{length-range_with_len, get_or-range_with_len}
 use Rattle.cip_mol.specs.declared.descriptor.Descriptor.{Descriptor}
 use Rattle.cip_rank.specs.Tree.{IsTree}
-use Rattle.cip_reroot.specs.View.{on_way}
+use Rattle.cip_rank.specs.View.{on_way}
 use Rattle.cip_aux.specs.Below.{is_below, mark_below}
 use Rattle.cip_inside.specs.Marks.{marks_below}
 use Rattle.cip_inside.proofs.HangingPlaces.{way_itself, way_low, way_same}

@@ -8,10 +8,10 @@ use Rattle.std.proofs.lemmas.List.Elements.{All-from_recursion}
 use Rattle.cip_rank.specs.Comparison.{comparison}
 use Rattle.cip_rank.specs.Ranking.{by_number, key_at}
 use Rattle.cip_rank.specs.Tree.{IsTree, children_of}
-use Rattle.cip_reroot.specs.View.{on_way, parent_list, children_seen}
-use Rattle.cip_reroot.proofs.SeenRoot.{seen_root}
-use Rattle.cip_reroot.proofs.ChildrenSeen.{all_at, all_kept, off_below}
-use Rattle.cip_reroot.proofs.Times.{times}
+use Rattle.cip_rank.specs.View.{on_way, parent_list, children_seen}
+use Rattle.cip_rank.proofs.SeenRoot.{seen_root}
+use Rattle.cip_rank.proofs.ChildrenSeen.{all_at, all_kept, off_below}
+use Rattle.cip_rank.proofs.Times.{times}
 use Rattle.cip_branches.specs.Around.{kids_around}
 use Rattle.cip_branches.specs.Deciding.{Branched, AreFollowed, FlagsOpen, AreDecided}
 use Rattle.cip_branches.specs.Following.{Begins, Follows}

@@ -8,8 +8,8 @@ use Rattle.std.proofs.lemmas.List.Sorted.{All-permutation, IsPermutation-sym}
 use Rattle.std.proofs.lemmas.List.{length-map}
 use Rattle.cip_rank.specs.Tree.{IsTree, children_of}
 use Rattle.cip_rank.proofs.Children.{IsChild, children_are}
-use Rattle.cip_reroot.specs.View.{is_above, on_way, parent_list}
-use Rattle.cip_reroot.proofs.Way.{start, to_above, from_above, above_le, closed, fuel_free}
+use Rattle.cip_rank.specs.View.{is_above, on_way, parent_list}
+use Rattle.cip_rank.proofs.Way.{start, to_above, from_above, above_le, closed, fuel_free}
 use Rattle.cip_branches.specs.Around.{kids_around}
 use Rattle.cip_branches.specs.Deciding.{Branched, AreDecided}
 use Rattle.cip_rows.specs.Kids.{IsAmong, kids_of}

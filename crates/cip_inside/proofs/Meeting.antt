@@ -2,8 +2,8 @@
 use Rattle.std.proofs.Common.{◌≡◌, ◌<◌, ◌≤◌, ◌+◌, ◌-◌, ◌∷◌, ◌&&◌, ℕ, zero, suc, Bool, true, false, List, length, slice_index, refl, sym, ap, ◌∙◌, arith, inl, inr}
 use Rattle.std.proofs.lemmas.Bool.{cases_order}
 use Rattle.cip_rank.specs.Tree.{IsTree, spheres_of}
-use Rattle.cip_reroot.specs.View.{on_way}
-use Rattle.cip_reroot.proofs.Way.{Above, from_above}
+use Rattle.cip_rank.specs.View.{on_way}
+use Rattle.cip_rank.proofs.Way.{Above, from_above}
 use Rattle.cip_rows.specs.Parting.{has_flag}
 use Rattle.cip_digraph.specs.digraph.Digraph.{is_real}
 use Rattle.cip_digraph.specs.digraph.NodeList.{parents_of}

@@ -8,7 +8,7 @@ use Rattle.std.proofs.lemmas.List.{get_or_default, map-append, take_more}
 use Rattle.std.proofs.lemmas.List.Elements.{All-contains, All-contains_itself, All-filter, All-from_recursion, Contains-get_or, filter-append}
 use Rattle.cip_branches.specs.Deciding.{Branched}
 use Rattle.cip_rank.specs.Tree.{children_of}
-use Rattle.cip_reroot.specs.View.{parent_list}
+use Rattle.cip_rank.specs.View.{parent_list}
 use Rattle.cip_mol.specs.declared.descriptor.Descriptor.{Descriptor}
 use Rattle.cip_mol.specs.declared.outcome.Rule.TheVariants.{R1a, R1b, R2, R3, R4a, R4b, R4c, R5}
 use Rattle.cip_digraph.specs.declared.decision.Decision.{Decision}

@@ -9,7 +9,7 @@ use Rattle.cip_digraph.specs.digraph.NodeList.{parents_of}
 use Rattle.cip_digraph.specs.digraph.View.{apart, common}
 use Rattle.cip_digraph.specs.rules.Keys.{distance_key, lower_precedes}
 use Rattle.cip_rank.specs.Tree.{spheres_of}
-use Rattle.cip_reroot.specs.View.{on_way}
+use Rattle.cip_rank.specs.View.{on_way}
 
 -- flags of the nodes on the way from the root to one
 pub record IsFlagged (parents : List ℕ) (node : ℕ) (way : List Bool) : Type 0 where

@@ -11,8 +11,8 @@ ghost use Rattle.cip_inside.specs.Keys.{IsFlagged, IsMeet, KnowSteps, distance_a
 
 use cip_aux::Whole;
 use cip_digraph::{NodeKind, Nodes};
+use cip_rank::marks::parent_of;
 use cip_rank::{Keyed, Rules};
-use cip_reroot::marks::parent_of;
 use std::cmp::Ordering;
 
 /// The distances of a digraph's nodes from one of them: how many steps the real node is away that tells them. Those of

@@ -6,7 +6,7 @@ ghost use Rattle.cip_inside.specs.Near.{LeadsElsewhere};
 
 use cip_branches::Branches;
 use cip_rank::Table;
-use cip_reroot::marks::parent_of;
+use cip_rank::marks::parent_of;
 
 // Sets a flag, where it is wanted.
 fn set_if(is_wanted: bool, flags: &mut [bool], node: u32)

@@ -124,23 +124,23 @@ fn look_anew<N: Nodes>(
     whole: &Whole<'_, N>,
     asked: &Look<'_>,
     before: &[u32],
-    open: &[Option<u32>],
+    chosen: &[Option<u32>],
     pairs: &mut [Asked],
 )
     requires room { length whole.now.told ≤ near.old.bound }
     requires node { asked.now.node < length whole.now.told }
     requires real { IsReal (sight_of whole.now).nodes asked.now.node }
     requires before { before.now ≡ near.old.tops }
-    requires open { open.now ≡ open_tops near.old.tops pairs.old }
+    requires chosen { chosen.now ≡ open_tops near.old.tops pairs.old }
     requires tops { near.old.tops ≡ asked_tops (parents_of whole.now.told) asked.now.ligands.now asked.now.node }
     requires left { LeavesOpen (sight_of whole.now) asked.now.node near.old.tops near.old.now pairs.old
         asked.now.ligands.now }
-    ensures tops { near.new.tops ≡ asked_tops (parents_of whole.now.told) open.now asked.now.node }
+    ensures tops { near.new.tops ≡ asked_tops (parents_of whole.now.told) chosen.now asked.now.node }
     ensures left { LeavesOpen (sight_of whole.now) asked.now.node near.new.tops near.new.now pairs.new
         asked.now.ligands.now }
     ensures bound { near.new.bound ≡ near.old.bound }
 {
-    near.begin(whole, asked.node, open);
+    near.begin(whole, asked.node, chosen);
     move_all(near, before, pairs);
     near.constitution(whole, asked.node, pairs);
 }

@@ -1,13 +1,13 @@
 // The descriptors that count at a node: those of the nodes strictly below it.
 ghost use Rattle.std.specs.Prelude.{◌≡◌, ◌<◌, ◌≤◌, length};
-ghost use Rattle.cip_reroot.specs.View.{on_way};
+ghost use Rattle.cip_rank.specs.View.{on_way};
 ghost use Rattle.cip_aux.specs.Below.{is_below};
 ghost use Rattle.cip_inside.specs.Marks.{marks_below};
 
 use cip_ligands::{Descriptors, Marked};
 use cip_mol::Descriptor;
 use cip_rank::Table;
-use cip_reroot::marks::parent_of;
+use cip_rank::marks::parent_of;
 
 /// Descriptors of a digraph's nodes, of which those strictly below one node count.
 #[derive(Drop)]

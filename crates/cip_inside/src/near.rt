@@ -27,7 +27,7 @@ use cip_branches::{Branches, SavedRanks};
 use cip_digraph::Nodes;
 use cip_ligands::{Asked, Marked, Readings, decide_configuration};
 use cip_rank::both;
-use cip_reroot::marks::{cover, mark_way, take_off};
+use cip_rank::marks::{cover, mark_way, take_off};
 use cip_rows::Column;
 use std::alloc::{AllocError, Global};
 use std::marker::Model;

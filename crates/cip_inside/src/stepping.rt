@@ -8,7 +8,7 @@ ghost use Rattle.cip_inside.specs.Keys.{IsFlagged, KnowSteps};
 use crate::distances::is_off;
 use cip_aux::Whole;
 use cip_digraph::Nodes;
-use cip_reroot::marks::parent_of;
+use cip_rank::marks::parent_of;
 use cip_rows::Column;
 
 /// A node that is looked from, and flags of the nodes on the way to it from the root.

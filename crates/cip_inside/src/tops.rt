@@ -4,7 +4,7 @@ ghost use Rattle.std.specs.List.{list_any};
 ghost use Rattle.cip_inside.specs.Near.{is_ligand, asked_tops, branch_of};
 
 use cip_rank::Table;
-use cip_reroot::marks::parent_of;
+use cip_rank::marks::parent_of;
 use cip_rows::Column;
 
 fn is_asked(ligands: &[Option<u32>], node: u32) -> bool

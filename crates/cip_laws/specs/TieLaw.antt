@@ -12,7 +12,7 @@ use Rattle.cip_digraph.specs.graph.DrawnGraph.{graph_of}
 use Rattle.cip_digraph.specs.rules.Decisions.{order}
 use Rattle.cip_digraph.specs.units.Ranked.{ligand_order}
 use Rattle.cip_laws.specs.DrawnOutcomes.{digraph_in}
-use Rattle.cip_carried.specs.Images.{Among}
+use Rattle.cip_image.specs.Images.{Among}
 
 -- two ligands of a root tie, with the last rule as it is and turned, exactly where their branches are the same
 abbrev pub TiesAreSameTrees : Type 0

@@ -1,20 +1,37 @@
-//! What another numbering, a mirror and ties do to labels: laws of the definitions, and of the calls that renumber and
-//! mirror a molecule. No part of the program stands on them.
+//! What another numbering, a mirror and ties do to labels, and to the answers to records; what is read of records; the
+//! tables that definitions and code share, written out once more. No part of the program stands on them.
 #![tactic(auto)]
 
+mod biaryls;
+mod cumulenes;
+mod groups;
+mod marks;
+mod records;
 mod reflection;
 mod renumbering;
 mod rings;
+mod tables;
 mod ties;
+mod worked;
 
+pub use biaryls::delocalised_atoms_are_ends;
+pub use cumulenes::chains_are_listed;
+pub use groups::{groups_are_of_lines, repeated_is_named_twice};
+pub use marks::{given_marks_keep_ligands, given_marks_keep_orders, marks_keep_orders};
+pub use records::{
+    mirrored_records_are_read, mirrored_records_mirror, readings_are_sound, records_go,
+    records_mirror, tables_are_drawn,
+};
 pub use reflection::{
-    mirror, reflection_keeps_drawings, reflection_mirrors_outcomes, whole_inversions_are_mirrors,
-    worked_molecules_are_mirrored,
+    mirror, reflection_keeps_drawings, reflection_keeps_further, reflection_mirrors_outcomes,
+    whole_inversions_are_mirrors, worked_molecules_are_mirrored,
 };
 pub use renumbering::{
-    renumber, renumbered_drawings_are_renumberings, renumbering_keeps_outcomes,
-    renumberings_are_sound, units_share_no_end, worked_molecules_are_renumbered,
-    worked_renumbering_is_labelled,
+    renumber, renumbered_drawings_are_renumberings, renumbering_keeps_further,
+    renumbering_keeps_outcomes, renumberings_are_sound, units_share_no_end,
+    worked_molecules_are_renumbered, worked_renumbering_is_labelled,
 };
 pub use rings::delocalised_atoms_lie_in_rings;
+pub use tables::{elements_are_written, help_is_written};
 pub use ties::{lone_pairs_tie_with_nothing, ties_are_same_trees};
+pub use worked::worked_further_is_labelled;

@@ -6,6 +6,7 @@ ghost use Rattle.cip_laws.specs.RenumberingLaw.{KeepsOutcomes, RenumberingKeepsO
 ghost use Rattle.cip_laws.specs.VertexImages.{vertex_image, RenumberedDrawingsAreRenumberings};
 ghost use Rattle.cip_laws.specs.WorkedNumberings.{AreRenumbered};
 ghost use Rattle.cip_laws.specs.WorkedRenumbering.{IsRenumbered};
+ghost use Rattle.cip_laws.specs.FurtherLaws.{RenumberingKeepsFurther};
 
 use cip_mol::Molecule;
 use std::alloc::{AllocError, Global};
@@ -58,4 +59,10 @@ pub fn worked_renumbering_is_labelled()
 /// centres with hydrogens that aren't drawn, and menthol.
 pub fn worked_molecules_are_renumbered()
     ensures { AreRenumbered }
+{}
+
+/// Each further unit goes to one of the renumbered molecule, and each one there comes from one, with the same
+/// descriptor, rule, sphere and cost, or the same reason why there is none.
+pub fn renumbering_keeps_further()
+    ensures { RenumberingKeepsFurther }
 {}

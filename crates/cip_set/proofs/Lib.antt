@@ -1,1 +1,17 @@
+pub mod AskedSteps
+pub mod BareGeometry
+pub mod CentreOutcomes
+pub mod CentrePlaces
+pub mod GivenLetters
+pub mod JoinedAlike
+pub mod LoneMarks
+pub mod MarksBeside
+pub mod OtherUnits
+pub mod RemarkedCentres
+pub mod RootPaths
+pub mod RootsAlike
+pub mod SetGeometry
+pub mod SetMarks
 pub mod SetReads
+pub mod SetSound
+pub mod TurnedOutcomes

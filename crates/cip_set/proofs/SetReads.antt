@@ -22,15 +22,15 @@ use Rattle.cip_digraph.specs.units.DrawnUnits.{units_in}
 use Rattle.cip_v2000.specs.Version.{is_v3000}
 use Rattle.cip_record.specs.Answers.{answer_by, answer_without_items, of_molecule, of_reading, unit_answer}
 use Rattle.cip_molfile.specs.Molecules.{read_molecule}
-use Rattle.cip_mark.specs.FoundCentres.{centre_unit, found_at}
-use Rattle.cip_mark.specs.Marking.{has_centre, with_mark}
-use Rattle.cip_mark.specs.SetLetters.{mark_asked, HasLetter, IsGiven}
-use Rattle.cip_mark.specs.declared.letter.CentreRefusal.{CentreRefusal}
-use Rattle.cip_mark.specs.declared.letter.Marked.{Marked}
-use Rattle.cip_mark.proofs.CentrePlaces.{has_place}
-use Rattle.cip_mark.proofs.GivenLetters.{letters_given}
-use Rattle.cip_mark.proofs.SetMarks.{all_join}
-use Rattle.cip_mark.proofs.SetSound.{bonds_set}
+use Rattle.cip_set.specs.FoundCentres.{centre_unit, found_at}
+use Rattle.cip_set.specs.Marking.{has_centre, with_mark}
+use Rattle.cip_set.specs.SetLetters.{mark_asked, HasLetter, IsGiven}
+use Rattle.cip_set.specs.declared.letter.CentreRefusal.{CentreRefusal}
+use Rattle.cip_set.specs.declared.letter.Marked.{Marked}
+use Rattle.cip_set.proofs.CentrePlaces.{has_place}
+use Rattle.cip_set.proofs.GivenLetters.{letters_given}
+use Rattle.cip_set.proofs.SetMarks.{all_join}
+use Rattle.cip_set.proofs.SetSound.{bonds_set}
 use Rattle.cip_mirror.specs.Answers.{molecule_in}
 use Rattle.cip_mirror.specs.Changed.{changed_record}
 use Rattle.cip_mirror.proofs.BondRanges.{bonds_in_range}

@@ -1,2 +1,10 @@
+pub mod FoundCentres
+pub mod MarkLaw
+pub mod Marking
 pub mod RefusalNames
+pub mod Remarked
 pub mod SetAnswers
+pub mod SetLetters
+pub mod TurnedLetters
+pub mod UnitsBeside
+pub mod WorkedMarks

@@ -14,12 +14,12 @@ use Rattle.cip_print.specs.declared.answer.Answer.TheVariants as answers
 use Rattle.cip_print.specs.declared.answer.UnitAnswer.{UnitAnswer}
 use Rattle.cip_record.specs.Answers.{answer_by}
 use Rattle.cip_molfile.specs.Molecules.{read_molecule}
-use Rattle.cip_mark.specs.Marking.{with_mark}
-use Rattle.cip_mark.specs.SetLetters.{mark_asked, HasLetter}
-use Rattle.cip_mark.specs.UnitsBeside.{IsCentreAt}
-use Rattle.cip_mark.specs.declared.letter.CentreRefusal.{CentreRefusal}
-use Rattle.cip_mark.specs.declared.letter.CentreRefusal.TheVariants as centres
-use Rattle.cip_mark.specs.declared.letter.Marked.{Marked}
+use Rattle.cip_set.specs.Marking.{with_mark}
+use Rattle.cip_set.specs.SetLetters.{mark_asked, HasLetter}
+use Rattle.cip_set.specs.UnitsBeside.{IsCentreAt}
+use Rattle.cip_set.specs.declared.letter.CentreRefusal.{CentreRefusal}
+use Rattle.cip_set.specs.declared.letter.CentreRefusal.TheVariants as centres
+use Rattle.cip_set.specs.declared.letter.Marked.{Marked}
 use Rattle.cip_mirror.specs.Answers.{molecule_in}
 use Rattle.cip_mirror.specs.Changed.{changed_record}
 use Rattle.cip_set.specs.declared.answers.SetAnswer.{SetAnswer}

@@ -1,16 +1,18 @@
 // A record in which a centre is to have a letter.
 ghost use Rattle.std.specs.Prelude.{◌≡◌, ◌≤◌, ◌<◌, ◌-◌, ◌^◌, IfOk, length};
 ghost use Rattle.cip_mol.specs.Drawing.{Drawing};
-ghost use Rattle.cip_mark.specs.Marking.{with_mark};
-ghost use Rattle.cip_mark.specs.SetLetters.{mark_asked};
+ghost use Rattle.cip_set.specs.Marking.{with_mark};
+ghost use Rattle.cip_set.specs.SetLetters.{mark_asked};
 ghost use Rattle.cip_mirror.specs.Changed.{changed_record};
 ghost use Rattle.cip_set.specs.SetAnswers.{refusal_of, set_answer, set_drawn, set_marked, set_without_items, GivesLetter, IsFew};
 
 use crate::answers::{SetAnswer, SetRefusal};
+use crate::asking::mark_asked;
+use crate::letter::{CentreRefusal, Marked, Request};
+use crate::marking::with_mark;
 use cip_desk::{Errand, run_once};
 use cip_item::without_label_items;
 use cip_label::{Digraphs, Labeller};
-use cip_mark::{CentreRefusal, Marked, Request, mark_asked, with_mark};
 use cip_mirror::changed_record;
 use cip_mol::{CentreLetter, Molecule, ReadRefusal};
 use cip_molfile::read_molecule;

@@ -103,11 +103,11 @@ pub fn group_told(alloc: Global, out: &mut Text, record: &[u8]) {
     }
 }
 
-fn push_groups_of(alloc: Global, out: &mut Text, record: &[u8], molecule: &Molecule)
-    requires few { length record.now < 2 ^ 32 - 1 }
-    requires read { molecule_of (body_contents record.now) ≡ Ok molecule.now }
+fn push_groups_of(alloc: Global, out: &mut Text, bytes: &[u8], molecule: &Molecule)
+    requires few { length bytes.now < 2 ^ 32 - 1 }
+    requires read { molecule_of (body_contents bytes.now) ≡ Ok molecule.now }
 {
-    let Ok(answer) = read_groups(alloc, record, molecule) else {
+    let Ok(answer) = read_groups(alloc, bytes, molecule) else {
         return out.miss();
     };
     push_groups(out, &answer)

@@ -4,10 +4,10 @@ use Rattle.std.proofs.Common.{◌≡◌, ◌<◌, ◌≤◌, ◌+◌, ◌-◌, �
 use Rattle.std.specs.List.{AllByRecursion, range_with_len}
 use Rattle.cip_rank.specs.Tree.{IsTree, children_of}
 use Rattle.cip_rank.proofs.Ranges.{range_more}
-use Rattle.cip_reroot.specs.View.{on_way, parent_list}
-use Rattle.cip_reroot.proofs.ChildrenSeen.{all_at, off_below}
-use Rattle.cip_reroot.proofs.SeenRoot.{seen_root}
-use Rattle.cip_reroot.proofs.Times.{times}
+use Rattle.cip_rank.specs.View.{on_way, parent_list}
+use Rattle.cip_rank.proofs.ChildrenSeen.{all_at, off_below}
+use Rattle.cip_rank.proofs.SeenRoot.{seen_root}
+use Rattle.cip_rank.proofs.Times.{times}
 use Rattle.cip_branches.specs.Around.{kids_around}
 use Rattle.cip_branches.specs.Deciding.{Branched, AreFollowed}
 use Rattle.cip_branches.specs.Following.{Begins, Follows}

@@ -1,7 +1,7 @@
 // Branches of trees seen from any of their nodes, ranked as by hand and by a second body.
 ghost use Rattle.std.specs.Prelude.{◌≡◌, ◌<◌, ◌≤◌, ℕ, length, IfOk};
 ghost use Rattle.cip_branches.specs.Deciding.{AreFollowed};
-ghost use Rattle.cip_reroot.specs.View.{on_way};
+ghost use Rattle.cip_rank.specs.View.{on_way};
 ghost use Rattle.cip_rows.specs.Keys.{AreKeyed};
 ghost use Rattle.cip_rows.specs.Parting.{has_flag};
 

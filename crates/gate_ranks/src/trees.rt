@@ -1,11 +1,11 @@
 // Small trees, worked and random ones, and the nodes that they are seen from.
 ghost use Rattle.std.specs.Prelude.{◌≡◌, ◌<◌, ◌≤◌, ◌++◌, ℕ, pos, length, map, IfOk};
 ghost use Rattle.cip_rank.specs.Tree.{children_of, last_parent};
-ghost use Rattle.cip_reroot.specs.View.{on_way, parent_list};
+ghost use Rattle.cip_rank.specs.View.{on_way, parent_list};
 ghost use Rattle.cip_rows.specs.Parting.{has_flag};
 
+use cip_rank::marks::{cover, mark_way};
 use cip_rank::{Keyed, Table};
-use cip_reroot::marks::{cover, mark_way};
 use rand_pcg::Pcg32;
 use rand_pcg::rand_core::utils::NextWord;
 use std::alloc::{AllocError, Global};

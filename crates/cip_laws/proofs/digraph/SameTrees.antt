@@ -16,7 +16,7 @@ use Rattle.cip_digraph.proofs.TieFromSame.{tie_from_same}
 use Rattle.cip_digraph.proofs.TurnedTies.{tie_turned}
 use Rattle.cip_laws.specs.DrawnOutcomes.{mark_in}
 use Rattle.cip_laws.specs.TieLaw.{TiesAreSameTrees, LonePairsTieWithNothing}
-use Rattle.cip_carried.proofs.lists.Among.{among_all}
+use Rattle.cip_image.proofs.lists.Among.{among_all}
 
 none_by : (one other : Option Decision) → is_tie one ≡ is_tie other → one ≡ None → other ≡ None
 none_by one None e none = refl

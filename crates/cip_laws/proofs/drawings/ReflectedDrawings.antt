@@ -37,7 +37,7 @@ use Rattle.cip_digraph.specs.units.Units.{sites_of}
 use Rattle.cip_digraph.proofs.ReflectedUnits.{auxiliary_exchanged}
 use Rattle.cip_laws.specs.DrawnOutcomes.{units_in, outcome_in}
 use Rattle.cip_laws.specs.ReflectionLaw.{IsMirrorOutcome, ReflectsDrawing, ReflectionKeepsDrawings}
-use Rattle.cip_carried.proofs.lists.CarriedLists.{mapped_twice, mapped_by}
+use Rattle.cip_image.proofs.lists.CarriedLists.{mapped_twice, mapped_by}
 use Rattle.cip_laws.proofs.outcomes.ReflectedOutcomes.{costs_stay, reflection_mirrors_outcomes}
 
 module _ (drawing : Drawing) where

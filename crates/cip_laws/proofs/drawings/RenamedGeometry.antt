@@ -30,15 +30,15 @@ use Rattle.cip_mol.specs.declared.site.Ligand.TheVariants.{Vertex, LonePair}
 use Rattle.cip_mol.proofs.SimpleBonds.{Once}
 use Rattle.cip_digraph.specs.graph.Renumbering.{IsForward, IsTurned, IsRenumbering}
 use Rattle.cip_digraph.proofs.Lists.{Pairwise}
-use Rattle.cip_carried.specs.Images.{ligand_image}
-use Rattle.cip_carried.proofs.lists.Arranged.{arranged}
-use Rattle.cip_carried.proofs.lists.CarriedLists.{mapped_twice, mapped_below}
+use Rattle.cip_image.specs.Images.{ligand_image}
+use Rattle.cip_image.proofs.lists.Arranged.{arranged}
+use Rattle.cip_image.proofs.lists.CarriedLists.{mapped_twice, mapped_below}
 use Rattle.cip_laws.proofs.drawings.BondsOnce.{once_back, bonds_once}
-use Rattle.cip_carried.proofs.outcomes.LastReasons.{elements, pairwise_arranged}
+use Rattle.cip_image.proofs.outcomes.LastReasons.{elements, pairwise_arranged}
 use Rattle.cip_laws.proofs.drawings.RenumberedAtoms.{IsImageBond, image_eq, bond_pairs}
 use Rattle.cip_laws.proofs.drawings.RenumberedBonds.{joins_image}
 use Rattle.cip_laws.proofs.graph.RenumberedGraph.{carry, drawn_same, of_atom}
-use Rattle.cip_carried.proofs.lists.Truths.{true_not_false, last_false, middle_false}
+use Rattle.cip_image.proofs.lists.Truths.{true_not_false, last_false, middle_false}
 
 mapped_all : {X Y : Type 0} (P : X → Type 0) (f g : X → Y) → ((x : X) → P x → f x ≡ g x) → (xs : List X)
     → AllByRecursion P xs → map f xs ≡ map g xs

@@ -10,10 +10,10 @@ use Rattle.cip_digraph.specs.rings.Positions.{positions_of}
 use Rattle.cip_digraph.specs.graph.Renumbering.{IsRenumbering}
 use Rattle.cip_digraph.specs.units.Units.{sites_of}
 use Rattle.cip_digraph.proofs.DrawnSound.{drawn_sound}
-use Rattle.cip_carried.specs.Images.{Among}
+use Rattle.cip_image.specs.Images.{Among}
 use Rattle.cip_laws.specs.RenumberingLaw.{OutcomesGo, RenumberingKeepsOutcomes, RenumberingsAreSound}
 use Rattle.cip_laws.proofs.units.CarriedSites.{SiteImage}
-use Rattle.cip_carried.specs.CarriedUnits.{IsCarriedGeometry}
+use Rattle.cip_image.specs.CarriedUnits.{IsCarriedGeometry}
 use Rattle.cip_laws.proofs.graph.DelocalisedEnds.{delocalised_at_both}
 use Rattle.cip_laws.proofs.units.ListedSites.{sites_listed}
 use Rattle.cip_laws.proofs.drawings.RenumberedBonds.{renumbered_sound}

@@ -18,12 +18,12 @@ use Rattle.cip_digraph.specs.graph.LonePairs.{lone_pair, lone_pair_of}
 use Rattle.cip_digraph.specs.graph.Neglected.{neglects, neglects_at, is_counted}
 use Rattle.cip_digraph.specs.graph.Renumbering.{IsForward, IsTurned, IsImage, IsRenumbering}
 use Rattle.cip_digraph.proofs.Lists.{Pairwise, by_recursion}
-use Rattle.cip_carried.specs.Images.{Among}
-use Rattle.cip_carried.proofs.lists.Among.{among_map, from_map, among_arranged, among_range, from_range, among_all}
-use Rattle.cip_carried.proofs.lists.Arranged.{filter_arranged}
-use Rattle.cip_carried.proofs.outcomes.LastReasons.{pairwise_arranged}
-use Rattle.cip_carried.proofs.lists.Truths.{or_back}
-use Rattle.cip_carried.proofs.lists.Elements.{unmapped}
+use Rattle.cip_image.specs.Images.{Among}
+use Rattle.cip_image.proofs.lists.Among.{among_map, from_map, among_arranged, among_range, from_range, among_all}
+use Rattle.cip_image.proofs.lists.Arranged.{filter_arranged}
+use Rattle.cip_image.proofs.outcomes.LastReasons.{pairwise_arranged}
+use Rattle.cip_image.proofs.lists.Truths.{or_back}
+use Rattle.cip_image.proofs.lists.Elements.{unmapped}
 
 -- a bond of a drawing and its image
 pub record IsImageBond (image : ℕ → ℕ) (atoms : ℕ) (bond other : Bond) : Type 0 where

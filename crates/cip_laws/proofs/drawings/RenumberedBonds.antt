@@ -14,9 +14,9 @@ use Rattle.cip_mol.proofs.SimpleBonds.{IsJoin, Once, simple_from_sound, sound_fr
 use Rattle.cip_digraph.specs.graph.Renumbering.{IsForward, IsTurned, IsRenumbering}
 use Rattle.cip_digraph.proofs.Lists.{Pairwise, pairs_from_pairwise}
 use Rattle.cip_laws.proofs.drawings.BondsOnce.{once_back, bonds_once}
-use Rattle.cip_carried.proofs.outcomes.LastReasons.{pairwise_arranged}
+use Rattle.cip_image.proofs.outcomes.LastReasons.{pairwise_arranged}
 use Rattle.cip_laws.proofs.drawings.RenumberedAtoms.{IsImageBond, all_arranged, image_below, image_onto, image_injective, image_eq, bond_pairs, degree_same}
-use Rattle.cip_carried.proofs.lists.Truths.{and_back, or_back}
+use Rattle.cip_image.proofs.lists.Truths.{and_back, or_back}
 
 module _ (drawing other : Drawing) (image : ℕ → ℕ) (r : IsRenumbering drawing other image)
     (sound : bonds.IsSound (length drawing.atoms) drawing.bonds) where

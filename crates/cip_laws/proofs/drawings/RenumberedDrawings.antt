@@ -21,7 +21,7 @@ use Rattle.cip_digraph.specs.graph.Hydrogens.{hydrogens_of}
 use Rattle.cip_digraph.specs.graph.Renumbering.{hydrogen_number, IsImage, IsRenumbering}
 use Rattle.cip_digraph.proofs.Lists.{by_recursion}
 use Rattle.cip_laws.specs.VertexImages.{hydrogen_image, vertex_image, RenumberedDrawingsAreRenumberings}
-use Rattle.cip_carried.proofs.lists.CarriedLists.{mapped_below}
+use Rattle.cip_image.proofs.lists.CarriedLists.{mapped_below}
 
 places_listed : (count : ℕ) (places : List ℕ) → ArePlaces count places
     → map (place_of places) (range_with_len 0 count) ≡ places

@@ -5,13 +5,13 @@ use Rattle.cip_digraph.specs.rings.Alternating.{is_in}
 use Rattle.cip_digraph.specs.graph.Graph.{Graph, neighbours}
 use Rattle.cip_digraph.specs.rings.SmallRings.{neighbours_aside, with_new, within_steps, is_in_small_ring}
 use Rattle.cip_digraph.specs.graph.SoundGraphs.{IsSound}
-use Rattle.cip_carried.specs.Images.{Among}
-use Rattle.cip_carried.proofs.lists.Among.{among_map, from_map, among_filter, from_filter, among_left, among_right, from_append, among_flat, from_flat, among_arranged, in_from_among, among_from_in}
-use Rattle.cip_carried.proofs.lists.CarriedLists.{mapped_twice, same_eq}
-use Rattle.cip_carried.specs.Renamed.{Way, way, ways, IsRenamed}
-use Rattle.cip_carried.proofs.graph.CarriedPositions.{neighbours_moved}
+use Rattle.cip_image.specs.Images.{Among}
+use Rattle.cip_image.proofs.lists.Among.{among_map, from_map, among_filter, from_filter, among_left, among_right, from_append, among_flat, from_flat, among_arranged, in_from_among, among_from_in}
+use Rattle.cip_image.proofs.lists.CarriedLists.{mapped_twice, same_eq}
+use Rattle.cip_image.specs.Renamed.{Way, way, ways, IsRenamed}
+use Rattle.cip_image.proofs.graph.CarriedPositions.{neighbours_moved}
 use Rattle.cip_laws.proofs.graph.WaySymmetry.{leads_back}
-use Rattle.cip_carried.proofs.lists.Truths.{same_truth, or_back}
+use Rattle.cip_image.proofs.lists.Truths.{same_truth, or_back}
 
 among_new : (x : ℕ) (others vertices : List ℕ) → Among x vertices ⊎ Among x others → Among x (with_new vertices others)
 among_new x [] vertices (inl h) = h

@@ -15,14 +15,14 @@ use Rattle.cip_digraph.specs.graph.SoundGraphs.{JoinsBelow, IsSound}
 use Rattle.cip_digraph.proofs.AlternatingWays.{ring_found, ring_finds}
 use Rattle.cip_digraph.proofs.Lists.{Pairwise, pairwise_filtered, pairwise_from_pairs, pairs_from_pairwise, by_recursion}
 use Rattle.cip_digraph.proofs.NeighbourOrder.{neighbours_differ}
-use Rattle.cip_carried.specs.Images.{Among}
-use Rattle.cip_carried.proofs.lists.Among.{among_map, from_map, among_filter, from_filter, in_from_among, among_from_in, among_all}
+use Rattle.cip_image.specs.Images.{Among}
+use Rattle.cip_image.proofs.lists.Among.{among_map, from_map, among_filter, from_filter, in_from_among, among_from_in, among_all}
 use Rattle.cip_laws.proofs.units.CarriedAxes.{DelocalisedAtBoth}
-use Rattle.cip_carried.proofs.lists.CarriedLists.{mapped_twice}
-use Rattle.cip_carried.specs.Renamed.{Way, way, ways}
-use Rattle.cip_carried.proofs.outcomes.LastReasons.{pairwise_arranged}
+use Rattle.cip_image.proofs.lists.CarriedLists.{mapped_twice}
+use Rattle.cip_image.specs.Renamed.{Way, way, ways}
+use Rattle.cip_image.proofs.outcomes.LastReasons.{pairwise_arranged}
 use Rattle.cip_laws.proofs.graph.WaySymmetry.{edge_of, back_way, leads_back, one_way_to}
-use Rattle.cip_carried.proofs.lists.Truths.{true_not_false, same_truth, and_parts, or_true}
+use Rattle.cip_image.proofs.lists.Truths.{true_not_false, same_truth, and_parts, or_true}
 
 pub record OneEdge (edges : List Edge) : Type 0 where
   pub edge : Edge

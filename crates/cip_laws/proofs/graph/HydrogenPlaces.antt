@@ -8,7 +8,7 @@ use Rattle.std.proofs.lemmas.List.Elements.{filter-append}
 use Rattle.cip_digraph.specs.graph.DrawnGraph.{hydrogen_edges}
 use Rattle.cip_digraph.specs.declared.graph.Edge.{Edge}
 use Rattle.cip_digraph.specs.graph.Graph.{touches}
-use Rattle.cip_carried.specs.Renamed.{Way, way}
+use Rattle.cip_image.specs.Renamed.{Way, way}
 
 module _ (f : ℕ → ℕ) where
   -- how many come before

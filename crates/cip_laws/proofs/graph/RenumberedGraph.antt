@@ -22,10 +22,10 @@ use Rattle.cip_digraph.specs.graph.LonePairs.{lone_pair_of}
 use Rattle.cip_digraph.specs.graph.Neglected.{is_counted}
 use Rattle.cip_digraph.specs.graph.Renumbering.{IsForward, IsTurned, hydrogen_number, IsRenumbering}
 use Rattle.cip_digraph.proofs.Lists.{all_by}
-use Rattle.cip_carried.proofs.lists.Arranged.{filter_arranged}
-use Rattle.cip_carried.proofs.lists.CarriedLists.{mapped_twice, mapped_below}
-use Rattle.cip_carried.specs.Renamed.{IsInjective}
-use Rattle.cip_carried.specs.Renamed.{Way, way, ways, way_image, IsRenamed}
+use Rattle.cip_image.proofs.lists.Arranged.{filter_arranged}
+use Rattle.cip_image.proofs.lists.CarriedLists.{mapped_twice, mapped_below}
+use Rattle.cip_image.specs.Renamed.{IsInjective}
+use Rattle.cip_image.specs.Renamed.{Way, way, ways, way_image, IsRenamed}
 use Rattle.cip_laws.proofs.graph.HydrogenPlaces.{before, IsPlaced, locate, below_later, one_place, single_way, ways_from, ways_in, ways_append, carried_long, atom_ways, hydrogen_ways, beyond_ways}
 use Rattle.cip_laws.proofs.drawings.RenumberedAtoms.{IsImageBond, image_below, image_injective, image_eq, bond_pairs, touches_carried, hydrogens_same, atom_same, lone_same, counted_same, all_arranged, bonds_join}
 

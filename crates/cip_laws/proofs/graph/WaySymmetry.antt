@@ -8,10 +8,10 @@ use Rattle.cip_digraph.specs.graph.Graph.{Graph, touches, other_end, edges_at}
 use Rattle.cip_digraph.specs.graph.SoundGraphs.{JoinsBelow, IsSound}
 use Rattle.cip_digraph.proofs.Lists.{Pairwise, by_recursion}
 use Rattle.cip_digraph.proofs.NeighbourOrder.{neighbours_differ}
-use Rattle.cip_carried.specs.Images.{Among}
-use Rattle.cip_carried.proofs.lists.Among.{among_map, from_map, among_filter, from_filter, among_arranged, among_all}
-use Rattle.cip_carried.proofs.lists.CarriedLists.{mapped_twice}
-use Rattle.cip_carried.specs.Renamed.{Way, way, ways, way_image, IsRenamed}
+use Rattle.cip_image.specs.Images.{Among}
+use Rattle.cip_image.proofs.lists.Among.{among_map, from_map, among_filter, from_filter, among_arranged, among_all}
+use Rattle.cip_image.proofs.lists.CarriedLists.{mapped_twice}
+use Rattle.cip_image.specs.Renamed.{Way, way, ways, way_image, IsRenamed}
 use Rattle.cip_laws.proofs.graph.RenumberedGraph.{sorted_permutes}
 
 -- elements with different images are the same where their images are

@@ -25,7 +25,7 @@ use Rattle.cip_digraph.specs.units.Ranked.{Root, has_tie}
 use Rattle.cip_digraph.proofs.ReflectedLetters.{swapped, root_exchanged}
 use Rattle.cip_digraph.proofs.ReflectedUnits.{auxiliary_exchanged, outcome_exchanged}
 use Rattle.cip_laws.specs.ReflectionLaw.{IsMirrorOutcome, ReflectionMirrorsOutcomes}
-use Rattle.cip_carried.proofs.outcomes.ReflectedReasons.{reason_swapped, ends_ranked}
+use Rattle.cip_image.proofs.outcomes.ReflectedReasons.{reason_swapped, ends_ranked}
 
 abbrev found_by : Bool → Bool → labels.Label → Outcome
 found_by over tie label =

@@ -18,16 +18,16 @@ use Rattle.cip_digraph.specs.units.Units.{centre_site, sites_of, units_of}
 use Rattle.cip_digraph.specs.units.Ends.{End, ends_of}
 use Rattle.cip_digraph.specs.graph.DrawnGraph.{graph_of}
 use Rattle.cip_digraph.proofs.DrawnSound.{drawn_sound}
-use Rattle.cip_carried.specs.Images.{Among}
+use Rattle.cip_image.specs.Images.{Among}
 use Rattle.cip_laws.specs.RenumberingLaw.{UnitsShareNoEnd}
-use Rattle.cip_carried.proofs.lists.Among.{among_map, from_map, among_filter, from_filter, from_append}
+use Rattle.cip_image.proofs.lists.Among.{among_map, from_map, among_filter, from_filter, from_append}
 use Rattle.cip_laws.proofs.units.CarriedAxes.{IsAxisCore, axis_of, FoundAxis, found_axis, axis_back}
-use Rattle.cip_carried.proofs.lists.CarriedLists.{filter_carried}
-use Rattle.cip_carried.specs.Renamed.{Way, way, ways}
+use Rattle.cip_image.proofs.lists.CarriedLists.{filter_carried}
+use Rattle.cip_image.specs.Renamed.{Way, way, ways}
 use Rattle.cip_laws.proofs.units.CarriedSites.{bond_of, FoundBond, found_bond}
-use Rattle.cip_carried.specs.CarriedUnits.{stands_at, AreAlone}
+use Rattle.cip_image.specs.CarriedUnits.{stands_at, AreAlone}
 use Rattle.cip_laws.proofs.graph.WaySymmetry.{back_way, leads_back}
-use Rattle.cip_carried.proofs.lists.Truths.{true_not_false, and_parts, either_true, or_true}
+use Rattle.cip_image.proofs.lists.Truths.{true_not_false, and_parts, either_true, or_true}
 
 -- what a centre is, and what an end of a double bond
 centre_parts : (z : ℕ) (charge : ℤ) (edges drawn : ℕ) (lone : Bool) → is_centre_by z charge edges drawn lone ≡ true

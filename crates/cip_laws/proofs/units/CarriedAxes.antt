@@ -13,13 +13,13 @@ use Rattle.cip_digraph.specs.graph.Graph.{Graph, vertex_at, edges_at, neighbours
 use Rattle.cip_digraph.specs.rings.Positions.{positions_of, is_delocalised}
 use Rattle.cip_digraph.specs.graph.SoundGraphs.{IsSound}
 use Rattle.cip_digraph.specs.units.Units.{centre_site, sites_of}
-use Rattle.cip_carried.specs.Images.{Among}
-use Rattle.cip_carried.proofs.lists.Among.{among_map, from_map, among_filter, from_filter, among_left, among_right, from_append, among_flat, from_flat, among_arranged, among_range, from_range}
-use Rattle.cip_carried.specs.Renamed.{Way, ways, way_image, IsRenamed}
-use Rattle.cip_carried.proofs.graph.CarriedPositions.{degree_carried, passed_moved, tos_are}
+use Rattle.cip_image.specs.Images.{Among}
+use Rattle.cip_image.proofs.lists.Among.{among_map, from_map, among_filter, from_filter, among_left, among_right, from_append, among_flat, from_flat, among_arranged, among_range, from_range}
+use Rattle.cip_image.specs.Renamed.{Way, ways, way_image, IsRenamed}
+use Rattle.cip_image.proofs.graph.CarriedPositions.{degree_carried, passed_moved, tos_are}
 use Rattle.cip_laws.proofs.units.CarriedSites.{SiteImage, pair_image, centre_image, centre_carried, z_same, SameUnit, end_bonds_carried, outer_moved, three_same, three_crossed, two_same, two_crossed, pair_forward, pair_crossed, IsBondCore, bond_of, bond_among, FoundBond, found_bond, core_back, core_there, core_from}
 use Rattle.cip_laws.proofs.graph.WaySymmetry.{back_way, leads_back}
-use Rattle.cip_carried.proofs.lists.Truths.{and_parts, and_both}
+use Rattle.cip_image.proofs.lists.Truths.{and_parts, and_both}
 
 pub record IsAxisCore (graph : Graph) (a middle b : ℕ) : Type 0 where
   pub toward : Among middle (doubles graph a)

@@ -21,20 +21,20 @@ use Rattle.cip_digraph.specs.rings.Positions.{positions_of, is_delocalised}
 use Rattle.cip_digraph.specs.rings.SmallRings.{is_in_small_ring}
 use Rattle.cip_digraph.specs.graph.SoundGraphs.{IsSound}
 use Rattle.cip_digraph.specs.units.Units.{centre_site}
-use Rattle.cip_carried.specs.Images.{Among, ligand_image}
-use Rattle.cip_carried.proofs.lists.Among.{among_map, from_map, among_filter, from_filter, among_flat, from_flat, among_range, from_range}
-use Rattle.cip_carried.proofs.lists.Arranged.{filter_arranged}
-use Rattle.cip_carried.proofs.lists.CarriedLists.{filter_carried, any_carried, in_carried}
-use Rattle.cip_carried.proofs.digraph.CarriedEnds.{one_goes}
-use Rattle.cip_carried.proofs.digraph.CarriedNodes.{delocalised_carried}
-use Rattle.cip_carried.specs.Renamed.{Way, way, ways, way_image, IsRenamed}
-use Rattle.cip_carried.proofs.graph.CarriedPositions.{degree_carried, neighbours_moved, passed_moved, positions_renamed}
+use Rattle.cip_image.specs.Images.{Among, ligand_image}
+use Rattle.cip_image.proofs.lists.Among.{among_map, from_map, among_filter, from_filter, among_flat, from_flat, among_range, from_range}
+use Rattle.cip_image.proofs.lists.Arranged.{filter_arranged}
+use Rattle.cip_image.proofs.lists.CarriedLists.{filter_carried, any_carried, in_carried}
+use Rattle.cip_image.proofs.digraph.CarriedEnds.{one_goes}
+use Rattle.cip_image.proofs.digraph.CarriedNodes.{delocalised_carried}
+use Rattle.cip_image.specs.Renamed.{Way, way, ways, way_image, IsRenamed}
+use Rattle.cip_image.proofs.graph.CarriedPositions.{degree_carried, neighbours_moved, passed_moved, positions_renamed}
 use Rattle.cip_laws.proofs.graph.CarriedSmallRings.{small_ring_back, small_ring_carried}
-use Rattle.cip_carried.specs.CarriedUnits.{IsCarriedEnd, IsCarriedPair, IsCarriedSite}
-use Rattle.cip_carried.proofs.lists.Exchanges.{exchanged_from}
-use Rattle.cip_carried.specs.Exchanged.{turned_twice}
+use Rattle.cip_image.specs.CarriedUnits.{IsCarriedEnd, IsCarriedPair, IsCarriedSite}
+use Rattle.cip_image.proofs.lists.Exchanges.{exchanged_from}
+use Rattle.cip_image.specs.Exchanged.{turned_twice}
 use Rattle.cip_laws.proofs.graph.WaySymmetry.{back_way, leads_back, way_there, way_from}
-use Rattle.cip_carried.proofs.lists.Truths.{and_parts, and_both, or_swap, not_true, not_false}
+use Rattle.cip_image.proofs.lists.Truths.{and_parts, and_both, or_swap, not_true, not_false}
 
 mapped_ligands : (image : ℕ → ℕ) (vs : List ℕ)
     → map (ligand_image image) (map ligands.Vertex vs) ≡ map ligands.Vertex (map image vs)

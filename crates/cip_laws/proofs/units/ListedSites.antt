@@ -24,18 +24,18 @@ use Rattle.cip_digraph.specs.graph.SoundGraphs.{IsSound}
 use Rattle.cip_digraph.specs.units.Units.{centre_site, sites_of}
 use Rattle.cip_digraph.proofs.Lists.{Pairwise, pairwise_by, pairwise_filtered, all_by}
 use Rattle.cip_digraph.proofs.NeighbourOrder.{neighbours_ascend, neighbours_differ}
-use Rattle.cip_carried.specs.Images.{Among}
+use Rattle.cip_image.specs.Images.{Among}
 use Rattle.cip_laws.proofs.units.AloneSites.{centre_is, double_parts, axis_end_parts}
-use Rattle.cip_carried.proofs.lists.Among.{from_map, among_map, from_filter, among_filter, from_append, from_range, found_any, among_all}
+use Rattle.cip_image.proofs.lists.Among.{from_map, among_map, from_filter, among_filter, from_append, from_range, found_any, among_all}
 use Rattle.cip_laws.proofs.units.CarriedAxes.{FoundAxis, found_axis}
-use Rattle.cip_carried.proofs.lists.CarriedLists.{mapped_twice}
-use Rattle.cip_carried.specs.Renamed.{Way, way, ways}
+use Rattle.cip_image.proofs.lists.CarriedLists.{mapped_twice}
+use Rattle.cip_image.specs.Renamed.{Way, way, ways}
 use Rattle.cip_laws.proofs.units.CarriedSites.{FoundBond, found_bond}
 use Rattle.cip_laws.proofs.graph.RenumberedGraph.{total, vertex_of_hydrogen, vertex_of_none}
 use Rattle.cip_laws.proofs.units.RenumberedSenses.{IsListed, IsEndListed, IsSiteListed}
 use Rattle.cip_laws.proofs.units.TurnedSenses.{undrawn, behind}
 use Rattle.cip_laws.proofs.graph.WaySymmetry.{back_way, leads_back}
-use Rattle.cip_carried.proofs.lists.Truths.{true_not_false, and_parts, eq_back, last_false}
+use Rattle.cip_image.proofs.lists.Truths.{true_not_false, and_parts, eq_back, last_false}
 
 pub neighbours_rise : (graph : Graph) → IsSound graph → (v : ℕ) → Pairwise ◌≤◌ (neighbours graph v)
 neighbours_rise graph sound v =

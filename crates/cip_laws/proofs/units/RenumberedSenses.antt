@@ -20,10 +20,10 @@ use Rattle.cip_mol.proofs.ExchangedEnds.{exchanged_ends_keep_bonds, exchanged_en
 use Rattle.cip_digraph.specs.units.Descriptors.{is_odd, shape_of}
 use Rattle.cip_digraph.specs.units.Ends.{End, end_at, ends_of}
 use Rattle.cip_digraph.specs.graph.Renumbering.{IsRenumbering}
-use Rattle.cip_carried.specs.Images.{ligand_image}
-use Rattle.cip_carried.specs.CarriedUnits.{IsCarriedEnd, AreCarriedEnds, AreEndsCarried, IsCarriedGeometry}
-use Rattle.cip_carried.proofs.digraph.CarriedEnds.{end_of, pair_of}
-use Rattle.cip_carried.specs.Exchanged.{IsExchanged, turned_twice}
+use Rattle.cip_image.specs.Images.{ligand_image}
+use Rattle.cip_image.specs.CarriedUnits.{IsCarriedEnd, AreCarriedEnds, AreEndsCarried, IsCarriedGeometry}
+use Rattle.cip_image.proofs.digraph.CarriedEnds.{end_of, pair_of}
+use Rattle.cip_image.specs.Exchanged.{IsExchanged, turned_twice}
 use Rattle.cip_laws.proofs.drawings.RenamedGeometry.{centre_renamed, bond_renamed, axis_renamed}
 use Rattle.cip_laws.proofs.graph.RenumberedGraph.{carry, drawn_same}
 use Rattle.cip_laws.proofs.units.TurnedSenses.{flip, is_drawn, undrawn, behind, turned_together}

@@ -15,16 +15,16 @@ use Rattle.cip_digraph.specs.rings.Positions.{positions_of}
 use Rattle.cip_digraph.specs.graph.Renumbering.{hydrogen_number, IsRenumbering}
 use Rattle.cip_digraph.specs.graph.SoundGraphs.{IsSound}
 use Rattle.cip_digraph.specs.units.Units.{sites_of, units_of}
-use Rattle.cip_carried.specs.Images.{Among, ligand_image, AreCrossed, AreForward, IsImageEnd, IsImageSite, IsImageOutcome, CostsGo, crossed}
+use Rattle.cip_image.specs.Images.{Among, ligand_image, AreCrossed, AreForward, IsImageEnd, IsImageSite, IsImageOutcome, CostsGo, crossed}
 use Rattle.cip_laws.proofs.units.AloneSites.{shown, units_alone}
-use Rattle.cip_carried.proofs.lists.Among.{among_map, from_map}
+use Rattle.cip_image.proofs.lists.Among.{among_map, from_map}
 use Rattle.cip_laws.proofs.units.CarriedAxes.{DelocalisedAtBoth, sites_there, sites_back}
-use Rattle.cip_carried.specs.Renamed.{IsRenamed}
-use Rattle.cip_carried.proofs.outcomes.CarriedOutcomes.{outcome_carried, costs_carried}
-use Rattle.cip_carried.proofs.graph.CarriedPositions.{positions_renamed}
+use Rattle.cip_image.specs.Renamed.{IsRenamed}
+use Rattle.cip_image.proofs.outcomes.CarriedOutcomes.{outcome_carried, costs_carried}
+use Rattle.cip_image.proofs.graph.CarriedPositions.{positions_renamed}
 use Rattle.cip_laws.proofs.units.CarriedSites.{SiteImage}
-use Rattle.cip_carried.specs.CarriedUnits.{AreEndsCarried, IsCarriedEnd, IsCarriedPair, IsCarriedSite, IsCarriedGeometry, IsCarriedUnit, UnitsMatch}
-use Rattle.cip_carried.proofs.lists.Exchanges.{permutation_from}
+use Rattle.cip_image.specs.CarriedUnits.{AreEndsCarried, IsCarriedEnd, IsCarriedPair, IsCarriedSite, IsCarriedGeometry, IsCarriedUnit, UnitsMatch}
+use Rattle.cip_image.proofs.lists.Exchanges.{permutation_from}
 use Rattle.cip_laws.proofs.graph.HydrogenPlaces.{IsPlaced}
 use Rattle.cip_laws.proofs.drawings.RenumberedAtoms.{image_onto, hydrogens_same}
 use Rattle.cip_laws.proofs.graph.RenumberedGraph.{total, place_of, carry, total_same, of_atom, goes, of_none}

@@ -11,8 +11,8 @@ use Rattle.cip_mol.specs.declared.site.Ligand.TheVariants.{Vertex, LonePair}
 use Rattle.cip_mol.specs.DrawnLigands.{drawn}
 use Rattle.cip_mol.specs.Senses.{other_way}
 use Rattle.cip_digraph.specs.units.Descriptors.{is_odd}
-use Rattle.cip_carried.proofs.lists.Exchanges.{exchange_long, exchanges_long}
-use Rattle.cip_carried.specs.Exchanged.{exchange, exchanges, IsExchanged}
+use Rattle.cip_image.proofs.lists.Exchanges.{exchange_long, exchanges_long}
+use Rattle.cip_image.specs.Exchanged.{exchange, exchanges, IsExchanged}
 
 other_twice : (g : Geometry) → other_way (other_way g) ≡ g
 other_twice (Known Plus) = refl

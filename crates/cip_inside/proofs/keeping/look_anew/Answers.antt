@@ -14,7 +14,7 @@ constitution-requires-clause-within g c =
     narrowed_within sight asked.node near.tops asked.ligands.now c.requires.tops near.now c.args.pairs.now
     asked.ligands.now c.requires.left c.args.before.now c.begin.new.self.tops c.move_all.new.pairs c.requires.before
     (ap (λ (n : Nearing). n.tops) c.begin.ensures
-    ∙ ap (λ (ls : List (Option ℕ)). asked_tops (parents_of sight.told) ls asked.node) c.requires.open)
+    ∙ ap (λ (ls : List (Option ℕ)). asked_tops (parents_of sight.told) ls asked.node) c.requires.chosen)
     c.move_all.ensures
 
 pub returns-clause-left : goal.returns-clause-left
@@ -25,6 +25,6 @@ returns-clause-left g c =
     narrowed_open sight asked.node near.tops asked.ligands.now c.requires.tops near.now c.args.pairs.now
     asked.ligands.now c.requires.left c.args.before.now c.begin.new.self.tops c.move_all.new.pairs c.requires.before
     (ap (λ (n : Nearing). n.tops) c.begin.ensures
-    ∙ ap (λ (ls : List (Option ℕ)). asked_tops (parents_of sight.told) ls asked.node) c.requires.open)
+    ∙ ap (λ (ls : List (Option ℕ)). asked_tops (parents_of sight.told) ls asked.node) c.requires.chosen)
     c.move_all.ensures c.constitution.new.self.tops c.constitution.new.self.now c.constitution.new.asked
     c.constitution.ensures.tops c.constitution.ensures.constituted

@@ -1,5 +1,5 @@
 use Rattle.std.proofs.Common.{◌∙◌, sym, ap, arith}
-use Rattle.cip_reroot.specs.View.{on_way}
+use Rattle.cip_rank.specs.View.{on_way}
 use Rattle.cip_inside.proofs.HangingPlaces.{way_same}
 use Rattle.cip_inside.proofs.marks_inside.climb_to.Goals as goal
 

@@ -1,5 +1,5 @@
 use Rattle.std.proofs.Common.{◌≡◌, ◌<◌, ◌≤◌, length}
-use Rattle.cip_reroot.specs.View.{on_way}
+use Rattle.cip_rank.specs.View.{on_way}
 use Rattle.cip_inside.proofs.marks_inside.climb_to.Given as goal
 
 abbrev pub invariant-loop-at : goal.invariant-loop-at

@@ -2,7 +2,7 @@ use Rattle.std.proofs.Common.{◌≡◌, ◌-◌, ◌++◌, ◌∷◌, [], ℕ, 
 use Rattle.std.specs.List.{list_any, range_with_len}
 use Rattle.std.proofs.lemmas.List.FromFn.{length-range_with_len}
 use Rattle.cip_rank.specs.Tree.{children_of}
-use Rattle.cip_reroot.proofs.ChildrenSeen.{kept_one}
+use Rattle.cip_rank.proofs.ChildrenSeen.{kept_one}
 use Rattle.cip_rows.specs.Reserved.{Reserved}
 use Rattle.cip_inside.specs.Near.{is_ligand}
 use Rattle.cip_inside.proofs.AskedTops.{some_few, with_parent}

@@ -1,6 +1,6 @@
 use Rattle.std.proofs.Common.{◌≡◌, ◌++◌, ℕ, true, cond, List, length, arith, ◌∙◌, sym, ap, length-append}
 use Rattle.cip_rank.specs.Tree.{children_of}
-use Rattle.cip_reroot.specs.View.{parent_list}
+use Rattle.cip_rank.specs.View.{parent_list}
 use Rattle.cip_branches.specs.Around.{kept_off, kids_around}
 use Rattle.cip_branches.specs.Layers.{Layers, with_nodes}
 use Rattle.cip_branches.proofs.PushedNodes.{nodes_both, places_more, room_stays}

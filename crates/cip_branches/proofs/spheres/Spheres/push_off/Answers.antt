@@ -1,6 +1,6 @@
 use Rattle.std.proofs.Common.{◌≡◌, ◌+◌, ◌-◌, ◌∷◌, [], ℕ, Bool, not, List, filter, length, arith, ◌∙◌, sym, ap, length-append}
 use Rattle.std.specs.List.{range_with_len}
-use Rattle.cip_reroot.proofs.ChildrenSeen.{kept_one, kept_part}
+use Rattle.cip_rank.proofs.ChildrenSeen.{kept_one, kept_part}
 use Rattle.cip_branches.specs.Around.{kept_off}
 use Rattle.cip_branches.specs.Layers.{Layers, with_nodes}
 use Rattle.cip_rows.specs.Parting.{has_flag}

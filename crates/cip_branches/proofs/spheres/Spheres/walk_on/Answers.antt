@@ -1,5 +1,5 @@
 use Rattle.std.proofs.Common.{◌≡◌, ◌<◌, ◌≤◌, ◌+◌, ◌-◌, suc, ℕ, List, length, slice_index, arith, ◌∙◌, sym, ap, subst}
-use Rattle.cip_reroot.proofs.ChildrenSeen.{off_below}
+use Rattle.cip_rank.proofs.ChildrenSeen.{off_below}
 use Rattle.cip_branches.specs.Around.{kids_around}
 use Rattle.cip_rows.specs.Kids.{kids_of}
 use Rattle.cip_branches.specs.Layers.{Layers}

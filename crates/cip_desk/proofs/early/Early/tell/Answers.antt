@@ -1,0 +1,35 @@
+use Rattle.std.proofs.Common.{rules, ◌≡◌, ◌&&◌, true, ◌∙◌, length, nat_le, ap, sym}
+use Rattle.std.specs.List.{list_all}
+use Rattle.cip_digraph.specs.digraph.Digraph.{digraph}
+use Rattle.cip_digraph.specs.rules.EarlyOrder.{differ_within}
+use Rattle.cip_digraph.specs.units.Ends.{end_at}
+use Rattle.cip_ligands.specs.Asking.{is_decided}
+use Rattle.cip_desk.specs.Branches.{answers_of, branches_of}
+use Rattle.cip_desk.proofs.Answers.{answers_are}
+use Rattle.cip_desk.proofs.DifferEarly.{decided_is}
+use Rattle.cip_desk.proofs.early.Early.tell.Goals as goal
+
+pub returns-clause-noted : goal.returns-clause-noted
+returns-clause-noted c told =
+    let rooted = c.args.rooted.now in
+    c.in_ok-note.ensures
+    ∙ (λ k. answers_of (branches_of (c.graph.ensures.value k) (c.positions.ensures k) rooted.root
+    (c.as_slice.ensures.value k)))
+    ∙ answers_are rooted.setting.now rooted.root rooted.ligands.now
+
+pub returns-clause-told : goal.returns-clause-told
+returns-clause-told c =
+    let rooted = c.args.rooted.now in
+    let setting = rooted.setting.now in
+    let noted = c.in_ok-note.ensures
+    ∙ (λ k. answers_of (branches_of (c.graph.ensures.value k) (c.positions.ensures k) rooted.root
+    (c.as_slice.ensures.value k)))
+    ∙ answers_are setting rooted.root rooted.ligands.now in
+    let within : c.are_few.result ≡ true = search rules in
+    let few : nat_le (length (digraph setting.graph setting.positions rooted.root 2)) rooted.bound ≡ true =
+    sym (λ k. nat_le (length (digraph (c.graph.ensures.value k) (c.positions.ensures k) rooted.root 2)) rooted.bound)
+    ∙ sym c.are_few.ensures ∙ within in
+    c.are_decided.ensures ∙ ap (list_all is_decided) (c.deref.ensures.value ∙ c.self.view_is ∙ noted)
+    ∙ decided_is setting rooted.root c.graph.ensures.proper.sound rooted.ligands.now c.requires.fit
+    ∙ sym (ap (λ b. b && differ_within setting.rules setting.graph setting.positions setting.units
+    (end_at rooted.root rooted.ligands.now) 2) few)

@@ -1,0 +1,11 @@
+use Rattle.std.proofs.Common.{◌≡◌, ◌++◌, flat_map, length}
+use Rattle.cip_desk.specs.Branches.{branch_if, branches_of}
+use Rattle.cip_desk.proofs.shown.show_all.Given as goal
+
+abbrev pub invariant-loop-rest : goal.invariant-loop-rest
+invariant-loop-rest l =
+    l.shown.items ++ flat_map (branch_if l.root.graph.now l.root.positions.now l.root.at) l.rest
+    ≡ branches_of l.root.graph.now l.root.positions.now l.root.at l.ligands
+
+abbrev pub decreases-loop-rest : goal.decreases-loop-rest
+decreases-loop-rest l = length l.rest

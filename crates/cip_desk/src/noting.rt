@@ -1,0 +1,44 @@
+// What two spheres tell of each two branches.
+ghost use Rattle.std.specs.Prelude.{◌≡◌, ◌++◌, OnOk};
+ghost use Rattle.cip_desk.specs.Branches.{answer_between, answers_at, answers_of};
+
+use crate::shown::{Shown, tell};
+use cip_ligands::Asked;
+use std::alloc::AllocError;
+
+fn note_two(one: &Shown, other: &Shown, noted: &mut Vec<Asked>) -> Result<(), AllocError>
+    ensures { OnOk result (noted.new.items ≡ noted.old.items ++ answer_between one.now other.now) }
+{
+    if one.vertex != other.vertex {
+        noted.push(Asked {
+            first: one.vertex,
+            second: other.vertex,
+            decision: tell(one, other),
+        })?;
+    }
+    Ok(())
+}
+
+fn note_with_each(one: &Shown, branches: &[Shown], noted: &mut Vec<Asked>) -> Result<(), AllocError>
+    ensures { OnOk result (noted.new.items ≡ noted.old.items ++ answers_at branches.now one.now) }
+{
+    let mut rest = branches;
+    while let [other, others @ ..] = rest {
+        note_two(one, other, noted)?;
+        rest = others;
+    }
+    Ok(())
+}
+
+/// Notes what is told of each two different branches, the earlier one first.
+pub fn note_each(branches: &[Shown], noted: &mut Vec<Asked>) -> Result<(), AllocError>
+    ensures { OnOk result (noted.new.items ≡ answers_of branches.now) }
+{
+    noted.clear();
+    let mut rest = branches;
+    while let [one, others @ ..] = rest {
+        note_with_each(one, others, noted)?;
+        rest = others;
+    }
+    Ok(())
+}

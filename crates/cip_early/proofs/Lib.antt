@@ -1,7 +1,0 @@
-mod Answers
-mod Counted
-mod DifferEarly
-mod EdgeKeys
-pub mod NeighbourNodes
-mod PutKeys
-mod ToldBranches

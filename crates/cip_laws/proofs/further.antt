@@ -1,0 +1,14 @@
+pub mod AllButOne
+pub mod BiarylEnds
+pub mod CarriedChains
+pub mod CarriedFurther
+pub mod CarriedHindrance
+pub mod CarriedSharing
+pub mod ChainsOnce
+pub mod FurtherMatched
+pub mod InnerAtoms
+pub mod ListedChains
+pub mod ReflectedFurther
+pub mod RenumberedFurther
+pub mod ShortChains
+pub mod TurnedLists

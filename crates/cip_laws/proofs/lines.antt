@@ -1,0 +1,10 @@
+pub mod Going
+pub mod JoinedGroups
+pub mod LineSteps
+pub mod LinesJoined
+pub mod MirroredRecords
+pub mod OtherCauses
+pub mod Reading
+pub mod RepeatedLines
+pub mod Repeating
+pub mod TakenAtoms

@@ -1,0 +1,4 @@
+pub mod GivenMarks
+pub mod KeptMarks
+pub mod MarkedLigands
+pub mod TurnedDrawings

@@ -1,5 +1,0 @@
-use Rattle.cip_record_laws.proofs.KeptMarks.{marks_keep}
-use Rattle.cip_record_laws.proofs.marks.marks_keep_orders.Goals as goal
-
-pub returns : goal.returns
-returns c = marks_keep

@@ -1,0 +1,106 @@
+// What is found of a centre.
+ghost use Rattle.std.specs.Prelude.{◌≡◌, ◌<◌, true, IfOk, Some, length, slice_get};
+ghost use Rattle.std.specs.List.{position};
+ghost use Rattle.cip_mol.specs.Drawing.{Drawing};
+ghost use Rattle.cip_mol.specs.declared.site.Unit as units;
+ghost use Rattle.cip_unit.specs.Drawings.{drawn_of};
+ghost use Rattle.cip_label.specs.Settings.{outcome_in, setting_of};
+ghost use Rattle.cip_set.specs.FoundCentres.{found_at, is_centre_at};
+ghost use Rattle.cip_set.specs.Marking.{has_centre};
+
+use cip_label::{Digraphs, Labeller, Setting};
+use cip_mol::{Molecule, Outcome, Site, Unit};
+use cip_rank::{Rules, Steps};
+use cip_unit::Drawn;
+use std::alloc::{AllocError, Global};
+use std::marker::Brand;
+use std::sync::ledger::{Blank, Ledger};
+
+/// The place of the centre at an atom among units.
+pub fn centre_place(units: &[Unit], atom: u32) -> Option<usize>
+    ensures { result ≡ position (is_centre_at atom) units.now }
+{
+    units.iter().position(|unit| is_centre_at(unit, atom))
+}
+
+fn is_centre_at(unit: &Unit, atom: u32) -> bool
+    ensures { result ≡ is_centre_at atom unit.now }
+{
+    match &unit.site {
+        Site::Centre { at, .. } => *at == atom,
+        _ => false,
+    }
+}
+
+/// What is found of the centre at an atom.
+pub fn find<D: Digraphs>(
+    alloc: Global,
+    labeller: &mut Labeller<D>,
+    molecule: &Molecule,
+    atom: u32,
+    rules: Rules,
+) -> Result<Outcome, AllocError>
+    requires { has_centre molecule.now atom ≡ true }
+    ensures found { IfOk result (λ outcome. outcome ≡ found_at rules labeller.old molecule.now atom) }
+    ensures kept { labeller.new ≡ labeller.old }
+{
+    let drawn = Drawn::of(alloc, molecule)?;
+    find_drawn(alloc, labeller, &drawn, atom, rules)
+}
+
+// Of the centre at an atom of what is drawn, which stays with the caller, so that no end of this function gives it back.
+fn find_drawn<D: Digraphs>(
+    alloc: Global,
+    labeller: &mut Labeller<D>,
+    drawn: &Drawn,
+    atom: u32,
+    rules: Rules,
+) -> Result<Outcome, AllocError>
+    requires { (drawing : Drawing) × (drawn.now ≡ drawn_of drawing) × (has_centre drawing atom ≡ true) }
+    ensures found { IfOk result (λ outcome. (drawing : Drawing) → drawn.now ≡ drawn_of drawing →
+        outcome ≡ found_at rules labeller.old drawing atom) }
+    ensures kept { labeller.new ≡ labeller.old }
+{
+    match centre_place(drawn.units().list(), atom) {
+        Some(place) => find_at(alloc, labeller, drawn, place as u32, rules),
+        None => unreachable!(),
+    }
+}
+
+// What is found of the unit at a place.
+fn find_at<D: Digraphs>(
+    alloc: Global,
+    labeller: &mut Labeller<D>,
+    drawn: &Drawn,
+    place: u32,
+    rules: Rules,
+) -> Result<Outcome, AllocError>
+    requires place { place < length drawn.now.units }
+    ensures outcome { IfOk result (λ outcome. (u : units.Unit) → slice_get drawn.now.units place ≡ Some u →
+        outcome ≡ outcome_in (setting_of rules drawn.now.graph drawn.now.positions drawn.now.units) labeller.old u) }
+    ensures kept { labeller.new ≡ labeller.old }
+{
+    let units = drawn.units().list();
+    let setting = Setting::new(alloc, drawn.graph(), drawn.positions(), units, rules)?;
+    label_counted::<D, Brand>(alloc, labeller, &setting, place, Blank::new(1))
+}
+
+// With a counter of steps.
+fn label_counted<D: Digraphs, L: Ledger>(
+    alloc: Global,
+    labeller: &mut Labeller<D>,
+    setting: &Setting<'_>,
+    place: u32,
+    blank: Blank,
+) -> Result<Outcome, AllocError>
+    requires name { blank.name ≡ L.name }
+    requires parts { blank.parts ≡ L.parts }
+    requires one { 0 < blank.parts }
+    requires place { place < length setting.now.units }
+    ensures outcome { IfOk result (λ outcome. (u : units.Unit) → slice_get setting.now.units place ≡ Some u →
+        outcome ≡ outcome_in setting.now labeller.old u) }
+    ensures kept { labeller.new ≡ labeller.old }
+{
+    let mut steps = Steps::<L>::open(blank);
+    labeller.label(alloc, setting, place, &mut steps)
+}
