@@ -1,6 +1,6 @@
 -- No vertex is an end of two units.
-use Rattle.std.proofs.Common.{◌≡◌, ◌≢◌, ◌⊎◌, inl, inr, ℕ, ℤ, pos, List, [], ◌∷◌, ◌++◌, map, length, filter, flat_map, refl, sym, ap, subst, ◌∙◌, Bool, true, false, cond, ◌==◌, ◌||◌, ◌&&◌, nat_lt, nat_le, is_some, eqb-true, le-ltb, ltb-true, arith, eq-eqb}
-use Rattle.std.specs.List.{range_with_len, list_any}
+use Rattle.std.proofs.Common.{◌≡◌, ◌≢◌, ◌⊎◌, inl, inr, ℕ, ℤ, pos, List, [], ◌∷◌, map, length, filter, refl, sym, ap, subst, ◌∙◌, Bool, true, false, cond, ◌==◌, ◌||◌, ◌&&◌, nat_lt, nat_le, is_some, eqb-true, le-ltb, ltb-true, arith, eq-eqb}
+use Rattle.std.specs.List.{list_any}
 use Rattle.std.specs.Ordering.{int_eq}
 use Rattle.std.proofs.lemmas.List.{length-map}
 use Rattle.cip_elem.specs.Electrons.{outer_of}
@@ -10,7 +10,7 @@ use Rattle.cip_mol.specs.declared.site.Unit as units
 use Rattle.cip_mol.specs.Geometry.{geometry_of}
 use Rattle.cip_digraph.specs.units.Allenes.{doubles, is_allene_middle, is_axis_end}
 use Rattle.cip_digraph.specs.units.Centres.{is_quadriligant, is_centre_by, drawn_neighbours, is_centre}
-use Rattle.cip_digraph.specs.units.DoubleBonds.{is_double_end, multiples, is_bond_end, bond_sites}
+use Rattle.cip_digraph.specs.units.DoubleBonds.{is_double_end, multiples, is_bond_end}
 use Rattle.cip_digraph.specs.graph.Graph.{Graph, vertex_at, edges_at, neighbours, other_end}
 use Rattle.cip_digraph.specs.rings.Positions.{positions_of}
 use Rattle.cip_digraph.specs.graph.SoundGraphs.{IsSound}
@@ -20,11 +20,11 @@ use Rattle.cip_digraph.specs.graph.DrawnGraph.{graph_of}
 use Rattle.cip_digraph.proofs.DrawnSound.{drawn_sound}
 use Rattle.cip_image.specs.Images.{Among}
 use Rattle.cip_laws.specs.RenumberingLaw.{UnitsShareNoEnd}
-use Rattle.cip_image.proofs.lists.Among.{among_map, from_map, among_filter, from_filter, from_append}
-use Rattle.cip_laws.proofs.units.CarriedAxes.{IsAxisCore, axis_of, FoundAxis, found_axis, axis_back}
+use Rattle.cip_image.proofs.lists.Among.{among_map, from_map, among_filter, from_filter}
+use Rattle.cip_laws.proofs.units.CarriedAxes.{found_site, IsAxisCore, axis_of, FoundAxis, axis_back}
 use Rattle.cip_image.proofs.lists.CarriedLists.{filter_carried}
 use Rattle.cip_image.specs.Renamed.{Way, way, ways}
-use Rattle.cip_laws.proofs.units.CarriedSites.{bond_of, FoundBond, found_bond}
+use Rattle.cip_laws.proofs.units.CarriedSites.{bond_of, FoundBond}
 use Rattle.cip_image.specs.CarriedUnits.{stands_at, AreAlone}
 use Rattle.cip_laws.proofs.graph.WaySymmetry.{back_way, leads_back}
 use Rattle.cip_image.proofs.lists.Truths.{true_not_false, and_parts, either_true, or_true}
@@ -203,34 +203,23 @@ module _ (graph : Graph) (sound : IsSound graph) where
 
   standing : (v : ℕ) (site : Site) → Among site (sites_of graph (positions_of graph)) → stands_at v site ≡ true
       → Standing v site
-  unfolding sites_of
-  standing v site h e =
-      elim (from_append site
-      (map (centre_site graph) (filter (is_centre graph) (range_with_len 0 graph.drawn))
-      ++ flat_map (bond_sites graph (positions_of graph)) (range_with_len 0 graph.drawn)) _ h) [
-        | inl g ↦
-            elim (from_append site (map (centre_site graph) (filter (is_centre graph) (range_with_len 0 graph.drawn)))
-            _ g) [
-              | inl k ↦
-                  let at =
-                  from_map (centre_site graph) site (filter (is_centre graph) (range_with_len 0 graph.drawn)) k in
-                  let kept = from_filter (is_centre graph) at.0 (range_with_len 0 graph.drawn) at.1 in
-                  let same : at.0 ≡ v = centre_at at.0 (sym (ap (stands_at v) at.2) ∙ e) in
-                  as_centre (subst (λ w. is_centre graph w ≡ true) same kept.1) (at.2 ∙ ap (centre_site graph) same)
-              | inr k ↦
-                  let f = found_bond graph site k in
-                  elim (ends_two f.a f.w.to v (sym (ap (stands_at v) f.is) ∙ e)) [
-                    | inl same ↦ as_bond (subst (λ w. BondAt w site) same (bond_first site f))
-                    | inr same ↦ as_bond (subst (λ w. BondAt w site) same (bond_second site f))
-                  ]
-            ]
-        | inr g ↦
-            let f = found_axis graph site g in
-            elim (ends_two f.a f.b v (sym (ap (stands_at v) f.is) ∙ e)) [
-              | inl same ↦ as_axis (subst (λ w. AxisAt w site) same (axis_first site f))
-              | inr same ↦ as_axis (subst (λ w. AxisAt w site) same (axis_second site f))
-            ]
-      ]
+  standing v site h e = elim (found_site graph site h) [
+    | inl f ↦
+        let same : f.a ≡ v = centre_at f.a (sym (ap (stands_at v) f.is) ∙ e) in
+        as_centre (subst (λ w. is_centre graph w ≡ true) same f.stands) (f.is ∙ ap (centre_site graph) same)
+    | inr found ↦ elim found [
+      | inl f ↦
+          elim (ends_two f.a f.w.to v (sym (ap (stands_at v) f.is) ∙ e)) [
+            | inl same ↦ as_bond (subst (λ w. BondAt w site) same (bond_first site f))
+            | inr same ↦ as_bond (subst (λ w. BondAt w site) same (bond_second site f))
+          ]
+      | inr f ↦
+          elim (ends_two f.a f.b v (sym (ap (stands_at v) f.is) ∙ e)) [
+            | inl same ↦ as_axis (subst (λ w. AxisAt w site) same (axis_first site f))
+            | inr same ↦ as_axis (subst (λ w. AxisAt w site) same (axis_second site f))
+          ]
+    ]
+  ]
     where
       centre_at : (a : ℕ) → ((a == v) || false) ≡ true → a ≡ v
       centre_at a e =

@@ -1,5 +1,5 @@
 -- The axis units of a renamed graph, and then all its units.
-use Rattle.std.proofs.Common.{◌≡◌, ◌≢◌, inl, inr, ℕ, List, [], ◌∷◌, ◌++◌, map, length, filter, flat_map, refl, sym, ap, subst, ◌∙◌, Bool, true, false, not, ◌==◌, ◌||◌, ◌&&◌, nat_lt, lt-ltb, ltb-true, ltb-false, arith}
+use Rattle.std.proofs.Common.{◌≡◌, ◌⊎◌, ◌≢◌, inl, inr, ℕ, List, [], ◌∷◌, ◌++◌, map, length, filter, flat_map, refl, sym, ap, subst, ◌∙◌, Bool, true, false, not, ◌==◌, ◌||◌, ◌&&◌, nat_lt, lt-ltb, ltb-true, ltb-false, arith}
 use Rattle.std.specs.List.{list_any, range_with_len}
 use Rattle.std.specs.List.Sorted.{IsPermutation}
 use Rattle.std.proofs.lemmas.List.{length-map}
@@ -209,6 +209,45 @@ abbrev pub DelocalisedAtBoth : Graph → Type 0
 DelocalisedAtBoth graph =
     (a : ℕ) (w : Way) → Among w (ways graph a) → w.counted ≡ true → (w.order == 2) ≡ true
     → is_delocalised (positions_of graph) w.to ≡ is_delocalised (positions_of graph) a
+
+-- a centre that is a unit
+pub record FoundCentre (graph : Graph) (site : Site) : Type 0 where
+  pub a : ℕ
+  pub drawn : nat_lt a graph.drawn ≡ true
+  pub stands : is_centre graph a ≡ true
+  pub is : site ≡ centre_site graph a
+
+centre_among : (graph : Graph) (a : ℕ) → nat_lt a graph.drawn ≡ true → is_centre graph a ≡ true
+    → Among (centre_site graph a) (map (centre_site graph) (filter (is_centre graph) (range_with_len 0 graph.drawn)))
+centre_among graph a drawn stands =
+    let low = ltb-true a graph.drawn drawn in
+    among_map (centre_site graph) a (filter (is_centre graph) (range_with_len 0 graph.drawn))
+    (among_filter (is_centre graph) a (range_with_len 0 graph.drawn)
+    (among_range 0 graph.drawn a (omega arith) (omega (arith, low))) stands)
+
+-- which kind of unit a site is
+pub found_site : (graph : Graph) (site : Site) → Among site (sites_of graph (positions_of graph))
+    → FoundCentre graph site ⊎ (FoundBond graph site ⊎ FoundAxis graph site)
+unfolding sites_of
+found_site graph site h =
+    let centres = map (centre_site graph) (filter (is_centre graph) (range_with_len 0 graph.drawn)) in
+    let bonds = flat_map (bond_sites graph (positions_of graph)) (range_with_len 0 graph.drawn) in
+    elim (from_append site (centres ++ bonds) _ h) [
+      | inl g ↦ elim (from_append site centres _ g) [
+        | inl k ↦
+            let at = from_map (centre_site graph) site (filter (is_centre graph) (range_with_len 0 graph.drawn)) k in
+            let kept = from_filter (is_centre graph) at.0 (range_with_len 0 graph.drawn) at.1 in
+            let low = (from_range 0 graph.drawn at.0 kept.0).1 in
+            inl (record {
+              a = at.0;
+              drawn = lt-ltb at.0 graph.drawn (omega (arith, low));
+              stands = kept.1;
+              is = at.2;
+            })
+        | inr k ↦ inr (inl (found_bond graph site k))
+      ]
+      | inr g ↦ inr (inr (found_axis graph site g))
+    ]
 
 module _ (graph other : Graph) (image : ℕ → ℕ) (r : IsRenamed graph other image)
     (onto : (w : ℕ) → (v : ℕ) × (w ≡ image v)) (sound : IsSound graph) (their_sound : IsSound other)
@@ -421,66 +460,32 @@ module _ (graph other : Graph) (image : ℕ → ℕ) (r : IsRenamed graph other 
             subst (SiteImage image (axis_of graph b m a)) (sym is) (pair_image graph other image r _ _ _ _ _ _ refl refl refl refl pair),
           )
 
+  centre_there : (site : Site) → FoundCentre graph site → (two : Site) × Among two theirs × SiteImage image site two
+  centre_there site f = (
+    centre_site other (image f.a),
+    in_centres other _
+        (centre_among other (image f.a) (r.drawn f.a ∙ f.drawn) (centre_carried graph other image r f.a ∙ f.stands)),
+    subst (λ s. SiteImage image s (centre_site other (image f.a))) (sym f.is) (centre_image graph other image r f.a),
+  )
+
+  centre_back : (two : Site) → FoundCentre other two → (site : Site) × Among site sites × SiteImage image site two
+  centre_back two f = let v = onto f.a in (
+    centre_site graph v.0,
+    in_centres graph _
+        (centre_among graph v.0 (sym (r.drawn v.0) ∙ ap (λ w. nat_lt w other.drawn) (sym v.1) ∙ f.drawn)
+        (sym (centre_carried graph other image r v.0) ∙ ap (is_centre other) (sym v.1) ∙ f.stands)),
+    subst (SiteImage image (centre_site graph v.0)) (sym (f.is ∙ ap (centre_site other) v.1))
+        (centre_image graph other image r v.0),
+  )
+
   pub sites_there : (site : Site) → Among site sites → (two : Site) × Among two theirs × SiteImage image site two
-  unfolding sites_of
-  sites_there site h =
-      elim (from_append site
-      (map (centre_site graph) (filter (is_centre graph) (range_with_len 0 graph.drawn))
-      ++ flat_map (bond_sites graph (positions_of graph)) (range_with_len 0 graph.drawn)) _ h) [
-        | inl g ↦
-            elim (from_append site (map (centre_site graph) (filter (is_centre graph) (range_with_len 0 graph.drawn)))
-            _ g) [
-              | inl k ↦
-                  let at =
-                  from_map (centre_site graph) site (filter (is_centre graph) (range_with_len 0 graph.drawn)) k in
-                  let kept = from_filter (is_centre graph) at.0 (range_with_len 0 graph.drawn) at.1 in
-                  let low = (from_range 0 graph.drawn at.0 kept.0).1 in
-                  let their_low =
-                  ltb-true (image at.0) other.drawn (r.drawn at.0 ∙ lt-ltb at.0 graph.drawn (omega (arith, low))) in (
-                    centre_site other (image at.0),
-                    in_centres other _
-                        (among_map (centre_site other) (image at.0)
-                        (filter (is_centre other) (range_with_len 0 other.drawn))
-                        (among_filter (is_centre other) (image at.0) (range_with_len 0 other.drawn)
-                        (among_range 0 other.drawn (image at.0) (omega arith) (omega (arith, their_low)))
-                        (centre_carried graph other image r at.0 ∙ kept.1))),
-                    subst (λ s. SiteImage image s (centre_site other (image at.0))) (sym at.2)
-                        (centre_image graph other image r at.0),
-                  )
-              | inr k ↦ bond_there site (found_bond graph site k)
-            ]
-        | inr g ↦ axis_image_there site (found_axis graph site g)
-      ]
+  sites_there site h = elim (found_site graph site h) [
+    | inl f ↦ centre_there site f
+    | inr found ↦ elim found [ inl f ↦ bond_there site f | inr f ↦ axis_image_there site f ]
+  ]
 
   pub sites_back : (two : Site) → Among two theirs → (site : Site) × Among site sites × SiteImage image site two
-  unfolding sites_of
-  sites_back two h =
-      elim (from_append two
-      (map (centre_site other) (filter (is_centre other) (range_with_len 0 other.drawn))
-      ++ flat_map (bond_sites other (positions_of other)) (range_with_len 0 other.drawn)) _ h) [
-        | inl g ↦
-            elim (from_append two (map (centre_site other) (filter (is_centre other) (range_with_len 0 other.drawn))) _
-            g) [
-              | inl k ↦
-                  let at =
-                  from_map (centre_site other) two (filter (is_centre other) (range_with_len 0 other.drawn)) k in
-                  let kept = from_filter (is_centre other) at.0 (range_with_len 0 other.drawn) at.1 in
-                  let low = (from_range 0 other.drawn at.0 kept.0).1 in
-                  let v = onto at.0 in
-                  let our_low =
-                  ltb-true v.0 graph.drawn
-                  (sym (r.drawn v.0) ∙ ap (λ w. nat_lt w other.drawn) (sym v.1)
-                  ∙ lt-ltb at.0 other.drawn (omega (arith, low))) in (
-                    centre_site graph v.0,
-                    in_centres graph _
-                        (among_map (centre_site graph) v.0 (filter (is_centre graph) (range_with_len 0 graph.drawn))
-                        (among_filter (is_centre graph) v.0 (range_with_len 0 graph.drawn)
-                        (among_range 0 graph.drawn v.0 (omega arith) (omega (arith, our_low)))
-                        (sym (centre_carried graph other image r v.0) ∙ ap (is_centre other) (sym v.1) ∙ kept.1))),
-                    subst (SiteImage image (centre_site graph v.0)) (sym (at.2 ∙ ap (centre_site other) v.1))
-                        (centre_image graph other image r v.0),
-                  )
-              | inr k ↦ bond_back two (found_bond other two k)
-            ]
-        | inr g ↦ axis_image_back two (found_axis other two g)
-      ]
+  sites_back two h = elim (found_site other two h) [
+    | inl f ↦ centre_back two f
+    | inr found ↦ elim found [ inl f ↦ bond_back two f | inr f ↦ axis_image_back two f ]
+  ]

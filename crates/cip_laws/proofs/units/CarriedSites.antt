@@ -30,7 +30,7 @@ use Rattle.cip_image.proofs.digraph.CarriedNodes.{delocalised_carried}
 use Rattle.cip_image.specs.Renamed.{Way, way, ways, way_image, IsRenamed}
 use Rattle.cip_image.proofs.graph.CarriedPositions.{degree_carried, neighbours_moved, passed_moved, positions_renamed}
 use Rattle.cip_laws.proofs.graph.CarriedSmallRings.{small_ring_back, small_ring_carried}
-use Rattle.cip_image.specs.CarriedUnits.{IsCarriedEnd, IsCarriedPair, IsCarriedSite}
+use Rattle.cip_image.specs.CarriedUnits.{AreCarriedEnds, IsCarriedEnd, IsCarriedPair, IsCarriedSite}
 use Rattle.cip_image.proofs.lists.Exchanges.{exchanged_from}
 use Rattle.cip_image.specs.Exchanged.{turned_twice}
 use Rattle.cip_laws.proofs.graph.WaySymmetry.{back_way, leads_back, way_there, way_from}
@@ -225,44 +225,38 @@ module _ (graph other : Graph) (image : ℕ → ℕ) (r : IsRenamed graph other 
       or_turn (image a == image v) (image m == image v) (image b == image v)
       ∙ in_carried image r.injective v (a ∷ m ∷ b ∷ [])
 
+  end_image : (unit theirs : List ℕ) → SameUnit unit theirs → (v : ℕ)
+      → (odd : Bool)
+      × IsCarriedEnd image odd (end_at v (end_ligands graph unit v)) (end_at (image v) (end_ligands other theirs (image v)))
+  end_image unit theirs same v =
+      carried_end image v (end_ligands graph unit v) (end_ligands other theirs (image v))
+      (end_ligands_moved unit theirs same v)
+
+  ends_image : (a b : ℕ) (unit theirs : List ℕ) → SameUnit unit theirs
+      → (odd : Bool)
+      × AreCarriedEnds image odd (end_at a (end_ligands graph unit a)) (end_at b (end_ligands graph unit b))
+      (end_at (image a) (end_ligands other theirs (image a))) (end_at (image b) (end_ligands other theirs (image b)))
+  ends_image a b unit theirs same =
+      let one = end_image unit theirs same a in
+      let two = end_image unit theirs same b in (
+        turned_twice one.0 two.0,
+        record { first = one.0; second = two.0; near = one.1; far = two.1; sum = refl },
+      )
+
   -- two ends in their order, and crossed
   pub pair_forward : (a b : ℕ) (unit theirs : List ℕ) → SameUnit unit theirs → a ≢ b
       → (odd : Bool)
       × IsCarriedPair image odd (end_at a (end_ligands graph unit a)) (end_at b (end_ligands graph unit b))
       (end_at (image a) (end_ligands other theirs (image a))) (end_at (image b) (end_ligands other theirs (image b)))
   pair_forward a b unit theirs same differ =
-      let one =
-      carried_end image a (end_ligands graph unit a) (end_ligands other theirs (image a))
-      (end_ligands_moved unit theirs same a) in
-      let two =
-      carried_end image b (end_ligands graph unit b) (end_ligands other theirs (image b))
-      (end_ligands_moved unit theirs same b) in (
-        turned_twice one.0 two.0,
-        record {
-          differ = differ;
-          ends =
-              inl (record { first = one.0; second = two.0; near = one.1; far = two.1; sum = refl });
-        },
-      )
+      let ends = ends_image a b unit theirs same in (ends.0, record { differ = differ; ends = inl ends.1 })
 
   pub pair_crossed : (a b : ℕ) (unit theirs : List ℕ) → SameUnit unit theirs → a ≢ b
       → (odd : Bool)
       × IsCarriedPair image odd (end_at a (end_ligands graph unit a)) (end_at b (end_ligands graph unit b))
       (end_at (image b) (end_ligands other theirs (image b))) (end_at (image a) (end_ligands other theirs (image a)))
   pair_crossed a b unit theirs same differ =
-      let one =
-      carried_end image a (end_ligands graph unit a) (end_ligands other theirs (image a))
-      (end_ligands_moved unit theirs same a) in
-      let two =
-      carried_end image b (end_ligands graph unit b) (end_ligands other theirs (image b))
-      (end_ligands_moved unit theirs same b) in (
-        turned_twice one.0 two.0,
-        record {
-          differ = differ;
-          ends =
-              inr (record { first = one.0; second = two.0; near = one.1; far = two.1; sum = refl });
-        },
-      )
+      let ends = ends_image a b unit theirs same in (ends.0, record { differ = differ; ends = inr ends.1 })
 
 -- a bond that is a unit, but for the order of its ends
 pub record IsBondCore (graph : Graph) (a : ℕ) (w : Way) : Type 0 where

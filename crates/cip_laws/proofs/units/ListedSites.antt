@@ -1,7 +1,7 @@
 -- The ligands of units as they are listed: ascending, so the drawn ones first, and at most one that isn't drawn.
-use Rattle.std.proofs.Common.{◌≡◌, ◌≢◌, ◌⊎◌, inl, inr, ◌<◌, ◌≤◌, ◌+◌, ℕ, suc, ℤ, pos, List, [], ◌∷◌, ◌++◌, map, length, filter, flat_map, refl, sym, ap, subst, ◌∙◌, Bool, true, false, not, cond, ◌==◌, ◌&&◌, ◌||◌, nat_lt, eqb-true, eq-eqb, le-ltb, ltb-true, ltb-false, leb-true, arith, if◌then◌else◌}
+use Rattle.std.proofs.Common.{◌≡◌, ◌≢◌, ◌⊎◌, inl, inr, ◌<◌, ◌≤◌, ◌+◌, ℕ, suc, ℤ, pos, List, [], ◌∷◌, ◌++◌, map, length, filter, refl, sym, ap, subst, ◌∙◌, Bool, true, false, not, cond, ◌==◌, ◌&&◌, ◌||◌, nat_lt, eqb-true, eq-eqb, le-ltb, ltb-true, ltb-false, leb-true, arith, if◌then◌else◌}
 use Rattle.std.specs.Prelude.{None, Some}
-use Rattle.std.specs.List.{AllByRecursion, list_any, range_with_len, cons_option}
+use Rattle.std.specs.List.{AllByRecursion, list_any, cons_option}
 use Rattle.std.specs.Ordering.{int_eq}
 use Rattle.std.proofs.lemmas.Bool.{ne_eqb}
 use Rattle.std.proofs.lemmas.List.{length-map}
@@ -14,7 +14,7 @@ use Rattle.cip_mol.specs.declared.site.Site.{Site}
 use Rattle.cip_digraph.specs.units.Allenes.{is_axis_end}
 use Rattle.cip_digraph.specs.rings.Alternating.{is_in}
 use Rattle.cip_digraph.specs.units.Centres.{drawn_neighbours, is_centre}
-use Rattle.cip_digraph.specs.units.DoubleBonds.{is_double_end, outer_neighbours, has_end_bonds, is_bond_end, end_ligands, bond_sites}
+use Rattle.cip_digraph.specs.units.DoubleBonds.{is_double_end, outer_neighbours, has_end_bonds, is_bond_end, end_ligands}
 use Rattle.cip_digraph.specs.graph.DrawnGraph.{graph_of}
 use Rattle.cip_digraph.specs.units.Ends.{end_at}
 use Rattle.cip_digraph.specs.declared.graph.Vertex.{Vertex}
@@ -26,11 +26,11 @@ use Rattle.cip_digraph.proofs.Lists.{Pairwise, pairwise_by, pairwise_filtered, a
 use Rattle.cip_digraph.proofs.NeighbourOrder.{neighbours_ascend, neighbours_differ}
 use Rattle.cip_image.specs.Images.{Among}
 use Rattle.cip_laws.proofs.units.AloneSites.{centre_is, double_parts, axis_end_parts}
-use Rattle.cip_image.proofs.lists.Among.{from_map, among_map, from_filter, among_filter, from_append, from_range, found_any, among_all}
-use Rattle.cip_laws.proofs.units.CarriedAxes.{FoundAxis, found_axis}
+use Rattle.cip_image.proofs.lists.Among.{from_map, among_map, among_filter, found_any, among_all}
+use Rattle.cip_laws.proofs.units.CarriedAxes.{FoundAxis, found_site}
 use Rattle.cip_image.proofs.lists.CarriedLists.{mapped_twice}
 use Rattle.cip_image.specs.Renamed.{Way, way, ways}
-use Rattle.cip_laws.proofs.units.CarriedSites.{FoundBond, found_bond}
+use Rattle.cip_laws.proofs.units.CarriedSites.{FoundBond}
 use Rattle.cip_laws.proofs.graph.RenumberedGraph.{total, vertex_of_hydrogen, vertex_of_none}
 use Rattle.cip_laws.proofs.units.RenumberedSenses.{IsListed, IsEndListed, IsSiteListed}
 use Rattle.cip_laws.proofs.units.TurnedSenses.{undrawn, behind}
@@ -318,19 +318,10 @@ module _ (drawing : Drawing) (sound : IsSound (graph_of drawing)) where
       )
 
   pub sites_listed : (site : Site) → Among site (sites_of g (positions_of g)) → IsSiteListed drawing site
-  unfolding sites_of
-  sites_listed site h =
-      elim (from_append site
-      (map (centre_site g) (filter (is_centre g) (range_with_len 0 g.drawn))
-      ++ flat_map (bond_sites g (positions_of g)) (range_with_len 0 g.drawn)) _ h) [
-        | inl k ↦ elim (from_append site (map (centre_site g) (filter (is_centre g) (range_with_len 0 g.drawn))) _ k) [
-          | inl q ↦
-              let at = from_map (centre_site g) site (filter (is_centre g) (range_with_len 0 g.drawn)) q in
-              let kept = from_filter (is_centre g) at.0 (range_with_len 0 g.drawn) at.1 in
-              let low = (from_range 0 g.drawn at.0 kept.0).1 in
-              subst (IsSiteListed drawing) (sym at.2)
-              (centre_listed at.0 (let same = drawn_is in omega (arith, low, same)) kept.1)
-          | inr q ↦ bond_listed site (found_bond g site q)
-        ]
-        | inr k ↦ axis_listed site (found_axis g site k)
-      ]
+  sites_listed site h = elim (found_site g site h) [
+    | inl f ↦
+        let low = ltb-true f.a g.drawn f.drawn in
+        let same = drawn_is in
+        subst (IsSiteListed drawing) (sym f.is) (centre_listed f.a (omega (arith, low, same)) f.stands)
+    | inr found ↦ elim found [ inl f ↦ bond_listed site f | inr f ↦ axis_listed site f ]
+  ]
