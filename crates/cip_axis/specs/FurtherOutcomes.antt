@@ -5,27 +5,19 @@ use Rattle.cip_rank.specs.declared.rules.Rules.{Rules}
 use Rattle.cip_mol.specs.Drawing.{Drawing}
 use Rattle.cip_mol.specs.declared.outcome.Outcome.{Outcome}
 use Rattle.cip_mol.specs.declared.site.Unit as units
-use Rattle.cip_digraph.specs.graph.DrawnGraph.{graph_of}
 use Rattle.cip_digraph.specs.graph.Graph.{Graph}
 use Rattle.cip_digraph.specs.graph.SoundGraphs.{IsSound}
-use Rattle.cip_digraph.specs.rings.Positions.{positions_of}
-use Rattle.cip_digraph.specs.units.DrawnUnits.{units_in}
 use Rattle.cip_axis.specs.Further.{further_of}
 use Rattle.cip_axis.specs.Likeness.{like}
 use Rattle.cip_axis.specs.declared.site.FurtherUnit.{FurtherUnit}
 use Rattle.cip_label.specs.Fitting.{IsFitSite}
-use Rattle.cip_label.specs.Settings.{Setting, outcome_in, setting_of}
+use Rattle.cip_label.specs.Settings.{Setting, outcome_in, setting_in}
 
 abbrev pub as_unit : FurtherUnit → units.Unit
 as_unit unit = record { site = like unit.site; geometry = unit.geometry }
 
 abbrev pub further_outcome : Setting → ℕ → FurtherUnit → Outcome
 further_outcome setting bound unit = outcome_in setting bound (as_unit unit)
-
--- what the digraphs of a drawing are grown and ranked by
-abbrev pub setting_in : Rules → Drawing → Setting
-setting_in rules drawing =
-    setting_of rules (graph_of drawing) (positions_of (graph_of drawing)) (units_in drawing)
 
 abbrev pub further_outcome_in : Rules → ℕ → Drawing → FurtherUnit → Outcome
 further_outcome_in rules bound drawing unit = further_outcome (setting_in rules drawing) bound unit

@@ -1,8 +1,9 @@
 // The further units of a molecule.
-ghost use Rattle.std.specs.Prelude.{◌≡◌, ◌++◌, flat_map, IfOk, OnOk};
+ghost use Rattle.std.specs.Prelude.{◌≡◌, ◌++◌, ◌<◌, ◌^◌, flat_map, IfOk, OnOk, length};
 ghost use Rattle.std.specs.List.{range_with_len};
 ghost use Rattle.cip_digraph.specs.graph.DrawnGraph.{graph_of};
 ghost use Rattle.cip_axis.specs.Further.{biaryls_of, cumulenes_of, further_of};
+ghost use Rattle.cip_axis.specs.FurtherOutcomes.{AreFurtherFit};
 ghost use Rattle.cip_axis.specs.Listing.{IsGraphOf};
 
 use crate::biaryls::push_biaryls;
@@ -22,7 +23,9 @@ pub fn further(
     positions: &Positions,
 ) -> Result<FurtherUnits, AllocError>
     requires { graph.now ≡ graph_of molecule.now }
-    ensures { IfOk result (λ units. units ≡ further_of molecule.now graph.now positions.now) }
+    ensures value { IfOk result (λ units. units ≡ further_of molecule.now graph.now positions.now) }
+    ensures fit { IfOk result (AreFurtherFit graph.now) }
+    ensures few { IfOk result (λ units. length units < 2 ^ 32) }
 {
     let source = Source {
         molecule,

@@ -5,8 +5,7 @@ use Rattle.cip_text.specs.Bodies.{body_contents}
 use Rattle.cip_rank.specs.declared.rules.Rules.{Rules}
 use Rattle.cip_mol.specs.Drawing.{Drawing}
 use Rattle.cip_mol.specs.declared.refusal.ReadFault.{ReadFault}
-use Rattle.cip_label.specs.Settings.{Setting, setting_of}
-use Rattle.cip_unit.specs.Drawings.{Drawn, drawn_of}
+use Rattle.cip_label.specs.Settings.{Setting, setting_in}
 use Rattle.cip_axis.specs.Further.{further_in}
 use Rattle.cip_axis.specs.FurtherOutcomes.{further_outcome}
 use Rattle.cip_axis.specs.Likeness.{like}
@@ -34,12 +33,11 @@ further_answer setting nodes unit = record {
 }
 
 module _ (rules : Rules) (nodes : ℕ) where
-  abbrev pub further_of_drawn : Drawn → List FurtherUnit → Answer
-  further_of_drawn drawn further =
-      Labelled (map (further_answer (setting_of rules drawn.graph drawn.positions drawn.units) nodes) further)
+  abbrev pub further_answers : Drawing → List FurtherUnit → Answer
+  further_answers drawing further = Labelled (map (further_answer (setting_in rules drawing) nodes) further)
 
   unfoldable pub further_of_molecule : Drawing → Answer
-  further_of_molecule drawing = further_of_drawn (drawn_of drawing) (further_in drawing)
+  further_of_molecule drawing = further_answers drawing (further_in drawing)
 
   abbrev pub further_of_reading : Result Drawing ReadFault → Answer
   further_of_reading (Ok drawing) = further_of_molecule drawing

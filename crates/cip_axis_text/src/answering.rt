@@ -1,23 +1,21 @@
 // The answer to a record by its further units.
 ghost use Rattle.std.specs.Prelude.{◌≡◌, ◌<◌, ◌-◌, ◌^◌, IfOk, length, map};
 ghost use Rattle.cip_text.specs.Slices.{texts};
-ghost use Rattle.cip_unit.specs.Drawings.{drawn_of};
+ghost use Rattle.cip_digraph.specs.graph.DrawnGraph.{graph_of};
 ghost use Rattle.cip_axis.specs.FurtherOutcomes.{AreFurtherFit};
 ghost use Rattle.cip_axis_text.specs.FurtherAnswers.{
   further_answer,
+  further_answers,
   further_name,
-  further_of_drawn,
   further_of_lines,
   further_of_molecule,
 };
 
 use cip_axis::{FurtherSite, FurtherUnit, further, label_further, like};
 use cip_label::{Digraphs, Labeller, Setting};
-use cip_mol::{Molecule, ReadRefusal};
-use cip_molfile::read_molecule;
+use cip_molfile::Drawn;
 use cip_print::{Answer, UnitAnswer, UnitAnswers, UnitName};
 use cip_rank::{Rules, Steps};
-use cip_unit::Drawn;
 use std::alloc::{AllocError, Global};
 use std::marker::Brand;
 use std::sync::ledger::{Blank, Ledger};
@@ -34,31 +32,15 @@ pub fn further_of_lines<D: Digraphs>(
     ensures answer { IfOk result (λ answer. answer ≡ further_of_lines rules labeller.old (texts lines.now)) }
     ensures kept { labeller.new ≡ labeller.old }
 {
-    match read_molecule(alloc, lines) {
-        Ok(molecule) => {
-            let answer = answer_molecule(alloc, labeller, &molecule, rules);
+    match Drawn::read(alloc, lines)? {
+        Ok(drawn) => {
+            let answer = answer_drawn(alloc, labeller, &drawn, rules);
             // given back by a call of its own, which is quicker to prove than an end that owns it
-            drop(molecule);
+            drop(drawn);
             answer
         }
-        Err(ReadRefusal::Fault(fault)) => Ok(Answer::Refused(fault)),
-        Err(ReadRefusal::Memory) => Err(AllocError),
+        Err(fault) => Ok(Answer::Refused(fault)),
     }
-}
-
-fn answer_molecule<D: Digraphs>(
-    alloc: Global,
-    labeller: &mut Labeller<D>,
-    molecule: &Molecule,
-    rules: Rules,
-) -> Result<Answer, AllocError>
-    ensures answer { IfOk result (λ answer. answer ≡ further_of_molecule rules labeller.old molecule.now) }
-    ensures kept { labeller.new ≡ labeller.old }
-{
-    let drawn = Drawn::of(alloc, molecule)?;
-    let answer = answer_drawn(alloc, labeller, molecule, &drawn, rules);
-    drop(drawn);
-    answer
 }
 
 // What is drawn stays with the caller, so that no end of this function gives it back.
@@ -66,17 +48,13 @@ fn answer_molecule<D: Digraphs>(
 fn answer_drawn<D: Digraphs>(
     alloc: Global,
     labeller: &mut Labeller<D>,
-    molecule: &Molecule,
     drawn: &Drawn,
     rules: Rules,
 ) -> Result<Answer, AllocError>
-    requires { drawn.now ≡ drawn_of molecule.now }
-    ensures answer { IfOk result (λ answer. answer ≡ further_of_molecule rules labeller.old molecule.now) }
+    ensures answer { IfOk result (λ answer. answer ≡ further_of_molecule rules labeller.old drawn.now) }
     ensures kept { labeller.new ≡ labeller.old }
 {
-    // Reading the atoms tells that there are few.
-    let _atoms = molecule.atoms();
-    let further = further(alloc, molecule, drawn.graph(), drawn.positions())?;
+    let further = further(alloc, drawn.molecule(), drawn.graph(), drawn.positions())?;
     let answer = answer_further(alloc, labeller, drawn, further.list(), rules);
     drop(further);
     answer
@@ -90,10 +68,9 @@ fn answer_further<D: Digraphs>(
     further: &[FurtherUnit],
     rules: Rules,
 ) -> Result<Answer, AllocError>
-    requires fit { AreFurtherFit drawn.now.graph further.now }
+    requires fit { AreFurtherFit (graph_of drawn.now) further.now }
     requires few { length further.now < 2 ^ 32 }
-    ensures answer { IfOk result (λ answer. answer
-        ≡ further_of_drawn rules labeller.old drawn.now further.now) }
+    ensures answer { IfOk result (λ answer. answer ≡ further_answers rules labeller.old drawn.now further.now) }
     ensures kept { labeller.new ≡ labeller.old }
 {
     let units = drawn.units().list();

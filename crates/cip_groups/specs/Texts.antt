@@ -10,9 +10,8 @@ use Rattle.cip_mol.specs.declared.outcome.Outcome.{Outcome}
 use Rattle.cip_mol.specs.declared.outcome.Outcome.TheVariants as outcomes
 use Rattle.cip_mol.specs.declared.refusal.ReadFault.{ReadFault}
 use Rattle.cip_item.specs.Parts.{without_label_items}
-use Rattle.cip_label.specs.Settings.{setting_of}
+use Rattle.cip_label.specs.Settings.{setting_in}
 use Rattle.cip_print.specs.Refusals.{refusal_line}
-use Rattle.cip_unit.specs.Drawings.{Drawn, drawn_of}
 use Rattle.cip_v2000.specs.Grammar as v2000
 use Rattle.cip_v2000.specs.Version.{is_v3000}
 use Rattle.cip_v3000.specs.Tables.{Table, table_of}
@@ -69,12 +68,8 @@ of_molecule (Ok drawing) = record { text = []; flagged = false }
 of_molecule (Err fault) = refused fault
 
 module _ (rules : Rules) (nodes : ℕ) where
-  abbrev pub of_drawn : Drawn → List Group → GroupText
-  of_drawn drawn groups =
-      of_lines (all_lines nodes (setting_of rules drawn.graph drawn.positions drawn.units) groups)
-
   abbrev pub of_groups : Drawing → Result (List Group) GroupFault → GroupText
-  of_groups drawing (Ok groups) = of_drawn (drawn_of drawing) groups
+  of_groups drawing (Ok groups) = of_lines (all_lines nodes (setting_in rules drawing) groups)
   of_groups drawing (Err fault) = record { text = fault_line fault; flagged = true }
 
   abbrev pub of_table : Result Table ReadFault → GroupText

@@ -1,17 +1,16 @@
 // What is told of the groups of a record.
-ghost use Rattle.std.specs.Prelude.{◌≡◌, ◌≤◌, ◌<◌, ◌-◌, ◌^◌, ◌++◌, ◌∷◌, [], IfOk, false, flat_map, length, string_bytes, true};
+ghost use Rattle.std.specs.Prelude.{◌≡◌, ◌≤◌, ◌<◌, ◌-◌, ◌^◌, ◌++◌, ◌∷◌, [], IfOk, Ok, false, flat_map, length, string_bytes, true};
 ghost use Rattle.std.specs.List.{list_any};
 ghost use Rattle.cip_text.specs.Slices.{texts};
 ghost use Rattle.cip_v2000.specs.Grammar.{molecule_of};
 ghost use Rattle.cip_v2000.specs.Version.{is_v3000};
 ghost use Rattle.cip_v3000.specs.Tables.{seen_table, table_of};
 ghost use Rattle.cip_groups.specs.Collections.{groups_of};
-ghost use Rattle.cip_label.specs.Settings.{setting_of};
-ghost use Rattle.cip_unit.specs.Drawings.{drawn_of};
+ghost use Rattle.cip_label.specs.Settings.{setting_in};
 ghost use Rattle.cip_groups.specs.Outcomes.{all_lines};
 ghost use Rattle.cip_print.specs.Refusals.{refusal_line};
 ghost use Rattle.cip_groups.specs.Readings.{TellsFault, TellsRefusal};
-ghost use Rattle.cip_groups.specs.Texts.{outcome_text, both_text, line_text, is_over, some_over, fault_line, of_lines, of_drawn, of_groups, of_table, of_molecule, of_contents, told_without_items, told_of, with_number};
+ghost use Rattle.cip_groups.specs.Texts.{outcome_text, both_text, line_text, is_over, some_over, fault_line, of_lines, of_groups, of_table, of_molecule, of_contents, told_without_items, told_of, with_number};
 
 use crate::collections::groups_of;
 use crate::faults::{GroupFault, GroupRefusal};
@@ -21,10 +20,10 @@ use cip_desk::{Desk, Errand, run_once};
 use cip_item::without_label_items;
 use cip_label::{Digraphs, Labeller, Setting};
 use cip_mol::{Molecule, Outcome, ReadFault, ReadRefusal};
+use cip_molfile::Drawn;
 use cip_print::refusal;
 use cip_rank::Rules;
 use cip_text::{Bytes, RecordLines};
-use cip_unit::Drawn;
 use cip_v2000::is_v3000;
 use cip_v3000::{Table, read_table};
 use std::alloc::{AllocError, Global};
@@ -172,12 +171,7 @@ fn tell_extended<D: Digraphs>(
     ensures kept { labeller.new ≡ labeller.old }
 {
     match read_table(alloc, lines) {
-        Ok(table) => {
-            let told = tell_table(alloc, labeller, &table, rules);
-            // given back by a call of its own, here and below: that is quicker to prove than an end that owns it
-            drop(table);
-            told
-        }
+        Ok(table) => tell_table(alloc, labeller, table, rules),
         Err(refusal) => tell_refusal(alloc, refusal),
     }
 }
@@ -224,22 +218,32 @@ fn flagged(text: Vec<u8>) -> GroupText
 fn tell_table<D: Digraphs>(
     alloc: Global,
     labeller: &mut Labeller<D>,
-    table: &Table<'_>,
+    table: Table<'_>,
     rules: Rules,
 ) -> Result<GroupText, AllocError>
-    requires few { length table.now.indices ≤ 1000000000 }
+    requires few { length table.indices ≤ 1000000000 }
     ensures told { IfOk result (λ told. told
-        ≡ of_groups rules labeller.old table.now.molecule (groups_of (seen_table table.now))) }
+        ≡ of_groups rules labeller.old table.entry.molecule (groups_of (seen_table table.entry))) }
     ensures kept { labeller.new ≡ labeller.old }
 {
-    match groups_of(alloc, table) {
+    let groups = groups_of(alloc, &table);
+    let molecule = molecule_of(table);
+    match groups {
         Ok(groups) => {
-            let told = tell_groups(alloc, labeller, &table.molecule, &groups, rules);
+            let told = tell_groups(alloc, labeller, molecule, &groups, rules);
+            // given back by a call of its own, here and below: that is quicker to prove than an end that owns it
             drop(groups);
             told
         }
         Err(refusal) => tell_fault(alloc, refusal),
     }
+}
+
+// Where the groups are read, nothing else of the table is needed.
+fn molecule_of(table: Table<'_>) -> Molecule
+    ensures { result ≡ table.entry.molecule }
+{
+    table.molecule
 }
 
 fn tell_fault(alloc: Global, refusal: GroupRefusal) -> Result<GroupText, AllocError>
@@ -262,11 +266,11 @@ fn fault_line(alloc: Global, fault: GroupFault) -> Result<Vec<u8>, AllocError>
 fn tell_groups<D: Digraphs>(
     alloc: Global,
     labeller: &mut Labeller<D>,
-    molecule: &Molecule,
+    molecule: Molecule,
     groups: &Groups,
     rules: Rules,
 ) -> Result<GroupText, AllocError>
-    ensures told { IfOk result (λ told. told ≡ of_drawn rules labeller.old (drawn_of molecule.now) groups.now) }
+    ensures told { IfOk result (λ told. told ≡ of_groups rules labeller.old molecule (Ok groups.now)) }
     ensures kept { labeller.new ≡ labeller.old }
 {
     let drawn = Drawn::of(alloc, molecule)?;
@@ -283,7 +287,7 @@ fn tell_drawn<D: Digraphs>(
     groups: &Groups,
     rules: Rules,
 ) -> Result<GroupText, AllocError>
-    ensures told { IfOk result (λ told. told ≡ of_drawn rules labeller.old drawn.now groups.now) }
+    ensures told { IfOk result (λ told. told ≡ of_groups rules labeller.old drawn.now (Ok groups.now)) }
     ensures kept { labeller.new ≡ labeller.old }
 {
     let lines = drawn_lines(alloc, labeller, drawn, groups, rules)?;
@@ -298,7 +302,7 @@ fn drawn_lines<D: Digraphs>(
     rules: Rules,
 ) -> Result<Vec<GroupLine>, AllocError>
     ensures lines { IfOk result (λ lines. lines.items
-        ≡ all_lines labeller.old (setting_of rules drawn.now.graph drawn.now.positions drawn.now.units) groups.now) }
+        ≡ all_lines labeller.old (setting_in rules drawn.now) groups.now) }
     ensures kept { labeller.new ≡ labeller.old }
 {
     let units = drawn.units();

@@ -1,16 +1,20 @@
 -- What the digraphs of a record's units are grown and ranked by. Own.
 use Rattle.std.specs.Prelude.{◌≡◌, ℕ, List, map}
 use Rattle.cip_rank.specs.declared.rules.Rules.{Rules}
+use Rattle.cip_mol.specs.Drawing.{Drawing}
 use Rattle.cip_mol.specs.declared.descriptor.Sense.{Sense}
 use Rattle.cip_mol.specs.declared.outcome.Outcome.{Outcome}
 use Rattle.cip_mol.specs.declared.site.Site.{Site}
 use Rattle.cip_mol.specs.declared.site.Unit as units
 use Rattle.cip_digraph.specs.digraph.Digraph.{Node}
+use Rattle.cip_digraph.specs.graph.DrawnGraph.{graph_of}
 use Rattle.cip_digraph.specs.graph.Graph.{Graph}
 use Rattle.cip_digraph.specs.graph.SoundGraphs.{IsSound}
 use Rattle.cip_digraph.specs.outcome.Outcomes as outcomes
+use Rattle.cip_digraph.specs.rings.Positions.{positions_of}
 use Rattle.cip_digraph.specs.rules.EarlyOrder as early
 use Rattle.cip_digraph.specs.rules.Orders.{Seen}
+use Rattle.cip_digraph.specs.units.DrawnUnits.{units_in}
 use Rattle.cip_digraph.specs.units.Ends.{End}
 use Rattle.cip_digraph.specs.units.Ranked.{Root}
 use Rattle.cip_digraph.specs.units.Units.{sites_of}
@@ -24,6 +28,10 @@ pub record Setting : Type 0 where
 abbrev pub setting_of : Rules → Graph → List (List ℕ) → List units.Unit → Setting
 setting_of rules graph positions all =
     record { rules = rules; graph = graph; positions = positions; units = all }
+
+-- of a drawing
+abbrev pub setting_in : Rules → Drawing → Setting
+setting_in rules drawing = setting_of rules (graph_of drawing) (positions_of (graph_of drawing)) (units_in drawing)
 
 -- units stand at the sites of a graph
 abbrev pub StandAtSites : Graph → List (List ℕ) → List units.Unit → Type 0

@@ -45,18 +45,17 @@ fn push_decided<D: Digraphs>(
     Ok(())
 }
 
+fn is_tie(decision: Option<Decision>) -> bool
+    ensures { result ≡ is_tie decision }
+{
+    decision.is_none()
+}
+
 /// Whether two of the ligands tie.
 pub fn has_tie(decided: &[Option<Decision>]) -> bool
     ensures { result ≡ list_any is_tie decided.now }
 {
-    let mut rest = decided;
-    while let [one, others @ ..] = rest {
-        if one.is_none() {
-            return true;
-        }
-        rest = others;
-    }
-    false
+    decided.iter().any(|decision| is_tie(*decision))
 }
 
 fn is_by_rule_5(decision: Option<Decision>) -> bool
@@ -72,14 +71,7 @@ fn is_by_rule_5(decision: Option<Decision>) -> bool
 pub fn has_rule_5(decided: &[Option<Decision>]) -> bool
     ensures { result ≡ list_any is_by_rule_5 decided.now }
 {
-    let mut rest = decided;
-    while let [one, others @ ..] = rest {
-        if is_by_rule_5(*one) {
-            return true;
-        }
-        rest = others;
-    }
-    false
+    decided.iter().any(|decision| is_by_rule_5(*decision))
 }
 
 // Where a pair stands among each two of so many ligands.

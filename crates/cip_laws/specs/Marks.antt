@@ -14,7 +14,7 @@ use Rattle.cip_set.specs.FoundCentres.{found_at, shown_at}
 use Rattle.cip_set.specs.MarkLaw.{with_bonds}
 use Rattle.cip_set.specs.Marking.{has_centre, with_mark}
 use Rattle.cip_set.specs.Remarked.{AreRemarked}
-use Rattle.cip_undefined.specs.Answers.{setting_in}
+use Rattle.cip_label.specs.Settings.{setting_in}
 use Rattle.cip_undefined.specs.Laws.{AreAlikeButLetters}
 use Rattle.cip_undefined.specs.UndefinedUnits.{open_outcome}
 

@@ -13,7 +13,7 @@ use Rattle.cip_digraph.specs.units.Units.{centre_site}
 use Rattle.cip_image.specs.Images.{IsImageOutcome}
 use Rattle.cip_set.specs.FoundCentres.{found_at, shown_at}
 use Rattle.cip_set.specs.Marking.{has_centre, with_mark}
-use Rattle.cip_undefined.specs.Answers.{setting_in}
+use Rattle.cip_label.specs.Settings.{setting_in}
 use Rattle.cip_undefined.specs.Laws.{AreAlikeButLetters}
 use Rattle.cip_undefined.specs.UndefinedUnits.{open_outcome}
 

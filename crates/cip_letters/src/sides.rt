@@ -19,18 +19,17 @@ pub struct BothSides {
     pub turned: SmallVec<Option<Ordering>, MOST_PAIRS>,
 }
 
+fn is_tied(side: Option<Ordering>) -> bool
+    ensures { result ≡ is_tied side }
+{
+    side.is_none()
+}
+
 /// Whether some two of the ligands tie.
 pub fn has_tie(sides: &[Option<Ordering>]) -> bool
     ensures { result ≡ list_any is_tied sides.now }
 {
-    let mut rest = sides;
-    while let [side, more @ ..] = rest {
-        if side.is_none() {
-            return true;
-        }
-        rest = more;
-    }
-    false
+    sides.iter().any(|side| is_tied(*side))
 }
 
 // The later one of two ligands precedes.

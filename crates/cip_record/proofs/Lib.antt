@@ -1,5 +1,4 @@
 pub mod Answered
 pub mod FoundUnits
 pub mod LinesBehind
-pub mod Overs
 pub mod UnitLists

@@ -10,14 +10,16 @@ use Rattle.cip_mol.specs.declared.outcome.Outcome.TheVariants as outcomes
 use Rattle.cip_mol.specs.declared.refusal.ReadFault.{ReadFault}
 use Rattle.cip_mol.specs.declared.site.Unit as units
 use Rattle.cip_item.specs.Parts.{without_label_items}
+use Rattle.cip_digraph.specs.graph.DrawnGraph.{graph_of}
 use Rattle.cip_digraph.specs.graph.Graph.{Graph}
 use Rattle.cip_digraph.specs.outcome.Outcomes.{outcome_of}
+use Rattle.cip_digraph.specs.rings.Positions.{positions_of}
+use Rattle.cip_digraph.specs.units.DrawnUnits.{units_in}
 use Rattle.cip_print.specs.declared.answer.Answer.{Answer}
 use Rattle.cip_print.specs.declared.answer.Answer.TheVariants.{Labelled, Refused}
 use Rattle.cip_print.specs.declared.answer.UnitAnswer.{UnitAnswer}
 use Rattle.cip_print.specs.Naming.{name_of}
 use Rattle.cip_molfile.specs.Molecules.{read_molecule}
-use Rattle.cip_unit.specs.Drawings.{Drawn, drawn_of}
 
 module _ (rules : Rules) (nodes : ℕ) where
   -- a unit of a graph with its outcome; `nodes` bounds each of its digraphs
@@ -32,11 +34,9 @@ module _ (rules : Rules) (nodes : ℕ) where
   abbrev pub unit_answers : Graph → List (List ℕ) → List units.Unit → List UnitAnswer
   unit_answers graph positions all = map (unit_answer graph positions all) all
 
-  abbrev pub of_drawn : Drawn → Answer
-  of_drawn drawn = Labelled (unit_answers drawn.graph drawn.positions drawn.units)
-
   abbrev pub of_molecule : Drawing → Answer
-  of_molecule drawing = of_drawn (drawn_of drawing)
+  of_molecule drawing =
+      Labelled (unit_answers (graph_of drawing) (positions_of (graph_of drawing)) (units_in drawing))
 
   abbrev pub of_reading : Result Drawing ReadFault → Answer
   of_reading (Ok drawing) = of_molecule drawing

@@ -9,7 +9,6 @@ ghost use Rattle.cip_record.specs.Answers.{
   answer_without_items,
   is_flagged,
   is_over,
-  of_drawn,
   of_molecule,
 };
 
@@ -17,12 +16,11 @@ use crate::units::label_units;
 use cip_desk::{Desk, Errand, run_once};
 use cip_item::without_label_items;
 use cip_label::{Digraphs, Labeller, Setting};
-use cip_mol::{Molecule, Outcome, ReadRefusal};
-use cip_molfile::read_molecule;
-use cip_print::{Answer, UnitAnswers};
+use cip_mol::Outcome;
+use cip_molfile::Drawn;
+use cip_print::{Answer, UnitAnswer};
 use cip_rank::Rules;
 use cip_text::RecordLines;
-use cip_unit::Drawn;
 use std::alloc::{AllocError, Global};
 
 /// Memory in which records are answered, one after the other.
@@ -128,32 +126,15 @@ fn answer_lines<D: Digraphs>(
     ensures room { IfOk result HasRoom }
     ensures kept { labeller.new ≡ labeller.old }
 {
-    match read_molecule(alloc, lines) {
-        Ok(molecule) => {
-            let answer = answer_molecule(alloc, labeller, &molecule, rules);
+    match Drawn::read(alloc, lines)? {
+        Ok(drawn) => {
+            let answer = answer_drawn(alloc, labeller, &drawn, rules);
             // given back by a call of its own, which is quicker to prove than an end that owns it
-            drop(molecule);
+            drop(drawn);
             answer
         }
-        Err(ReadRefusal::Fault(fault)) => Ok(Answer::Refused(fault)),
-        Err(ReadRefusal::Memory) => Err(AllocError),
+        Err(fault) => Ok(Answer::Refused(fault)),
     }
-}
-
-fn answer_molecule<D: Digraphs>(
-    alloc: Global,
-    labeller: &mut Labeller<D>,
-    molecule: &Molecule,
-    rules: Rules,
-) -> Result<Answer, AllocError>
-    ensures answer { IfOk result (λ answer. answer ≡ of_molecule rules labeller.old molecule.now) }
-    ensures room { IfOk result HasRoom }
-    ensures kept { labeller.new ≡ labeller.old }
-{
-    let drawn = Drawn::of(alloc, molecule)?;
-    let answer = answer_drawn(alloc, labeller, &drawn, rules);
-    drop(drawn);
-    answer
 }
 
 // What is drawn stays with the caller, so that no end of this function gives it back.
@@ -163,7 +144,7 @@ fn answer_drawn<D: Digraphs>(
     drawn: &Drawn,
     rules: Rules,
 ) -> Result<Answer, AllocError>
-    ensures answer { IfOk result (λ answer. answer ≡ of_drawn rules labeller.old drawn.now) }
+    ensures answer { IfOk result (λ answer. answer ≡ of_molecule rules labeller.old drawn.now) }
     ensures room { IfOk result HasRoom }
     ensures kept { labeller.new ≡ labeller.old }
 {
@@ -177,20 +158,15 @@ pub fn is_flagged(answer: &Answer) -> bool
     ensures { result ≡ is_flagged answer.now }
 {
     match answer {
-        Answer::Labelled(units) => has_over(units),
+        Answer::Labelled(units) => has_over(units.as_slice()),
         Answer::Refused(_) => true,
     }
 }
 
-fn has_over(units: &UnitAnswers) -> bool
+fn has_over(units: &[UnitAnswer]) -> bool
     ensures { result ≡ list_any (λ unit. is_over unit.outcome) units.now }
 {
-    for place in 0..units.len() {
-        if is_over(&units.get(place).outcome) {
-            return true;
-        }
-    }
-    false
+    units.iter().any(|unit| is_over(&unit.outcome))
 }
 
 fn is_over(outcome: &Outcome) -> bool

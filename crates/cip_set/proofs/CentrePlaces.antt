@@ -23,8 +23,7 @@ use Rattle.cip_digraph.specs.units.Allenes.{axis_site, axis_sites, doubles, is_a
 use Rattle.cip_digraph.specs.units.Centres.{is_centre}
 use Rattle.cip_digraph.specs.units.DoubleBonds.{bond_site, bond_sites, is_bond_unit}
 use Rattle.cip_digraph.specs.units.Units.{centre_site, sites_of}
-use Rattle.cip_label.specs.Settings.{setting_of, outcome_in}
-use Rattle.cip_unit.specs.Drawings.{Drawn, drawn_of}
+use Rattle.cip_label.specs.Settings.{outcome_in, setting_in}
 use Rattle.cip_rank.specs.declared.rules.Rules.{Rules}
 use Rattle.cip_digraph.proofs.Lists.{all_append, all_mapped}
 use Rattle.cip_digraph.specs.units.DrawnUnits.{units_in}
@@ -255,32 +254,26 @@ module _ (drawing : Drawing) (atom : ℕ) where
       (ap (is_centre_at atom) is ∙ eq-eqb atom atom refl)).1
 
 -- the units of what is drawn, as they are listed
-module _ (drawing : Drawing) (drawn : Drawn) (is : drawn ≡ drawn_of drawing) (listed : List units.Unit)
-    (same : listed ≡ drawn.units) where
-  units_listed : listed ≡ units_in drawing
-  units_listed = same ∙ ap (λ (d : Drawn). d.units) is
-
+module _ (drawing : Drawing) (listed : List units.Unit) (same : listed ≡ units_in drawing) where
   module _ (atom place : ℕ) (found : position (is_centre_at atom) listed ≡ Some place) where
     there : position (is_centre_at atom) (units_in drawing) ≡ Some place
-    there = ap (position (is_centre_at atom)) (sym units_listed) ∙ found
+    there = ap (position (is_centre_at atom)) (sym same) ∙ found
 
     pub centre_listed : slice_get listed place ≡ Some (centre_unit drawing atom)
-    centre_listed = ap (λ us. slice_get us place) units_listed ∙ (place_found drawing atom place there).0
+    centre_listed = ap (λ us. slice_get us place) same ∙ (place_found drawing atom place there).0
 
     pub centre_stands : has_centre drawing atom ≡ true
     centre_stands = (place_found drawing atom place there).1
 
-    pub within_list : place < length drawn.units
+    pub within_list : place < length (units_in drawing)
     within_list =
         subst (λ us. place < length us) same (slice_get_within listed place (centre_unit drawing atom) centre_listed)
 
     pub outcome_found : (rules : Rules) (bound : ℕ) (outcome : Outcome)
-        → ((u : units.Unit) → slice_get drawn.units place ≡ Some u
-        → outcome ≡ outcome_in (setting_of rules drawn.graph drawn.positions drawn.units) bound u)
+        → ((u : units.Unit) → slice_get (units_in drawing) place ≡ Some u
+        → outcome ≡ outcome_in (setting_in rules drawing) bound u)
         → outcome ≡ found_at rules bound drawing atom
-    outcome_found rules bound outcome told =
-        told (centre_unit drawing atom) (ap (λ us. slice_get us place) (sym same) ∙ centre_listed)
-        ∙ ap (λ (d : Drawn). outcome_in (setting_of rules d.graph d.positions d.units) bound (centre_unit drawing atom)) is
+    outcome_found rules bound outcome told = told (centre_unit drawing atom) (place_found drawing atom place there).0
 
   pub none_listed : (atom : ℕ) → position (is_centre_at atom) listed ≡ None → has_centre drawing atom ≡ false
-  none_listed atom none = no_place drawing atom (ap (position (is_centre_at atom)) (sym units_listed) ∙ none)
+  none_listed atom none = no_place drawing atom (ap (position (is_centre_at atom)) (sym same) ∙ none)

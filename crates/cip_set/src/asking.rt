@@ -3,7 +3,6 @@ ghost use Rattle.std.specs.Prelude.{◌≡◌, false, true, IfOk};
 ghost use Rattle.cip_mol.specs.Drawing.{Drawing};
 ghost use Rattle.cip_mol.specs.Points.{is_spatial};
 ghost use Rattle.cip_digraph.specs.graph.DrawnGraph.{graph_of};
-ghost use Rattle.cip_digraph.specs.units.DrawnUnits.{units_in};
 ghost use Rattle.cip_digraph.specs.units.Units.{centre_site};
 ghost use Rattle.cip_set.specs.FoundCentres.{found_at};
 ghost use Rattle.cip_set.specs.Marking.{has_centre, marked, IsBareAt};
@@ -17,59 +16,49 @@ use crate::finding::{centre_place, find};
 use crate::letter::{CentreRefusal, Marked, Request};
 use crate::marking::{bare, marked};
 use cip_label::{Digraphs, Labeller};
-use cip_mol::{CentreLetter, Descriptor, Mark, Molecule, Outcome, Site, Unit};
+use cip_mol::{CentreLetter, Descriptor, Mark, Molecule, Outcome, Site};
+use cip_molfile::Drawn;
 use cip_orient::orient;
-use cip_unit::Drawn;
 use std::alloc::{AllocError, Global};
 
 /// Which mark at which ligand's bond gives the centre at an atom the asked letter, or the first cause why none does.
 pub fn mark_asked<D: Digraphs>(
     alloc: Global,
     labeller: &mut Labeller<D>,
-    molecule: &Molecule,
+    drawn: &Drawn,
     request: Request,
 ) -> Result<Result<Marked, CentreRefusal>, AllocError>
     ensures answer { IfOk result (λ answer. answer
-        ≡ mark_asked request.rules labeller.old molecule.now request.atom request.letter) }
+        ≡ mark_asked request.rules labeller.old drawn.now request.atom request.letter) }
     ensures given { IfOk result (λ answer. IfOk answer
-        (IsGiven request.rules labeller.old molecule.now request.atom request.letter)) }
+        (IsGiven request.rules labeller.old drawn.now request.atom request.letter)) }
     ensures kept { labeller.new ≡ labeller.old }
 {
     // Reading the bonds tells that they have no fault.
-    let _bonds = molecule.bonds();
-    answer(alloc, labeller, molecule, request)
+    let _bonds = drawn.molecule().bonds();
+    answer(alloc, labeller, drawn, request)
 }
 
+#[tactic(auto, unfolding(crate::specs::SetLetters::mark_asked))]
 fn answer<D: Digraphs>(
     alloc: Global,
     labeller: &mut Labeller<D>,
-    molecule: &Molecule,
+    drawn: &Drawn,
     request: Request,
 ) -> Result<Result<Marked, CentreRefusal>, AllocError>
     ensures answer { IfOk result (λ answer. answer
-        ≡ mark_asked request.rules labeller.old molecule.now request.atom request.letter) }
+        ≡ mark_asked request.rules labeller.old drawn.now request.atom request.letter) }
     ensures kept { labeller.new ≡ labeller.old }
 {
-    let drawn = Drawn::of(alloc, molecule)?;
-    answer_among(alloc, labeller, molecule, drawn.units().list(), request)
-}
-
-// What is drawn stays with the caller, so that no end of this function gives it back.
-#[tactic(auto, unfolding(crate::specs::SetLetters::mark_asked))]
-fn answer_among<D: Digraphs>(
-    alloc: Global,
-    labeller: &mut Labeller<D>,
-    molecule: &Molecule,
-    units: &[Unit],
-    request: Request,
-) -> Result<Result<Marked, CentreRefusal>, AllocError>
-    requires units { units.now ≡ units_in molecule.now }
-    ensures answer { IfOk result (λ answer. answer
-        ≡ mark_asked request.rules labeller.old molecule.now request.atom request.letter) }
-    ensures kept { labeller.new ≡ labeller.old }
-{
+    let units = drawn.units().list();
     match centre_place(units, request.atom) {
-        Some(place) => mark_centre(alloc, labeller, molecule, &units[place].site, request),
+        Some(place) => mark_centre(
+            alloc,
+            labeller,
+            drawn.molecule(),
+            &units[place].site,
+            request,
+        ),
         None => Ok(Err(CentreRefusal::NoCentre)),
     }
 }
@@ -131,7 +120,8 @@ fn mark_ligand<D: Digraphs>(
     ensures kept { labeller.new ≡ labeller.old }
 {
     let up = marked(alloc, bare, request.atom, neighbour, Mark::Up)?;
-    let outcome = find(alloc, labeller, &up, request.atom, request.rules)?;
+    let drawn = Drawn::of(alloc, up)?;
+    let outcome = find(alloc, labeller, &drawn, request.atom, request.rules)?;
     Ok(by_outcome(request.letter, neighbour, &outcome))
 }
 

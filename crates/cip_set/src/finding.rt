@@ -1,17 +1,16 @@
 // What is found of a centre.
 ghost use Rattle.std.specs.Prelude.{◌≡◌, ◌<◌, true, IfOk, Some, length, slice_get};
 ghost use Rattle.std.specs.List.{position};
-ghost use Rattle.cip_mol.specs.Drawing.{Drawing};
 ghost use Rattle.cip_mol.specs.declared.site.Unit as units;
-ghost use Rattle.cip_unit.specs.Drawings.{drawn_of};
-ghost use Rattle.cip_label.specs.Settings.{outcome_in, setting_of};
+ghost use Rattle.cip_digraph.specs.units.DrawnUnits.{units_in};
+ghost use Rattle.cip_label.specs.Settings.{outcome_in, setting_in};
 ghost use Rattle.cip_set.specs.FoundCentres.{found_at, is_centre_at};
 ghost use Rattle.cip_set.specs.Marking.{has_centre};
 
 use cip_label::{Digraphs, Labeller, Setting};
-use cip_mol::{Molecule, Outcome, Site, Unit};
+use cip_mol::{Outcome, Site, Unit};
+use cip_molfile::Drawn;
 use cip_rank::{Rules, Steps};
-use cip_unit::Drawn;
 use std::alloc::{AllocError, Global};
 use std::marker::Brand;
 use std::sync::ledger::{Blank, Ledger};
@@ -36,29 +35,12 @@ fn is_centre_at(unit: &Unit, atom: u32) -> bool
 pub fn find<D: Digraphs>(
     alloc: Global,
     labeller: &mut Labeller<D>,
-    molecule: &Molecule,
-    atom: u32,
-    rules: Rules,
-) -> Result<Outcome, AllocError>
-    requires { has_centre molecule.now atom ≡ true }
-    ensures found { IfOk result (λ outcome. outcome ≡ found_at rules labeller.old molecule.now atom) }
-    ensures kept { labeller.new ≡ labeller.old }
-{
-    let drawn = Drawn::of(alloc, molecule)?;
-    find_drawn(alloc, labeller, &drawn, atom, rules)
-}
-
-// Of the centre at an atom of what is drawn, which stays with the caller, so that no end of this function gives it back.
-fn find_drawn<D: Digraphs>(
-    alloc: Global,
-    labeller: &mut Labeller<D>,
     drawn: &Drawn,
     atom: u32,
     rules: Rules,
 ) -> Result<Outcome, AllocError>
-    requires { (drawing : Drawing) × (drawn.now ≡ drawn_of drawing) × (has_centre drawing atom ≡ true) }
-    ensures found { IfOk result (λ outcome. (drawing : Drawing) → drawn.now ≡ drawn_of drawing →
-        outcome ≡ found_at rules labeller.old drawing atom) }
+    requires { has_centre drawn.now atom ≡ true }
+    ensures found { IfOk result (λ outcome. outcome ≡ found_at rules labeller.old drawn.now atom) }
     ensures kept { labeller.new ≡ labeller.old }
 {
     match centre_place(drawn.units().list(), atom) {
@@ -75,9 +57,9 @@ fn find_at<D: Digraphs>(
     place: u32,
     rules: Rules,
 ) -> Result<Outcome, AllocError>
-    requires place { place < length drawn.now.units }
-    ensures outcome { IfOk result (λ outcome. (u : units.Unit) → slice_get drawn.now.units place ≡ Some u →
-        outcome ≡ outcome_in (setting_of rules drawn.now.graph drawn.now.positions drawn.now.units) labeller.old u) }
+    requires place { place < length (units_in drawn.now) }
+    ensures outcome { IfOk result (λ outcome. (u : units.Unit) → slice_get (units_in drawn.now) place ≡ Some u →
+        outcome ≡ outcome_in (setting_in rules drawn.now) labeller.old u) }
     ensures kept { labeller.new ≡ labeller.old }
 {
     let units = drawn.units().list();

@@ -14,8 +14,8 @@ use cip_desk::{Errand, run_once};
 use cip_item::without_label_items;
 use cip_label::{Digraphs, Labeller};
 use cip_mirror::changed_record;
-use cip_mol::{CentreLetter, Molecule, ReadRefusal};
-use cip_molfile::read_molecule;
+use cip_mol::{CentreLetter, Molecule};
+use cip_molfile::Drawn;
 use cip_rank::Rules;
 use cip_record::RecordLabeller;
 use cip_text::{Bytes, RecordLines};
@@ -150,23 +150,27 @@ fn answer_lines<D: Digraphs>(
         ≡ set_without_items asked.rules labeller.old asked.atom asked.letter lines.now) }
     ensures kept { labeller.new ≡ labeller.old }
 {
-    match read_molecule(alloc, lines.contents()) {
-        Ok(molecule) => answer_molecule(alloc, labeller, lines, &molecule, asked),
-        Err(ReadRefusal::Fault(fault)) => Ok(SetAnswer::Refused(SetRefusal::Grammar(fault))),
-        Err(ReadRefusal::Memory) => Err(AllocError),
+    match Drawn::read(alloc, lines.contents())? {
+        Ok(drawn) => {
+            let answer = answer_drawn(alloc, labeller, lines, &drawn, asked);
+            // given back by a call of its own, which is quicker to prove than an end that owns it
+            drop(drawn);
+            answer
+        }
+        Err(fault) => Ok(SetAnswer::Refused(SetRefusal::Grammar(fault))),
     }
 }
 
-// Of the molecule of these lines.
-fn answer_molecule<D: Digraphs>(
+// Of what these lines draw.
+fn answer_drawn<D: Digraphs>(
     alloc: Global,
     labeller: &mut Labeller<D>,
     lines: &RecordLines,
-    molecule: &Molecule,
+    drawn: &Drawn,
     asked: Asked,
 ) -> Result<SetAnswer, AllocError>
     ensures answer { IfOk result (λ answer. answer
-        ≡ set_drawn asked.rules labeller.old asked.atom asked.letter lines.now molecule.now) }
+        ≡ set_drawn asked.rules labeller.old asked.atom asked.letter lines.now drawn.now) }
     ensures kept { labeller.new ≡ labeller.old }
 {
     if is_v3000(lines.contents()) {
@@ -180,25 +184,25 @@ fn answer_molecule<D: Digraphs>(
         letter: asked.letter,
         rules: asked.rules,
     };
-    set_mark(alloc, labeller, molecule, request, lines.bytes())
+    set_mark(alloc, labeller, drawn, request, lines.bytes())
 }
 
 // The record with the mark that is answered, where one is.
 fn set_mark<D: Digraphs>(
     alloc: Global,
     labeller: &mut Labeller<D>,
-    molecule: &Molecule,
+    drawn: &Drawn,
     request: Request,
     bytes: &[u8],
 ) -> Result<SetAnswer, AllocError>
     ensures answer { IfOk result (λ answer. answer
-        ≡ set_marked bytes.now molecule.now request.atom
-        (mark_asked request.rules labeller.old molecule.now request.atom request.letter)) }
+        ≡ set_marked bytes.now drawn.now request.atom
+        (mark_asked request.rules labeller.old drawn.now request.atom request.letter)) }
     ensures kept { labeller.new ≡ labeller.old }
 {
-    match mark_asked(alloc, labeller, molecule, request)? {
+    match mark_asked(alloc, labeller, drawn, request)? {
         Ok(marked) => {
-            let text = changed(alloc, molecule, request.atom, marked, bytes)?;
+            let text = changed(alloc, drawn.molecule(), request.atom, marked, bytes)?;
             Ok(SetAnswer::Written(Bytes::from_vec(text)))
         }
         Err(refusal) => Ok(SetAnswer::Refused(refusal_of(refusal))),

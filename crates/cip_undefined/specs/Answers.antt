@@ -5,20 +5,12 @@ use Rattle.cip_text.specs.Bodies.{body_contents}
 use Rattle.cip_rank.specs.declared.rules.Rules.{Rules}
 use Rattle.cip_mol.specs.Drawing.{Drawing}
 use Rattle.cip_mol.specs.declared.refusal.ReadFault.{ReadFault}
-use Rattle.cip_digraph.specs.graph.DrawnGraph.{graph_of}
-use Rattle.cip_digraph.specs.rings.Positions.{positions_of}
-use Rattle.cip_digraph.specs.units.DrawnUnits.{units_in}
-use Rattle.cip_label.specs.Settings.{Setting, setting_of}
+use Rattle.cip_label.specs.Settings.{Setting, setting_in}
 use Rattle.cip_molfile.specs.Molecules.{read_molecule}
 use Rattle.cip_undefined.specs.Ties.{told_units}
 use Rattle.cip_undefined.specs.UndefinedUnits.{found_among}
 use Rattle.cip_undefined.specs.declared.unit.UndefinedAnswer.{UndefinedAnswer}
 use Rattle.cip_undefined.specs.declared.unit.UndefinedAnswer.TheVariants.{Listed, Refused}
-
--- what the digraphs of a drawing are grown and ranked by
-abbrev pub setting_in : Rules → Drawing → Setting
-setting_in rules drawing =
-    setting_of rules (graph_of drawing) (positions_of (graph_of drawing)) (units_in drawing)
 
 -- the undefined units of a setting; `nodes` bounds each of its digraphs
 abbrev pub answer_in : ℕ → Setting → UndefinedAnswer

@@ -1,8 +1,8 @@
 // The answer to a record by the units of which its drawing shows no sense.
 ghost use Rattle.std.specs.Prelude.{◌≡◌, ◌<◌, ◌-◌, ◌^◌, IfOk, length};
 ghost use Rattle.cip_text.specs.Slices.{texts};
-ghost use Rattle.cip_label.specs.Settings.{setting_of};
-ghost use Rattle.cip_undefined.specs.Answers.{answer_in, setting_in, undefined_of_lines, undefined_without_items};
+ghost use Rattle.cip_label.specs.Settings.{setting_in};
+ghost use Rattle.cip_undefined.specs.Answers.{answer_in, undefined_of_lines, undefined_without_items};
 ghost use Rattle.cip_undefined.specs.Ties.{told_units};
 ghost use Rattle.cip_undefined.specs.UndefinedUnits.{found_among};
 
@@ -10,11 +10,9 @@ use crate::finding::found_among;
 use crate::ties::tell_dependent;
 use crate::unit::{UndefinedAnswer, UndefinedUnits};
 use cip_label::{Digraphs, Labeller, Setting};
-use cip_mol::{Molecule, ReadRefusal};
-use cip_molfile::read_molecule;
+use cip_molfile::Drawn;
 use cip_rank::{Rules, Steps};
 use cip_text::RecordLines;
-use cip_unit::Drawn;
 use std::alloc::{AllocError, Global};
 use std::marker::Brand;
 use std::sync::ledger::{Blank, Ledger};
@@ -45,24 +43,15 @@ fn undefined_of_lines<D: Digraphs>(
     ensures answer { IfOk result (λ answer. answer ≡ undefined_of_lines rules labeller.old (texts lines.now)) }
     ensures kept { labeller.new ≡ labeller.old }
 {
-    match read_molecule(alloc, lines) {
-        Ok(molecule) => undefined_of_molecule(alloc, labeller, &molecule, rules),
-        Err(ReadRefusal::Fault(fault)) => Ok(UndefinedAnswer::Refused(fault)),
-        Err(ReadRefusal::Memory) => Err(AllocError),
+    match Drawn::read(alloc, lines)? {
+        Ok(drawn) => {
+            let answer = undefined_of_drawn(alloc, labeller, &drawn, rules);
+            // given back by a call of its own, which is quicker to prove than an end that owns it
+            drop(drawn);
+            answer
+        }
+        Err(fault) => Ok(UndefinedAnswer::Refused(fault)),
     }
-}
-
-fn undefined_of_molecule<D: Digraphs>(
-    alloc: Global,
-    labeller: &mut Labeller<D>,
-    molecule: &Molecule,
-    rules: Rules,
-) -> Result<UndefinedAnswer, AllocError>
-    ensures answer { IfOk result (λ answer. answer ≡ answer_in labeller.old (setting_in rules molecule.now)) }
-    ensures kept { labeller.new ≡ labeller.old }
-{
-    let drawn = Drawn::of(alloc, molecule)?;
-    undefined_of_drawn(alloc, labeller, &drawn, rules)
 }
 
 // What is drawn stays with the caller, so that no end of this function gives it back.
@@ -72,8 +61,7 @@ fn undefined_of_drawn<D: Digraphs>(
     drawn: &Drawn,
     rules: Rules,
 ) -> Result<UndefinedAnswer, AllocError>
-    ensures answer { IfOk result (λ answer. answer
-        ≡ answer_in labeller.old (setting_of rules drawn.now.graph drawn.now.positions drawn.now.units)) }
+    ensures answer { IfOk result (λ answer. answer ≡ answer_in labeller.old (setting_in rules drawn.now)) }
     ensures kept { labeller.new ≡ labeller.old }
 {
     let units = drawn.units().list();

@@ -7,8 +7,8 @@ use cip_desk::Desk;
 use cip_image::label_image;
 use cip_label::{Labeller, Setting};
 use cip_mol::{Label, Molecule, Outcome};
+use cip_molfile::Drawn;
 use cip_rank::{Rules, Steps};
-use cip_unit::Drawn;
 use gate_rows::Text;
 use std::alloc::{AllocError, Global};
 use std::fmt;
@@ -42,14 +42,11 @@ impl fmt::Display for Tally {
 /// For how many pairs of a record's centres one is found to be the image of the other, and for how many of these what is
 /// found by the image is wrong.
 pub fn images<L: Ledger>(alloc: Global, out: &mut Text, record: &[u8], steps: &mut Steps<L>) {
-    let read = read_molecule(alloc, record);
-    match &read {
+    match read_molecule(alloc, record) {
         Ok(Some(molecule)) => push_tally(out, compare_molecule(alloc, molecule, steps)),
         Ok(None) => out.push_str("no molecule"),
         Err(_) => out.miss(),
     }
-    // given back by a call of its own, here and below: quicker to prove than a function's end
-    drop(read);
 }
 
 fn push_tally(out: &mut Text, tally: Result<Tally, AllocError>) {
@@ -61,11 +58,12 @@ fn push_tally(out: &mut Text, tally: Result<Tally, AllocError>) {
 
 fn compare_molecule<L: Ledger>(
     alloc: Global,
-    molecule: &Molecule,
+    molecule: Molecule,
     steps: &mut Steps<L>,
 ) -> Result<Tally, AllocError> {
     let drawn = Drawn::of(alloc, molecule)?;
     let tally = compare_drawn(alloc, &drawn, steps);
+    // given back by a call of its own, here and below: quicker to prove than a function's end
     drop(drawn);
     tally
 }

@@ -7,7 +7,7 @@ use Rattle.cip_digraph.specs.units.Units.{centre_site}
 use Rattle.cip_set.specs.FoundCentres.{outcome_as}
 use Rattle.cip_set.specs.MarkLaw.{with_bonds}
 use Rattle.cip_set.proofs.RemarkedCentres.{keeps_ranks}
-use Rattle.cip_undefined.specs.Answers.{setting_in}
+use Rattle.cip_label.specs.Settings.{setting_in}
 use Rattle.cip_undefined.specs.Laws.{lettered}
 use Rattle.cip_undefined.proofs.KeptOrders.{senses_keep}
 use Rattle.cip_laws.specs.Marks.{MarksKeepOrders}

@@ -39,7 +39,7 @@ use Rattle.cip_set.specs.Marking.{bare, bare_bonds, has_centre, is_free, is_plai
 use Rattle.cip_set.specs.Remarked.{AreRemarked, IsRemarked}
 use Rattle.cip_set.proofs.RemarkedCentres.{keeps_ranks}
 use Rattle.cip_set.proofs.SetSound.{sound_bare}
-use Rattle.cip_undefined.specs.Answers.{setting_in}
+use Rattle.cip_label.specs.Settings.{setting_in}
 use Rattle.cip_undefined.proofs.KeptOrders.{senses_keep}
 use Rattle.cip_laws.specs.TurnedBonds.{GivenMarksKeepLigands, KeepsLigands}
 use Rattle.cip_laws.proofs.marked.KeptMarks.{marks_keep}

@@ -7,6 +7,8 @@ use Rattle.cip_digraph.proofs.DrawnSound.{drawn_sound}
 use Rattle.cip_unit.proofs.Leads.{drawn_is, drawn_leads}
 use Rattle.cip_axis.specs.Listing.{IsGraphOf}
 use Rattle.cip_axis.proofs.Chained.{units_are}
+use Rattle.cip_axis.proofs.FewFurther.{few_further}
+use Rattle.cip_axis.proofs.FurtherFit.{further_units_are_fit}
 use Rattle.cip_axis.proofs.listing.further.Goals as goal
 
 is_graph : (drawing : Drawing) (graph : Graph) → bonds.IsSound (length drawing.atoms) drawing.bonds
@@ -32,6 +34,15 @@ push_all_biaryls-requires-clause-atoms c = ap length c.atoms.ensures.value
 
 pub returns : goal.returns
 returns c =
-    units_are c.args.molecule.now c.args.graph.now c.args.positions.now _ _ _ _
-    (ap length c.atoms.ensures.value ∙ sym (rw c.requires (drawn_is c.args.molecule.now)))
-    c.new-units.ensures c.in_ok-push_all_cumulenes.ensures c.in_ok-push_all_biaryls.ensures
+    let drawing = c.args.molecule.now in
+    let graph = c.args.graph.now in
+    let positions = c.args.positions.now in
+    let value =
+    units_are drawing graph positions _ _ _ _
+    (ap length c.atoms.ensures.value ∙ sym (rw c.requires (drawn_is drawing)))
+    c.new-units.ensures c.in_ok-push_all_cumulenes.ensures c.in_ok-push_all_biaryls.ensures in
+    record {
+      value = value;
+      fit = rw value (further_units_are_fit drawing graph positions (is_graph drawing graph c.atoms.ensures.sound c.requires).sound);
+      few = few_further drawing graph positions _ c.atoms.ensures.range.few_atoms c.requires value;
+    }

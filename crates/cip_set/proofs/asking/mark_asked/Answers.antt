@@ -12,9 +12,9 @@ returns-clause-given g c =
     let asked = c.args.request in
     IfOk-weaker c.answer.result
     (λ (answer : Result Marked CentreRefusal).
-    answer ≡ mark_asked asked.rules c.args.labeller.now c.args.molecule.now asked.atom asked.letter)
-    (λ answer. IfOk answer (IsGiven asked.rules c.args.labeller.now c.args.molecule.now asked.atom asked.letter))
+    answer ≡ mark_asked asked.rules c.args.labeller.now c.args.drawn.now asked.atom asked.letter)
+    (λ answer. IfOk answer (IsGiven asked.rules c.args.labeller.now c.args.drawn.now asked.atom asked.letter))
     (λ answer is.
-    answers_given asked.rules c.args.labeller.now c.args.molecule.now asked.atom asked.letter
+    answers_given asked.rules c.args.labeller.now c.args.drawn.now asked.atom asked.letter
     c.bonds-bonds.ensures.sound answer is)
     c.answer.ensures.answer

@@ -9,4 +9,4 @@ returns-clause-answer g c =
     c.by_outcome.ensures
     ∙ ap (by_outcome c.args.request.letter c.args.neighbour)
     (c.in_ok-outcome.ensures.found
-    ∙ ap (λ (d : Drawing). found_at c.args.request.rules c.args.labeller.now d c.args.request.atom) c.in_ok-up.ensures)
+    ∙ ap (λ (d : Drawing). found_at c.args.request.rules c.args.labeller.now d c.args.request.atom) (c.in_ok-drawn.ensures ∙ c.in_ok-up.ensures))

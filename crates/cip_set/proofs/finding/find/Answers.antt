@@ -1,19 +1,42 @@
-use Rattle.std.proofs.Common.{◌≡◌}
+use Rattle.std.proofs.Common.{◌≡◌, ◌∙◌, arith, false, sym, true}
+use Rattle.std.specs.Prelude.{Some, slice_get}
 use Rattle.std.proofs.lemmas.Result.{IfOk-weaker}
-use Rattle.cip_mol.specs.Drawing.{Drawing}
 use Rattle.cip_mol.specs.declared.outcome.Outcome.{Outcome}
-use Rattle.cip_unit.specs.Drawings.{drawn_of}
+use Rattle.cip_mol.specs.declared.site.Unit as units
+use Rattle.cip_digraph.specs.units.DrawnUnits.{units_in}
+use Rattle.cip_label.specs.Settings.{outcome_in, setting_in}
 use Rattle.cip_set.specs.FoundCentres.{found_at}
+use Rattle.cip_set.proofs.CentrePlaces.{none_listed, outcome_found, within_list}
 use Rattle.cip_set.proofs.finding.find.Goals as goal
 
-pub find_drawn-requires : goal.find_drawn-requires
-find_drawn-requires g c = (c.args.molecule.now, c.in_ok-drawn.ensures, c.requires)
+pub overflow_cast-place : goal.overflow_cast-place
+overflow_cast-place g c =
+    let within =
+    within_list c.args.drawn.now c.list.result.now (c.list.ensures ∙ c.units.ensures.value) c.args.atom c.in-Some.place
+    (sym c.in-Some.ensures) in
+    let few = c.units.ensures.fit.few in
+    omega (arith, within, few)
+
+pub find_at-requires : goal.find_at-requires
+find_at-requires g c = record {
+  place = within_list c.args.drawn.now c.list.result.now (c.list.ensures ∙ c.units.ensures.value) c.args.atom
+      c.in-Some.place (sym c.in-Some.ensures);
+}
+
+pub unreachable-requires : goal.unreachable-requires
+unreachable-requires g c =
+    let none =
+    none_listed c.args.drawn.now c.list.result.now (c.list.ensures ∙ c.units.ensures.value) c.args.atom
+    (sym c.in-None.ensures) in
+    let bad : false ≡ true = sym none ∙ c.requires in cc
 
 pub returns-clause-found : goal.returns-clause-found
 returns-clause-found g c =
-    IfOk-weaker c.find_drawn.result
-    (λ (outcome : Outcome). (drawing : Drawing) → c.in_ok-drawn.drawn ≡ drawn_of drawing
-    → outcome ≡ found_at c.args.rules c.args.labeller.now drawing c.args.atom)
-    (λ outcome. outcome ≡ found_at c.args.rules c.args.labeller.now c.args.molecule.now c.args.atom)
-    (λ outcome told. told c.args.molecule.now c.in_ok-drawn.ensures)
-    c.find_drawn.ensures.found
+    let drawing = c.args.drawn.now in
+    IfOk-weaker c.find_at.result
+    (λ (outcome : Outcome). (u : units.Unit) → slice_get (units_in drawing) c.in-Some.place ≡ Some u
+    → outcome ≡ outcome_in (setting_in c.args.rules drawing) c.args.labeller.now u)
+    (λ outcome. outcome ≡ found_at c.args.rules c.args.labeller.now drawing c.args.atom)
+    (outcome_found drawing c.list.result.now (c.list.ensures ∙ c.units.ensures.value) c.args.atom c.in-Some.place
+    (sym c.in-Some.ensures) c.args.rules c.args.labeller.now)
+    c.find_at.ensures.outcome

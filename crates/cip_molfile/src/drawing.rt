@@ -1,0 +1,99 @@
+// What is drawn of a molecule.
+ghost use Rattle.std.specs.Prelude.{◌≡◌, ◌<◌, ◌-◌, ◌^◌, IfOk, length};
+ghost use Rattle.cip_text.specs.Slices.{texts};
+ghost use Rattle.cip_digraph.specs.graph.DrawnGraph.{graph_of};
+ghost use Rattle.cip_digraph.specs.rings.Positions.{positions_of};
+ghost use Rattle.cip_digraph.specs.units.DrawnUnits.{units_in};
+ghost use Rattle.cip_molfile.specs.Drawings.{Fit};
+ghost use Rattle.cip_molfile.specs.Molecules.{read_molecule};
+
+use crate::reading::read_molecule;
+use cip_digraph::{Graph, Positions, Units};
+use cip_hydro::graph_of;
+use cip_mancude::positions;
+use cip_mol::{Molecule, ReadFault, ReadRefusal};
+use cip_unit::units;
+use std::alloc::{AllocError, Global};
+use std::marker::Model;
+
+/// A molecule with its graph, the positions of its alternating double bonds, and its units. Contracts see it as the
+/// molecule.
+#[derive(Drop)]
+pub struct Drawn {
+    molecule: Molecule,
+    graph: Graph,
+    positions: Positions,
+    units: Units,
+}
+
+impl Model for Drawn {
+    ghost use Rattle.cip_mol.specs.Drawing.{Drawing};
+    ghost use Rattle.cip_molfile.specs.Drawings.{AreDrawn};
+
+    ghost Value = { Drawing };
+
+    ghost view = { λ d. d.molecule };
+
+    ghost invariant = { λ d. AreDrawn d.molecule d.graph d.positions d.units };
+}
+
+impl Drawn {
+    /// What is drawn of a molecule.
+    pub fn of(alloc: Global, molecule: Molecule) -> Result<Drawn, AllocError>
+        ensures { IfOk result (λ drawn. drawn ≡ molecule) }
+    {
+        // Reading the atoms tells that there are few.
+        let _atoms = molecule.atoms();
+        let graph = graph_of(alloc, &molecule)?;
+        let positions = positions(alloc, &graph)?;
+        let units = units(alloc, &molecule, &graph, &positions)?;
+        Ok(Drawn {
+            molecule,
+            graph,
+            positions,
+            units,
+        })
+    }
+
+    /// What the lines of a record before its terminator line draw, or why they are refused. The record has no label
+    /// items.
+    pub fn read(alloc: Global, lines: &[&[u8]]) -> Result<Result<Drawn, ReadFault>, AllocError>
+        requires { length lines.now < 2 ^ 32 - 1 }
+        ensures { IfOk result (λ drawn. drawn ≡ read_molecule (texts lines.now)) }
+    {
+        match read_molecule(alloc, lines) {
+            Ok(molecule) => Ok(Ok(Drawn::of(alloc, molecule)?)),
+            Err(ReadRefusal::Fault(fault)) => Ok(Err(fault)),
+            Err(ReadRefusal::Memory) => Err(AllocError),
+        }
+    }
+
+    /// The molecule itself.
+    pub fn molecule(&self) -> &Molecule
+        ensures { result.now ≡ self.now }
+    {
+        &self.molecule
+    }
+
+    /// Its atoms, drawn or not, and their bonds.
+    pub fn graph(&self) -> &Graph
+        ensures { result.now ≡ graph_of self.now }
+    {
+        &self.graph
+    }
+
+    /// Where the double bonds of its alternating atoms can stand.
+    pub fn positions(&self) -> &Positions
+        ensures { result.now ≡ positions_of (graph_of self.now) }
+    {
+        &self.positions
+    }
+
+    /// Its units, each with what the drawing shows of it.
+    pub fn units(&self) -> &Units
+        ensures value { result.now ≡ units_in self.now }
+        ensures fit { Fit self.now }
+    {
+        &self.units
+    }
+}
