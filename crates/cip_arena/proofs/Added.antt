@@ -1,32 +1,9 @@
 -- A node added at the end.
-use Rattle.std.proofs.Common.{
-  ◌≡◌,
-  ◌<◌,
-  ◌≤◌,
-  ◌+◌,
-  ℕ,
-  zero,
-  suc,
-  List,
-  [],
-  ◌∷◌,
-  ◌++◌,
-  length,
-  refl,
-  sym,
-  ap,
-  ◌∙◌,
-  subst,
-  arith,
-  inl,
-  inr,
-  length-append,
-  append_assoc,
-  replicate,
-  add-one,
-}
+use Rattle.std.proofs.Common.{◌≡◌, ◌<◌, ◌≤◌, ◌+◌, ℕ, List, [], ◌∷◌, ◌++◌, length, sym, ap, ◌∙◌, subst}
+use Rattle.std.proofs.Common.{arith, inl, inr, length-append, append_assoc, replicate}
 use Rattle.std.proofs.lemmas.Bool.{cases_lt}
-use Rattle.std.proofs.lemmas.List.{get_or_append_left, map-append}
+use Rattle.std.proofs.Math.Seq.{get_or-append_seam}
+use Rattle.std.proofs.lemmas.List.{get_or_append_left, map-append, replicate-append-replicate}
 use Rattle.cip_rank.specs.Tree.{last_parent}
 use Rattle.cip_rank.proofs.Pushed.{last_pushed}
 use Rattle.cip_digraph.specs.declared.nodes.Told.{Told}
@@ -42,10 +19,6 @@ last_added ts t = ap last_parent (parents_added ts t) ∙ last_pushed (parents_o
 pub told_left : (ts us : List Told) (k : ℕ) → k < length ts → told_at (ts ++ us) k ≡ told_at ts k
 told_left ts us k lt = get_or_append_left ts us nothing_told k lt
 
-pub told_end : (ts : List Told) (t : Told) → told_at (ts ++ t ∷ []) (length ts) ≡ t
-told_end [] t = refl
-told_end (x ∷ ts) t = told_end ts t
-
 pub each_added : (P : ℕ → Told → Type 0) (ts : List Told) (t : Told) → ((k : ℕ) → k < length ts → P k (told_at ts k))
     → P (length ts) t → (k : ℕ) → k < length (ts ++ t ∷ []) → P k (told_at (ts ++ t ∷ []) k)
 each_added P ts t h new k lt =
@@ -53,7 +26,8 @@ each_added P ts t h new k lt =
     elim (cases_lt k (length ts)) [
       | inl old ↦ subst (P k) (sym (told_left ts (t ∷ []) k old)) (h k old)
       | inr past ↦ let here : length ts ≡ k = omega (arith, lt, more) in
-          subst (λ j. P j (told_at (ts ++ t ∷ []) j)) here (subst (P (length ts)) (sym (told_end ts t)) new)
+          subst (λ j. P j (told_at (ts ++ t ∷ []) j)) here
+          (subst (P (length ts)) (sym (get_or-append_seam ts t [] nothing_told)) new)
     ]
 
 pub earlier_added : (ts : List Told) (t : Told) → IsEarlier ts → t.parent < length ts → IsEarlier (ts ++ t ∷ [])
@@ -76,13 +50,8 @@ keeps_then ts us vs a b = record {
       (omega (arith, a.longer)) ∙ a.same k lt;
 }
 
-replicate_end : (n : ℕ) (t : Told) → replicate n t ++ t ∷ [] ≡ t ∷ replicate n t
-replicate_end zero t = refl
-replicate_end (suc n) t = ap (λ xs. t ∷ xs) (replicate_end n t)
-
 pub copies_more : (ts : List Told) (n : ℕ) (t : Told) → (ts ++ replicate n t) ++ t ∷ [] ≡ ts ++ replicate (n + 1) t
-copies_more ts n t = append_assoc ts (replicate n t) (t ∷ []) ∙ ap (λ xs. ts ++ xs) (replicate_end n t
-    ∙ ap (λ k. replicate k t) (sym (add-one n)))
+copies_more ts n t = append_assoc ts (replicate n t) (t ∷ []) ∙ ap (λ xs. ts ++ xs) (replicate-append-replicate n 1 t)
 
 pub keeps_more : (ts us ns : List Told) → us ≡ ts ++ ns → Keeps ts us
 keeps_more ts us ns e = rw e (keeps_append ts ns)

@@ -1,43 +1,10 @@
 -- What is told of the children of a node is what they are.
-use Rattle.std.proofs.Common.{
-  ◌≡◌,
-  ◌<◌,
-  ◌+◌,
-  ◌-◌,
-  ◌*◌,
-  ◌==◌,
-  ◌&&◌,
-  ◌||◌,
-  ℕ,
-  zero,
-  suc,
-  Bool,
-  true,
-  false,
-  cond,
-  List,
-  [],
-  ◌∷◌,
-  ◌++◌,
-  map,
-  length,
-  None,
-  Some,
-  unwrap_or,
-  refl,
-  sym,
-  ap,
-  ◌∙◌,
-  subst,
-  arith,
-  inl,
-  inr,
-  length-append,
-  append_assoc,
-  replicate,
-}
+use Rattle.std.proofs.Common.{◌≡◌, ◌<◌, ◌+◌, ◌-◌, ◌*◌, ◌==◌, ◌&&◌, ◌||◌, ℕ, zero, suc, Bool, true, false, cond, List}
+use Rattle.std.proofs.Common.{[], ◌∷◌, ◌++◌, map, length, None, Some, unwrap_or, refl, sym, ap, ◌∙◌, subst, arith, inl}
+use Rattle.std.proofs.Common.{inr, length-append, append_assoc, replicate}
 use Rattle.std.specs.declared.option.Option.{Option}
 use Rattle.std.specs.List.{fold, flat_map}
+use Rattle.std.proofs.Math.Seq.{get_or-append_seam}
 use Rattle.std.proofs.lemmas.Bool.{cases_lt}
 use Rattle.std.proofs.lemmas.List.{map-append, append-nil, get_or_append_left, length-map}
 use Rattle.cip_digraph.specs.declared.graph.Edge.{Edge}
@@ -45,51 +12,22 @@ use Rattle.cip_digraph.specs.declared.nodes.NodeKind.{NodeKind}
 use Rattle.cip_digraph.specs.declared.nodes.NodeKind.TheVariants.{Real, Closure, Multiple, Delocalised}
 use Rattle.cip_digraph.specs.declared.nodes.Told.{Told}
 use Rattle.cip_digraph.specs.rings.Alternating.{is_in}
-use Rattle.cip_digraph.specs.digraph.Digraph.{
-  Node,
-  real_node,
-  duplicate,
-  begins_with,
-  neighbour_child,
-  bond_children,
-  edge_children,
-  real_children,
-  path_children,
-  children,
-}
+use Rattle.cip_digraph.specs.digraph.Digraph.{Node, real_node, duplicate, begins_with, neighbour_child, bond_children}
+use Rattle.cip_digraph.specs.digraph.Digraph.{edge_children, real_children, path_children, children}
 use Rattle.cip_digraph.specs.graph.Graph.{Graph, edges_at, other_end, vertex_at}
 use Rattle.cip_digraph.specs.rules.Keys.{path_from, counterpart}
-use Rattle.cip_digraph.specs.digraph.NodeList.{told_at}
+use Rattle.cip_digraph.specs.digraph.NodeList.{nothing_told, told_at}
 use Rattle.cip_digraph.specs.rings.Positions.{is_delocalised, mean_key}
 use Rattle.cip_digraph.specs.digraph.Telling.{StandsAt, Stands, IsCounterpart, TellsOf}
 use Rattle.cip_digraph.specs.digraph.View.{real_at}
-use Rattle.cip_digraph.proofs.LinkedNodes.{placed_at, ChildBy, HangsIn, at_left, at_end, hangs_more, linked_push}
-use Rattle.cip_digraph.proofs.Placing.{Placed, nodes_of}
-use Rattle.cip_arena.specs.Making.{
-  real_vertex,
-  real_told,
-  closure_told,
-  neighbour_told,
-  duplicate_told,
-  with_neighbour,
-  with_edge,
-  children_at,
-  with_children,
-}
+use Rattle.cip_digraph.proofs.numbered.Linked.{placed_at, ChildBy, HangsIn, at_left, at_end, hangs_more, linked_push}
+use Rattle.cip_digraph.proofs.numbered.Placing.{Placed, nodes_of}
+use Rattle.cip_arena.specs.Making.{real_vertex, real_told, closure_told, neighbour_told, duplicate_told, with_neighbour}
+use Rattle.cip_arena.specs.Making.{with_edge, children_at, with_children}
 use Rattle.cip_arena.specs.Walk.{walk, is_above}
-use Rattle.cip_arena.proofs.Added.{told_left, told_end}
-use Rattle.cip_arena.proofs.Ups.{
-  TellsPlaced,
-  FoundBy,
-  path_above,
-  node_of,
-  real_path,
-  told_vertex,
-  told_near,
-  told_stands,
-  walk_is,
-  parent_is,
-}
+use Rattle.cip_arena.proofs.Added.{told_left}
+use Rattle.cip_arena.proofs.Ups.{TellsPlaced, FoundBy, path_above, node_of, real_path, told_vertex, told_near}
+use Rattle.cip_arena.proofs.Ups.{told_stands, walk_is, parent_is}
 
 abbrev pub below : ℕ → Node → Placed
 below i c = record { parent = i; node = c }
@@ -156,7 +94,8 @@ module _ (g : Graph) (positions : List (List ℕ)) (root : ℕ) where
       let more : length (ns ++ p ∷ []) ≡ length ns + 1 = length-append ns (p ∷ []) in
       let more_told : length (ts ++ t ∷ []) ≡ length ts + 1 = length-append ts (t ∷ []) in
       let len = all.len in
-      let end : told_at (ts ++ t ∷ []) (length ns) ≡ t = ap (told_at (ts ++ t ∷ [])) (sym len) ∙ told_end ts t in
+      let end : told_at (ts ++ t ∷ []) (length ns) ≡ t = ap (told_at (ts ++ t ∷ [])) (sym len)
+      ∙ get_or-append_seam ts t [] nothing_told in
       record {
         linked = linked_push root ns p all.linked h;
         len = omega (arith, more, more_told, len);

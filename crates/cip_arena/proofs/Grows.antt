@@ -1,54 +1,19 @@
 -- The list tells of the digraph, sphere after sphere.
-use Rattle.std.proofs.Common.{
-  ◌≡◌,
-  ◌≤◌,
-  ◌<◌,
-  ◌+◌,
-  ◌-◌,
-  ℕ,
-  zero,
-  suc,
-  List,
-  [],
-  ◌∷◌,
-  ◌++◌,
-  map,
-  length,
-  take,
-  slice_index,
-  refl,
-  sym,
-  ap,
-  ◌∙◌,
-  subst,
-  arith,
-  length-append,
-  append_assoc,
-  add-one,
-}
+use Rattle.std.proofs.Common.{◌≡◌, ◌≤◌, ◌<◌, ◌+◌, ◌-◌, ℕ, zero, suc, List, [], ◌∷◌, ◌++◌, map, length, take}
+use Rattle.std.proofs.Common.{slice_index, refl, sym, ap, ◌∙◌, subst, arith, length-append, append_assoc, add-one}
 use Rattle.std.specs.List.{AllByRecursion}
-use Rattle.std.proofs.lemmas.List.{take_more, append-nil, length-take-le, length-map, get_or-map}
+use Rattle.std.proofs.Math.Seq.{take-length}
+use Rattle.std.proofs.lemmas.List.{take_more, append-nil, ext_get_or, length-take-le, length-map, get_or-map}
 use Rattle.cip_digraph.specs.declared.nodes.Told.{Told}
 use Rattle.cip_digraph.specs.digraph.Digraph.{Node, children, sphere, digraph}
 use Rattle.cip_digraph.specs.graph.Graph.{Graph}
 use Rattle.cip_digraph.specs.digraph.NodeList.{nothing_told, told_at, parents_of}
 use Rattle.cip_digraph.specs.digraph.Telling.{node_at, TellsOf, Tells, first_of}
-use Rattle.cip_digraph.proofs.Hanging.{others, low_parents}
-use Rattle.cip_digraph.proofs.LinkedNodes.{no_placed, placed_at, at_left, digraph_linked}
-use Rattle.cip_digraph.proofs.Numbered.{at_number, digraph_length}
-use Rattle.cip_digraph.proofs.Placing.{
-  Placed,
-  nodes_of,
-  parents,
-  next_sphere,
-  spheres,
-  placed,
-  placed_nodes,
-  placed_length,
-  placed_parents,
-  first_is,
-  last_nodes,
-}
+use Rattle.cip_digraph.proofs.numbered.Hanging.{others, low_parents}
+use Rattle.cip_digraph.proofs.numbered.Linked.{no_placed, placed_at, at_left, digraph_linked}
+use Rattle.cip_digraph.proofs.numbered.Kin.{at_number, digraph_length}
+use Rattle.cip_digraph.proofs.numbered.Placing.{Placed, nodes_of, parents, next_sphere, spheres, placed, placed_nodes}
+use Rattle.cip_digraph.proofs.numbered.Placing.{placed_length, placed_parents, first_is, last_nodes}
 use Rattle.cip_rank.specs.Tree.{last_parent}
 use Rattle.cip_arena.specs.Growth.{Growth, Holds, next_size}
 use Rattle.cip_arena.specs.Making.{node_size, size_upto, with_sphere}
@@ -56,14 +21,6 @@ use Rattle.cip_arena.specs.Walk.{IsEarlier}
 use Rattle.cip_arena.proofs.Children.{below, node_tells}
 use Rattle.cip_arena.proofs.Lengths.{length_kids, length_sphere}
 use Rattle.cip_arena.proofs.Ups.{TellsPlaced}
-
-same_entries : (xs ys : List ℕ) → length xs ≡ length ys → ((k : ℕ) → k < length xs → slice_index xs k ≡ slice_index ys
-    k) → xs ≡ ys
-same_entries [] [] e h = refl
-same_entries [] (y ∷ ys) e h = absurd (omega (arith, e))
-same_entries (x ∷ xs) [] e h = absurd (omega (arith, e))
-same_entries (x ∷ xs) (y ∷ ys) e h = ap (λ z. z ∷ xs) (h 0 (omega arith))
-    ∙ ap (λ zs. y ∷ zs) (same_entries xs ys (omega (arith, e)) (λ k lt. h (suc k) (omega arith)))
 
 last_of : (m : ℕ) (p : Placed) (ps : List Placed) → AllByRecursion (λ (q : Placed). q.parent < m) ps → p.parent ≤ m
     → slice_index (parents (p ∷ ps)) (length ps) ≤ m
@@ -109,7 +66,7 @@ module _ (g : Graph) (positions : List (List ℕ)) where
         record {
           len = len;
           parents =
-              same_entries (parents_of ts) (parents (placed g positions root s))
+              ext_get_or 0 (parents_of ts) (parents (placed g positions root s))
               (length-map ts (λ (u : Told). u.parent) ∙ t.len
               ∙ sym (length-map (placed g positions root s) (λ (p : Placed). p.parent)))
               (λ k lt.
@@ -187,10 +144,6 @@ module _ (g : Graph) (positions : List (List ℕ)) where
       (subst (λ (p : Placed). TellsPlaced g positions root ((ns ++ so_far) ++ map (below (length done + k))
       (children g positions p.node)) (with_sphere g positions ts (length done) (suc k))) at more)
 
-  take_all : (xs : List Placed) → take (length xs) xs ≡ xs
-  take_all [] = refl
-  take_all (x ∷ xs) = ap (λ ys. x ∷ ys) (take_all xs)
-
   last_length : (root s : ℕ) → length (spheres g positions root s).last ≡ length (sphere g positions root s)
   last_length root s = sym (length-map (spheres g positions root s).last (λ (p : Placed). p.node))
       ∙ ap (length {A = Node}) (last_nodes g positions root s)
@@ -224,7 +177,7 @@ module _ (g : Graph) (positions : List (List ℕ)) where
       (subst (λ f. TellsPlaced g positions a.root (placed g positions a.root (suc a.sphere))
       (with_sphere g positions a.nodes f (length up.last))) (first_is g positions a.root a.sphere ∙ sym h.first)
       (subst (λ xs. TellsPlaced g positions a.root ((up.before ++ up.last) ++ next_sphere g positions (length up.before)
-      xs) (with_sphere g positions a.nodes (length up.before) (length up.last))) (take_all up.last) made)))
+      xs) (with_sphere g positions a.nodes (length up.before) (length up.last))) (take-length up.last) made)))
 
 abbrev pub grown : Graph → List (List ℕ) → Growth → Growth
 grown g positions a = record a {
@@ -234,18 +187,11 @@ grown g positions a = record a {
       a.first (length a.nodes - a.first);
 }
 
-abbrev growth : ℕ → ℕ → ℕ → ℕ → List Told → Growth
-growth bound root sphere first nodes =
-    record { bound = bound; root = root; sphere = sphere; first = first; nodes = nodes }
+pub is_grown : (g : Graph) (positions : List (List ℕ)) (a new : Growth) → new ≡ grown g positions a
+    → new ≡ record a { sphere = a.sphere + 1; first = length a.nodes; nodes = new.nodes }
+is_grown g positions a new is = rw is refl
 
--- one column after the other is the same
-pub same_growth : {b c r q s t f e : ℕ} {ns ms : List Told} → b ≡ c → r ≡ q → s ≡ t → f ≡ e → ns ≡ ms
-    → growth b r s f ns ≡ growth c q t e ms
-same_growth {b} {c} {r} {q} {s} {t} {f} {e} {ns} {ms} bounds roots spheres firsts nodes =
-    ap (λ k. growth k r s f ns) bounds ∙ ap (λ k. growth c k s f ns) roots ∙ ap (λ k. growth c q k f ns) spheres
-    ∙ ap (λ k. growth c q t k ns) firsts ∙ ap (growth c q t e) nodes
-
-pub size_is : (g : Graph) (positions : List (List ℕ)) (a : Growth) → IsEarlier a.nodes → Holds g positions a
+size_is : (g : Graph) (positions : List (List ℕ)) (a : Growth) → IsEarlier a.nodes → Holds g positions a
     → next_size g positions a ≡ size_upto g a.nodes a.first (length a.nodes - a.first)
 size_is g positions a e h =
     let first = first_low g positions a h in
@@ -253,6 +199,12 @@ size_is g positions a e h =
     let len = (next_tells g positions a h).len in
     let old = h.tells.len in
     omega (arith, long, len, old, digraph_length g positions a.root (suc a.sphere))
+
+-- the same, by columns that are those of its nodes
+pub size_told : (g : Graph) (positions : List (List ℕ)) (a : Growth) → IsEarlier a.nodes → Holds g positions a
+    → (nodes : List Told) (first past : ℕ) → nodes ≡ a.nodes → first ≡ a.first → past ≡ length a.nodes
+    → next_size g positions a ≡ size_upto g nodes first (past - first)
+size_told g positions a e h nodes first past same at long = rw (same, at, long) (size_is g positions a e h)
 
 pub holds_grown : (g : Graph) (positions : List (List ℕ)) (a : Growth) → Holds g positions a
     → Holds g positions (grown g positions a)

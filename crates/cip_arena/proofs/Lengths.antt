@@ -1,31 +1,6 @@
 -- How long the rows get.
-use Rattle.std.proofs.Common.{
-  ◌≡◌,
-  ◌<◌,
-  ◌≤◌,
-  ◌+◌,
-  ◌-◌,
-  ℕ,
-  zero,
-  suc,
-  Bool,
-  true,
-  false,
-  cond,
-  List,
-  [],
-  ◌∷◌,
-  length,
-  None,
-  Some,
-  refl,
-  ap,
-  ◌∙◌,
-  arith,
-  length-append,
-  replicate,
-  unwrap_or,
-}
+use Rattle.std.proofs.Common.{◌≡◌, ◌<◌, ◌≤◌, ◌+◌, ◌-◌, ℕ, zero, suc, Bool, true, false, cond, List, [], ◌∷◌, length}
+use Rattle.std.proofs.Common.{None, Some, refl, ap, ◌∙◌, arith, length-append, replicate, unwrap_or}
 use Rattle.std.specs.List.{sum_by, fold}
 use Rattle.std.proofs.lemmas.List.Sums.{sum_by-cons}
 use Rattle.cip_digraph.specs.declared.nodes.Told.{Told}
@@ -35,22 +10,9 @@ use Rattle.cip_digraph.specs.declared.graph.Edge.{Edge}
 use Rattle.cip_digraph.specs.graph.Graph.{edges_at, other_end}
 use Rattle.std.specs.declared.option.Option.{Option}
 use Rattle.cip_arena.specs.Walk.{walk, is_above, IsEarlier, Keeps}
-use Rattle.cip_arena.specs.Making.{
-  edge_size,
-  size_at,
-  node_size,
-  size_upto,
-  real_vertex,
-  neighbour_told,
-  neighbours_told,
-  duplicate_told,
-  duplicates_told,
-  with_neighbour,
-  with_edge,
-  children_at,
-  with_children,
-  with_sphere,
-}
+use Rattle.cip_arena.specs.Making.{edge_size, size_at, node_size, size_upto, real_vertex, neighbour_told}
+use Rattle.cip_arena.specs.Making.{neighbours_told, duplicate_told, duplicates_told, with_neighbour, with_edge}
+use Rattle.cip_arena.specs.Making.{children_at, with_children, with_sphere}
 use Rattle.cip_arena.proofs.Sized.{edge_kept}
 use Rattle.cip_arena.proofs.Added.{keeps_append, keeps_then}
 

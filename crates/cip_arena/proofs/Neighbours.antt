@@ -1,14 +1,37 @@
 -- A neighbour added below a node, unless it is the parent.
-use Rattle.std.proofs.Common.{◌≡◌, ◌<◌, ◌≤◌, ◌+◌, ℕ, Bool, true, false, cond, List, [], ◌∷◌, ◌++◌, length, length-append, sym, ap, ◌∙◌, subst, arith, inl, inr}
+use Rattle.std.proofs.Common.{◌≡◌, ◌<◌, ◌≤◌, ◌+◌, ℕ, Bool, true, false, cond, List, [], ◌∷◌, ◌++◌, None, Some, get_or}
+use Rattle.std.proofs.Common.{unwrap_or, length, length-append, refl, sym, ap, ◌∙◌, subst, arith, inl, inr}
+use Rattle.std.specs.declared.option.Option.{Option}
 use Rattle.std.proofs.lemmas.Bool.{cases_lt}
-use Rattle.std.proofs.lemmas.List.{append-nil}
+use Rattle.std.proofs.lemmas.List.{append-nil, get_or_read_under}
 use Rattle.cip_digraph.specs.declared.nodes.Told.{Told}
-use Rattle.cip_digraph.specs.digraph.NodeList.{told_at}
+use Rattle.cip_digraph.specs.digraph.NodeList.{nothing_told, told_at}
 use Rattle.cip_digraph.specs.graph.Graph.{Graph}
-use Rattle.cip_arena.specs.Making.{neighbour_told, with_neighbour}
+use Rattle.cip_arena.specs.Growth.{Growth}
+use Rattle.cip_arena.specs.Making.{closure_told, real_told, neighbour_told, with_neighbour}
 use Rattle.cip_arena.specs.Walk.{walk, is_above, IsEarlier}
 
+pub told_read : (ts old : List Told) (node : ℕ) (read : Told) → ts ≡ old → node < length old
+    → read ≡ get_or ts node read → read ≡ told_at old node
+told_read ts old node read same lt is = subst (λ (us : List Told). read ≡ told_at us node) same
+    (get_or_read_under ts node (length ts) read nothing_told is
+    (subst (λ (us : List Told). node < length us) (sym same) lt) refl)
+
+pub with_nodes : (a : Growth) (ns ms : List Told) → ns ≡ ms
+    → ◌≡◌ {A = Growth} (record a { nodes = ns }) (record a { nodes = ms })
+with_nodes a ns ms same = ap {A = List Told} {B = Growth} (λ nodes. record a { nodes = nodes }) same
+
 module _ (graph : Graph) (old : List Told) (node other : ℕ) where
+  pub closure_is : (ts : List Told) (at : ℕ) (told : Told) → ts ≡ old → walk old node other ≡ Some at
+      → told ≡ closure_told graph ts node other at → told ≡ neighbour_told graph old node other (walk old node other)
+  closure_is ts at told same walked is = is ∙ ap (λ (us : List Told). closure_told graph us node other at) same
+      ∙ ap (neighbour_told graph old node other) (sym walked)
+
+  pub real_is : (ts : List Told) (told : Told) → ts ≡ old → walk old node other ≡ None
+      → told ≡ real_told graph ts node other → told ≡ neighbour_told graph old node other (walk old node other)
+  real_is ts told same walked is = is ∙ ap (λ (us : List Told). real_told graph us node other) same
+      ∙ ap (neighbour_told graph old node other) (sym walked)
+
   -- the parent is there already
   pub none_made : is_above old node other ≡ true → old ≡ with_neighbour graph old node other
   none_made above = sym (append-nil old)
@@ -21,6 +44,18 @@ module _ (graph : Graph) (old : List Told) (node other : ℕ) where
       ∙ ap (λ (b : Bool). old ++ cond b [] (neighbour_told graph old node other (walk old node other) ∷ [])) (sym below)
 
 module _ (old : List Told) (node other : ℕ) where
+  pub walked_as : (ts : List Told) (found : Option ℕ) → ts ≡ old → found ≡ walk ts node other
+      → walk old node other ≡ found
+  walked_as ts found same is = sym (is ∙ ap (λ (us : List Told). walk us node other) same)
+
+  pub above_as : (ts : List Told) (found known : Bool) → ts ≡ old → found ≡ is_above ts node other → found ≡ known
+      → is_above old node other ≡ known
+  above_as ts found known same is then = sym (is ∙ ap (λ (us : List Told). is_above us node other) same) ∙ then
+
+  pub stands_as : (found : Option ℕ) → walk old node other ≡ found
+      → unwrap_or found (length old) ≡ unwrap_or (walk old node other) (length old)
+  stands_as found walked = ap (λ (o : Option ℕ). unwrap_or o (length old)) (sym walked)
+
   pub none_more : is_above old node other ≡ true → length old ≡ length old + cond (is_above old node other) 0 1
   none_more above =
       let none : ◌≡◌ {A = ℕ} (cond (is_above old node other) 0 1) 0 = ap (λ b. cond {A = ℕ} b 0 1) above in

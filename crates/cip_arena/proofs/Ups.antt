@@ -1,32 +1,6 @@
 -- The way up as the list tells it, and the path.
-use Rattle.std.proofs.Common.{
-  ◌≡◌,
-  ◌<◌,
-  ◌-◌,
-  ◌==◌,
-  ◌||◌,
-  ℕ,
-  zero,
-  suc,
-  Bool,
-  true,
-  false,
-  cond,
-  List,
-  [],
-  ◌∷◌,
-  length,
-  None,
-  Some,
-  refl,
-  sym,
-  ap,
-  ◌∙◌,
-  subst,
-  arith,
-  inl,
-  inr,
-}
+use Rattle.std.proofs.Common.{◌≡◌, ◌<◌, ◌-◌, ◌==◌, ◌||◌, ℕ, zero, suc, Bool, true, false, cond, List, [], ◌∷◌, length}
+use Rattle.std.proofs.Common.{None, Some, refl, sym, ap, ◌∙◌, subst, arith, inl, inr}
 use Rattle.std.specs.declared.option.Option.{Option}
 use Rattle.std.proofs.lemmas.Bool.{cases_order, eqb-true, eqb-false}
 use Rattle.std.proofs.lemmas.List.{get_or-map, length-map}
@@ -40,8 +14,8 @@ use Rattle.cip_digraph.specs.rules.Keys.{distance_key, path_from, sphere_in_digr
 use Rattle.cip_digraph.specs.digraph.NodeList.{told_at}
 use Rattle.cip_digraph.specs.digraph.Telling.{node_at, StandsAt, Stands, TellsOf}
 use Rattle.cip_digraph.specs.digraph.View.{real_at}
-use Rattle.cip_digraph.proofs.LinkedNodes.{no_placed, placed_at, ChildBy, Linked}
-use Rattle.cip_digraph.proofs.Placing.{Placed, nodes_of}
+use Rattle.cip_digraph.proofs.numbered.Linked.{no_placed, placed_at, ChildBy, Linked}
+use Rattle.cip_digraph.proofs.numbered.Placing.{Placed, nodes_of}
 use Rattle.cip_arena.specs.Walk.{walk_on, is_above}
 
 -- the list tells of nodes that each have the number of their parent

@@ -2,7 +2,7 @@
 use Rattle.std.proofs.Common.{◌≡◌, ℕ, zero, suc, ◌+◌, ◌<◌, ◌==◌, Bool, true, false, cond, List, [], ◌∷◌, map, length, slice_index, arith, subst, eq-eqb}
 use Rattle.std.specs.List.{AllByRecursion}
 use Rattle.cip_rank.specs.Tree.{children_from, children_of}
-use Rattle.cip_digraph.proofs.Lists.{Pairwise}
+use Rattle.cip_digraph.proofs.lists.Elements.{Pairwise}
 
 pub all_images : {X Y : Type 0} (P : Y → Type 0) (f : X → Y) (xs : List X) → AllByRecursion P (map f xs)
     → AllByRecursion (λ x. P (f x)) xs

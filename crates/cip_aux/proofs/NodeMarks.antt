@@ -11,7 +11,7 @@ use Rattle.cip_digraph.specs.digraph.NodeList.{told_at, parents_of}
 use Rattle.cip_digraph.specs.digraph.Telling.{node_at}
 use Rattle.cip_digraph.specs.digraph.View.{real_at}
 use Rattle.cip_digraph.specs.rules.Auxiliary.{first_letter, node_letter, inside, auxiliary}
-use Rattle.cip_digraph.proofs.MarksSettled.{mark_is_letter}
+use Rattle.cip_digraph.proofs.marks.Settled.{mark_is_letter}
 use Rattle.cip_aux.specs.Inner.{Inner}
 use Rattle.cip_aux.specs.Marking.{IsFirstLetter, node_mark, flag_at, AreMarked, AreInner, AreWanted}
 use Rattle.cip_aux.specs.Neighbours.{atom_told}

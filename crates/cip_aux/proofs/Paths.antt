@@ -9,8 +9,8 @@ use Rattle.cip_digraph.specs.digraph.NodeList.{parents_of}
 use Rattle.cip_digraph.specs.digraph.Telling.{node_at}
 use Rattle.cip_digraph.specs.digraph.View.{real_at}
 use Rattle.cip_digraph.specs.graph.Graph.{Graph}
-use Rattle.cip_digraph.proofs.Children.{Passed, children_have}
-use Rattle.cip_digraph.proofs.Ended.{Anywhere, leads_anywhere}
+use Rattle.cip_digraph.proofs.tree.Children.{Passed, children_have}
+use Rattle.cip_digraph.proofs.tree.Ended.{Anywhere, leads_anywhere}
 use Rattle.cip_aux.proofs.Standing.{from_parent, few, root_path}
 use Rattle.cip_aux.proofs.WholeTold.{parents_len}
 use Rattle.cip_aux.specs.Sights.{Sight, Shows, path_at, IsReal}

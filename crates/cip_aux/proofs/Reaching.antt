@@ -4,7 +4,8 @@ use Rattle.std.specs.Prelude.{flat_map}
 use Rattle.std.specs.List.{AllByRecursion}
 use Rattle.cip_digraph.specs.outcome.Deciding.{nodes_below}
 use Rattle.cip_digraph.specs.digraph.View.{height_below}
-use Rattle.cip_digraph.proofs.BranchesEnd.{one_further, split_all}
+use Rattle.cip_digraph.proofs.tree.Branches.{one_further}
+use Rattle.cip_digraph.proofs.lists.Elements.{all_parts}
 
 -- what holds of each node so many spheres below
 module _ {N : Type 0} (below : N → List N) where
@@ -15,7 +16,7 @@ module _ {N : Type 0} (below : N → List N) where
   pub all_each : (P : N → Type 0) (ns : List N) → AllByRecursion P (flat_map below ns)
       → AllByRecursion (λ n. AllByRecursion P (below n)) ns
   all_each P [] all = tt
-  all_each P (n ∷ ns) all = let both = split_all below P (below n) (flat_map below ns) all in
+  all_each P (n ∷ ns) all = let both = all_parts P (below n) (flat_map below ns) all in
       (both.0, all_each P ns both.1)
 
   abbrev further : ℕ → List N → ℕ

@@ -15,8 +15,8 @@ use Rattle.cip_digraph.specs.digraph.NodeList.{told_at, parents_of}
 use Rattle.cip_digraph.specs.units.Ranked.{ligand_order}
 use Rattle.cip_digraph.specs.digraph.Telling.{node_at}
 use Rattle.cip_digraph.specs.digraph.View.{real_at, view_children, seen_from}
-use Rattle.cip_digraph.proofs.Lists.{all_by, all_append}
-use Rattle.cip_digraph.proofs.WholeOrder.{order_total}
+use Rattle.cip_digraph.proofs.lists.Elements.{all_by, all_append}
+use Rattle.cip_digraph.proofs.orders.Whole.{order_total}
 use Rattle.cip_letters.specs.Sides.{found_side, Sides, number_side, pair_sides}
 use Rattle.cip_letters.specs.TurnsOf.{turns_of, root_turns}
 use Rattle.cip_letters.proofs.PairTurns.{turns_are, two_mapped}

@@ -8,7 +8,7 @@ use Rattle.cip_digraph.specs.graph.Graph.{Graph}
 use Rattle.cip_digraph.specs.graph.SoundGraphs.{IsSound}
 use Rattle.cip_digraph.specs.digraph.Telling.{node_at}
 use Rattle.cip_digraph.specs.digraph.View.{is_end_of, is_on_way, parent, view_children}
-use Rattle.cip_digraph.proofs.Lists.{all_by}
+use Rattle.cip_digraph.proofs.lists.Elements.{all_by}
 use Rattle.cip_rank.specs.View.{is_above, on_way, parent_list, children_seen}
 use Rattle.cip_rank.proofs.Times.{children_below}
 use Rattle.cip_aux.specs.Whole.{IsWhole}

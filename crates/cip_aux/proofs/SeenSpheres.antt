@@ -5,7 +5,7 @@ use Rattle.std.proofs.lemmas.Bool.{and_parts, both_ways, false_from_ne_true}
 use Rattle.cip_digraph.specs.digraph.Digraph.{Node, is_real, children}
 use Rattle.cip_digraph.specs.graph.Graph.{Graph}
 use Rattle.cip_digraph.specs.digraph.View.{is_end_of, is_on_way, parent, view_children, apart}
-use Rattle.cip_digraph.proofs.Lists.{all_by, all_append}
+use Rattle.cip_digraph.proofs.lists.Elements.{all_by, all_append}
 use Rattle.cip_aux.proofs.PathEnds.{end_up, apart_off, apart_up}
 use Rattle.cip_aux.proofs.Standing.{IsBelow, all_below}
 

@@ -1,7 +1,7 @@
 -- The ends of the units of a sound graph are joined.
 use Rattle.std.proofs.Common.{◌≡◌, ◌≢◌, ◌==◌, ◌||◌, ℕ, Bool, true, false, cond, List, [], ◌∷◌, ◌++◌, map, length, subst, sym, ap, ◌∙◌, refl, inl, inr, eqb-true, filter, flat_map, nat_lt}
 use Rattle.std.specs.List.{AllByRecursion, list_any, range_with_len}
-use Rattle.std.proofs.lemmas.Bool.{or_cases, eq-eqb, ne_eqb}
+use Rattle.std.proofs.lemmas.Bool.{or_cases, eq-eqb, ne_eqb, or_left, or_right}
 use Rattle.std.proofs.lemmas.List.Elements.{All-from_recursion}
 use Rattle.cip_mol.specs.declared.site.Site.{Site}
 use Rattle.cip_mol.specs.declared.site.Unit as units
@@ -13,9 +13,8 @@ use Rattle.cip_digraph.specs.graph.Graph.{Graph, touches, other_end, insert_up, 
 use Rattle.cip_digraph.specs.graph.SoundGraphs.{JoinsBelow, IsSound}
 use Rattle.cip_digraph.specs.units.Units.{centre_site, sites_of}
 use Rattle.cip_digraph.specs.units.Centres.{is_centre}
-use Rattle.cip_digraph.proofs.AlternatingWays.{or_left, or_right}
-use Rattle.cip_digraph.proofs.Lists.{all_by, all_append, all_flat, all_filtered, all_mapped, by_recursion}
-use Rattle.cip_digraph.proofs.NeighbourOrder.{sorted_all}
+use Rattle.cip_digraph.proofs.lists.Elements.{all_by, all_append, all_flat, all_filtered, all_mapped, by_recursion}
+use Rattle.cip_digraph.proofs.bonds.Neighbours.{sorted_all}
 use Rattle.cip_aux.specs.Marking.{UnitsJoin}
 use Rattle.cip_aux.specs.Sights.{Sight}
 use Rattle.cip_aux.specs.Joining.{EndsJoin}

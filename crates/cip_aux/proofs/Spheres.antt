@@ -7,7 +7,7 @@ use Rattle.cip_rank.specs.Tree.{IsTree, children_of, spheres_behind, spheres_of,
 use Rattle.cip_rank.proofs.Children.{IsChild, children_are}
 use Rattle.cip_rank.proofs.Pushed.{index_at_end}
 use Rattle.cip_digraph.specs.digraph.View.{height_below}
-use Rattle.cip_digraph.proofs.Lists.{all_by, all_append}
+use Rattle.cip_digraph.proofs.lists.Elements.{all_by, all_append}
 use Rattle.cip_aux.proofs.Members.{child_has}
 
 behind_keeps : (spheres parents : List ℕ) (k : ℕ) → k < length spheres

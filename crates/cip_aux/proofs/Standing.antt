@@ -12,10 +12,10 @@ use Rattle.cip_digraph.specs.graph.Graph.{Graph}
 use Rattle.cip_digraph.specs.Laws.{real_paths}
 use Rattle.cip_digraph.specs.graph.SoundGraphs.{IsSound}
 use Rattle.cip_digraph.specs.digraph.Telling.{node_at}
-use Rattle.cip_digraph.proofs.Apart.{Different, children_differ}
-use Rattle.cip_digraph.proofs.Children.{Passes, children_have}
-use Rattle.cip_digraph.proofs.Ended.{IsPath, Anywhere, leads_anywhere, leads_below, paths_pass, member_below}
-use Rattle.cip_digraph.proofs.Lists.{all_by, Pairwise}
+use Rattle.cip_digraph.proofs.tree.Apart.{Different, children_differ}
+use Rattle.cip_digraph.proofs.tree.Children.{Passes, children_have}
+use Rattle.cip_digraph.proofs.tree.Ended.{IsPath, Anywhere, leads_anywhere, leads_below, paths_pass, member_below}
+use Rattle.cip_digraph.proofs.lists.Elements.{all_by, Pairwise}
 use Rattle.cip_aux.specs.Whole.{IsWhole}
 use Rattle.cip_aux.proofs.PathEnds.{tail_of}
 use Rattle.cip_aux.proofs.Members.{all_images, child_has, pair_has}

@@ -6,7 +6,7 @@ use Rattle.cip_digraph.specs.digraph.Digraph.{digraph}
 use Rattle.cip_digraph.specs.graph.Graph.{Graph}
 use Rattle.cip_digraph.specs.digraph.NodeList.{parents_of}
 use Rattle.cip_digraph.specs.digraph.Telling.{TellsWhole}
-use Rattle.cip_digraph.proofs.Numbered.{some_nodes, root_first, told_tree, told_whole_children}
+use Rattle.cip_digraph.proofs.numbered.Kin.{some_nodes, root_first, told_tree, told_whole_children}
 use Rattle.cip_aux.specs.Whole.{IsTold}
 
 pub parents_len : (all : List Told) → length (parents_of all) ≡ length all

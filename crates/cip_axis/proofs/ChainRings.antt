@@ -1,17 +1,19 @@
 -- A ring through the first bond of a chain goes through all of them, since an inner atom has two bonds.
-use Rattle.std.proofs.Common.{◌≡◌, ◌≢◌, ◌⊎◌, ◌<◌, ◌≤◌, ◌+◌, ◌-◌, inl, inr, ℕ, zero, suc, Bool, true, false, cond, not, ◌==◌, ◌&&◌, ◌||◌, List, [], ◌∷◌, ◌++◌, length, map, refl, sym, ap, ◌∙◌, subst, arith, eqb-true}
+use Rattle.std.proofs.Common.{◌≡◌, ◌≢◌, ◌⊎◌, ◌<◌, ◌+◌, ◌-◌, inl, inr, ℕ, zero, suc, Bool, true, false, cond, not, ◌==◌}
+use Rattle.std.proofs.Common.{◌||◌, List, [], ◌∷◌, ◌++◌, length, map, refl, sym, ap, ◌∙◌, subst, arith, eqb-true}
 use Rattle.std.specs.Prelude.{filter, slice_index_or}
 use Rattle.std.specs.List.{AllByRecursion}
-use Rattle.std.proofs.lemmas.Bool.{and_parts, eqb-false, ne_eqb}
+use Rattle.std.proofs.lemmas.Bool.{and_parts, eqb-false, ne_eqb, or_cases, not-true}
 use Rattle.std.proofs.lemmas.List.{length-append, length-map}
+use Rattle.std.proofs.Math.Bool.{or-false}
 use Rattle.cip_digraph.specs.declared.graph.Edge.{Edge}
 use Rattle.cip_digraph.specs.graph.Graph.{Graph, edges_at, neighbours, other_end}
 use Rattle.cip_digraph.specs.graph.SoundGraphs.{IsSound}
 use Rattle.cip_digraph.specs.rings.Alternating.{is_in}
 use Rattle.cip_digraph.specs.rings.RingsThrough.{IsRingThrough, Walks}
 use Rattle.cip_digraph.specs.units.Allenes.{doubles, is_allene_middle}
-use Rattle.cip_digraph.proofs.AlternatingWays.{either}
-use Rattle.cip_digraph.proofs.Lists.{Pairwise, all_by, pairwise_append, pairwise_from_pairs, pairs_from_pairwise}
+use Rattle.cip_digraph.proofs.lists.Elements.{Pairwise, all_by, pairwise_append, pairwise_from_pairs}
+use Rattle.cip_digraph.proofs.lists.Elements.{pairs_from_pairwise}
 use Rattle.cip_ring.specs.AnyRings.{is_in_ring}
 use Rattle.cip_ring.proofs.AnyRing.{rings_are_found}
 use Rattle.cip_label.proofs.FitUnits.{away, beside_each}
@@ -31,9 +33,8 @@ two_kept test (edge ∷ next ∷ []) p q = by (test edge) (test next) q
     by : (a b : Bool) → length (cond a (edge ∷ cond b (next ∷ []) []) (cond b (next ∷ []) [])) ≡ 2
         → cond a (edge ∷ cond b (next ∷ []) []) (cond b (next ∷ []) []) ≡ edge ∷ next ∷ []
     by true true h = refl
-    by true false h = absurd (omega (arith, h))
     by false true h = absurd (omega (arith, h))
-    by false false h = absurd (omega (arith, h))
+    by a b h = absurd (omega (arith, h))
 two_kept test (edge ∷ next ∷ more ∷ edges) p q = absurd (omega (arith, p))
 
 none_behind : (b : Bool) → (b || false) ≡ true → b ≡ true
@@ -58,14 +59,14 @@ other_of before at (one ∷ other ∷ []) p q = by (one == before) (other == bef
         (slice_index_or (cond (not a) (one ∷ cond (not b) (other ∷ []) []) (cond (not b) (other ∷ []) [])) 0 at)
     by true true e f h = absurd (omega (arith, h))
     by true false e f h = record {
-      only = λ x g. elim (either (one == x) ((other == x) || false) g) [
+      only = λ x g. elim (or_cases (one == x) ((other == x) || false) g) [
         | inl here ↦ inl (sym (eqb-true one x here) ∙ eqb-true one before e)
         | inr later ↦ inr (sym (eqb-true other x (none_behind (other == x) later)))
       ];
       each = λ P all. (subst (λ n. P n ≡ true) (eqb-true one before e) all.0, all.1.0);
     }
     by false true e f h = record {
-      only = λ x g. elim (either (one == x) ((other == x) || false) g) [
+      only = λ x g. elim (or_cases (one == x) ((other == x) || false) g) [
         | inl here ↦ inr (sym (eqb-true one x here))
         | inr later ↦ inl (sym (eqb-true other x (none_behind (other == x) later)) ∙ eqb-true other before f)
       ];
@@ -124,10 +125,6 @@ ring_back graph u v w (next ∷ rest) only back ring = elim (only next ring.way.
 
 -- chains
 
-or_none : (b : Bool) → (b || false) ≡ b
-or_none true = refl
-or_none false = refl
-
 or_implied : (a b : Bool) → (b ≡ true → a ≡ true) → (a || b) ≡ a
 or_implied true b f = refl
 or_implied false true f = sym (f refl)
@@ -164,16 +161,12 @@ module _ (graph : Graph) (sound : IsSound graph) (leads : LeadsToAtoms graph) wh
       let b = between before at e in
       let far = b.each (λ n. not (n == at)) (away_by at) in
       let back = b.each (λ n. is_in at (neighbours graph n)) (beside_each graph sound at) in
-      let apart : at ≢ on = λ same. eqb-false on at (off (on == at) far.1) (sym same) in
+      let apart : at ≢ on = λ same. eqb-false on at (not-true (on == at) far.1) (sym same) in
       let found = (rings_are_found graph sound at on (within at here) apart).found ring in
       let round = ring_back graph before at on (found.0) b.only back.1 found.1 in
       (rings_are_found graph sound before at (within before lt)
-      (eqb-false before at (off (before == at) far.0))).finds (round.0) round.1
+      (eqb-false before at (not-true (before == at) far.0))).finds (round.0) round.1
     where
-      off : (c : Bool) → not c ≡ true → c ≡ false
-      off false h = refl
-      off true h = let bad : false ≡ true = h in cc
-
       away_by : (at : ℕ) → AllByRecursion (λ n. not (n == at) ≡ true) (neighbours graph at)
       away_by at =
           all_by (λ n. n ≢ at) (λ n. not (n == at) ≡ true) (λ n d. ap not (ne_eqb n at d)) (neighbours graph at)
@@ -185,8 +178,8 @@ module _ (graph : Graph) (sound : IsSound graph) (leads : LeadsToAtoms graph) wh
   rings_along zero before at lt here = by (leads_on graph before at)
     where
       by : (b : Bool) → any_bond in_ring (before ∷ at ∷ cond b [] []) ≡ in_ring before at
-      by true = or_none (in_ring before at)
-      by false = or_none (in_ring before at)
+      by true = or-false (in_ring before at)
+      by false = or-false (in_ring before at)
   rings_along (suc more) before at lt here =
       by (leads_on graph before at) refl
       (rings_along more at (next_atom graph before at) here (next_below graph leads before at here))
@@ -200,7 +193,7 @@ module _ (graph : Graph) (sound : IsSound graph) (leads : LeadsToAtoms graph) wh
       by true e rest =
           ap (λ c. in_ring before at || c) rest
           ∙ or_implied (in_ring before at) (in_ring at (next_atom graph before at)) (passes_back before at lt here e)
-      by false e rest = or_none (in_ring before at)
+      by false e rest = or-false (in_ring before at)
 
   rings_of : (count a next : ℕ) → 0 < count → a < graph.drawn → next < graph.drawn
       → any_bond in_ring (a ∷ chain_from graph count a next)

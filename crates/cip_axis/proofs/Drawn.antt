@@ -1,28 +1,15 @@
 -- Atoms of chains and of biaryl axes are drawn.
-use Rattle.std.proofs.Common.{◌≡◌, ◌<◌, ◌≤◌, ◌+◌, ◌⊎◌, inl, inr, ℕ, zero, suc, Bool, true, false, cond, not, ◌==◌, ◌&&◌, ◌||◌, List, [], ◌∷◌, length, get_or, map, refl, sym, ap, ◌∙◌, subst, arith, eqb-true, ltb-true, ltb-false, lt-ltb}
-use Rattle.std.specs.Prelude.{filter, nat_lt, slice_index_or}
-use Rattle.std.specs.List.{All, AllByRecursion, list_any, range_with_len}
-use Rattle.std.proofs.lemmas.Bool.{and_parts}
-use Rattle.std.proofs.lemmas.List.{length-map}
-use Rattle.std.proofs.lemmas.List.Elements.{All-from_recursion}
+use Rattle.std.proofs.Common.{◌≡◌, ◌<◌, ◌≤◌, ◌+◌, ℕ, zero, suc, Bool, true, false, cond, not, ◌==◌, List, [], ◌∷◌}
+use Rattle.std.proofs.Common.{length, arith, eqb-true}
+use Rattle.std.specs.Prelude.{filter, slice_index_or}
+use Rattle.std.specs.List.{AllByRecursion}
 use Rattle.cip_digraph.specs.declared.graph.Edge.{Edge}
-use Rattle.cip_digraph.specs.graph.Graph.{Graph, edges_at, neighbours, other_end, touches}
+use Rattle.cip_digraph.specs.graph.Graph.{Graph, edges_at, other_end, touches}
 use Rattle.cip_digraph.specs.units.Allenes.{doubles}
-use Rattle.cip_digraph.proofs.Lists.{all_by, all_filtered, all_mapped, by_recursion}
-use Rattle.cip_digraph.proofs.NeighbourOrder.{sorted_all}
+use Rattle.cip_digraph.proofs.lists.Elements.{all_by, all_filtered, all_mapped, by_recursion, all_passed}
+use Rattle.cip_digraph.proofs.bonds.Neighbours.{sorted_all}
 use Rattle.cip_unit.specs.Sites.{LeadsToAtom, LeadsToAtoms}
 use Rattle.cip_axis.specs.Cumulenes.{onward, leads_on, next_atom, chain_from, chain_over}
-
-if_passed : {X : Type 0} (P : X → Type 0) (test : X → Bool) (b : Bool) (x : X) (xs : List X) → test x ≡ b → P x
-    → AllByRecursion (λ x. (test x ≡ true) × P x) xs
-    → AllByRecursion (λ x. (test x ≡ true) × P x) (cond b (x ∷ xs) xs)
-if_passed P test true x xs e p all = ((e, p), all)
-if_passed P test false x xs e p all = all
-
-pub all_passed : {X : Type 0} (P : X → Type 0) (test : X → Bool) (xs : List X) → AllByRecursion P xs
-    → AllByRecursion (λ x. (test x ≡ true) × P x) (filter test xs)
-all_passed P test [] all = tt
-all_passed P test (x ∷ xs) all = if_passed P test (test x) x (filter test xs) refl all.0 (all_passed P test xs all.1)
 
 other_by : (drawn : ℕ) (edge : Edge) → LeadsToAtom drawn edge → edge.order ≡ 2 → (b : Bool)
     → cond b edge.b edge.a < drawn

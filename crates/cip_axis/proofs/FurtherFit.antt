@@ -1,6 +1,6 @@
 -- Further units of a sound graph are fit.
-use Rattle.std.proofs.Common.{◌≡◌, ℕ, List, [], ◌∷◌, ◌++◌, ◌-◌, length, map, filter, flat_map, true, false}
-use Rattle.std.specs.List.{All, AllByRecursion, range_with_len}
+use Rattle.std.proofs.Common.{◌≡◌, ℕ, List, [], ◌∷◌, ◌++◌, ◌-◌, length, filter, flat_map, true, false}
+use Rattle.std.specs.List.{AllByRecursion, range_with_len}
 use Rattle.std.proofs.lemmas.List.Elements.{All-from_recursion}
 use Rattle.cip_mol.specs.Drawing.{Drawing}
 use Rattle.cip_digraph.specs.graph.Graph.{Graph, edges_at, other_end}
@@ -8,7 +8,8 @@ use Rattle.cip_digraph.specs.graph.SoundGraphs.{IsSound}
 use Rattle.cip_digraph.specs.units.Descriptors.{is_odd}
 use Rattle.cip_digraph.specs.units.DoubleBonds.{end_ligands}
 use Rattle.cip_digraph.specs.declared.graph.Edge.{Edge}
-use Rattle.cip_digraph.proofs.Lists.{all_append, all_by, all_flat, all_mapped}
+use Rattle.cip_digraph.proofs.lists.Elements.{all_append, all_mapped, all_told}
+use Rattle.cip_digraph.proofs.lists.Elements.{all_flat_each}
 use Rattle.cip_label.specs.Fitting.{IsFitSite}
 use Rattle.cip_label.proofs.FitUnits.{three_end_fit, two_ended_fit}
 use Rattle.cip_axis.specs.Biaryls.{is_biaryl}
@@ -16,13 +17,8 @@ use Rattle.cip_axis.specs.Cumulenes.{chains, first_atom, last_atom, is_cumulene}
 use Rattle.cip_axis.specs.Further.{biaryls_of, biaryl_unit, cumulenes_of, cumulene_site, cumulene_unit, further_of}
 use Rattle.cip_axis.specs.Likeness.{like}
 use Rattle.cip_axis.specs.declared.site.FurtherUnit.{FurtherUnit}
-use Rattle.cip_axis.proofs.Drawn.{all_passed}
 use Rattle.cip_axis.proofs.Sited.{axis_end_parts, biaryl_parts, cumulene_parts}
 use Rattle.cip_axis.specs.FurtherOutcomes.{AreFurtherFit, FurtherUnitsAreFit}
-
-all_of_anything : {X : Type 0} (xs : List X) → AllByRecursion (λ _. Unit {0}) xs
-all_of_anything [] = tt
-all_of_anything (x ∷ xs) = (tt, all_of_anything xs)
 
 module _ (graph : Graph) (sound : IsSound graph) where
   cumulene_fit : (chain : List ℕ) → is_cumulene graph chain ≡ true → IsFitSite graph (like (cumulene_site graph chain))
@@ -52,19 +48,15 @@ module _ (graph : Graph) (sound : IsSound graph) where
   cumulenes_fit drawing a =
       let all = chains graph a in
       all_mapped Fit (cumulene_unit drawing graph) (filter (is_cumulene graph) all)
-      (all_by (λ chain. (is_cumulene graph chain ≡ true) × Unit {0}) (λ chain. Fit (cumulene_unit drawing graph chain))
-      (λ chain h. cumulene_fit chain h.0) (filter (is_cumulene graph) all)
-      (all_passed (λ _. Unit {0}) (is_cumulene graph) all (all_of_anything all)))
+      (all_told (λ chain. Fit (cumulene_unit drawing graph chain)) (is_cumulene graph) cumulene_fit all)
 
   biaryls_fit : (drawing : Drawing) (positions : List (List ℕ)) (a : ℕ)
       → AllByRecursion Fit (biaryls_of drawing graph positions a)
   biaryls_fit drawing positions a =
       let all = edges_at graph a in
       all_mapped Fit (λ e. biaryl_unit drawing graph a (other_end a e)) (filter (is_biaryl graph positions a) all)
-      (all_by (λ e. (is_biaryl graph positions a e ≡ true) × Unit {0})
-      (λ e. Fit (biaryl_unit drawing graph a (other_end a e)))
-      (λ e h. biaryl_fit drawing positions a e h.0) (filter (is_biaryl graph positions a) all)
-      (all_passed (λ _. Unit {0}) (is_biaryl graph positions a) all (all_of_anything all)))
+      (all_told (λ e. Fit (biaryl_unit drawing graph a (other_end a e))) (is_biaryl graph positions a)
+      (biaryl_fit drawing positions a) all)
 
   pub units_fit : (drawing : Drawing) (positions : List (List ℕ)) → AreFurtherFit graph (further_of drawing graph positions)
   unfolding further_of
@@ -73,10 +65,8 @@ module _ (graph : Graph) (sound : IsSound graph) where
       All-from_recursion Fit (flat_map (cumulenes_of drawing graph) atoms
       ++ flat_map (biaryls_of drawing graph positions) atoms)
       (all_append Fit (flat_map (cumulenes_of drawing graph) atoms) (flat_map (biaryls_of drawing graph positions) atoms)
-      (all_flat (λ _. Unit {0}) Fit (cumulenes_of drawing graph) (λ a _. cumulenes_fit drawing a) atoms
-      (all_of_anything atoms))
-      (all_flat (λ _. Unit {0}) Fit (biaryls_of drawing graph positions) (λ a _. biaryls_fit drawing positions a) atoms
-      (all_of_anything atoms)))
+      (all_flat_each Fit (cumulenes_of drawing graph) (cumulenes_fit drawing) atoms)
+      (all_flat_each Fit (biaryls_of drawing graph positions) (biaryls_fit drawing positions) atoms))
 
 pub further_units_are_fit : FurtherUnitsAreFit
 further_units_are_fit drawing graph positions sound = units_fit graph sound drawing positions

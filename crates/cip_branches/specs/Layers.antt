@@ -1,5 +1,5 @@
 -- All columns of branches, by place, by row and by sphere. Own.
-use Rattle.std.specs.Prelude.{◌≡◌, ◌≤◌, ◌+◌, ◌++◌, ◌∷◌, ℕ, Bool, List, [], length, slice_index}
+use Rattle.std.specs.Prelude.{◌≡◌, ◌<◌, ◌≤◌, ◌+◌, ◌^◌, ◌++◌, ◌∷◌, ℕ, Bool, List, [], length, slice_index}
 use Rattle.cip_rows.specs.Kin.{Kin, with_place, with_children}
 use Rattle.cip_rows.specs.Ranked.{Ranked, with_row}
 use Rattle.cip_rows.specs.Reserved.{Reserved}
@@ -14,9 +14,11 @@ pub record Layers : Type 0 where
 -- each place has its entry in each column, and no class is to be looked at
 pub record KeepLayers (kin : Kin) (ranked : Ranked) (starts before : Reserved ℕ) (flags : Reserved Bool)
     (sets : Reserved ℕ) : Type 0 where
+  pub few : kin.room + 1 < 2 ^ 32
   pub fits : length kin.ups ≤ kin.room
   pub ranked_room : ranked.room ≡ kin.room
   pub starts_room : starts.room ≡ kin.room + 1
+  pub starts_fit : length starts.items ≤ kin.room + 1
   pub before_room : before.room ≡ kin.room
   pub flags_room : flags.room ≡ kin.room
   pub sets_room : sets.room ≡ kin.room

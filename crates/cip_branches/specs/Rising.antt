@@ -1,6 +1,6 @@
 -- Numbers that rise, and trees whose parents don't fall: how many places a further sphere takes at most. Own.
-use Rattle.std.specs.Prelude.{◌<◌, ◌≤◌, ◌+◌, ◌++◌, ℕ, zero, suc, List, [], ◌∷◌, length, slice_index}
-use Rattle.std.specs.List.{AllByRecursion}
+use Rattle.std.specs.Prelude.{◌<◌, ◌≤◌, ℕ, List, [], ◌∷◌, length, slice_index}
+use Rattle.std.specs.List.{AllByRecursion, flat_map, range_with_len}
 
 -- each number is above those before it
 abbrev pub Rises : List ℕ → Type 0
@@ -13,6 +13,4 @@ pub record IsAscending (parents : List ℕ) : Type 0 where
 
 -- the children that are told of the nodes at so many places, from a place on
 abbrev pub kids_list : (ℕ → List ℕ) → List ℕ → ℕ → ℕ → List ℕ
-kids_list kids_at nodes place zero = []
-kids_list kids_at nodes place (suc more) =
-    kids_at (slice_index nodes place) ++ kids_list kids_at nodes (place + 1) more
+kids_list kids_at nodes place more = flat_map (λ p. kids_at (slice_index nodes p)) (range_with_len place more)

@@ -1,6 +1,6 @@
 -- A sphere walked below the places of the last one: what stands, and what is new. Own.
-use Rattle.std.specs.Prelude.{◌≡◌, ◌<◌, ◌≤◌, ◌+◌, ◌-◌, ◌++◌, ◌⊎◌, ℕ, zero, suc, Bool, true, cond, List, [], length, map, slice_index}
-use Rattle.std.specs.List.{AllByRecursion}
+use Rattle.std.specs.Prelude.{◌≡◌, ◌<◌, ◌≤◌, ◌+◌, ◌-◌, ◌++◌, ◌⊎◌, ℕ, suc, Bool, true, if◌then◌else◌, List, [], length, map, slice_index}
+use Rattle.std.specs.List.{AllByRecursion, flat_map, range_with_len, sum_by}
 use Rattle.cip_rows.specs.Kids.{kids_of, IsAmong}
 use Rattle.cip_rows.specs.Kin.{Kin}
 use Rattle.cip_branches.specs.Layers.{Layers, with_sphere}
@@ -16,13 +16,14 @@ pub record HaveEntries (now : Layers) : Type 0 where
   pub numbers : length now.ranked.numbers ≡ length now.kin.ups
   pub before : length now.before ≡ length now.kin.ups
 
+-- the children that are told of the node at a place, where its branch is wanted
+abbrev pub wanted_at : (ℕ → List ℕ) → List Bool → Kin → ℕ → List ℕ
+wanted_at kids_at wanted kin place =
+    if has_flag wanted (slice_index kin.branches place) then kids_at (slice_index kin.nodes place) else []
+
 -- the children that are told of the nodes at so many places from one on, where branches are wanted
 abbrev pub wanted_kids : (ℕ → List ℕ) → List Bool → Kin → ℕ → ℕ → List ℕ
-wanted_kids kids_at wanted kin first zero = []
-wanted_kids kids_at wanted kin first (suc more) =
-    wanted_kids kids_at wanted kin first more
-    ++ cond (has_flag wanted (slice_index kin.branches (first + more)))
-    (kids_at (slice_index kin.nodes (first + more))) []
+wanted_kids kids_at wanted kin first more = flat_map (wanted_at kids_at wanted kin) (range_with_len first more)
 
 module _ (begin : Layers) where
   abbrev pub known : ℕ
@@ -85,9 +86,7 @@ pub record LastPlaces (now : Layers) (wanted : List Bool) (first last : ℕ) : T
 
 -- how many children the nodes at so many places have, from a place on
 abbrev pub kids_left : (ℕ → List ℕ) → List ℕ → ℕ → ℕ → ℕ
-kids_left kids_at nodes place zero = 0
-kids_left kids_at nodes place (suc more) =
-    length (kids_at (slice_index nodes place)) + kids_left kids_at nodes (place + 1) more
+kids_left kids_at nodes place more = sum_by (λ p. length (kids_at (slice_index nodes p))) (range_with_len place more)
 
 -- all places of the last sphere are walked, and a sphere ends behind them
 pub record IsWalked (begin : Layers) (first size : ℕ) (kids_at : ℕ → List ℕ) (wanted : List Bool)

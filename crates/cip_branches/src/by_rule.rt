@@ -1,5 +1,5 @@
 // Branches of nodes of any kind, ranked by a rule: how the numbers of their tops compare.
-ghost use Rattle.std.specs.Prelude.{◌≡◌, ◌<◌, ◌≤◌, ◌+◌, ◌-◌, ◌^◌, suc, ℕ, ℤ, List, length, slice_index};
+ghost use Rattle.std.specs.Prelude.{◌≡◌, ◌<◌, ◌≤◌, ◌+◌, ◌-◌, suc, ℕ, ℤ, List, length, slice_index};
 ghost use Rattle.std.specs.Cmp.{IsTotalOrder};
 ghost use Rattle.std.specs.declared.cmp.Ordering.{Ordering};
 ghost use Rattle.std.specs.declared.cmp.Ordering.TheVariants.{Equal};
@@ -37,7 +37,6 @@ impl Branches {
     pub fn begin_by<K: NodeKeys>(&mut self, tops: &[u32], keys: &K)
         requires room { length tops.now ≤ self.old.layers.kin.room }
         requires some { 0 < self.old.layers.kin.room }
-        requires few { length tops.now < 2 ^ 32 }
         requires keyed { (k : ℕ) → k < length tops.now → slice_index tops.now k < K.nodes keys.now }
         requires first { (a b : K.Node) → K.earlier keys.now a b ≡ Equal }
         requires same { (k : ℕ) → k < length tops.now → key_at (K.key keys.now) (slice_index tops.now k)
@@ -61,7 +60,6 @@ impl Branches {
             - self.old.first) ≤ self.old.layers.kin.room }
         requires sphere_room { self.old.last + 2 ≤ self.old.layers.kin.room }
         requires keyed { length around.now.table.now.parents ≤ K.nodes keys.now }
-        requires few { self.old.last + 3 < 2 ^ 32 }
         requires first { (a b : K.Node) → K.earlier keys.now a b ≡ Equal }
         requires names { Names (K.children keys.now) (K.earlier keys.now) (K.node_key keys.now) (K.named keys.now)
             self.old.layers self.old.wanted self.old.last (length around.now.table.now.parents)

@@ -1,5 +1,5 @@
 // Branches that are told apart from all others.
-ghost use Rattle.std.specs.Prelude.{◌≡◌, ◌<◌, ◌≤◌, ◌^◌, true, false, length};
+ghost use Rattle.std.specs.Prelude.{◌≡◌, ◌<◌, ◌≤◌, true, false, length};
 ghost use Rattle.cip_branches.specs.Closing.{TiesWith, IsOpen, FlagOpen};
 ghost use Rattle.cip_branches.specs.Ruled.{WantsFewer};
 
@@ -15,17 +15,24 @@ impl Spheres {
         ensures told { result ≡ true → TiesWith self.now.ranked.numbers wanted.now branch other }
         ensures none { result ≡ false → TiesWith self.now.ranked.numbers wanted.now branch other → ⊥ }
     {
-        let _places = self.family.len();
         wanted[other as usize]
             && other != branch
             && self.order.number(other) == self.order.number(branch)
+    }
+
+    // How many branches there are, each of which has its top.
+    fn branch_count(&self, wanted: &[bool]) -> u32
+        requires { length wanted.now ≤ length self.now.kin.ups }
+        ensures { result ≡ length wanted.now }
+    {
+        let places = self.family.len();
+        places.min(wanted.len() as u32)
     }
 
     // Whether a branch is wanted, and ties with another one.
     fn is_open(&self, wanted: &[bool], branch: u32) -> bool
         requires branch { branch < length self.now.kin.ups }
         requires tops { length wanted.now ≤ length self.now.kin.ups }
-        requires few { length wanted.now < 2 ^ 32 }
         ensures told { result ≡ true → IsOpen self.now.ranked.numbers wanted.now branch }
         ensures none { result ≡ false → IsOpen self.now.ranked.numbers wanted.now branch → ⊥ }
     {
@@ -33,7 +40,7 @@ impl Spheres {
             return false;
         }
         // from both ends, where branches stand that were doubled
-        let count = wanted.len() as u32;
+        let count = self.branch_count(wanted);
         for other in 0..count {
             if self.ties_with(wanted, branch, other)
                 || self.ties_with(wanted, branch, count - 1 - other)
@@ -47,12 +54,11 @@ impl Spheres {
     /// Flags the branches that are wanted further: those of which another wanted one has the same order so far.
     pub fn flag_open(&self, wanted: &[bool], flags: &mut [bool])
         requires tops { length wanted.now ≤ length self.now.kin.ups }
-        requires few { length wanted.now < 2 ^ 32 }
         requires len { length flags.old ≡ length wanted.now }
         ensures flagged { FlagOpen self.now.ranked.numbers wanted.now (length wanted.now) flags.new }
         ensures fewer { WantsFewer wanted.now flags.new }
     {
-        for branch in 0..wanted.len() as u32 {
+        for branch in 0..self.branch_count(wanted) {
             flags[branch as usize] = self.is_open(wanted, branch);
         }
     }

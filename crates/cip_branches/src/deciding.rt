@@ -69,7 +69,6 @@ impl Branches {
     pub fn begin<K: Keyed>(&mut self, tops: &[u32], keys: &K)
         requires room { length tops.now ≤ self.old.layers.kin.room }
         requires some { 0 < self.old.layers.kin.room }
-        requires few { length tops.now < 2 ^ 32 }
         requires keyed { (k : ℕ) → k < length tops.now → slice_index tops.now k < K.nodes keys.now }
         ensures begun { Begins tops.now (K.key keys.now) self.new.layers }
         ensures followed { AreFollowed self.new }
@@ -78,10 +77,10 @@ impl Branches {
         ensures chosen { FlagsOpen self.new.layers.ranked.numbers (replicate (length tops.now) true) self.new.wanted }
         ensures room { self.new.layers.kin.room ≡ self.old.layers.kin.room }
     {
-        let count = tops.len() as u32;
         self.spheres.begin(tops, keys);
         self.first = 0;
         self.last = 0;
+        let count = self.spheres.len();
         self.opens.fill(count, true);
         self.wanted.fill(count, true);
         self.let_go();
@@ -97,7 +96,6 @@ impl Branches {
             - self.old.first) ≤ self.old.layers.kin.room }
         requires sphere_room { self.old.last + 2 ≤ self.old.layers.kin.room }
         requires keyed { length around.now.table.now.parents ≤ K.nodes keys.now }
-        requires few { self.old.last + 3 < 2 ^ 32 }
         ensures walked { Follows self.old.layers self.old.first self.old.last (length around.now.table.now.parents)
             (kids_around around.now.table.now.parents around.now.way.now) self.old.wanted (K.key keys.now)
             self.new.layers }
@@ -145,7 +143,6 @@ impl Branches {
         ensures count { result ≡ length self.now.wanted }
         ensures tops { length self.now.wanted ≤ length self.now.layers.kin.ups }
     {
-        let _places = self.spheres.len();
         self.wanted.len()
     }
 

@@ -13,7 +13,8 @@ use cip_rank::Keyed;
 impl Spheres {
     // Lets go of all places, and of no memory.
     fn clear(&mut self)
-        ensures { self.new ≡ cleared self.old }
+        ensures cleared { self.new ≡ cleared self.old }
+        ensures few { self.old.kin.room + 1 < 2 ^ 32 }
     {
         self.family.clear();
         self.order.clear();
@@ -27,7 +28,6 @@ impl Spheres {
     fn start(&mut self, tops: &[u32])
         requires room { length tops.now ≤ self.old.kin.room }
         requires some { 0 < self.old.kin.room }
-        requires few { length tops.now < 2 ^ 32 }
         ensures { self.new ≡ begun_with tops.now self.old }
     {
         self.clear();
@@ -42,7 +42,6 @@ impl Spheres {
     pub fn begin<K: Keyed>(&mut self, tops: &[u32], keys: &K)
         requires room { length tops.now ≤ self.old.kin.room }
         requires some { 0 < self.old.kin.room }
-        requires few { length tops.now < 2 ^ 32 }
         requires keyed { (k : ℕ) → k < length tops.now → slice_index tops.now k < K.nodes keys.now }
         ensures begun { Begins tops.now (K.key keys.now) self.new }
         ensures room { self.new.kin.room ≡ self.old.kin.room }
@@ -70,13 +69,12 @@ impl Spheres {
             around.now.way.now) wanted.now first last self.old }
         requires keyed { length around.now.table.now.parents ≤ K.nodes keys.now }
         requires nodes { AreKeyed (K.nodes keys.now) self.old.kin }
-        requires few { last + 3 < 2 ^ 32 }
         ensures followed { Follows self.old first last (length around.now.table.now.parents)
             (kids_around around.now.table.now.parents around.now.way.now) wanted.now (K.key keys.now) self.new }
         ensures ranked { AreRanked self.new (suc last) }
         ensures places { (others : List Bool) → LastPlaces self.new others (length self.old.kin.ups) (suc last) }
     {
-        self.walk_on(around, wanted, first, last);
+        self.walk_on(around, wanted, first);
         self.pass(keys, last, last + 1);
     }
 }

@@ -1,5 +1,5 @@
 // A rule taken one sphere further.
-ghost use Rattle.std.specs.Prelude.{◌≡◌, ◌<◌, ◌≤◌, ◌+◌, ◌^◌, ℕ, suc, length, slice_index};
+ghost use Rattle.std.specs.Prelude.{◌≡◌, ◌<◌, ◌≤◌, ◌+◌, ℕ, suc, length, slice_index};
 ghost use Rattle.cip_rows.specs.Kids.{kids_of};
 ghost use Rattle.cip_branches.specs.Passing.{AreNotedBut, AreSteadyButNew, Passes};
 ghost use Rattle.cip_rows.specs.Keys.{AreKeyed, key_of};
@@ -38,7 +38,6 @@ impl Spheres {
     pub fn pass<K: Keyed>(&mut self, keys: &K, far: u32, last: u32) -> u32
         requires far { far < last }
         requires last { last + 2 ≡ length self.old.starts }
-        requires few { last + 2 < 2 ^ 32 }
         requires keyed { AreKeyed (K.nodes keys.now) self.old.kin }
         requires spheres { AreSpheres (kids_of self.old.kin) self.old.kin.ups self.old.ranked.rows self.old.starts last
             self.old.ranked.numbers }

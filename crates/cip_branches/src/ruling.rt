@@ -1,5 +1,5 @@
 // A later rule, over the places that stand.
-ghost use Rattle.std.specs.Prelude.{◌≡◌, ◌<◌, ◌+◌, ◌^◌, ◌↔◌, true, false, length};
+ghost use Rattle.std.specs.Prelude.{◌≡◌, ◌<◌, ◌+◌, ◌^◌, ◌↔◌, ℕ, true, false, length};
 ghost use Rattle.cip_branches.specs.Deciding.{AreFollowed, FlagsOpen};
 ghost use Rattle.cip_branches.specs.Following.{AreRanked};
 ghost use Rattle.cip_rows.specs.Keys.{AreKeyed};
@@ -12,13 +12,12 @@ use cip_rank::Keyed;
 
 impl Spheres {
     // Splits the classes of the first sphere by keys.
-    fn split_first<K: Keyed>(&mut self, keys: &K, last: u32)
-        requires ranked { AreRanked self.old last }
+    fn split_first<K: Keyed>(&mut self, keys: &K)
+        requires ranked { (last : ℕ) × AreRanked self.old last }
         requires keyed { AreKeyed (K.nodes keys.now) self.old.kin }
         ensures split { SplitsFirst self.old (K.key keys.now) self.new }
-        ensures ranked { AreRanked self.new last }
+        ensures ranked { (last : ℕ) → AreRanked self.old last → AreRanked self.new last }
     {
-        let _last = last;
         let from = self.first_row(0);
         let to = self.first_row(1);
         self.split_sphere(keys, from, to);
@@ -38,7 +37,6 @@ impl Spheres {
         ensures tops { result ≡ false → Stands self.old.ranked.rows self.old.starts 0 self.old.ranked.numbers
             self.new.ranked.numbers }
     {
-        let _count = self.starts.len();
         let from = self.first_row(far + 1);
         let to = self.first_row(far + 2);
         if self.stands_by(keys, from, to) {
@@ -59,7 +57,7 @@ impl Branches {
         ensures chosen { FlagsOpen self.new.layers.ranked.numbers self.old.wanted self.new.wanted }
         ensures others { self.new ≡ record self.old { layers = self.new.layers; wanted = self.new.wanted } }
     {
-        self.spheres.split_first(keys, self.last);
+        self.spheres.split_first(keys);
         self.let_go();
     }
 

@@ -66,6 +66,7 @@ impl Spheres {
         requires { sphere < length self.now.starts }
         ensures value { result ≡ slice_index self.now.starts sphere }
         ensures fits { length self.now.ranked.rows ≤ self.now.kin.room }
+        ensures few { length self.now.starts < 2 ^ 32 }
     {
         self.starts.as_slice()[sphere as usize]
     }

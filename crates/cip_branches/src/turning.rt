@@ -1,5 +1,5 @@
 // Spheres refined from the outside inwards.
-ghost use Rattle.std.specs.Prelude.{◌≡◌, ◌<◌, ◌≤◌, ◌+◌, ◌^◌, ◌↔◌, ℕ, true, false, length};
+ghost use Rattle.std.specs.Prelude.{◌≡◌, ◌<◌, ◌≤◌, ◌+◌, ◌↔◌, ℕ, true, false, length};
 ghost use Rattle.cip_rows.specs.Kids.{kids_of, by_kids};
 ghost use Rattle.cip_rows.specs.Parting.{KeepsSphere};
 ghost use Rattle.cip_branches.specs.Refining.{Refines};
@@ -60,7 +60,6 @@ impl Spheres {
     pub(crate) fn refine_inwards(&mut self, far: u32, last: u32) -> u32
         requires far { far < last }
         requires last { last + 2 ≡ length self.old.starts }
-        requires few { last + 2 < 2 ^ 32 }
         requires spheres { AreSpheres (kids_of self.old.kin) self.old.kin.ups self.old.ranked.rows self.old.starts last
             self.old.ranked.numbers }
         requires steady { AreSteadyBefore (kids_of self.old.kin) self.old.ranked.rows self.old.starts far

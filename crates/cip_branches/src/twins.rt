@@ -1,5 +1,5 @@
 // Branches doubled, for a rule that reads each of them twice.
-ghost use Rattle.std.specs.Prelude.{◌≡◌, ◌<◌, ◌≤◌, ◌+◌, ℕ, length, slice_index};
+ghost use Rattle.std.specs.Prelude.{◌≡◌, ◌<◌, ◌≤◌, ◌+◌, ◌^◌, ℕ, length, slice_index};
 ghost use Rattle.cip_branches.specs.Deciding.{AreFollowed};
 ghost use Rattle.cip_branches.specs.Twins.{twin_starts, twins_of, MayDouble};
 ghost use Rattle.cip_rows.specs.Kin.{IsFamily};
@@ -27,7 +27,6 @@ impl Spheres {
             < length from.now.kin.ups }
     {
         let count = from.len();
-        let _room = self.before.len();
         self.family.write_twins(&from.family);
         self.order.write_twins(&from.order);
         self.before.copy(self.order.numbers());
@@ -49,6 +48,7 @@ impl Branches {
         ensures twins { self.new ≡ twins_of self.old.layers.kin.room from.now }
         ensures followed { AreFollowed self.new }
         ensures may { MayDouble from.now }
+        ensures few { length from.now.layers.kin.ups + length from.now.layers.kin.ups < 2 ^ 32 }
     {
         let count = from.len();
         let kept = count.min(from.last() + 1);

@@ -1,5 +1,5 @@
 // The next sphere, walked below the places of the last one.
-ghost use Rattle.std.specs.Prelude.{◌≡◌, ◌<◌, ◌≤◌, ◌+◌, suc, Bool, true, false, List, length, slice_index};
+ghost use Rattle.std.specs.Prelude.{◌≡◌, ◌<◌, ◌≤◌, ◌+◌, ◌^◌, suc, ℕ, Bool, true, false, List, length, slice_index};
 ghost use Rattle.cip_branches.specs.Around.{kids_around};
 ghost use Rattle.cip_rows.specs.Kids.{kids_of};
 ghost use Rattle.cip_branches.specs.Layers.{with_new_place, with_kids, with_sphere};
@@ -15,6 +15,7 @@ impl Spheres {
     pub fn len(&self) -> u32
         ensures count { result ≡ length self.now.kin.ups }
         ensures fits { length self.now.kin.ups ≤ self.now.kin.room }
+        ensures few { self.now.kin.room + 1 < 2 ^ 32 }
     {
         self.family.len()
     }
@@ -77,16 +78,17 @@ impl Spheres {
 
     /// Adds the next sphere: the neighbours that lead away from the nodes at the places from `first` on, which are
     /// those of the last sphere, where their branches are wanted. All new places tie.
-    pub fn walk_on(&mut self, around: &Around<'_>, wanted: &[bool], first: u32, last: u32)
-        requires { MayWalk (length around.now.table.now.parents) (kids_around around.now.table.now.parents
-            around.now.way.now) wanted.now first last self.old }
+    pub fn walk_on(&mut self, around: &Around<'_>, wanted: &[bool], first: u32)
+        requires { (last : ℕ) × MayWalk (length around.now.table.now.parents) (kids_around
+            around.now.table.now.parents around.now.way.now) wanted.now first last self.old }
         ensures walked { IsWalked self.old first (length around.now.table.now.parents)
             (kids_around around.now.table.now.parents around.now.way.now) wanted.now self.new }
-        ensures spheres { AreSpheres (kids_of self.new.kin) self.new.kin.ups self.new.ranked.rows self.new.starts
-            (suc last) self.new.ranked.numbers }
-        ensures places { (others : List Bool) → LastPlaces self.new others (length self.old.kin.ups) (suc last) }
+        ensures spheres { (last : ℕ) → length self.old.starts ≡ last + 2 → AreSpheres (kids_of self.new.kin)
+            self.new.kin.ups self.new.ranked.rows self.new.starts (suc last) self.new.ranked.numbers }
+        ensures places { (last : ℕ) → length self.old.starts ≡ last + 2 → (others : List Bool)
+            → LastPlaces self.new others (length self.old.kin.ups) (suc last) }
+        ensures few { self.old.kin.room + 1 < 2 ^ 32 }
     {
-        let _last = last;
         let _count = around.table.len();
         let number = self.order.row_count();
         let past = self.family.len();

@@ -41,7 +41,3 @@ module _ (graph : Graph) (positions : List (List ℕ)) (root bound : ℕ) where
         → first_of graph positions root sphere ≤ slice_index branched.layers.kin.nodes place
     pub rise : (p q : ℕ) → branched.first ≤ p → p < q → q < length branched.layers.kin.ups
         → slice_index branched.layers.kin.nodes p < slice_index branched.layers.kin.nodes q
-
-  -- from the first sphere on
-  pub record IsFollowed (sphere : ℕ) (branched : Branched) : Type 0 where
-    pub from_first : 0 < sphere → Follows sphere branched

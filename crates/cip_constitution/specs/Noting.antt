@@ -43,7 +43,3 @@ module _ (graph : Graph) (positions : List (List ℕ)) (root bound : ℕ) where
         → ligand_node (view_children graph positions (root ∷ []) (real_node root [])) (Vertex vertex) ≡ node ∷ []
         → top_of (branch vertex) ≡ node
     pub noted : asked ≡ map (with_found (found_below R1a by_atoms top_of spheres)) (map (asked_by branch) pairs)
-
-  -- from the first sphere on
-  pub record IsNoted (sphere : ℕ) (pairs : List Pair) (asked : List Asked) : Type 0 where
-    pub from_first : 0 < sphere → Notes sphere pairs asked

@@ -1,13 +1,11 @@
 -- The sphere in which the ligands of a root are settled, and how. Own.
-use Rattle.std.specs.Prelude.{◌≡◌, ◌<◌, ◌≤◌, ◌+◌, ℕ, suc, Bool, true, false, List, [], length}
+use Rattle.std.specs.Prelude.{◌≡◌, ◌<◌, ℕ, suc, Bool, true, false, List, []}
 use Rattle.cip_rank.specs.declared.rules.Rules.{Rules}
 use Rattle.cip_mol.specs.declared.site.Ligand.{Ligand}
 use Rattle.cip_mol.specs.declared.site.Unit as units
-use Rattle.cip_arena.specs.Growth.{Growth, Holds}
-use Rattle.cip_arena.specs.declared.arena.Grown.{Grown as Answer}
-use Rattle.cip_arena.specs.declared.arena.Grown.TheVariants.{Grown, Whole as Finished, Over as Full}
+use Rattle.cip_arena.specs.Growth.{Growth}
 use Rattle.cip_digraph.specs.outcome.Deciding.{is_settled}
-use Rattle.cip_digraph.specs.digraph.Digraph.{Node, real_node, sphere, digraph}
+use Rattle.cip_digraph.specs.digraph.Digraph.{Node, real_node, sphere}
 use Rattle.cip_digraph.specs.rules.EarlyOrder.{seen_at, differ_within, are_alike_within}
 use Rattle.cip_digraph.specs.units.Ends.{End, end_at}
 use Rattle.cip_digraph.specs.graph.Graph.{Graph}
@@ -72,37 +70,3 @@ SettledAs setting growth Whole =
     × (0 < growth.sphere → (differs setting growth.root growth.sphere ≡ false)
     × (has_alike setting growth.root growth.sphere ≡ false))
 SettledAs setting growth Over = growth.bound < cost_of setting growth.root
-
--- what growing one sphere further, or not, says of it
-abbrev pub Head : Setting → Growth → Answer → Type 0
-Head setting growth Grown = 0 < growth.sphere
-Head setting growth Finished = behind setting growth.root (suc growth.sphere) ≡ []
-Head setting growth Full =
-    growth.bound < length (digraph setting.graph setting.positions growth.root (suc growth.sphere))
-
--- a sphere was tried and doesn't settle, where growing went on to it
-abbrev pub Tried : Setting → Growth → Answer → Type 0
-Tried setting growth Grown = Unit {0}
-Tried setting growth Finished =
-    0 < growth.sphere
-    → (differs setting growth.root growth.sphere ≡ false) × (has_alike setting growth.root growth.sphere ≡ false)
-Tried setting growth Full =
-    0 < growth.sphere
-    → (differs setting growth.root growth.sphere ≡ false) × (has_alike setting growth.root growth.sphere ≡ false)
-
-abbrev pub one_if_grown : Answer → ℕ
-one_if_grown Grown = 1
-one_if_grown Finished = 0
-one_if_grown Full = 0
-
--- what is kept while spheres are tried
-pub record Kept (setting : Setting) (first growth : Growth) (before after : ℕ) (answer : Answer) : Type 0 where
-  pub holds : Holds setting.graph setting.positions growth
-  pub root : growth.root ≡ first.root
-  pub bound : growth.bound ≡ first.bound
-  pub fits : length growth.nodes ≤ growth.bound
-  pub none : (k : ℕ) → 1 ≤ k → k < growth.sphere → settles setting first.root k ≡ false
-  pub some : 0 < length (behind setting growth.root growth.sphere)
-  pub head : Head setting growth answer
-  pub tried : Tried setting growth answer
-  pub cost : after + length first.nodes ≡ before + length growth.nodes

@@ -1,5 +1,5 @@
 -- What the ligands of a root are tried on: a digraph that was grown, and the branches that follow it. Own.
-use Rattle.std.specs.Prelude.{◌≤◌, ◌<◌, ℕ, Bool, List, length}
+use Rattle.std.specs.Prelude.{◌≤◌, ◌<◌, ◌-◌, ℕ, Bool, List, length}
 use Rattle.cip_mol.specs.declared.site.Ligand.{Ligand}
 use Rattle.cip_arena.specs.Growth.{Growth, Holds}
 use Rattle.cip_branches.specs.Deciding.{Branched}
@@ -13,8 +13,8 @@ use Rattle.cip_constitution.specs.declared.setting.Setting as given
 use Rattle.cip_constitution.specs.Alike.{is_closed_ligand, alike_told}
 use Rattle.cip_constitution.specs.Closing.{keeps_open}
 use Rattle.cip_constitution.specs.Ending.{EndsElsewhere, LigandEndsElsewhere, NotAnew}
-use Rattle.cip_constitution.specs.Following.{Follows, IsFollowed, numbers_of}
-use Rattle.cip_constitution.specs.Noting.{Notes, IsNoted}
+use Rattle.cip_constitution.specs.Following.{Trying, Follows, numbers_of}
+use Rattle.cip_constitution.specs.Noting.{Notes}
 use Rattle.cip_constitution.specs.Settling.{Setting, setting_of}
 
 abbrev pub told : given.Setting → Setting
@@ -39,15 +39,19 @@ is_open_in setting = keeps_open setting.rules setting.graph setting.positions se
 abbrev pub FollowsTo : Setting → Growth → ℕ → Branched → Type 0
 FollowsTo setting growth = Follows setting.graph setting.positions growth.root growth.bound
 
-abbrev pub IsFollowedTo : Setting → Growth → ℕ → Branched → Type 0
-IsFollowedTo setting growth = IsFollowed setting.graph setting.positions growth.root growth.bound
-
 -- what is decided between pairs is noted up to a sphere
 abbrev pub NotesTo : Setting → Growth → ℕ → List Pair → List Asked → Type 0
 NotesTo setting growth = Notes setting.graph setting.positions growth.root growth.bound
 
-abbrev pub IsNotedTo : Setting → Growth → ℕ → List Pair → List Asked → Type 0
-IsNotedTo setting growth = IsNoted setting.graph setting.positions growth.root growth.bound
+-- what settling keeps follows it up to a sphere
+pub record KeepsTo (setting : Setting) (growth : Growth) (sphere : ℕ) (trying : Trying) : Type 0 where
+  pub follows : FollowsTo setting growth sphere trying.branched
+  pub notes : NotesTo setting growth sphere trying.pairs trying.noted
+
+-- the digraph was grown by a sphere, and what is kept follows it up to the one before, from the first sphere on
+pub record IsAhead (setting : Setting) (growth : Growth) (trying : Trying) : Type 0 where
+  pub grown : IsGrown setting growth
+  pub kept : 1 < growth.sphere → KeepsTo setting growth (growth.sphere - 1) trying
 
 module _ (trial : Trial) where
   -- the places of branches show nodes of the digraph

@@ -1,9 +1,9 @@
 // The branches of a root's children, followed with its digraph.
 ghost use Rattle.std.specs.Prelude.{◌≡◌, ◌<◌, ◌≤◌, ◌+◌, ◌-◌, length};
 ghost use Rattle.std.specs.List.{range_with_len};
-ghost use Rattle.cip_constitution.specs.Trials.{told, IsGrown, FollowsTo};
+ghost use Rattle.cip_constitution.specs.Settling.{Setting};
+ghost use Rattle.cip_constitution.specs.Trials.{IsGrown, FollowsTo};
 
-use crate::setting::Setting;
 use cip_arena::Arena;
 use cip_branches::{Around, Branches};
 use cip_digraph::Nodes;
@@ -23,37 +23,31 @@ fn fill_tops(tops: &mut Column<u32>, past: u32)
 }
 
 /// Begins with the branches of the root's children, where there are no nodes beyond these.
-pub(crate) fn begin_branches(
-    arena: &Arena,
-    setting: &Setting<'_, '_>,
-    tops: &mut Column<u32>,
-    branches: &mut Branches,
-)
-    requires grown { IsGrown (told setting.now) arena.now }
-    requires first { arena.now.sphere ≡ 1 }
+pub(crate) fn begin_branches(arena: &Arena, tops: &mut Column<u32>, branches: &mut Branches)
+    requires nodes { 1 < length arena.now.nodes }
     requires tops_room { arena.now.bound ≤ tops.old.room }
     requires room { arena.now.bound ≤ branches.old.layers.kin.room + 1 }
-    ensures followed { FollowsTo (told setting.now) arena.now arena.now.sphere branches.new }
+    ensures followed { (setting : Setting) → IsGrown setting arena.now → arena.now.sphere ≡ 1
+        → FollowsTo setting arena.now arena.now.sphere branches.new }
     ensures tops_room { tops.new.room ≡ tops.old.room }
     ensures room { branches.new.layers.kin.room ≡ branches.old.layers.kin.room }
 {
-    let _setting = setting;
     let past = arena.len();
     fill_tops(tops, past);
     branches.begin(tops.as_slice(), &ByAtom { nodes: arena });
 }
 
 /// Follows the branches that are wanted still to the sphere that was grown.
-pub(crate) fn follow_branches(arena: &Arena, setting: &Setting<'_, '_>, branches: &mut Branches)
-    requires grown { IsGrown (told setting.now) arena.now }
+pub(crate) fn follow_branches(arena: &Arena, branches: &mut Branches)
     requires further { 1 < arena.now.sphere }
     requires room { arena.now.bound ≤ branches.old.layers.kin.room + 1 }
-    requires followed { FollowsTo (told setting.now) arena.now (arena.now.sphere - 1) branches.old }
-    ensures followed { FollowsTo (told setting.now) arena.now arena.now.sphere branches.new }
+    requires followed { (setting : Setting) × IsGrown setting arena.now
+        × FollowsTo setting arena.now (arena.now.sphere - 1) branches.old }
+    ensures followed { (setting : Setting) → IsGrown setting arena.now
+        → FollowsTo setting arena.now (arena.now.sphere - 1) branches.old
+        → FollowsTo setting arena.now arena.now.sphere branches.new }
     ensures room { branches.new.layers.kin.room ≡ branches.old.layers.kin.room }
 {
-    let _setting = setting;
-    let _count = arena.len();
     let around = Around {
         table: arena.table(),
         way: &[],

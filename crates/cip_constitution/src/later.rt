@@ -1,7 +1,8 @@
 // The rules behind Rule 1a, over the branches that settling followed to their ends.
-ghost use Rattle.std.specs.Prelude.{◌≡◌, ◌<◌, ◌≤◌, true, if◌then◌else◌, length, slice_index, slice_set};
+ghost use Rattle.std.specs.Prelude.{◌≡◌, ◌<◌, ◌≤◌, ℕ, List, true, if◌then◌else◌, length, slice_index, slice_set};
 ghost use Rattle.std.specs.List.{list_all};
 ghost use Rattle.cip_branches.specs.Deciding.{AreFollowed};
+ghost use Rattle.cip_digraph.specs.graph.Graph.{Graph};
 ghost use Rattle.cip_ligands.specs.Asking.{is_decided};
 ghost use Rattle.cip_ligands.specs.Taking.{AreSame};
 ghost use Rattle.cip_rows.specs.Keys.{AreKeyed};
@@ -11,7 +12,6 @@ ghost use Rattle.cip_constitution.specs.FollowedOut.{AreConstituted, AreFollowed
 use crate::work::Work;
 use cip_arena::Arena;
 use cip_branches::Branches;
-use cip_digraph::{Graph, Positions};
 use cip_ligands::{
     Asked, ByDistance, ByMass, Marked, Readings, decide_configuration, decide_constitution,
 };
@@ -32,22 +32,15 @@ fn flag_place(branches: &Branches, place: u32, flags: &mut [bool])
 impl Work {
     /// Takes Rules 1b and 2 over the branches of a root whose digraph is whole, as long as a pair is undecided, and says
     /// whether all are decided. No memory is taken.
-    pub fn constitute(
-        &mut self,
-        arena: &Arena,
-        graph: &Graph,
-        positions: &Positions,
-        rules: Rules,
-    ) -> bool
-        requires followed { AreFollowedOut graph.now positions.now arena.now self.old }
-        ensures constituted { AreConstituted rules graph.now positions.now arena.now self.new.pairs self.new.branched
-            self.new.noted }
+    pub fn constitute(&mut self, arena: &Arena, rules: Rules) -> bool
+        requires followed { (graph : Graph) × (positions : List (List ℕ)) × AreFollowedOut graph positions arena.now
+            self.old }
+        ensures constituted { (graph : Graph) (positions : List (List ℕ)) → AreFollowedOut graph positions arena.now
+            self.old → AreConstituted rules graph positions arena.now self.new.pairs self.new.branched self.new.noted }
         ensures all { result ≡ list_all is_decided self.new.noted }
         ensures pairs { self.new.pairs ≡ self.old.pairs }
         ensures bound { self.new.bound ≡ self.old.bound }
     {
-        let _graph = graph;
-        let _positions = positions;
         let distances = ByDistance {
             nodes: arena,
             rules,

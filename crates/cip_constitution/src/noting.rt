@@ -1,11 +1,12 @@
 // What Rule 1a decides between the branches of a root's ligands, noted at each sphere.
-ghost use Rattle.std.specs.Prelude.{◌≡◌, ◌<◌, ◌≤◌, ◌-◌, length, map, vec_capacity};
+ghost use Rattle.std.specs.Prelude.{◌≡◌, ◌<◌, ◌≤◌, ◌-◌, List, length, map, vec_capacity};
 ghost use Rattle.cip_constitution.specs.Noting.{branch_at, asked_by};
 ghost use Rattle.cip_constitution.specs.Standing.{number_at};
-ghost use Rattle.cip_constitution.specs.Trials.{told, IsGrown, FollowsTo, NotesTo};
+ghost use Rattle.cip_constitution.specs.Settling.{Setting};
+ghost use Rattle.cip_constitution.specs.Trials.{IsGrown, FollowsTo, NotesTo};
+ghost use Rattle.cip_constitution.specs.declared.pairs.Pair.{Pair as AnyPair};
 
 use crate::pairs::Pair;
-use crate::setting::Setting;
 use crate::standing::number_of;
 use cip_arena::Arena;
 use cip_branches::Branches;
@@ -52,36 +53,23 @@ fn ask(arena: &Arena, pairs: &[Pair], noted: &mut Vec<Asked>)
 }
 
 /// Asks for each pair of vertices by their branches, in the first sphere. Nothing is decided yet.
-pub(crate) fn begin_noting(
-    arena: &Arena,
-    setting: &Setting<'_, '_>,
-    pairs: &[Pair],
-    noted: &mut Vec<Asked>,
-)
-    requires grown { IsGrown (told setting.now) arena.now }
-    requires first { arena.now.sphere ≡ 1 }
+pub(crate) fn begin_noting(arena: &Arena, pairs: &[Pair], noted: &mut Vec<Asked>)
+    requires some { 0 < length arena.now.nodes }
     requires room { length pairs.now ≤ vec_capacity noted.old }
-    ensures noted { NotesTo (told setting.now) arena.now 0 pairs.now noted.new.items }
+    ensures noted { (setting : Setting) → IsGrown setting arena.now → arena.now.sphere ≡ 1
+        → NotesTo setting arena.now 0 pairs.now noted.new.items }
     ensures room { vec_capacity noted.old ≤ vec_capacity noted.new }
 {
-    let _setting = setting;
     ask(arena, pairs, noted);
 }
 
 /// Notes what the branches' numbers tell in the last sphere.
-pub(crate) fn note_sphere(
-    arena: &Arena,
-    setting: &Setting<'_, '_>,
-    branches: &Branches,
-    pairs: &[Pair],
-    noted: &mut [Asked],
-)
-    requires some { 0 < arena.now.sphere }
-    requires followed { FollowsTo (told setting.now) arena.now arena.now.sphere branches.now }
-    requires noted { NotesTo (told setting.now) arena.now (arena.now.sphere - 1) pairs.now noted.old }
-    ensures noted { NotesTo (told setting.now) arena.now arena.now.sphere pairs.now noted.new }
+pub(crate) fn note_sphere(arena: &Arena, branches: &Branches, noted: &mut [Asked])
+    requires { 0 < arena.now.sphere }
+    ensures { (setting : Setting) (pairs : List AnyPair)
+        → FollowsTo setting arena.now arena.now.sphere branches.now
+        → NotesTo setting arena.now (arena.now.sphere - 1) pairs noted.old
+        → NotesTo setting arena.now arena.now.sphere pairs noted.new }
 {
-    let _setting = setting;
-    let _pairs = pairs;
     note(branches, Rule::R1a, arena.sphere() - 1, noted);
 }

@@ -70,20 +70,18 @@ pub fn settle<L: Ledger>(
         ligands,
         rules,
     };
-    let mut grown = arena.grow(graph, positions, steps);
-    while grown == Grown::Grown {
-        work.follow(arena, &setting);
+    loop {
+        match arena.grow(graph, positions, steps) {
+            Grown::Grown => {}
+            Grown::Whole => return Settled::Whole,
+            Grown::Over => return Settled::Over,
+        }
+        work.follow(arena);
         if work.all_differ(arena, &setting) {
             return Settled::Ordered;
         }
         if work.some_alike(arena, &setting) {
             return Settled::Tied;
         }
-        grown = arena.grow(graph, positions, steps);
-    }
-    if grown == Grown::Over {
-        Settled::Over
-    } else {
-        Settled::Whole
     }
 }

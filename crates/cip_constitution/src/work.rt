@@ -3,8 +3,8 @@ ghost use Rattle.std.specs.Prelude.{◌≡◌, ◌<◌, ◌≤◌, ◌+◌, ◌-
 ghost use Rattle.std.specs.Prelude.{vec_capacity, IfOk};
 ghost use Rattle.cip_branches.specs.Deciding.{no_branches};
 ghost use Rattle.cip_constitution.specs.Pairs.{pairs_of};
-ghost use Rattle.cip_constitution.specs.Settling.{differs, has_alike};
-ghost use Rattle.cip_constitution.specs.Trials.{told, IsGrown, FollowsTo, IsFollowedTo, NotesTo, IsNotedTo};
+ghost use Rattle.cip_constitution.specs.Settling.{Setting as AnySetting, differs, has_alike};
+ghost use Rattle.cip_constitution.specs.Trials.{told, IsGrown, FollowsTo, IsAhead, KeepsTo};
 
 use crate::alike::alike_each;
 use crate::candidates::has_candidates;
@@ -107,26 +107,23 @@ impl Work {
     }
 
     /// Follows a digraph that was grown by one sphere, and notes what its last sphere tells.
-    pub(crate) fn follow(&mut self, arena: &Arena, setting: &Setting<'_, '_>)
-        requires grown { IsGrown (told setting.now) arena.now }
+    pub(crate) fn follow(&mut self, arena: &Arena)
+        requires ahead { (setting : AnySetting) × IsAhead setting arena.now self.old }
         requires room { arena.now.bound ≤ self.old.bound }
-        requires followed { IsFollowedTo (told setting.now) arena.now (arena.now.sphere - 1) self.old.branched }
-        requires noted { IsNotedTo (told setting.now) arena.now (arena.now.sphere - 1) self.old.pairs self.old.noted }
-        ensures followed { FollowsTo (told setting.now) arena.now arena.now.sphere self.new.branched }
-        ensures noted { NotesTo (told setting.now) arena.now arena.now.sphere self.new.pairs self.new.noted }
+        ensures kept { (setting : AnySetting) → IsAhead setting arena.now self.old
+            → KeepsTo setting arena.now arena.now.sphere self.new }
         ensures pairs { self.new.pairs ≡ self.old.pairs }
         ensures bound { self.new.bound ≡ self.old.bound }
     {
         let branches = &mut self.branches;
         let noted = &mut self.noted;
-        let pairs = self.pairs.as_slice();
         if arena.sphere() == 1 {
-            begin_branches(arena, setting, &mut self.tops, branches);
-            begin_noting(arena, setting, pairs, noted);
-            note_sphere(arena, setting, branches, pairs, noted);
+            begin_branches(arena, &mut self.tops, branches);
+            begin_noting(arena, self.pairs.as_slice(), noted);
+            note_sphere(arena, branches, noted);
         } else {
-            follow_branches(arena, setting, branches);
-            note_sphere(arena, setting, branches, pairs, noted);
+            follow_branches(arena, branches);
+            note_sphere(arena, branches, noted);
         }
     }
 

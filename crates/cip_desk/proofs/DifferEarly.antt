@@ -23,13 +23,12 @@ use Rattle.cip_digraph.specs.rules.EarlyOrder.{differ_within, seen_at}
 use Rattle.cip_digraph.specs.rules.Orders.{rule_1a}
 use Rattle.cip_digraph.specs.units.Ends.{end_at}
 use Rattle.cip_digraph.specs.units.Ranked.{every_pair}
-use Rattle.cip_digraph.proofs.Lists.{Pairwise, by_recursion, pairwise_from_pairs}
-use Rattle.cip_digraph.proofs.SettledTies.{both_all}
+use Rattle.cip_digraph.proofs.lists.Elements.{Pairwise, by_recursion, pairwise_from_pairs, all_both}
 use Rattle.cip_label.proofs.LigandNodes.{one_node, ne_eqb}
 use Rattle.cip_label.specs.Fitting.{IsFit, IsNeighbour}
 use Rattle.cip_label.specs.Settings.{Setting}
-use Rattle.cip_constitution.proofs.DifferTold.{pairs_by}
-use Rattle.cip_constitution.proofs.SeenRules.{IsFurther, seen_1a}
+use Rattle.cip_constitution.proofs.told.Differ.{pairs_by}
+use Rattle.cip_constitution.proofs.seen.Rules.{IsFurther, seen_1a}
 use Rattle.cip_constitution.specs.Noting.{asked_by, by_atoms}
 use Rattle.cip_constitution.specs.Pairs.{pair, pair_with, pairs_at, pairs_of}
 use Rattle.cip_constitution.specs.declared.pairs.Pair.{Pair}
@@ -63,7 +62,7 @@ module _ {X : Type 0} (P : X → Type 0) (test other : X → X → Bool)
   pairs_alike [] all differ = refl
   pairs_alike (x ∷ xs) all differ =
       ap (λ b. b && every_pair test xs) (all_alike (λ y. P y × x ≢ y) (test x) (other x)
-      (λ y p. same x y all.0 p.0 p.1) xs (both_all P (λ y. x ≢ y) xs all.1 differ.0))
+      (λ y p. same x y all.0 p.0 p.1) xs (all_both P (λ y. x ≢ y) xs all.1 differ.0))
       ∙ ap (λ b. list_all (other x) xs && b) (pairs_alike xs all.1 differ.1)
 
 abbrev is_some : Option Decision → Bool

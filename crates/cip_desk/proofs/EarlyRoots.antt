@@ -11,9 +11,9 @@ use Rattle.cip_digraph.specs.outcome.Deciding.{is_settled, least_from}
 use Rattle.cip_digraph.specs.outcome.Outcomes.{end_root, is_in_unit, settled_in}
 use Rattle.cip_digraph.specs.rules.EarlyOrder.{differ_within, seen_at}
 use Rattle.cip_digraph.specs.units.Ends.{end_at}
-use Rattle.cip_digraph.proofs.Cut.{size_le}
-use Rattle.cip_digraph.proofs.LeastSphere.{here_or, if_any}
-use Rattle.cip_digraph.proofs.Numbered.{count_is}
+use Rattle.cip_digraph.proofs.numbered.Cut.{size_le}
+use Rattle.cip_digraph.proofs.orders.LeastSphere.{here_or, if_any}
+use Rattle.cip_digraph.proofs.numbered.Kin.{count_is}
 use Rattle.cip_label.specs.Fitting.{IsFit}
 use Rattle.cip_label.specs.Settings.{Setting, cost_in}
 use Rattle.cip_label.specs.Standing.{RankedAs}

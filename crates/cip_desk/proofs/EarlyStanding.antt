@@ -46,12 +46,12 @@ use Rattle.cip_digraph.specs.graph.Graph.{Graph, neighbours}
 use Rattle.cip_digraph.specs.outcome.Outcomes.{is_in_unit}
 use Rattle.cip_digraph.specs.units.Ranked.{ligand_order}
 use Rattle.cip_digraph.specs.graph.SoundGraphs.{IsSound}
-use Rattle.cip_digraph.proofs.EarlyOrders.{places_told}
-use Rattle.cip_digraph.proofs.LigandNodes.{one_at_most}
+use Rattle.cip_digraph.proofs.orders.Early.{places_told}
+use Rattle.cip_digraph.proofs.tree.Ligands.{one_at_most}
 use Rattle.cip_arena.specs.Growth.{Growth, Holds}
 use Rattle.cip_constitution.specs.Noting.{asked_by, by_atoms, top_of, Notes}
 use Rattle.cip_constitution.specs.Pairs.{pairs_of}
-use Rattle.cip_constitution.proofs.SeenRules.{IsFurther, seen_1a}
+use Rattle.cip_constitution.proofs.seen.Rules.{IsFurther, seen_1a}
 use Rattle.cip_ligands.specs.declared.asked.Asked.{Asked}
 use Rattle.cip_ligands.specs.Asking.{decided, with_found}
 use Rattle.cip_ligands.specs.Orders.{found_below}

@@ -6,7 +6,7 @@ use Rattle.std.specs.declared.option.Option.{Option}
 use Rattle.std.specs.declared.result.Result.{Result}
 use Rattle.std.specs.declared.result.Result.TheVariants.{Ok, Err}
 use Rattle.cip_arena.specs.Growth.{Growth, Holds}
-use Rattle.cip_constitution.proofs.DecidingSphere.{settled_low}
+use Rattle.cip_constitution.proofs.settled.DecidingSphere.{settled_low}
 use Rattle.cip_constitution.specs.FollowedOut.{AreConstituted, node_of}
 use Rattle.cip_constitution.specs.Following.{Trying}
 use Rattle.cip_constitution.specs.Noting.{asked_by, Notes}
@@ -14,7 +14,7 @@ use Rattle.cip_constitution.specs.Pairs.{pairs_of}
 use Rattle.cip_constitution.specs.Settling.{SettledAs}
 use Rattle.cip_constitution.specs.declared.pairs.Pair.{Pair}
 use Rattle.cip_constitution.specs.declared.settling.Settled.TheVariants.{Ordered, Whole}
-use Rattle.cip_digraph.specs.graph.Graph.{Graph, neighbours}
+use Rattle.cip_digraph.specs.graph.Graph.{neighbours}
 use Rattle.cip_digraph.specs.graph.SoundGraphs.{IsSound}
 use Rattle.cip_digraph.specs.rings.Alternating.{is_in}
 use Rattle.cip_digraph.specs.rules.Decisions.{order}
@@ -24,7 +24,6 @@ use Rattle.cip_label.specs.Fitting.{IsFit}
 use Rattle.cip_label.specs.Settings as records
 use Rattle.cip_label.specs.Standing.{RankedAs}
 use Rattle.cip_label.specs.declared.digraphs.Ranking.TheVariants.{Known}
-use Rattle.cip_rank.specs.declared.rules.Rules.{Rules}
 use Rattle.cip_ligands.specs.declared.asked.Asked.{Asked}
 use Rattle.cip_ligands.specs.Asking.{is_decided, with_found}
 use Rattle.cip_mol.specs.declared.descriptor.Descriptor.{Descriptor}
@@ -51,16 +50,6 @@ pub on_three : {T E : Type 0} {A B C D : Type 0} (result : Result T E) → OnOk 
     → (A → B → C → D) → OnOk result D
 on_three (Ok value) a b c all = all a b c
 on_three (Err error) a b c all = tt
-
--- what constitution leaves, by equal settings
-pub same_constituted : (rules rules2 : Rules) (graph graph2 : Graph) (positions positions2 : List (List ℕ)) (a : Growth)
-    (trying : Trying) → rules ≡ rules2 → graph ≡ graph2 → positions ≡ positions2
-    → AreConstituted rules graph positions a trying.pairs trying.branched trying.noted
-    → AreConstituted rules2 graph2 positions2 a trying.pairs trying.branched trying.noted
-same_constituted rules rules2 graph graph2 positions positions2 a trying r g p constituted =
-    subst (λ (ps : List (List ℕ)). AreConstituted rules2 graph2 ps a trying.pairs trying.branched trying.noted) p
-    (subst (λ (h : Graph). AreConstituted rules2 h positions a trying.pairs trying.branched trying.noted) g
-    (subst (λ (w : Rules). AreConstituted w graph positions a trying.pairs trying.branched trying.noted) r constituted))
 
 module _ (setting : records.Setting) (ligands : List Ligand) (a : Growth)
     (h : Holds setting.graph setting.positions a) (sound : IsSound setting.graph)

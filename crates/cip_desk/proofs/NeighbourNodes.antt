@@ -7,11 +7,11 @@ use Rattle.cip_digraph.specs.graph.Graph.{Graph, neighbours}
 use Rattle.cip_digraph.specs.graph.SoundGraphs.{IsSound}
 use Rattle.cip_digraph.specs.rings.Alternating.{is_in}
 use Rattle.cip_digraph.specs.rules.Auxiliary.{stands_for}
-use Rattle.cip_digraph.proofs.BranchesEnd.{at_root}
-use Rattle.cip_digraph.proofs.Ended.{IsPath, Anywhere, leads_anywhere, paths_pass}
-use Rattle.cip_digraph.proofs.Lists.{all_by, all_filtered}
+use Rattle.cip_digraph.proofs.tree.Branches.{at_root}
+use Rattle.cip_digraph.proofs.tree.Ended.{IsPath, Anywhere, leads_anywhere, paths_pass}
+use Rattle.cip_digraph.proofs.lists.Elements.{all_by, all_filtered}
 use Rattle.cip_label.proofs.LigandNodes.{one_node}
-use Rattle.cip_constitution.proofs.SeenRules.{IsFurther}
+use Rattle.cip_constitution.proofs.seen.Rules.{IsFurther}
 
 module _ (graph : Graph) (positions : List (List ℕ)) (root : ℕ) (sound : IsSound graph) where
   abbrev around : List Node

@@ -8,7 +8,7 @@ use Rattle.cip_digraph.specs.declared.decision.Decision.{Decision}
 use Rattle.cip_digraph.specs.digraph.Digraph.{Node, real_node}
 use Rattle.cip_digraph.specs.rules.Decisions.{order}
 use Rattle.cip_digraph.specs.rules.Orders.{Seen}
-use Rattle.cip_digraph.proofs.EarlyOrders.{itself}
+use Rattle.cip_digraph.proofs.orders.Early.{itself}
 use Rattle.cip_constitution.specs.Noting.{asked_by}
 use Rattle.cip_constitution.specs.Pairs.{pairs_of}
 use Rattle.cip_constitution.specs.declared.pairs.Pair.{Pair}

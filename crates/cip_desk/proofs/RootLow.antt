@@ -18,8 +18,8 @@ use Rattle.cip_digraph.specs.graph.Graph.{Graph, edges_at, neighbours, other_end
 use Rattle.cip_digraph.specs.outcome.Outcomes.{end_root, is_in_unit, settled_in}
 use Rattle.cip_digraph.specs.graph.SoundGraphs.{IsSound, JoinsBelow}
 use Rattle.cip_digraph.specs.digraph.View.{view_children}
-use Rattle.cip_digraph.proofs.Lists.{all_filtered, by_recursion}
-use Rattle.cip_digraph.proofs.NeighbourOrder.{sorted_all}
+use Rattle.cip_digraph.proofs.lists.Elements.{all_filtered, by_recursion}
+use Rattle.cip_digraph.proofs.bonds.Neighbours.{sorted_all}
 use Rattle.cip_label.specs.Fitting.{IsFit, IsNeighbour}
 use Rattle.cip_label.proofs.LigandNodes.{one_node}
 use Rattle.cip_label.proofs.RootsAlike.{All-at}

@@ -10,7 +10,7 @@ use Rattle.cip_digraph.specs.graph.Graph.{Graph, neighbours}
 use Rattle.cip_digraph.specs.graph.SoundGraphs.{IsSound}
 use Rattle.cip_arena.specs.Growth.{Growth, Holds}
 use Rattle.cip_constitution.specs.Standing.{ligand_number, number_at}
-use Rattle.cip_constitution.proofs.DifferTold.{IsFirst, LigandAt, ligand_at}
+use Rattle.cip_constitution.proofs.told.Differ.{IsFirst, LigandAt, ligand_at}
 use Rattle.cip_label.proofs.LigandNodes.{one_node}
 
 module _ (g : Graph) (positions : List (List ℕ)) (a : Growth) (h : Holds g positions a) (some : 0 < a.sphere)

@@ -9,8 +9,8 @@ use Rattle.cip_digraph.specs.graph.Graph.{Graph}
 use Rattle.cip_digraph.specs.graph.SoundGraphs.{IsSound}
 use Rattle.cip_digraph.specs.units.Ends.{end_at}
 use Rattle.cip_digraph.specs.units.Ranked.{has_tie}
-use Rattle.cip_digraph.proofs.Numbered.{some_nodes}
-use Rattle.cip_digraph.proofs.SettledTies.{settled_tie}
+use Rattle.cip_digraph.proofs.numbered.Kin.{some_nodes}
+use Rattle.cip_digraph.proofs.ties.Settled.{settled_tie}
 use Rattle.cip_arena.specs.Growth.{Growth, Holds}
 use Rattle.cip_constitution.specs.Settling.{setting_of, SettledAs, deciding, cost_of}
 use Rattle.cip_constitution.specs.declared.settling.Settled.TheVariants.{Tied, Over}

@@ -24,7 +24,7 @@ use Rattle.cip_constitution.specs.FollowedOut.{AreConstituted, AreOrdered, node_
 use Rattle.cip_constitution.specs.Following.{Trying, named}
 use Rattle.cip_constitution.specs.Noting.{asked_by}
 use Rattle.cip_constitution.specs.Pairs.{pairs_of}
-use Rattle.cip_constitution.proofs.NotedPairs.{asked_within}
+use Rattle.cip_constitution.proofs.followed.Pairs.{asked_within}
 use Rattle.cip_label.proofs.LigandNodes.{one_node}
 use Rattle.cip_ligands.specs.declared.asked.Asked.{Asked}
 use Rattle.cip_ligands.specs.Asking.{AreWithin, is_decided, with_found}

@@ -258,9 +258,8 @@ pub fn rank_whole(
     ensures work { work.new.bound ≡ work.old.bound }
     ensures room { HasRoom rooted.now.arena.now.bound tables.new }
 {
-    let setting = rooted.setting;
-    let graph = setting.graph();
-    if work.constitute(rooted.arena, graph, setting.positions(), setting.rules()) {
+    let _graph = rooted.setting.graph();
+    if work.constitute(rooted.arena, rooted.setting.rules()) {
         take_noted(work, branches, &mut tables.aside.noted)?;
         return Ok(Found::Told(Ranking::Known));
     }

@@ -4,7 +4,7 @@ use Rattle.std.specs.Option.{option_map}
 use Rattle.cip_mol.specs.declared.site.Unit as units
 use Rattle.cip_digraph.specs.units.Inverted.{inverted, inverted_unit}
 use Rattle.cip_digraph.specs.units.InversionLaws.{HoldEachCentre, IsHeld}
-use Rattle.cip_digraph.proofs.Inversions.{units_turned_back, whole_inversions_mirror}
+use Rattle.cip_digraph.proofs.reflected.Inversions.{units_turned_back, whole_inversions_mirror}
 use Rattle.cip_label.specs.Settings.{Setting, outcome_in}
 use Rattle.cip_groups.specs.Laws.{AreMirrored, both_of, BothAreOfOneCentre, TurnedTwiceIsDrawn, WholeGroupsMirror}
 use Rattle.cip_groups.specs.Outcomes.{is_centre_at, centre_at, turned_at, outcome_at, both, both_by}

@@ -6,14 +6,14 @@ use Rattle.std.specs.declared.option.Option.{Option}
 use Rattle.std.specs.declared.cmp.Ordering.{Ordering}
 use Rattle.std.proofs.lemmas.Bool.{cases_order, or_left, or_right}
 use Rattle.std.proofs.lemmas.List.{get_or_default, map-append}
-use Rattle.cip_branches.proofs.WalkedPlaces.{by_range}
+use Rattle.cip_branches.proofs.walked.Places.{by_range}
 use Rattle.cip_rank.specs.Tree.{children_of}
 use Rattle.cip_rank.specs.View.{parent_list}
 use Rattle.cip_digraph.specs.digraph.Digraph.{Node}
 use Rattle.cip_digraph.specs.rules.Decisions.{order}
 use Rattle.cip_digraph.specs.rules.Orders.{Seen}
 use Rattle.cip_digraph.specs.declared.decision.Decision.{Decision}
-use Rattle.cip_digraph.proofs.Lists.{all_append, by_recursion}
+use Rattle.cip_digraph.proofs.lists.Elements.{all_append, by_recursion}
 use Rattle.cip_ligands.specs.declared.asked.Asked.{Asked}
 use Rattle.cip_ligands.specs.Asking.{AreWithin, with_found}
 use Rattle.cip_aux.specs.Neighbours.{first_where, neighbours_of, parent_of}

@@ -18,7 +18,7 @@ use Rattle.cip_digraph.specs.rules.Decisions.{order}
 use Rattle.cip_ligands.specs.declared.asked.Asked.{Asked}
 use Rattle.cip_ligands.specs.Asking.{AreWithin, with_found}
 use Rattle.cip_ligands.specs.Marked.{AreMarksOf}
-use Rattle.cip_digraph.proofs.Lists.{all_by}
+use Rattle.cip_digraph.proofs.lists.Elements.{all_by}
 use Rattle.cip_aux.specs.Below.{is_below}
 use Rattle.cip_aux.proofs.WholeTold.{parents_len}
 use Rattle.cip_aux.specs.Inner.{Inner, AgreesInside, Ready}

@@ -24,9 +24,9 @@ use Rattle.cip_branches.specs.Ruled.{Names}
 use Rattle.cip_branches.specs.Standing.{node_in, WantedIn}
 use Rattle.cip_branches.specs.Views.{IsEnded}
 use Rattle.cip_branches.specs.Walking.{MayWalk, kids_left, wanted_kids}
-use Rattle.cip_branches.proofs.DecidedBranches.{decided_first, decided_after}
-use Rattle.cip_branches.proofs.SeenNodes.{AreSeen, times_filter, around_is, seen_first, few_seen, seen_next}
-use Rattle.cip_branches.proofs.ToldKids.{all_walked}
+use Rattle.cip_branches.proofs.ruled.Decided.{decided_first, decided_after}
+use Rattle.cip_branches.proofs.room.Seen.{AreSeen, times_filter, around_is, seen_first, few_seen, seen_next}
+use Rattle.cip_branches.proofs.room.Kids.{all_walked}
 use Rattle.cip_digraph.specs.declared.nodes.Told.{Told}
 use Rattle.cip_digraph.specs.digraph.Digraph.{Node}
 use Rattle.cip_digraph.specs.digraph.NodeList.{parents_of}
@@ -38,7 +38,7 @@ use Rattle.cip_digraph.specs.rules.Decisions.{first_difference}
 use Rattle.cip_digraph.specs.rules.Orders.{all_tie, rule_1a}
 use Rattle.cip_mol.specs.declared.descriptor.Descriptor.{Descriptor}
 use Rattle.cip_mol.specs.declared.outcome.Rule.TheVariants.{R1a}
-use Rattle.cip_digraph.proofs.ExchangedOrders.{all_tie_total}
+use Rattle.cip_digraph.proofs.orders.Exchanged.{all_tie_total}
 use Rattle.cip_ligands.specs.NodeKeys.{atomic_keys}
 use Rattle.cip_ligands.proofs.NodeKeys.{keys_at}
 use Rattle.cip_aux.proofs.SeenChildren.{seen_are}

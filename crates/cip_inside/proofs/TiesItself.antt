@@ -11,9 +11,9 @@ use Rattle.cip_mol.specs.declared.outcome.Rule.TheVariants.{R1a, R1b, R2, R3, R4
 use Rattle.cip_digraph.specs.declared.decision.Decision.{Decision}
 use Rattle.cip_digraph.specs.rules.Decisions.{Difference, first_difference, or_else, look, difference_by, first_decision, rules_in_turn, order}
 use Rattle.cip_digraph.specs.rules.Orders.{Seen, rule_1a, rule_1b, rule_2, rule_3, rule_4a, higher_reading, lower_reading, rule_4b_higher, rule_4b_lower, rule_4c, rule_5}
-use Rattle.cip_digraph.proofs.ExchangedOrders.{all_tie_total, total_4a, readings_total}
-use Rattle.cip_digraph.proofs.TurnedTies.{total_4c}
-use Rattle.cip_digraph.proofs.WholeOrder.{total_1a, total_1b, total_2, total_3}
+use Rattle.cip_digraph.proofs.orders.Exchanged.{all_tie_total, total_4a, readings_total}
+use Rattle.cip_digraph.proofs.ties.Turned.{total_4c}
+use Rattle.cip_digraph.proofs.orders.Whole.{total_1a, total_1b, total_2, total_3}
 
 picked : ℕ → Option Difference → Ordering → Option Difference
 picked start later r = elim r as (λ _. Option Difference) [

@@ -1,5 +1,5 @@
 // The branches of a node's ligands, followed by Rule 1a as long as two of them tie.
-ghost use Rattle.std.specs.Prelude.{◌≡◌, ◌<◌, ◌≤◌, ◌+◌, ◌^◌, ℕ, All, true, false, length};
+ghost use Rattle.std.specs.Prelude.{◌≡◌, ◌<◌, ◌≤◌, ℕ, All, true, false, length};
 ghost use Rattle.std.specs.List.{list_any};
 ghost use Rattle.cip_aux.specs.Sights.{IsReal, sight_of};
 ghost use Rattle.cip_digraph.specs.digraph.NodeList.{parents_of};
@@ -33,7 +33,6 @@ pub fn follow_all<N: Nodes>(
     asked: &mut [Asked],
 )
     requires room { length whole.now.told ≤ branches.old.layers.kin.room }
-    requires few { branches.old.layers.kin.room + 1 < 2 ^ 32 }
     requires real { IsReal (sight_of whole.now).nodes node }
     requires way { IsFlagged (parents_of whole.now.told) node way.now }
     requires tops { AreTops (parents_of whole.now.told) node tops.now }

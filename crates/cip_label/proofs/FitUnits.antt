@@ -1,45 +1,13 @@
 -- The units of a sound graph are fit: their ligands are different, each a neighbour or a lone pair, four at a centre
 -- and two at an end.
-use Rattle.std.proofs.Common.{
-  ◌≡◌,
-  ◌≢◌,
-  ◌≤◌,
-  ◌+◌,
-  ◌==◌,
-  ◌&&◌,
-  ◌||◌,
-  ◌++◌,
-  ◌∷◌,
-  ◌∙◌,
-  [],
-  ℕ,
-  Bool,
-  true,
-  false,
-  not,
-  cond,
-  List,
-  refl,
-  sym,
-  ap,
-  subst,
-  arith,
-  length,
-  length-append,
-  flat_map,
-  map,
-  is_some,
-  nat_le,
-  nat_lt,
-  suc,
-  ◌<◌,
-  slice_index_or,
-}
-use Rattle.std.specs.Prelude.{filter}
-use Rattle.std.specs.List.{All, AllByRecursion, list_any, range_with_len}
-use Rattle.std.proofs.lemmas.Bool.{eqb-true, eq-eqb}
-use Rattle.std.proofs.lemmas.List.{append-nil, length-map}
+use Rattle.std.proofs.Common.{◌≡◌, ◌≢◌, ◌≤◌, ◌+◌, ◌==◌, ◌&&◌, ◌||◌, ◌++◌, ◌∷◌, ◌∙◌, [], ℕ, Bool, true, false, not, cond}
+use Rattle.std.proofs.Common.{List, refl, sym, ap, subst, arith, length, length-append, flat_map, map, is_some, nat_le}
+use Rattle.std.proofs.Common.{suc, ◌<◌, slice_index_or, filter, All, eqb-true, eq-eqb, append-nil}
+use Rattle.std.specs.List.{AllByRecursion, list_any, range_with_len}
+use Rattle.std.proofs.lemmas.Bool.{or_left, or_right, and_from, and_parts}
+use Rattle.std.proofs.lemmas.List.{length-map}
 use Rattle.std.proofs.lemmas.List.Elements.{All-from_recursion}
+use Rattle.std.proofs.Math.Bool.{or-false}
 use Rattle.cip_elem.specs.Electrons.{outer_of}
 use Rattle.cip_mol.specs.declared.site.Ligand.{Ligand}
 use Rattle.cip_mol.specs.declared.site.Ligand.TheVariants.{Vertex, LonePair}
@@ -48,78 +16,21 @@ use Rattle.cip_mol.specs.declared.site.Site.TheVariants.{Centre, Bond, Axis}
 use Rattle.cip_digraph.specs.units.Allenes.{axis_site, axis_sites, is_axis_end, is_axis_unit, doubles}
 use Rattle.cip_digraph.specs.rings.Alternating.{is_in}
 use Rattle.cip_digraph.specs.units.Centres.{centre_ligands, drawn_neighbours, is_centre, is_quadriligant}
-use Rattle.cip_digraph.specs.units.DoubleBonds.{
-  bond_site,
-  bond_sites,
-  end_ligands,
-  has_end_bonds,
-  is_bond_end,
-  is_bond_unit,
-  is_double_end,
-  outer_neighbours,
-}
+use Rattle.cip_digraph.specs.units.DoubleBonds.{bond_site, bond_sites, end_ligands, has_end_bonds, is_bond_end}
+use Rattle.cip_digraph.specs.units.DoubleBonds.{is_bond_unit, is_double_end, outer_neighbours}
 use Rattle.cip_digraph.specs.units.Ends.{End, end_at}
 use Rattle.cip_digraph.specs.declared.graph.Edge.{Edge}
-use Rattle.cip_digraph.specs.graph.Graph.{
-  Graph,
-  edges_at,
-  insert_up,
-  neighbours,
-  other_end,
-  sorted_up,
-  touches,
-  vertex_at,
-}
+use Rattle.cip_digraph.specs.graph.Graph.{Graph, edges_at, neighbours, other_end, touches, vertex_at}
 use Rattle.cip_digraph.specs.graph.SoundGraphs.{IsSound, JoinsBelow}
 use Rattle.cip_digraph.specs.units.Units.{centre_site, sites_of}
-use Rattle.cip_digraph.proofs.AlternatingWays.{or_left, or_right}
-use Rattle.cip_digraph.proofs.Lists.{
-  Pairwise,
-  all_append,
-  all_by,
-  all_filtered,
-  all_flat,
-  all_mapped,
-  by_recursion,
-  pairs_from_pairwise,
-  pairwise_append,
-  pairwise_by,
-  pairwise_filtered,
-  pairwise_mapped,
-}
-use Rattle.cip_digraph.proofs.NeighbourOrder.{neighbours_differ, sorted_all}
+use Rattle.cip_digraph.proofs.lists.Elements.{Pairwise, all_append, all_by, all_filtered, all_mapped, by_recursion}
+use Rattle.cip_digraph.proofs.lists.Elements.{pairs_from_pairwise, pairwise_append, pairwise_by, pairwise_filtered}
+use Rattle.cip_digraph.proofs.lists.Elements.{pairwise_mapped, all_passed, all_unmapped, all_told, all_flat_each}
+use Rattle.cip_digraph.proofs.bonds.Neighbours.{neighbours_differ, sorted_all}
+use Rattle.cip_digraph.proofs.bonds.Tests.{any_filtered, any_sorted, any_mapped}
 use Rattle.cip_label.specs.Settings.{IsProper, Setting, StandAtSites}
 use Rattle.cip_label.specs.Fitting.{AreFit, IsFit, IsFitSite, IsNeighbour}
-use Rattle.cip_label.proofs.LigandNodes.{edges_away, ne_eqb, or_none}
-
-and_left : (a b : Bool) → (a && b) ≡ true → a ≡ true
-and_left true b e = refl
-and_left false b e = e
-
-and_right : (a b : Bool) → (a && b) ≡ true → b ≡ true
-and_right true b e = e
-and_right false b e = let bad : false ≡ true = e in cc
-
--- what passed a test
-if_passed : {X : Type 0} (P : X → Type 0) (test : X → Bool) (b : Bool) (x : X) (xs : List X) → test x ≡ b → P x →
-    AllByRecursion (λ x. (test x ≡ true) × P x) xs →
-    AllByRecursion (λ x. (test x ≡ true) × P x) (cond b (x ∷ xs) xs)
-if_passed P test true x xs e p all = ((e, p), all)
-if_passed P test false x xs e p all = all
-
-all_passed : {X : Type 0} (P : X → Type 0) (test : X → Bool) (xs : List X) → AllByRecursion P xs →
-    AllByRecursion (λ x. (test x ≡ true) × P x) (filter test xs)
-all_passed P test [] all = tt
-all_passed P test (x ∷ xs) all = if_passed P test (test x) x (filter test xs) refl all.0 (all_passed P test xs all.1)
-
-all_of_anything : {X : Type 0} (xs : List X) → AllByRecursion (λ _. Unit {0}) xs
-all_of_anything [] = tt
-all_of_anything (x ∷ xs) = (tt, all_of_anything xs)
-
-unmapped : {X Y : Type 0} (P : Y → Type 0) (f : X → Y) (xs : List X) → AllByRecursion P (map f xs) →
-    AllByRecursion (λ x. P (f x)) xs
-unmapped P f [] all = tt
-unmapped P f (x ∷ xs) all = (all.0, unmapped P f xs all.1)
+use Rattle.cip_label.proofs.LigandNodes.{edges_away, ne_eqb}
 
 in_itself : (ns : List ℕ) → AllByRecursion (λ n. is_in n ns ≡ true) ns
 in_itself [] = tt
@@ -187,42 +98,6 @@ out_by keep v x (n ∷ ns) same differ away there =
         ap (λ b. length (cond b (n ∷ filter keep ns) (filter keep ns)) + 1) (same n away.0 ∙ ap not e)
         ∙ omega (arith, more)
 
--- whether some edge at a vertex passes a test
-or_swap : (a b c : Bool) → (a || (b || c)) ≡ (b || (a || c))
-or_swap true true c = refl
-or_swap true false c = refl
-or_swap false true c = refl
-or_swap false false c = refl
-
-any_inserted : (test : Edge → Bool) (v : ℕ) (e : Edge) (es : List Edge) →
-    list_any test (insert_up v e es) ≡ (test e || list_any test es)
-any_inserted test v e [] = refl
-any_inserted test v e (next ∷ es) = by (any_inserted test v e es) (nat_lt (other_end v next) (other_end v e))
-  where
-    by : list_any test (insert_up v e es) ≡ (test e || list_any test es) → (b : Bool) →
-        list_any test (cond b (next ∷ insert_up v e es) (e ∷ next ∷ es)) ≡ (test e || (test next || list_any test es))
-    by rest true = ap (λ b. test next || b) rest ∙ or_swap (test next) (test e) (list_any test es)
-    by rest false = refl
-
-any_sorted : (test : Edge → Bool) (v : ℕ) (es : List Edge) → list_any test (sorted_up v es) ≡ list_any test es
-any_sorted test v [] = refl
-any_sorted test v (e ∷ es) = any_inserted test v e (sorted_up v es) ∙ ap (λ b. test e || b) (any_sorted test v es)
-
-any_filtered : (test kept : Edge → Bool) (es : List Edge) →
-    list_any test (filter kept es) ≡ list_any (λ e. kept e && test e) es
-any_filtered test kept [] = refl
-any_filtered test kept (e ∷ es) = by (kept e) ∙ ap (λ b. (kept e && test e) || b) (any_filtered test kept es)
-  where
-    by : (b : Bool) → list_any test (cond b (e ∷ filter kept es) (filter kept es))
-        ≡ ((b && test e) || list_any test (filter kept es))
-    by true = refl
-    by false = refl
-
-any_mapped : (test : ℕ → Bool) (f : Edge → ℕ) (es : List Edge) →
-    list_any test (map f es) ≡ list_any (λ e. test (f e)) es
-any_mapped test f [] = refl
-any_mapped test f (e ∷ es) = ap (λ b. test (f e) || b) (any_mapped test f es)
-
 any_of_itself : (es : List Edge) → AllByRecursion (λ e. (test : Edge → Bool) → test e ≡ true →
     list_any test es ≡ true) es
 any_of_itself [] = tt
@@ -232,9 +107,6 @@ any_of_itself (e ∷ es) = (
       test x ≡ true → list_any test (e ∷ es) ≡ true)
       (λ x h. λ test here. or_right (test e) (list_any test es) (h test here)) es (any_of_itself es),
 )
-
-both_true : (a b : Bool) → a ≡ true → b ≡ true → (a && b) ≡ true
-both_true a b e f = rw (e, f) refl
 
 module _ (graph : Graph) (sound : IsSound graph) where
   -- an edge leads to a neighbour from each vertex that it touches
@@ -253,7 +125,7 @@ module _ (graph : Graph) (sound : IsSound graph) where
       all_by (λ e. (test : Edge → Bool) → test e ≡ true → list_any test graph.edges ≡ true) LeadsToNeighbour
       (λ e h. λ v n touch lead.
       in_by_edges v n ∙ h (λ e. touches v e && (other_end v e == n))
-      (both_true (touches v e) (other_end v e == n) touch (eq-eqb (other_end v e) n lead)))
+      (and_from (touches v e) (other_end v e == n) touch (eq-eqb (other_end v e) n lead)))
       graph.edges (any_of_itself graph.edges)
 
   -- what is known of the edges at a vertex
@@ -343,7 +215,7 @@ module _ (graph : Graph) (sound : IsSound graph) where
       let four : length others + length (lone (length others == 3)) ≡ 4 =
       four_by (length others) (length others == 4) (length others == 3) (is_quadriligant atom.z atom.charge)
       (is_some (outer_of atom.z)) atom.lone refl refl
-      (and_right (nat_le 3 (length (drawn_neighbours graph v))) _ is) in
+      (and_parts (nat_le 3 (length (drawn_neighbours graph v))) _ is).1 in
       fit_of v others (length others == 3) (neighbours_differ graph sound v) (in_itself others) (omega (arith, four))
       (omega (arith, four))
 
@@ -380,7 +252,7 @@ module _ (graph : Graph) (sound : IsSound graph) where
       length (outer_neighbours graph (a ∷ b ∷ []) a) + 1 ≡ length (edges_at graph a)
   first_outer a b near =
       out_by (λ o. not (is_in o (a ∷ b ∷ []))) a b (neighbours graph a)
-      (λ o far. ap (λ c. not (c || ((b == o) || false))) (ne_eqb a o (λ e. far (sym e))) ∙ ap not (or_none (b == o)))
+      (λ o far. ap (λ c. not (c || ((b == o) || false))) (ne_eqb a o (λ e. far (sym e))) ∙ ap not (or-false (b == o)))
       (neighbours_differ graph sound a) (away a) near
       ∙ edges_counted a
 
@@ -388,7 +260,7 @@ module _ (graph : Graph) (sound : IsSound graph) where
       length (outer_neighbours graph (a ∷ b ∷ []) b) + 1 ≡ length (edges_at graph b)
   second_outer a b near =
       out_by (λ o. not (is_in o (a ∷ b ∷ []))) b a (neighbours graph b)
-      (λ o far. ap (λ c. not ((a == o) || (c || false))) (ne_eqb b o (λ e. far (sym e))) ∙ ap not (or_none (a == o)))
+      (λ o far. ap (λ c. not ((a == o) || (c || false))) (ne_eqb b o (λ e. far (sym e))) ∙ ap not (or-false (a == o)))
       (neighbours_differ graph sound b) (away b) near
       ∙ edges_counted b
 
@@ -403,7 +275,7 @@ module _ (graph : Graph) (sound : IsSound graph) where
       let two : length (outer_neighbours graph unit v) + length (lone ((atom.z == 7) && (edges == 2))) ≡ 2 =
       end_counted atom.z edges (length (outer_neighbours graph unit v)) _ (edges == 3) (edges == 2) (atom.z == 7) _
       refl refl refl
-      (and_left (is_double_end atom.z atom.charge edges) (has_end_bonds graph unit v) is) one in
+      (and_parts (is_double_end atom.z atom.charge edges) (has_end_bonds graph unit v) is).0 one in
       (two, outer_fit unit v ((atom.z == 7) && (edges == 2)) two)
 
   axis_counted : (z edges outer : ℕ) (two : Bool) → (edges == 2) ≡ two → edges ≡ 3 → outer ≡ 2 →
@@ -473,11 +345,11 @@ module _ (graph : Graph) (sound : IsSound graph) where
       let atom = vertex_at graph v in
       let edges = length (edges_at graph v) in
       let outer = length (outer_neighbours graph unit v) in
-      let before = and_left (((atom.z == 6) && (edges == 3)) && has_end_bonds graph unit v) (outer == 2) is in
-      let three : edges ≡ 3 = eqb-true edges 3 (and_right (atom.z == 6) (edges == 3)
-      (and_left ((atom.z == 6) && (edges == 3)) (has_end_bonds graph unit v) before)) in
-      let out : outer ≡ 2 = eqb-true outer 2 (and_right
-      (((atom.z == 6) && (edges == 3)) && has_end_bonds graph unit v) (outer == 2) is) in
+      let before = (and_parts (((atom.z == 6) && (edges == 3)) && has_end_bonds graph unit v) (outer == 2) is).0 in
+      let three : edges ≡ 3 = eqb-true edges 3 (and_parts (atom.z == 6) (edges == 3)
+      (and_parts ((atom.z == 6) && (edges == 3)) (has_end_bonds graph unit v) before).0).1 in
+      let out : outer ≡ 2 = eqb-true outer 2
+      (and_parts (((atom.z == 6) && (edges == 3)) && has_end_bonds graph unit v) (outer == 2) is).1 in
       let two : outer + length (lone ((atom.z == 7) && (edges == 2))) ≡ 2 =
       axis_counted atom.z edges outer (edges == 2) refl three out in
       (two, outer_fit unit v ((atom.z == 7) && (edges == 2)) two)
@@ -497,10 +369,10 @@ module _ (graph : Graph) (sound : IsSound graph) where
   bond_fit positions a e is known =
       let b = other_end a e in
       let unit = a ∷ b ∷ [] in
-      let both = and_left _ _ (and_left _ _ is) in
-      let second = bond_end_fit unit b (and_right _ (is_bond_end graph unit b) both)
+      let both = (and_parts _ _ (and_parts _ _ is).0).0 in
+      let second = bond_end_fit unit b (and_parts _ (is_bond_end graph unit b) both).1
       (second_outer a b (back a e known)) in
-      let first = bond_end_fit unit a (and_right _ (is_bond_end graph unit a) (and_left _ _ both))
+      let first = bond_end_fit unit a (and_parts _ (is_bond_end graph unit a) (and_parts _ _ both).0).1
       (first_outer a b (there a e known)) in
       record {
         ends = ends_fit a b (end_ligands graph unit a) (end_ligands graph unit b) first.1 second.1;
@@ -511,8 +383,8 @@ module _ (graph : Graph) (sound : IsSound graph) where
   axis_fit : (a middle b : ℕ) → is_axis_unit graph a middle b ≡ true → IsFitSite graph (axis_site graph a middle b)
   axis_fit a middle b is =
       let unit = a ∷ middle ∷ b ∷ [] in
-      let second = axis_end_fit unit b (and_right _ (is_axis_end graph unit b) is) in
-      let first = axis_end_fit unit a (and_right _ (is_axis_end graph unit a) (and_left _ _ is)) in
+      let second = axis_end_fit unit b (and_parts _ (is_axis_end graph unit b) is).1 in
+      let first = axis_end_fit unit a (and_parts _ (is_axis_end graph unit a) (and_parts _ _ is).0).1 in
       record {
         ends = ends_fit a b (end_ligands graph unit a) (end_ligands graph unit b) first.1 second.1;
         four = few_in_two (end_ligands graph unit a) (end_ligands graph unit b)
@@ -523,9 +395,8 @@ module _ (graph : Graph) (sound : IsSound graph) where
       (map (centre_site graph) (filter (is_centre graph) atoms))
   centres_fit atoms =
       all_mapped (IsFitSite graph) (centre_site graph) (filter (is_centre graph) atoms)
-      (all_by (λ v. (is_centre graph v ≡ true) × Unit {0}) (λ v. IsFitSite graph (centre_site graph v))
-      (λ v h. one_fit v (centre_ligands graph v) (centre_fit v h.0))
-      (filter (is_centre graph) atoms) (all_passed (λ _. Unit {0}) (is_centre graph) atoms (all_of_anything atoms)))
+      (all_told (λ v. IsFitSite graph (centre_site graph v)) (is_centre graph)
+      (λ v e. one_fit v (centre_ligands graph v) (centre_fit v e)) atoms)
 
   bonds_fit : (positions : List (List ℕ)) (a : ℕ) → AllByRecursion (IsFitSite graph) (bond_sites graph positions a)
   bonds_fit positions a =
@@ -540,17 +411,13 @@ module _ (graph : Graph) (sound : IsSound graph) where
   axes_over a middle =
       all_mapped (IsFitSite graph) (axis_site graph a middle)
       (filter (is_axis_unit graph a middle) (doubles graph middle))
-      (all_by (λ b. (is_axis_unit graph a middle b ≡ true) × Unit {0})
-      (λ b. IsFitSite graph (axis_site graph a middle b)) (λ b h. axis_fit a middle b h.0)
-      (filter (is_axis_unit graph a middle) (doubles graph middle))
-      (all_passed (λ _. Unit {0}) (is_axis_unit graph a middle) (doubles graph middle)
-      (all_of_anything (doubles graph middle))))
+      (all_told (λ b. IsFitSite graph (axis_site graph a middle b)) (is_axis_unit graph a middle) (axis_fit a middle)
+      (doubles graph middle))
 
   axes_fit : (a : ℕ) → AllByRecursion (IsFitSite graph) (axis_sites graph a)
   axes_fit a =
-      all_flat (λ _. Unit {0}) (IsFitSite graph) (λ middle. map (axis_site graph a middle)
-      (filter (is_axis_unit graph a middle) (doubles graph middle)))
-      (λ middle _. axes_over a middle) (doubles graph a) (all_of_anything (doubles graph a))
+      all_flat_each (IsFitSite graph) (λ middle. map (axis_site graph a middle)
+      (filter (is_axis_unit graph a middle) (doubles graph middle))) (axes_over a) (doubles graph a)
 
   sites_fit : (positions : List (List ℕ)) → AllByRecursion (IsFitSite graph) (sites_of graph positions)
   unfolding sites_of
@@ -561,15 +428,14 @@ module _ (graph : Graph) (sound : IsSound graph) where
       (all_append (IsFitSite graph) (map (centre_site graph) (filter (is_centre graph) atoms))
       (flat_map (bond_sites graph positions) atoms)
       (centres_fit atoms)
-      (all_flat (λ _. Unit {0}) (IsFitSite graph) (bond_sites graph positions) (λ a _. bonds_fit positions a) atoms
-      (all_of_anything atoms)))
-      (all_flat (λ _. Unit {0}) (IsFitSite graph) (axis_sites graph) (λ a _. axes_fit a) atoms (all_of_anything atoms))
+      (all_flat_each (IsFitSite graph) (bond_sites graph positions) (bonds_fit positions) atoms))
+      (all_flat_each (IsFitSite graph) (axis_sites graph) axes_fit atoms)
 
   pub units_fit : (positions : List (List ℕ)) (all : List units.Unit) → StandAtSites graph positions all →
       AreFit graph all
   units_fit positions all at =
       All-from_recursion (λ unit. IsFitSite graph unit.site) all
-      (unmapped (IsFitSite graph) (λ unit. unit.site) all
+      (all_unmapped (IsFitSite graph) (λ unit. unit.site) all
       (subst (AllByRecursion (IsFitSite graph)) (sym at) (sites_fit positions)))
 
 pub unit_fit : (setting : Setting) (listed : List units.Unit) (place : ℕ) (unit : units.Unit) → IsProper setting →

@@ -1,31 +1,8 @@
 -- The outcome of a unit is that of its ranked roots.
-use Rattle.std.proofs.Common.{
-  ◌≡◌,
-  ◌≤◌,
-  ◌+◌,
-  ◌++◌,
-  ◌∷◌,
-  ◌∙◌,
-  [],
-  ℕ,
-  suc,
-  Bool,
-  true,
-  false,
-  cond,
-  ◌||◌,
-  List,
-  refl,
-  sym,
-  ap,
-  map,
-  length,
-  nat_lt,
-}
+use Rattle.std.proofs.Common.{◌≡◌, ◌≤◌, ◌+◌, ◌++◌, ◌∷◌, ◌∙◌, [], ℕ, suc, Bool, true, false, cond, ◌||◌, List, refl, sym}
+use Rattle.std.proofs.Common.{ap, map, length, nat_lt, is_lt, Ordering, append-nil}
 use Rattle.std.specs.List.{list_any, range_with_len}
-use Rattle.std.specs.Ordering.{is_lt}
-use Rattle.std.specs.declared.cmp.Ordering.{Ordering}
-use Rattle.std.proofs.lemmas.List.{append-nil, length-map}
+use Rattle.std.proofs.lemmas.List.{length-map}
 use Rattle.std.proofs.lemmas.List.FromFn.{length-range_with_len}
 use Rattle.cip_rank.specs.Comparison.{insert_down, sorted_down}
 use Rattle.cip_mol.specs.declared.descriptor.Sense.{Sense}
@@ -36,17 +13,8 @@ use Rattle.cip_digraph.specs.units.Descriptors.{reason_needed}
 use Rattle.cip_digraph.specs.digraph.Digraph.{Node}
 use Rattle.cip_digraph.specs.units.Ends.{End, ends_of}
 use Rattle.cip_digraph.specs.outcome.Outcomes.{label_of}
-use Rattle.cip_digraph.specs.units.Ranked.{
-  Root,
-  Reason,
-  decisions,
-  has_tie,
-  last_reason,
-  place_order,
-  ranks,
-  side_of,
-  turned_ranks,
-}
+use Rattle.cip_digraph.specs.units.Ranked.{Root, Reason, decisions, has_tie, last_reason, place_order, ranks, side_of}
+use Rattle.cip_digraph.specs.units.Ranked.{turned_ranks}
 use Rattle.cip_letters.specs.declared.turns.Turns.{Turns}
 use Rattle.cip_letters.specs.TurnsOf.{places_turns, together}
 use Rattle.cip_letters.proofs.LettersTurn.{letter_of_both}
@@ -80,13 +48,9 @@ two_by : (site : Site) (sense : Sense) (p p-turned q q-turned : List ℕ) (one o
     of_two site sense (with_ranks over tie (rankeds.Ordered p p-turned one.rule one.sphere))
     (with_ranks more_over more_tie (rankeds.Ordered q q-turned other.rule other.sphere))
     ≡ with_label (over || (more_over || false)) (tie || (more_tie || false)) label
-two_by site sense p p-turned q q-turned one other label same true tie more_over more_tie = refl
-two_by site sense p p-turned q q-turned one other label same false true true more_tie = refl
-two_by site sense p p-turned q q-turned one other label same false true false true = refl
-two_by site sense p p-turned q q-turned one other label same false true false false = refl
-two_by site sense p p-turned q q-turned one other label same false false true more_tie = refl
-two_by site sense p p-turned q q-turned one other label same false false false true = refl
 two_by site sense p p-turned q q-turned one other label same false false false false = same
+two_by site sense p p-turned q q-turned one other label same false true false false = refl
+two_by site sense p p-turned q q-turned one other label same over tie more_over more_tie = refl
 
 module _ (setting : Setting) (bound : ℕ) (site : Site) (sense : Sense) where
   abbrev root : End → Root Node

@@ -1,30 +1,6 @@
 -- Of some reasons the last one.
-use Rattle.std.proofs.Common.{
-  ◌≡◌,
-  ◌==◌,
-  ◌&&◌,
-  ◌||◌,
-  ◌++◌,
-  ◌∷◌,
-  ◌∙◌,
-  [],
-  ℕ,
-  Bool,
-  true,
-  false,
-  List,
-  Option,
-  Some,
-  None,
-  refl,
-  sym,
-  ap,
-  arith,
-  cond,
-  fold,
-  nat_lt,
-}
-use Rattle.std.specs.declared.cmp.Ordering.TheVariants.{Equal}
+use Rattle.std.proofs.Common.{◌≡◌, ◌==◌, ◌&&◌, ◌||◌, ◌++◌, ◌∷◌, ◌∙◌, [], ℕ, Bool, true, false, List, Option, Some, None}
+use Rattle.std.proofs.Common.{refl, sym, ap, arith, cond, fold, nat_lt, Equal}
 use Rattle.std.proofs.lemmas.Bool.Decides.{nat_tests}
 use Rattle.cip_mol.specs.declared.outcome.Rule.TheVariants.{R1a}
 use Rattle.cip_digraph.specs.declared.decision.Decision.{Decision}

@@ -1,52 +1,18 @@
 -- Below the root of a digraph the node of a ligand is the real node of its vertex.
-use Rattle.std.proofs.Common.{
-  ◌≡◌,
-  ◌≢◌,
-  ◌-◌,
-  ◌==◌,
-  ◌&&◌,
-  ◌||◌,
-  ◌++◌,
-  ◌∷◌,
-  ◌∙◌,
-  [],
-  ℕ,
-  zero,
-  suc,
-  Bool,
-  true,
-  false,
-  cond,
-  List,
-  refl,
-  sym,
-  ap,
-  map,
-  replicate,
-  flat_map,
-  length,
-  subst,
-}
-use Rattle.std.specs.Prelude.{filter}
+use Rattle.std.proofs.Common.{◌≡◌, ◌≢◌, ◌-◌, ◌==◌, ◌&&◌, ◌||◌, ◌++◌, ◌∷◌, ◌∙◌, [], ℕ, zero, suc, Bool, true, false}
+use Rattle.std.proofs.Common.{cond, List, refl, sym, ap, map, replicate, flat_map, length, subst, filter, eqb-true}
+use Rattle.std.proofs.Common.{eq-eqb, append-nil}
 use Rattle.std.specs.List.{AllByRecursion}
-use Rattle.std.proofs.lemmas.Bool.{eqb-true, eq-eqb}
-use Rattle.std.proofs.lemmas.List.{append-nil}
 use Rattle.std.proofs.lemmas.List.Elements.{filter-append}
-use Rattle.cip_digraph.proofs.BranchesEnd.{at_root}
-use Rattle.cip_digraph.proofs.Lists.{Pairwise, all_filtered, by_recursion}
-use Rattle.cip_digraph.proofs.NeighbourOrder.{neighbours_differ, sorted_all}
+use Rattle.std.proofs.Math.Bool.{or-false, and-true, and-false}
+use Rattle.cip_digraph.proofs.tree.Branches.{at_root}
+use Rattle.cip_digraph.proofs.lists.Elements.{Pairwise, all_filtered, by_recursion}
+use Rattle.cip_digraph.proofs.bonds.Neighbours.{neighbours_differ, sorted_all}
 use Rattle.cip_digraph.specs.rings.Alternating.{is_in}
 use Rattle.cip_digraph.specs.rules.Auxiliary.{stands_for, ligand_node}
 use Rattle.cip_digraph.specs.declared.nodes.NodeKind.TheVariants.{Closure, Multiple, Delocalised}
-use Rattle.cip_digraph.specs.digraph.Digraph.{
-  Node,
-  real_node,
-  duplicate,
-  neighbour_child,
-  bond_children,
-  edge_children,
-  real_children,
-}
+use Rattle.cip_digraph.specs.digraph.Digraph.{Node, real_node, duplicate, neighbour_child, bond_children, edge_children}
+use Rattle.cip_digraph.specs.digraph.Digraph.{real_children}
 use Rattle.cip_digraph.specs.declared.graph.Edge.{Edge}
 use Rattle.cip_digraph.specs.graph.Graph.{Graph, edges_at, neighbours, other_end, touches}
 use Rattle.cip_digraph.specs.rings.Positions.{is_delocalised}
@@ -61,40 +27,18 @@ ne_eqb m n differ = by (m == n) refl
     by true e = absurd (differ (eqb-true m n e))
     by false e = refl
 
-pub or_none : (b : Bool) → (b || false) ≡ b
-or_none true = refl
-or_none false = refl
-
-and_one : (b : Bool) → (b && true) ≡ b
-and_one true = refl
-and_one false = refl
-
 -- duplicates of multiple bonds stand for no ligand
 none_of_multiples : (v vertex : ℕ) (path : List ℕ) (count : ℕ) →
     filter (stands_for v) (replicate count (duplicate Multiple vertex path)) ≡ []
 none_of_multiples v vertex path zero = refl
 none_of_multiples v vertex path (suc count) =
-    ap (λ b. cond b (duplicate Multiple vertex path ∷ filter (stands_for v)
-    (replicate count (duplicate Multiple vertex path)))
-    (filter (stands_for v) (replicate count (duplicate Multiple vertex path)))) (and_none (vertex == v))
-    ∙ none_of_multiples v vertex path count
-  where
-    and_none : (b : Bool) → (b && false) ≡ false
-    and_none true = refl
-    and_none false = refl
+    rw (and-false (vertex == v)) (none_of_multiples v vertex path count)
 
 none_of_delocalised : (v vertex : ℕ) (path : List ℕ) (count : ℕ) →
     filter (stands_for v) (replicate count (duplicate Delocalised vertex path)) ≡ []
 none_of_delocalised v vertex path zero = refl
 none_of_delocalised v vertex path (suc count) =
-    ap (λ b. cond b (duplicate Delocalised vertex path ∷ filter (stands_for v)
-    (replicate count (duplicate Delocalised vertex path)))
-    (filter (stands_for v) (replicate count (duplicate Delocalised vertex path)))) (and_none (vertex == v))
-    ∙ none_of_delocalised v vertex path count
-  where
-    and_none : (b : Bool) → (b && false) ≡ false
-    and_none true = refl
-    and_none false = refl
+    rw (and-false (vertex == v)) (none_of_delocalised v vertex path count)
 
 none_of_bond : (v vertex other count : ℕ) (path : List ℕ) (counted delocalised : Bool) →
     filter (stands_for v) (cond counted (replicate count
@@ -110,10 +54,10 @@ module _ (positions : List (List ℕ)) (root v : ℕ) where
   of_neighbour : (other : ℕ) → other ≢ root → filter (stands_for v) (neighbour_child root [] other) ≡ node_if
       (other == v) other
   of_neighbour other differ =
-      let off : is_in other (root ∷ []) ≡ false = or_none (root == other) ∙ ne_eqb root other (λ e. differ (sym e)) in
+      let off : is_in other (root ∷ []) ≡ false = or-false (root == other) ∙ ne_eqb root other (λ e. differ (sym e)) in
       ap (λ b. filter (stands_for v) (cond b (duplicate Closure other (root ∷ []) ∷ [])
       (real_node other (root ∷ []) ∷ []))) off
-      ∙ ap (λ b. node_if b other) (and_one (other == v))
+      ∙ ap (λ b. node_if b other) (and-true (other == v))
 
   of_edge : (edge : Edge) → other_end root edge ≢ root →
       filter (stands_for v) (edge_children positions root [] edge) ≡ node_if (other_end root edge == v)

@@ -1,21 +1,21 @@
 -- The order by all rules decides the same between two branches whichever of them is asked about first, and where the last
 -- rule doesn't decide, turning it changes nothing.
-use Rattle.std.proofs.Common.{◌≡◌, ◌≢◌, ℕ, zero, suc, ◌+◌, Bool, true, false, List, [], ◌∷◌, ◌++◌, None, Some, refl, sym, ap, ◌∙◌}
-use Rattle.std.specs.declared.option.Option.{Option}
+use Rattle.std.proofs.Common.{◌≡◌, ◌≢◌, ℕ, zero, suc, ◌+◌, Bool, true, false, List, [], ◌∷◌, ◌++◌, None, Some, refl}
+use Rattle.std.proofs.Common.{sym, ap, ◌∙◌, Option, Ordering, Less, Equal, Greater}
 use Rattle.std.specs.List.{AllByRecursion}
 use Rattle.std.specs.Ordering.{ordering_reverse}
-use Rattle.std.specs.declared.cmp.Ordering.{Ordering}
-use Rattle.std.specs.declared.cmp.Ordering.TheVariants.{Less, Equal, Greater}
 use Rattle.std.proofs.lemmas.Cmp.{on_total}
 use Rattle.cip_rank.proofs.TotalOrder.{comparison_total}
 use Rattle.cip_mol.specs.declared.outcome.Rule.{Rule}
 use Rattle.cip_mol.specs.declared.outcome.Rule.TheVariants.{R1a, R1b, R2, R3, R4a, R4b, R4c, R5}
 use Rattle.cip_digraph.specs.declared.decision.Decision.{Decision}
-use Rattle.cip_digraph.specs.rules.Decisions.{Difference, first_difference, or_else, difference_by, first_decision, rules_in_turn, order}
-use Rattle.cip_digraph.specs.rules.Orders.{Seen, rule_1a, rule_1b, rule_2, rule_3, rule_4a, higher_reading, lower_reading, rule_4b_higher, rule_4b_lower, rule_4c, rule_5}
-use Rattle.cip_digraph.proofs.ExchangedOrders.{found_at, all_tie_total, total_4a, readings_total}
-use Rattle.cip_digraph.proofs.TurnedTies.{decided_at, total_4c}
-use Rattle.cip_digraph.proofs.WholeOrder.{total_1a, total_1b, total_2, total_3}
+use Rattle.cip_digraph.specs.rules.Decisions.{Difference, first_difference, or_else, difference_by, first_decision}
+use Rattle.cip_digraph.specs.rules.Decisions.{rules_in_turn, order}
+use Rattle.cip_digraph.specs.rules.Orders.{Seen, rule_1a, rule_1b, rule_2, rule_3, rule_4a, higher_reading}
+use Rattle.cip_digraph.specs.rules.Orders.{lower_reading, rule_4b_higher, rule_4b_lower, rule_4c, rule_5}
+use Rattle.cip_digraph.proofs.orders.Exchanged.{found_at, all_tie_total, total_4a, readings_total}
+use Rattle.cip_digraph.proofs.ties.Turned.{decided_at, total_4c}
+use Rattle.cip_digraph.proofs.orders.Whole.{total_1a, total_1b, total_2, total_3}
 use Rattle.cip_label.specs.Standing.{reversed}
 
 abbrev reversed_difference : Option Difference → Option Difference

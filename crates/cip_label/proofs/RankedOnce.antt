@@ -1,14 +1,13 @@
 -- A root whose ligands are compared once a pair is ranked as by the order of each two.
-use Rattle.std.proofs.Common.{◌≡◌, ◌<◌, ◌≤◌, ◌+◌, ◌-◌, ◌++◌, ◌||◌, ◌∷◌, [], ◌∙◌, ℕ, zero, suc, Bool, true, false, cond, List, None, Some, length, map, nat_lt, slice_get, refl, sym, ap, arith}
-use Rattle.std.specs.Prelude.{slice_index_or}
+use Rattle.std.proofs.Common.{◌≡◌, ◌<◌, ◌≤◌, ◌+◌, ◌-◌, ◌++◌, ◌||◌, ◌∷◌, [], ◌∙◌, ℕ, zero, suc, Bool, true, false, cond}
+use Rattle.std.proofs.Common.{List, None, Some, length, map, nat_lt, slice_get, refl, sym, ap, arith, slice_index_or}
+use Rattle.std.proofs.Common.{is_lt, Ordering, Option, append-nil}
 use Rattle.std.specs.List.{AllByRecursion, list_any, range_with_len}
-use Rattle.std.specs.Ordering.{is_lt}
-use Rattle.std.specs.declared.cmp.Ordering.{Ordering}
-use Rattle.std.specs.declared.option.Option.{Option}
 use Rattle.std.proofs.lemmas.Bool.Decides.{nat_tests}
-use Rattle.std.proofs.lemmas.List.{append-nil, length-map}
+use Rattle.std.proofs.lemmas.List.{length-map}
 use Rattle.std.proofs.lemmas.List.Folds.{list_any-append}
 use Rattle.std.proofs.lemmas.Option.{slice_get_within}
+use Rattle.std.proofs.lemmas.Bool.{or_parts}
 use Rattle.cip_rank.specs.Comparison.{insert_down, sorted_down}
 use Rattle.cip_mol.specs.declared.site.Ligand.{Ligand}
 use Rattle.cip_mol.specs.declared.site.Ligand.TheVariants.{Vertex, LonePair}
@@ -18,9 +17,10 @@ use Rattle.cip_digraph.specs.graph.SoundGraphs.{IsSound}
 use Rattle.cip_digraph.specs.units.Ends.{end_at}
 use Rattle.cip_digraph.specs.rules.Decisions.{order}
 use Rattle.cip_digraph.specs.rules.Orders.{Seen}
-use Rattle.cip_digraph.specs.units.Ranked.{decisions_along, decisions_behind, has_tie, is_tie, last_reason, ligand_order, place_order, ranked_places, ranks, side_of, some_pair}
-use Rattle.cip_digraph.proofs.EarlyOrders.{itself}
-use Rattle.cip_digraph.proofs.TurnedTies.{tie_turned}
+use Rattle.cip_digraph.specs.units.Ranked.{decisions_along, decisions_behind, has_tie, is_tie, last_reason}
+use Rattle.cip_digraph.specs.units.Ranked.{ligand_order, place_order, ranked_places, ranks, side_of, some_pair}
+use Rattle.cip_digraph.proofs.orders.Early.{itself}
+use Rattle.cip_digraph.proofs.ties.Turned.{tie_turned}
 use Rattle.cip_letters.specs.Sides.{each_two}
 use Rattle.cip_letters.proofs.PairTurns.{any_mapped, pairs_mapped}
 use Rattle.cip_label.specs.declared.roots.Ranked.{Ranked}
@@ -29,7 +29,8 @@ use Rattle.cip_label.specs.declared.digraphs.Ranking.{Ranking}
 use Rattle.cip_label.specs.declared.digraphs.Ranking.TheVariants.{Known, Tied, Over}
 use Rattle.cip_label.specs.Fitting.{IsFit}
 use Rattle.cip_label.specs.Labelling.{ranked_by, ranked_root}
-use Rattle.cip_label.specs.Pairwise.{between, compared, decided_along, decided_at, decided_behind, decided_each, is_by_rule_5, is_rule_5, pair_place, ranked_in, ranked_once, turned_each}
+use Rattle.cip_label.specs.Pairwise.{between, compared, decided_along, decided_at, decided_behind, decided_each}
+use Rattle.cip_label.specs.Pairwise.{is_by_rule_5, is_rule_5, pair_place, ranked_in, ranked_once, turned_each}
 use Rattle.cip_label.specs.Settings.{Setting, seen_in}
 use Rattle.cip_label.specs.Standing.{RankedAs, Stands, branch, reversed, root_of}
 use Rattle.cip_label.proofs.OppositeOrders.{order_early, order_reversed}
@@ -110,17 +111,13 @@ ties_two test f (x ∷ xs) =
     list_any-append test (map (f x) xs) (each_two f xs)
     ∙ (λ k. any_mapped (f x) test xs k || ties_two test f xs k)
 
-neither : (a b : Bool) → (a || b) ≡ false → (a ≡ false) × (b ≡ false)
-neither true b e = let bad : true ≡ false = e in cc
-neither false b e = (refl, e)
-
 -- lists that differ only where a test passes
 row_alike : {X Y : Type 0} (test : Y → Bool) (f g : X → Y) (xs : List X)
     → ((j : ℕ) (y : X) → slice_get xs j ≡ Some y → test (f y) ≡ false → g y ≡ f y)
     → list_any test (map f xs) ≡ false → map g xs ≡ map f xs
 row_alike test f g [] alike none = refl
 row_alike test f g (x ∷ xs) alike none =
-    let parts = neither (test (f x)) (list_any test (map f xs)) none in
+    let parts = or_parts (test (f x)) (list_any test (map f xs)) none in
     λ k. alike zero x refl parts.0 k ∷ row_alike test f g xs (λ j y at. alike (suc j) y at) parts.1 k
 
 two_alike : {X Y : Type 0} (test : Y → Bool) (f g : X → X → Y) (xs : List X)
@@ -128,7 +125,7 @@ two_alike : {X Y : Type 0} (test : Y → Bool) (f g : X → X → Y) (xs : List 
     → g x y ≡ f x y) → list_any test (each_two f xs) ≡ false → each_two g xs ≡ each_two f xs
 two_alike test f g [] alike none = refl
 two_alike test f g (x ∷ xs) alike none =
-    let parts = neither (list_any test (map (f x) xs)) (list_any test (each_two f xs))
+    let parts = or_parts (list_any test (map (f x) xs)) (list_any test (each_two f xs))
     (sym (list_any-append test (map (f x) xs) (each_two f xs)) ∙ none) in
     λ k. row_alike test (f x) (g x) xs (λ j y at. alike zero (suc j) x y refl at) parts.0 k
     ++ two_alike test f g xs (λ i j x y at_i at_j. alike (suc i) (suc j) x y at_i at_j) parts.1 k

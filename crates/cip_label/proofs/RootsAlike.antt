@@ -1,33 +1,6 @@
 -- A root whose branches stand as in the whole digraph is ranked as the root there.
-use Rattle.std.proofs.Common.{
-  ◌≡◌,
-  ◌≤◌,
-  arith,
-  ◌∷◌,
-  ◌++◌,
-  ◌∙◌,
-  [],
-  ℕ,
-  zero,
-  suc,
-  Bool,
-  true,
-  false,
-  List,
-  Option,
-  Some,
-  None,
-  refl,
-  sym,
-  ap,
-  map,
-  length,
-  nat_lt,
-  slice_get,
-  slice_index_or,
-  subst,
-  ◌||◌,
-}
+use Rattle.std.proofs.Common.{◌≡◌, ◌≤◌, arith, ◌∷◌, ◌++◌, ◌∙◌, [], ℕ, zero, suc, Bool, true, false, List, Option, Some}
+use Rattle.std.proofs.Common.{None, refl, sym, ap, map, length, nat_lt, slice_get, slice_index_or, subst, ◌||◌}
 use Rattle.std.specs.List.{All, list_any, range_with_len}
 use Rattle.std.proofs.lemmas.Option.{get_or_from_slice_get, slice_get_within}
 use Rattle.std.proofs.lemmas.List.{length-map}
@@ -42,23 +15,9 @@ use Rattle.cip_digraph.specs.units.Descriptors.{reason_needed}
 use Rattle.cip_digraph.specs.digraph.Digraph.{Node, real_node}
 use Rattle.cip_digraph.specs.units.Ends.{end_at}
 use Rattle.cip_digraph.specs.graph.Graph.{Graph}
-use Rattle.cip_digraph.specs.units.Ranked.{
-  Root,
-  Reason,
-  decisions,
-  decisions_along,
-  decisions_behind,
-  has_tie,
-  is_tie,
-  last_reason,
-  ligand_order,
-  place_order,
-  ranked_places,
-  ranks,
-  side_of,
-  some_pair,
-  turned_ranks,
-}
+use Rattle.cip_digraph.specs.units.Ranked.{Root, Reason, decisions, decisions_along, decisions_behind, has_tie, is_tie}
+use Rattle.cip_digraph.specs.units.Ranked.{last_reason, ligand_order, place_order, ranked_places, ranks, side_of}
+use Rattle.cip_digraph.specs.units.Ranked.{some_pair, turned_ranks}
 use Rattle.cip_digraph.specs.graph.SoundGraphs.{IsSound}
 use Rattle.cip_digraph.specs.digraph.View.{real_at, view_children}
 use Rattle.cip_letters.proofs.PairTurns.{pairs_mapped}

@@ -1,22 +1,6 @@
 -- The ends of a site are fit.
-use Rattle.std.proofs.Common.{
-  ◌≡◌,
-  ◌≤◌,
-  ◌+◌,
-  ◌∷◌,
-  ◌++◌,
-  ◌∙◌,
-  [],
-  ℕ,
-  List,
-  ap,
-  arith,
-  length,
-  subst,
-  flat_map,
-}
-use Rattle.std.specs.List.{All}
-use Rattle.std.proofs.lemmas.List.{append-nil, length-append}
+use Rattle.std.proofs.Common.{◌≡◌, ◌≤◌, ◌+◌, ◌∷◌, ◌++◌, ◌∙◌, [], List, ap, arith, length, subst, flat_map, All}
+use Rattle.std.proofs.Common.{append-nil, length-append}
 use Rattle.std.proofs.lemmas.List.Elements.{All-head, All-tail}
 use Rattle.cip_mol.specs.declared.site.Site.{Site}
 use Rattle.cip_digraph.specs.units.Ends.{End, ends_of}

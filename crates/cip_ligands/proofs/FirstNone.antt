@@ -4,7 +4,7 @@ use Rattle.std.specs.Prelude.{None}
 use Rattle.std.specs.declared.cmp.Ordering.{Ordering}
 use Rattle.std.specs.declared.cmp.Ordering.TheVariants.{Equal}
 use Rattle.cip_digraph.specs.rules.Decisions.{first_difference}
-use Rattle.cip_digraph.proofs.ExchangedOrders.{found_at}
+use Rattle.cip_digraph.proofs.orders.Exchanged.{found_at}
 
 pub none_at : (f : ℕ → Ordering) (m s : ℕ) → ((d : ℕ) → s ≤ d → d < s + m → f d ≡ Equal) → first_difference f s m ≡ None
 none_at f zero s ties = refl

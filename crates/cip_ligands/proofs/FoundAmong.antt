@@ -15,7 +15,7 @@ use Rattle.cip_branches.specs.Deciding.{Branched}
 use Rattle.cip_rows.specs.Kin.{Kin}
 use Rattle.cip_branches.specs.Standing.{node_in, WantedIn, AreKeysOf}
 use Rattle.cip_branches.specs.Views.{IsEnded}
-use Rattle.cip_branches.proofs.TakenAmong.{was_wanted, ends_now, rule_begun, rule_deeper, rule_stands}
+use Rattle.cip_branches.proofs.taken.Among.{was_wanted, ends_now, rule_begun, rule_deeper, rule_stands}
 use Rattle.cip_ligands.specs.declared.asked.Asked.{Asked}
 use Rattle.cip_ligands.specs.Asking.{decided, kept_or, with_found, differing, found_between}
 use Rattle.cip_ligands.proofs.FoundWithin.{first_split, decided_else, one_more, with_both, all_stay, no_more, same_found}

@@ -9,8 +9,8 @@ use Rattle.std.proofs.lemmas.Bool.{and_parts}
 use Rattle.std.proofs.lemmas.List.Elements.{All-from_recursion}
 use Rattle.cip_mol.specs.declared.outcome.Rule.{Rule}
 use Rattle.cip_digraph.specs.rules.Decisions.{Difference, first_difference, or_else}
-use Rattle.cip_digraph.proofs.ExchangedOrders.{found_at}
-use Rattle.cip_digraph.proofs.Lists.{by_recursion}
+use Rattle.cip_digraph.proofs.orders.Exchanged.{found_at}
+use Rattle.cip_digraph.proofs.lists.Elements.{by_recursion}
 use Rattle.cip_ligands.proofs.FirstNone.{none_at}
 use Rattle.cip_digraph.specs.declared.decision.Decision.{Decision}
 use Rattle.cip_ligands.specs.declared.asked.Asked.{Asked}

@@ -14,9 +14,9 @@ use Rattle.cip_mol.specs.declared.outcome.Rule.TheVariants.{R1a, R1b, R2, R3, R4
 use Rattle.cip_digraph.specs.rules.Decisions.{first_difference, or_else, look, difference_by, first_decision, rules_in_turn, order}
 use Rattle.cip_digraph.specs.rules.Kinds.{Kind, KindR, KindS, marked, geometric_key, chirality_key, like_key, small_key, capital_key}
 use Rattle.cip_digraph.specs.rules.Orders.{Seen, all_tie, rule_1a, rule_1b, rule_2, rule_3, rule_4a, read_children, readings, higher_reading, lower_reading, rule_4b_higher, rule_4b_lower, rule_4c, rule_5}
-use Rattle.cip_digraph.proofs.ExchangedOrders.{all_tie_total, total_4a, earlier_total}
-use Rattle.cip_digraph.proofs.TurnedTies.{total_4c}
-use Rattle.cip_digraph.proofs.WholeOrder.{total_1a, total_1b, total_2, total_3}
+use Rattle.cip_digraph.proofs.orders.Exchanged.{all_tie_total, total_4a, earlier_total}
+use Rattle.cip_digraph.proofs.ties.Turned.{total_4c}
+use Rattle.cip_digraph.proofs.orders.Whole.{total_1a, total_1b, total_2, total_3}
 use Rattle.cip_ligands.proofs.FoundWithin.{same_difference}
 use Rattle.cip_ligands.specs.Moving.{Moves}
 

@@ -23,8 +23,8 @@ use Rattle.cip_digraph.specs.declared.decision.Decision.{Decision}
 use Rattle.cip_digraph.specs.rules.Decisions.{Difference, first_difference, look}
 use Rattle.cip_digraph.specs.rules.Kinds.{Kind, KindR, KindS, Neither, marked, like_key, like_kind}
 use Rattle.cip_digraph.specs.rules.Orders.{Seen, rule_4a, read_children, readings, is_s_higher, higher_reading, lower_reading, rule_4b_higher, rule_4b_lower}
-use Rattle.cip_digraph.proofs.ExchangedOrders.{total_4a}
-use Rattle.cip_digraph.proofs.WholeOrder.{side_at, first_side}
+use Rattle.cip_digraph.proofs.orders.Exchanged.{total_4a}
+use Rattle.cip_digraph.proofs.orders.Whole.{side_at, first_side}
 use Rattle.cip_branches.specs.Among.{StandsAmong}
 use Rattle.cip_branches.specs.Deciding.{Branched, AreFollowed}
 use Rattle.cip_rows.specs.Kids.{kids_of}
@@ -33,11 +33,11 @@ use Rattle.cip_branches.specs.Standing.{node_in, WantedIn, AreKeysOf, StandsBy}
 use Rattle.cip_branches.specs.Twins.{twins_of, kept_spheres, MayDouble}
 use Rattle.cip_branches.specs.Views.{IsView, IsEnded}
 use Rattle.cip_rows.proofs.Cases.{cases_same, cases_flag, not_both}
-use Rattle.cip_branches.proofs.DecidedBranches.{first_stays}
-use Rattle.cip_branches.proofs.Ending.{deep}
-use Rattle.cip_branches.proofs.TwinRanks.{double_order, twins_followed}
-use Rattle.cip_branches.proofs.TwinSpheres.{kept_at_most, number_first, number_second}
-use Rattle.cip_branches.proofs.TwinStands.{IsReading, wants_twin, twin_named, read_each, itself, node_first, node_second, view_before, ended_before, ended_twins, twins_stand, reading_in, top_node}
+use Rattle.cip_branches.proofs.ruled.Decided.{first_stays}
+use Rattle.cip_branches.proofs.taken.Ended.{deep}
+use Rattle.cip_branches.proofs.doubled.Ranks.{double_order, twins_followed}
+use Rattle.cip_branches.proofs.doubled.Starts.{kept_at_most, number_first, number_second}
+use Rattle.cip_branches.proofs.doubled.Stands.{IsReading, wants_twin, twin_named, read_each, itself, node_first, node_second, view_before, ended_before, ended_twins, twins_stand, reading_in, top_node}
 use Rattle.cip_ligands.specs.declared.asked.Asked.{Asked}
 use Rattle.cip_ligands.specs.Asking.{AreWithin, decided, differing, found_between, is_decided, kept_or, with_found}
 use Rattle.cip_ligands.specs.Counting.{AreUncounted}

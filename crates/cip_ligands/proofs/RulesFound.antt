@@ -8,9 +8,9 @@ use Rattle.cip_mol.specs.declared.outcome.Rule.{Rule}
 use Rattle.cip_mol.specs.declared.outcome.Rule.TheVariants.{R1a, R1b, R2, R3, R4a, R4b, R4c, R5}
 use Rattle.cip_digraph.specs.rules.Decisions.{first_difference, difference_by}
 use Rattle.cip_digraph.specs.rules.Orders.{Seen, rule_1a, rule_1b, rule_2, rule_3, rule_4a, rule_4c, rule_5}
-use Rattle.cip_digraph.proofs.ExchangedOrders.{all_tie_total, total_4a}
-use Rattle.cip_digraph.proofs.TurnedTies.{total_4c}
-use Rattle.cip_digraph.proofs.WholeOrder.{total_1a, total_1b, total_2, total_3}
+use Rattle.cip_digraph.proofs.orders.Exchanged.{all_tie_total, total_4a}
+use Rattle.cip_digraph.proofs.ties.Turned.{total_4c}
+use Rattle.cip_digraph.proofs.orders.Whole.{total_1a, total_1b, total_2, total_3}
 use Rattle.cip_branches.specs.Deciding.{Branched}
 use Rattle.cip_branches.specs.Standing.{node_in, WantedIn, AreKeysOf, StandsBy}
 use Rattle.cip_branches.specs.Views.{IsEnded}

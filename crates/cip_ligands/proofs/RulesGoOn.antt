@@ -9,11 +9,11 @@ use Rattle.cip_mol.specs.declared.outcome.Rule.{Rule}
 use Rattle.cip_mol.specs.declared.outcome.Rule.TheVariants.{R1a}
 use Rattle.cip_digraph.specs.rules.Decisions.{difference_by, rules_in_turn, order}
 use Rattle.cip_digraph.specs.rules.Orders.{Seen, all_tie, rule_1a}
-use Rattle.cip_digraph.proofs.ExchangedOrders.{all_tie_total}
+use Rattle.cip_digraph.proofs.orders.Exchanged.{all_tie_total}
 use Rattle.cip_branches.specs.Deciding.{Branched, AreDecided}
 use Rattle.cip_branches.specs.Standing.{node_in, WantedIn, AreKeysOf, StandsBy}
 use Rattle.cip_branches.specs.Views.{IsEnded}
-use Rattle.cip_branches.proofs.TakenRules.{followed_taken, rule_stands}
+use Rattle.cip_branches.proofs.taken.Rules.{followed_taken, rule_stands}
 use Rattle.cip_ligands.specs.declared.asked.Asked.{Asked}
 use Rattle.cip_ligands.specs.Asking.{AreWithin, is_decided, decided, kept_or, with_found}
 use Rattle.cip_ligands.specs.Orders.{is_keyed}

@@ -8,7 +8,7 @@ use Rattle.cip_mol.specs.declared.outcome.Rule.{Rule}
 use Rattle.cip_digraph.specs.declared.decision.Decision.{Decision}
 use Rattle.cip_branches.specs.Deciding.{Branched, AreFollowed}
 use Rattle.cip_branches.specs.Taking.{Deepens, SplitsFirst}
-use Rattle.cip_branches.proofs.EvenSpheres.{deeper_even, stay, then_told}
+use Rattle.cip_branches.proofs.taken.Even.{deeper_even, stay, then_told}
 use Rattle.cip_ligands.specs.declared.asked.Asked.{Asked}
 use Rattle.cip_ligands.specs.Asking.{decided, differing, found_between, kept_or, with_found}
 use Rattle.cip_ligands.specs.Taking.{TakenTo, TakesRule}

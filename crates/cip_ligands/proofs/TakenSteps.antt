@@ -9,10 +9,10 @@ use Rattle.cip_branches.specs.Deciding.{Branched, AreFollowed, FlagsOpen}
 use Rattle.cip_branches.specs.Saving.{saved_of, restored}
 use Rattle.cip_branches.specs.Standing.{WantedIn}
 use Rattle.cip_branches.specs.Taking.{SplitsFirst, Deepens}
-use Rattle.cip_branches.proofs.KeptSpheres.{same_itself}
-use Rattle.cip_branches.proofs.SavedAside.{put_back}
-use Rattle.cip_branches.proofs.TakenAmong.{was_wanted}
-use Rattle.cip_branches.proofs.TakenSpheres.{kept_on}
+use Rattle.cip_branches.proofs.refined.Kept.{same_itself}
+use Rattle.cip_branches.proofs.taken.Saved.{put_back}
+use Rattle.cip_branches.proofs.taken.Among.{was_wanted}
+use Rattle.cip_branches.proofs.taken.Kept.{kept_on}
 use Rattle.cip_ligands.specs.declared.asked.Asked.{Asked}
 use Rattle.cip_ligands.specs.Asking.{kept_or, with_found, found_between}
 use Rattle.cip_ligands.proofs.FoundWithin.{with_both}

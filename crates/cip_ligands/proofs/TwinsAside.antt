@@ -1,9 +1,9 @@
 -- Twins of branches whose ranks are set aside: put back they stand as they did, whatever rule was taken over them.
-use Rattle.std.proofs.Common.{◌≡◌, ◌+◌, ℕ, length, refl, sym, ap, ◌∙◌, subst}
+use Rattle.std.proofs.Common.{◌≡◌, ◌<◌, ◌+◌, ◌^◌, ℕ, length, refl, sym, ap, ◌∙◌, subst}
 use Rattle.cip_branches.specs.Deciding.{Branched, AreFollowed}
 use Rattle.cip_branches.specs.Saving.{Saved, saved_of, restored}
 use Rattle.cip_branches.specs.Twins.{twins_of}
-use Rattle.cip_branches.proofs.SavedAside.{put_back}
+use Rattle.cip_branches.proofs.taken.Saved.{put_back}
 use Rattle.cip_rows.specs.Keys.{AreKeyed}
 use Rattle.cip_rows.specs.Kin.{Kin}
 use Rattle.cip_rows.proofs.TwinLists.{halves_length}
@@ -13,7 +13,8 @@ use Rattle.cip_ligands.specs.Taking.{AreSame}
 use Rattle.cip_ligands.proofs.TakenSteps.{same_still}
 
 -- twins that were just made
-module _ (from : Branched) (room kept : ℕ) (saved : Saved) where
+module _ (from : Branched) (few : length from.layers.kin.ups + length from.layers.kin.ups < 2 ^ 32) (room kept : ℕ)
+    (saved : Saved) where
   first_aside : AreFollowed (twins_of room from)
       → length (twins_of room from).layers.ranked.numbers ≡ length (twins_of room from).layers.kin.ups
       → saved ≡ saved_of kept (twins_of room from) → AreTwinsAside from saved (twins_of room from)
@@ -21,6 +22,7 @@ module _ (from : Branched) (room kept : ℕ) (saved : Saved) where
       let begin = twins_of room from in
       let same = same_still begin in
       record {
+        few = few;
         aside = record {
           followed = followed;
           numbers_len = len;
@@ -65,6 +67,7 @@ pub still_aside : (from old now : Branched) (saved : Saved) → AreTwinsAside fr
 still_aside from old now saved twins kin same =
     let aside = twins.aside in
     record {
+      few = twins.few;
       aside = subst (λ r. IsAside (twins_of r from) saved now) (sym (ap (λ (k : Kin). k.room) kin)) (record {
         followed = aside.followed;
         numbers_len = aside.numbers_len;

@@ -15,11 +15,11 @@ use Rattle.cip_digraph.specs.digraph.SameBranch.{EndsWithin}
 use Rattle.cip_digraph.specs.rules.Decisions.{Difference, first_difference, difference_by, first_decision, order}
 use Rattle.cip_digraph.specs.rules.Orders.{Seen, rule_2}
 use Rattle.cip_digraph.specs.units.Ranked.{is_tie}
-use Rattle.cip_digraph.proofs.EarlyOrders.{itself}
-use Rattle.cip_digraph.proofs.EarlyTies.{IsUnmarked, unmarked_tie}
-use Rattle.cip_digraph.proofs.ExchangedOrders.{found_at}
-use Rattle.cip_digraph.proofs.TieFromSame.{arranged}
-use Rattle.cip_digraph.proofs.TurnedTies.{tie_turned}
+use Rattle.cip_digraph.proofs.orders.Early.{itself}
+use Rattle.cip_digraph.proofs.ties.Early.{IsUnmarked, unmarked_tie}
+use Rattle.cip_digraph.proofs.orders.Exchanged.{found_at}
+use Rattle.cip_digraph.proofs.ties.Turned.{tie_turned}
+use Rattle.cip_digraph.proofs.lists.Elements.{all_arranged}
 use Rattle.cip_branches.specs.Deciding.{Branched}
 use Rattle.cip_rows.specs.Kids.{kids_of}
 use Rattle.cip_rows.specs.Parting.{has_flag}
@@ -104,7 +104,7 @@ module _ {N : Type 0} (seen : Seen N) (named : ℕ → N) (now : Branched) (show
   each_child : (P : N → Type 0) (t place : ℕ) → WantedIn now t place
       → ((kid : ℕ) → WantedIn now (suc t) kid → P (at kid)) → AllByRecursion P (seen.children (at place))
   each_child P t place p each = elim (cases_lt t now.last) [
-    | inl lt ↦ arranged seen P (map at (kids_of now.layers.kin place)) (seen.children (at place))
+    | inl lt ↦ all_arranged P (map at (kids_of now.layers.kin place)) (seen.children (at place))
         (shown.view.told t place lt p)
         (all_of P (WantedIn now (suc t)) at each (kids_of now.layers.kin place) (shown.view.next t place lt p))
     | inr done ↦

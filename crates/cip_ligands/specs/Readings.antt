@@ -93,6 +93,7 @@ pub record IsAside (begin : Branched) (saved : Saved) (now : Branched) : Type 0 
 
 -- and these branches are twins of others
 pub record AreTwinsAside (from : Branched) (saved : Saved) (now : Branched) : Type 0 where
+  pub few : length from.layers.kin.ups + length from.layers.kin.ups < 2 ^ 32
   pub aside : IsAside (twins_of now.layers.kin.room from) saved now
 
 -- where it is known which reading of each branch is the higher one, these are compared, and where two of them tie the

@@ -351,7 +351,6 @@ fn take_pairs<K: Keyed>(
 )
     requires aside { AreTwinsAside branches.now saved.now twins.old }
     requires keyed { AreKeyed (K.nodes keys.now) twins.old.layers.kin }
-    requires few { length branches.now.layers.kin.ups + length branches.now.layers.kin.ups < 2 ^ 32 }
     ensures compared { ComparesReadings branches.now (twins_of twins.old.layers.kin.room branches.now) (K.key keys.now)
         sides.now asked.old asked.new }
     ensures kin { twins.new.layers.kin ≡ twins.old.layers.kin }
@@ -373,7 +372,6 @@ fn take_with<M: Marked>(
 )
     requires followed { AreFollowed keys.now.branches.now }
     requires some { 0 < length keys.now.branches.now.layers.kin.ups }
-    requires few { length keys.now.branches.now.layers.kin.ups + length keys.now.branches.now.layers.kin.ups < 2 ^ 32 }
     requires room { length keys.now.branches.now.layers.kin.ups + length keys.now.branches.now.layers.kin.ups
         ≤ twins.old.layers.kin.room }
     requires saved_room { length keys.now.branches.now.layers.kin.ups + length keys.now.branches.now.layers.kin.ups

@@ -14,9 +14,9 @@ use Rattle.cip_digraph.specs.rings.PositionLists.{IsPositionList}
 use Rattle.cip_digraph.specs.rings.Positions.{listed_positions, positions_at, positions_of}
 use Rattle.cip_digraph.specs.graph.SoundGraphs.{IsSound}
 use Rattle.cip_digraph.specs.declared.graph.Edge.{Edge}
-use Rattle.cip_digraph.proofs.Listed.{none_listed}
-use Rattle.cip_digraph.proofs.Lists.{pairs_from_pairwise, pairwise_filtered}
-use Rattle.cip_digraph.proofs.NeighbourOrder.{neighbours_ascend}
+use Rattle.cip_digraph.proofs.lists.Positions.{none_listed}
+use Rattle.cip_digraph.proofs.lists.Elements.{pairs_from_pairwise, pairwise_filtered}
+use Rattle.cip_digraph.proofs.bonds.Neighbours.{neighbours_ascend}
 use Rattle.cip_mancude.specs.Partners.{alternating_partner, AreListedBelow, counts_at, positions_along}
 use Rattle.cip_mancude.proofs.Noted.{no_partner}
 

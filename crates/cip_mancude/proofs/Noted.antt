@@ -6,13 +6,14 @@ use Rattle.std.specs.declared.option.Option.{Option}
 use Rattle.std.proofs.lemmas.Bool.{and_from, and_left, and_right, cases_eq, or_parts, or_right}
 use Rattle.std.proofs.lemmas.List.{get_or-replicate, get_or-set_other, get_or-set_same, length-replicate, length-set, take_all}
 use Rattle.std.proofs.lemmas.List.Folds.{list_any_more}
+use Rattle.std.proofs.Math.Bool.{or-false}
 use Rattle.cip_digraph.specs.declared.graph.Edge.{Edge}
 use Rattle.cip_digraph.specs.graph.Graph.{Graph, edges_at, touches}
 use Rattle.cip_digraph.specs.graph.SoundGraphs.{IsSound, JoinsBelow}
 use Rattle.cip_digraph.specs.rings.Alternating.{counted_at, is_one_double, partner_by}
-use Rattle.cip_digraph.proofs.Joined.{touches_none}
-use Rattle.cip_digraph.proofs.NeighbourOrder.{sorted_all}
-use Rattle.cip_digraph.proofs.RowRooms.{touches_a, touches_b}
+use Rattle.cip_digraph.proofs.rows.Joined.{touches_none}
+use Rattle.cip_digraph.proofs.bonds.Neighbours.{sorted_all}
+use Rattle.cip_digraph.proofs.rows.Rooms.{touches_a, touches_b}
 use Rattle.cip_mancude.specs.Partners.{alternating_partner, ArePartners, ArePartnersBy, counts_at, with_partner, with_partners}
 
 -- a vertex at which no edge is counted has no partner
@@ -51,10 +52,6 @@ none_noted graph = record {
   each = λ vertex within d. get_or-replicate (length graph.vertices) vertex None d within;
 }
 
-or_none : (b : Bool) → (b || false) ≡ b
-or_none true = refl
-or_none false = refl
-
 -- one more edge
 module _ (graph : Graph) (k : ℕ) (e : Edge) (partners : List (Option ℕ)) (sound : IsSound graph)
     (lt : k < length graph.edges) (are : ArePartnersBy graph (take k graph.edges) partners) where
@@ -77,7 +74,7 @@ module _ (graph : Graph) (k : ℕ) (e : Edge) (partners : List (Option ℕ)) (so
       ∙ ap (λ b. cond b (alternating_partner graph vertex) None)
       (sym (list_any_more (counts_at vertex) graph.edges k e lt
       ∙ ap (λ b. list_any (counts_at vertex) (take k graph.edges) || b) aside
-      ∙ or_none (list_any (counts_at vertex) (take k graph.edges))))
+      ∙ or-false (list_any (counts_at vertex) (take k graph.edges))))
 
   comes : (vertex : ℕ) → counts_at vertex edge ≡ true → alternating_partner graph vertex ≡ value vertex
   comes vertex here =

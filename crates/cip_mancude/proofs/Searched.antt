@@ -1,10 +1,9 @@
 -- What the search for a ring through a bond tells.
 use Rattle.std.proofs.Common.{◌≡◌, ℕ, Bool, true, false, cond, ◌==◌, ◌&&◌, Some, None, List, [], ◌∷◌, refl, ap, ◌∙◌}
 use Rattle.std.specs.declared.option.Option.{Option}
-use Rattle.std.proofs.lemmas.Bool.{eq-eqb}
+use Rattle.std.proofs.lemmas.Bool.{eq-eqb, or_left, or_right}
 use Rattle.cip_digraph.specs.rings.Alternating.{closes_ring, is_alternating, is_in, partner, reaches}
 use Rattle.cip_digraph.specs.graph.Graph.{Graph}
-use Rattle.cip_digraph.proofs.AlternatingWays.{or_left, or_right}
 use Rattle.cip_mancude.specs.Partners.{alternating_partner, can_close}
 use Rattle.cip_mancude.specs.SharedRings.{reaches_by}
 use Rattle.cip_mancude.proofs.WaySteps.{by_any}

@@ -1,12 +1,13 @@
 -- Two atoms share an alternating ring exactly where the search finds a way that meets both.
 use Rattle.std.proofs.Common.{◌≡◌, ◌⊎◌, ◌≤◌, ℕ, zero, suc, inl, inr, Bool, true, false, cond, not, ◌==◌, ◌||◌, ◌&&◌, List, [], ◌∷◌, length, refl, sym, ap, ◌∙◌, subst, arith, eqb-true}
 use Rattle.std.specs.List.{AllByRecursion, list_any}
-use Rattle.std.proofs.lemmas.Bool.{and_parts, and_from, eq-eqb}
+use Rattle.std.proofs.lemmas.Bool.{and_parts, and_from, eq-eqb, or_cases, or_left, or_right, not-true}
 use Rattle.cip_digraph.specs.rings.Alternating.{is_in, is_alternating, partner, singles, goes_on}
 use Rattle.cip_digraph.specs.rings.AlternatingRings.{Alternates, met, ring_of}
 use Rattle.cip_digraph.specs.graph.Graph.{Graph}
 use Rattle.cip_digraph.specs.graph.SoundGraphs.{IsSound}
-use Rattle.cip_digraph.proofs.AlternatingWays.{HasWay, Steps, any_from, any_gives, either, if_goes, not_true, or_left, or_right, ring_of_way, step_from, step_to, way_of_ring}
+use Rattle.cip_digraph.proofs.ways.Alternating.{HasWay, Steps, any_from, any_gives, if_goes}
+use Rattle.cip_digraph.proofs.ways.Alternating.{ring_of_way, step_from, step_to, way_of_ring}
 use Rattle.cip_mancude.specs.SharedRings.{ShareRing, SharedRingsAreFound, passes_through, reaches_by, ring_meets, share_ring}
 
 -- a path and what a way behind it meets
@@ -58,7 +59,7 @@ found : (graph : Graph) (third target most : ℕ) (path : List ℕ) (at : ℕ)
 found graph third target zero path at e = here_by graph third target zero path at e
 found graph third target (suc most) path at e =
     found_by graph third target most path at
-    (either ((at == target) && is_in third path)
+    (or_cases ((at == target) && is_in third path)
     (list_any (passes_through graph third target most path) (singles graph at)) e)
     (λ next. found graph third target most (partner graph next ∷ next ∷ path) (partner graph next))
 
@@ -82,18 +83,10 @@ finds graph third target (suc most) path at (next ∷ others) few way steps meet
 -- what is met is on the path or behind it
 
 in_order : (a b p m : Bool) → ((a || (b || p)) || m) ≡ (p || (b || (a || m)))
-in_order true true true m = refl
-in_order true true false m = refl
-in_order true false true m = refl
-in_order true false false m = refl
-in_order false true true m = refl
-in_order false true false m = refl
-in_order false false true m = refl
-in_order false false false m = refl
+in_order a b p m = grind arith
 
 none_behind : (b : Bool) → b ≡ (b || false)
-none_behind true = refl
-none_behind false = refl
+none_behind b = grind arith
 
 walked_meets : (graph : Graph) (third : ℕ) (path nexts : List ℕ)
     → is_in third (walked graph path nexts) ≡ (is_in third path || is_in third (met graph nexts))
@@ -122,7 +115,7 @@ walked_alternates graph path (next ∷ others) all steps =
 one_of : (graph : Graph) (third : ℕ) (atoms : List ℕ) → AllAlternate graph atoms → is_in third atoms ≡ true
     → is_alternating graph third ≡ true
 one_of graph third [] all e = let bad : false ≡ true = e in cc
-one_of graph third (atom ∷ atoms) all e = elim (either (atom == third) (is_in third atoms) e) [
+one_of graph third (atom ∷ atoms) all e = elim (or_cases (atom == third) (is_in third atoms) e) [
   | inl here ↦ subst (λ v. is_alternating graph v ≡ true) (eqb-true atom third here) all.0
   | inr later ↦ one_of graph third atoms all.1 later
 ]
@@ -150,7 +143,7 @@ shared_parts graph vertex third e =
       beside = q.1;
       other = any.0;
       single = any.1.0;
-      differ = not_true (any.0 == next) s.1;
+      differ = not-true (any.0 == next) s.1;
       way = found graph third (any.0) 11 (next ∷ vertex ∷ []) next r.1;
     }
 

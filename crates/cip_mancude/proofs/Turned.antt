@@ -1,5 +1,6 @@
 -- An alternating ring is found through a single bond from either of its ends: it can be gone round the other way.
-use Rattle.std.proofs.Common.{◌≡◌, ◌≢◌, ◌<◌, ℕ, Bool, true, false, cond, ◌==◌, ◌&&◌, ◌||◌, Some, None, List, [], ◌∷◌, ◌++◌, eqb-true, eq-eqb, get_or, length, map, nat_lt, refl, sym, ap, ◌∙◌, subst, arith}
+use Rattle.std.proofs.Common.{◌≡◌, ◌≢◌, ◌<◌, ℕ, Bool, true, false, cond, ◌==◌, ◌&&◌, ◌||◌, Some, None, List, [], ◌∷◌}
+use Rattle.std.proofs.Common.{◌++◌, eqb-true, eq-eqb, get_or, length, map, refl, sym, ap, ◌∙◌, subst, arith}
 use Rattle.std.specs.Prelude.{filter, nat_le}
 use Rattle.std.specs.declared.option.Option.{Option}
 use Rattle.std.specs.List.{AllByRecursion, list_any}
@@ -8,70 +9,25 @@ use Rattle.std.proofs.lemmas.Bool.Decides.{nat_tests}
 use Rattle.std.proofs.lemmas.List.{append-nil}
 use Rattle.std.proofs.lemmas.List.Folds.{list_any_at}
 use Rattle.std.proofs.lemmas.List.Elements.{All-from_recursion}
+use Rattle.std.proofs.Math.Bool.{or-false, and-false}
 use Rattle.cip_digraph.specs.declared.graph.Edge.{Edge}
-use Rattle.cip_digraph.specs.graph.Graph.{Graph, edges_at, insert_up, neighbours, other_end, sorted_up, touches}
+use Rattle.cip_digraph.specs.graph.Graph.{Graph, edges_at, neighbours, other_end, touches}
 use Rattle.cip_digraph.specs.graph.SoundGraphs.{IsSound, JoinsBelow}
 use Rattle.cip_digraph.specs.rings.Alternating.{closes_ring, counted_at, is_alternating, is_in, is_one_double, partner, partner_by, singles}
 use Rattle.cip_digraph.specs.rings.AlternatingRings.{Alternates, met, ring_of}
 use Rattle.cip_digraph.specs.rings.Positions.{listed_positions, positions_at}
-use Rattle.cip_digraph.proofs.AlternatingWays.{ring_found, ring_finds}
-use Rattle.cip_digraph.proofs.Lists.{Pairwise, all_by, by_recursion, pairs_from_pairwise, pairwise_from_pairs}
+use Rattle.cip_digraph.proofs.ways.Alternating.{ring_found, ring_finds}
+use Rattle.cip_digraph.proofs.lists.Elements.{Pairwise, all_by, by_recursion, pairs_from_pairwise, pairwise_from_pairs}
+use Rattle.cip_digraph.proofs.bonds.Tests.{any_filtered, any_sorted, any_mapped}
 use Rattle.cip_mancude.specs.Partners.{alternating_partner, AreListedBelow}
 use Rattle.cip_mancude.proofs.Searched.{partner_of}
 
 -- whether some edge at a vertex leads to another is told by the edges of the graph
 
-any_map : (f : Edge → ℕ) (n : ℕ) (edges : List Edge) → is_in n (map f edges) ≡ list_any (λ edge. f edge == n) edges
-any_map f n [] = refl
-any_map f n (edge ∷ edges) = ap (λ b. (f edge == n) || b) (any_map f n edges)
-
-any_filter : (test kept : Edge → Bool) (edges : List Edge)
-    → list_any test (filter kept edges) ≡ list_any (λ edge. kept edge && test edge) edges
-any_filter test kept [] = refl
-any_filter test kept (edge ∷ edges) = by (kept edge) (any_filter test kept edges)
-  where
-    by : (b : Bool) → list_any test (filter kept edges) ≡ list_any (λ edge. kept edge && test edge) edges
-        → list_any test (cond b (edge ∷ filter kept edges) (filter kept edges))
-        ≡ ((b && test edge) || list_any (λ edge. kept edge && test edge) edges)
-    by true e = ap (λ c. test edge || c) e
-    by false e = e
-
-turn : (a b c : Bool) → (a || (b || c)) ≡ (b || (a || c))
-turn true true c = refl
-turn true false c = refl
-turn false true c = refl
-turn false false c = refl
-
-any_insert : (test : Edge → Bool) (vertex : ℕ) (edge : Edge) (edges : List Edge)
-    → list_any test (insert_up vertex edge edges) ≡ (test edge || list_any test edges)
-any_insert test vertex edge [] = refl
-any_insert test vertex edge (next ∷ edges) =
-    by (nat_lt (other_end vertex next) (other_end vertex edge)) (any_insert test vertex edge edges)
-  where
-    by : (b : Bool) → list_any test (insert_up vertex edge edges) ≡ (test edge || list_any test edges)
-        → list_any test (cond b (next ∷ insert_up vertex edge edges) (edge ∷ next ∷ edges))
-        ≡ (test edge || (test next || list_any test edges))
-    by true e = ap (λ c. test next || c) e ∙ turn (test next) (test edge) (list_any test edges)
-    by false e = refl
-
-any_sorted : (test : Edge → Bool) (vertex : ℕ) (edges : List Edge)
-    → list_any test (sorted_up vertex edges) ≡ list_any test edges
-any_sorted test vertex [] = refl
-any_sorted test vertex (edge ∷ edges) =
-    any_insert test vertex edge (sorted_up vertex edges) ∙ ap (λ c. test edge || c) (any_sorted test vertex edges)
-
 any_alike : (one other : Edge → Bool) (edges : List Edge) → AllByRecursion (λ edge. one edge ≡ other edge) edges
     → list_any one edges ≡ list_any other edges
 any_alike one other [] all = refl
 any_alike one other (edge ∷ edges) all = rw (all.0, any_alike one other edges all.1) refl
-
-and_none : (b : Bool) → (b && false) ≡ false
-and_none true = refl
-and_none false = refl
-
-or_none : (b : Bool) → (b || false) ≡ b
-or_none true = refl
-or_none false = refl
 
 joins_both : (vertex other : ℕ) (edge : Edge) → edge.a ≢ edge.b
     → (touches vertex edge && (other_end vertex edge == other)) ≡ (touches other edge && (other_end other edge == vertex))
@@ -82,13 +38,13 @@ from_both : (vertex other : ℕ) (edge : Edge) (kept : Bool) → edge.a ≢ edge
     ≡ (touches other edge && (kept && (other_end other edge == vertex)))
 from_both vertex other edge true differ = joins_both vertex other edge differ
 from_both vertex other edge false differ =
-    and_none (touches vertex edge) ∙ sym (and_none (touches other edge))
+    and-false (touches vertex edge) ∙ sym (and-false (touches other edge))
 
 -- what the only edge of a list leads to
 sole_leads : (vertex n : ℕ) (edges : List Edge) → is_one_double edges ≡ true
     → list_any (λ edge. other_end vertex edge == n) edges ≡ (partner_by vertex edges == n)
 sole_leads vertex n [] e = let bad : false ≡ true = e in cc
-sole_leads vertex n (edge ∷ []) e = or_none (other_end vertex edge == n)
+sole_leads vertex n (edge ∷ []) e = or-false (other_end vertex edge == n)
 sole_leads vertex n (edge ∷ next ∷ edges) e = let bad : false ≡ true = e in cc
 
 -- an atom put behind others
@@ -114,9 +70,9 @@ module _ (graph : Graph) (sound : IsSound graph) where
       → list_any (λ edge. other_end vertex edge == n) (filter kept (edges_at graph vertex))
       ≡ list_any (λ edge. touches vertex edge && (kept edge && (other_end vertex edge == n))) graph.edges
   leads_by kept vertex n =
-      any_filter (λ edge. other_end vertex edge == n) kept (edges_at graph vertex)
+      any_filtered (λ edge. other_end vertex edge == n) kept (edges_at graph vertex)
       ∙ any_sorted (λ edge. kept edge && (other_end vertex edge == n)) vertex (filter (touches vertex) graph.edges)
-      ∙ any_filter (λ edge. kept edge && (other_end vertex edge == n)) (touches vertex) graph.edges
+      ∙ any_filtered (λ edge. kept edge && (other_end vertex edge == n)) (touches vertex) graph.edges
 
   pub leads_either : (kept : Edge → Bool) (vertex other : ℕ)
       → list_any (λ edge. other_end vertex edge == other) (filter kept (edges_at graph vertex))
@@ -132,9 +88,9 @@ module _ (graph : Graph) (sound : IsSound graph) where
 
   single_back : (vertex other : ℕ) → is_in other (singles graph vertex) ≡ true → is_in vertex (singles graph other) ≡ true
   single_back vertex other e =
-      any_map (other_end other) vertex (filter (λ edge. edge.order == 1) (edges_at graph other))
+      any_mapped (λ o. o == vertex) (other_end other) (filter (λ edge. edge.order == 1) (edges_at graph other))
       ∙ leads_either (λ edge. edge.order == 1) other vertex
-      ∙ sym (any_map (other_end vertex) other (filter (λ edge. edge.order == 1) (edges_at graph vertex)))
+      ∙ sym (any_mapped (λ o. o == other) (other_end vertex) (filter (λ edge. edge.order == 1) (edges_at graph vertex)))
       ∙ e
 
   partner_leads : (vertex n : ℕ) → is_alternating graph vertex ≡ true
@@ -264,7 +220,7 @@ in_filter test n (m ∷ ms) = by (test m) refl (m == n) refl (in_filter test n m
         → is_in n (cond b (m ∷ filter test ms) (filter test ms)) ≡ ((c || is_in n ms) && test n)
     by true f true e rest = ap (λ c. c || is_in n (filter test ms)) e ∙ sym (same e true f)
     by true f false e rest = ap (λ c. c || is_in n (filter test ms)) e ∙ rest
-    by false f true e rest = rest ∙ ap (λ c. is_in n ms && c) (same e false f) ∙ and_none (is_in n ms)
+    by false f true e rest = rest ∙ ap (λ c. is_in n ms && c) (same e false f) ∙ and-false (is_in n ms)
         ∙ sym (same e false f)
     by false f false e rest = rest
 
@@ -273,18 +229,18 @@ pub leads_there : (vertex : ℕ) (items edges : List Edge) (k : ℕ) (d : Edge) 
 leads_there vertex items edges k d other same lt at =
     let within : k < length edges = rw (← same) lt in
     let there : other ≡ other_end vertex (get_or edges k d) = at ∙ ap (λ es. other_end vertex (get_or es k d)) same in
-    any_map (other_end vertex) other edges
+    any_mapped (λ o. o == other) (other_end vertex) edges
     ∙ list_any_at (λ edge. other_end vertex edge == other) edges k d within
     (eq-eqb (other_end vertex (get_or edges k d)) other (sym there))
 
 module _ (graph : Graph) (sound : IsSound graph) (vertex other : ℕ) where
   near_back : is_in other (neighbours graph vertex) ≡ true → is_in vertex (neighbours graph other) ≡ true
   near_back e =
-      any_map (other_end other) vertex (edges_at graph other)
+      any_mapped (λ o. o == vertex) (other_end other) (edges_at graph other)
       ∙ ap (list_any (λ edge. other_end other edge == vertex)) (sym (all_kept (edges_at graph other)))
       ∙ leads_either graph sound (λ edge. true) other vertex
       ∙ ap (list_any (λ edge. other_end vertex edge == other)) (all_kept (edges_at graph vertex))
-      ∙ sym (any_map (other_end vertex) other (edges_at graph vertex))
+      ∙ sym (any_mapped (λ o. o == other) (other_end vertex) (edges_at graph vertex))
       ∙ e
 
   abbrev position : ℕ → Bool

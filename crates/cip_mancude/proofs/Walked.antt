@@ -2,11 +2,11 @@
 use Rattle.std.proofs.Common.{◌≡◌, ◌⊎◌, ℕ, zero, suc, inl, inr, Bool, true, false, not, ◌==◌, List, ◌∷◌, refl, sym, ◌∙◌, subst, eqb-true}
 use Rattle.std.specs.Prelude.{flat_map}
 use Rattle.std.specs.List.{list_any}
-use Rattle.std.proofs.lemmas.Bool.{and_parts, eq-eqb}
+use Rattle.std.proofs.lemmas.Bool.{and_parts, eq-eqb, or_cases, or_left}
 use Rattle.cip_digraph.specs.rings.Alternating.{goes_on, is_in, partner, reaches, singles}
 use Rattle.cip_digraph.specs.graph.Graph.{Graph}
-use Rattle.cip_digraph.proofs.AlternatingWays.{any_gives, either, if_goes, or_left}
-use Rattle.cip_digraph.proofs.Reached.{flat_gives, flat_takes, new_gives, new_keeps, new_takes}
+use Rattle.cip_digraph.proofs.ways.Alternating.{any_gives, if_goes}
+use Rattle.cip_digraph.proofs.ways.Reached.{flat_gives, flat_takes, new_gives, new_keeps, new_takes}
 use Rattle.cip_ring.specs.Steps.{within}
 use Rattle.cip_mancude.specs.Partners.{goes_through}
 use Rattle.cip_mancude.specs.Walks.{onward, onward_of}
@@ -26,7 +26,7 @@ module _ (step : ℕ → List ℕ) where
   pub step_before : (at head : ℕ) → is_in head (step at) ≡ true → (steps target : ℕ)
       → is_in target (within step head steps) ≡ true
       → is_in target (within step at (suc steps)) ≡ true
-  step_before at head e zero target h = only (either (head == target) false h)
+  step_before at head e zero target h = only (or_cases (head == target) false h)
     where
       only : ((head == target) ≡ true) ⊎ (false ≡ true) → is_in target (within step at (suc zero)) ≡ true
       only (inl g) =
@@ -63,7 +63,7 @@ walk_found graph target zero path at e = e' (eqb-true at target e)
     e' : at ≡ target → is_in target (within (onward graph) at zero) ≡ true
     e' same = subst (λ v. is_in v (within (onward graph) at zero) ≡ true) same (here (onward graph) at zero)
 walk_found graph target (suc more) path at e =
-    by (either (at == target) (list_any (goes_through graph target more path) (singles graph at)) e)
+    by (or_cases (at == target) (list_any (goes_through graph target more path) (singles graph at)) e)
     (λ next. walk_found graph target more (partner graph next ∷ next ∷ path) (partner graph next))
   where
     by : ((at == target) ≡ true) ⊎ (list_any (goes_through graph target more path) (singles graph at) ≡ true)

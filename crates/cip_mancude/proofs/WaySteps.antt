@@ -1,11 +1,13 @@
 -- The search for ways, a step at a time; one that goes further finds no less, and one has only alternating atoms.
 use Rattle.std.proofs.Common.{◌≡◌, ◌<◌, ◌-◌, ◌+◌, ℕ, zero, suc, Bool, true, false, cond, ◌==◌, ◌||◌, ◌&&◌, List, [], ◌∷◌, refl, sym, ap, ◌∙◌, arith}
 use Rattle.std.specs.List.{list_any}
+use Rattle.std.proofs.lemmas.Bool.{or_left, or_right}
 use Rattle.cip_digraph.specs.rings.Alternating.{goes_on, is_alternating, is_in, partner, reaches, singles}
 use Rattle.cip_digraph.specs.graph.Graph.{Graph, edges_at}
 use Rattle.cip_mancude.specs.Partners.{goes_through}
 use Rattle.cip_mancude.specs.SharedRings.{passes_along, passes_through, reaches_by, share_ring}
 use Rattle.cip_mancude.proofs.SharedWays.{shared_alternates}
+use Rattle.cip_ring.proofs.Further.{left_by}
 
 pub reaches_none : (graph : Graph) (third target more : ℕ) (path : List ℕ) (at : ℕ) → more ≡ 0
     → reaches_by graph third target more path at ≡ ((at == target) && is_in third path)
@@ -37,19 +39,11 @@ if_more : (goes found more : Bool) → (found ≡ true → more ≡ true) → co
 if_more true found more f e = f e
 if_more false found more f e = e
 
-or_more : (here rest more : Bool) → (rest ≡ true → more ≡ true) → (here || rest) ≡ true → (here || more) ≡ true
-or_more true rest more f e = refl
-or_more false rest more f e = f e
-
-here_more : (here rest : Bool) → here ≡ true → (here || rest) ≡ true
-here_more true rest e = refl
-here_more false rest e = let bad : false ≡ true = e in cc
-
 further : (graph : Graph) (third target more : ℕ) (path : List ℕ) (at : ℕ)
     → reaches_by graph third target more path at ≡ true → reaches_by graph third target (suc more) path at ≡ true
-further graph third target zero path at e = here_more ((at == target) && is_in third path) _ e
+further graph third target zero path at e = or_left ((at == target) && is_in third path) _ e
 further graph third target (suc more) path at e =
-    or_more ((at == target) && is_in third path) _ _
+    left_by ((at == target) && is_in third path) _ _
     (any_more (passes_through graph third target more path) (passes_through graph third target (suc more) path)
     (λ next. if_more (goes_on graph path next) _ _
     (further graph third target more (partner graph next ∷ next ∷ path) (partner graph next))) (singles graph at))
@@ -73,10 +67,6 @@ any_same : (one other : ℕ → Bool) → ((n : ℕ) → one n ≡ other n) → 
 any_same one other same [] = refl
 any_same one other same (n ∷ ns) = let rest = any_same one other same ns in rw (same n, rest) refl
 
-still_in : (a b : Bool) → b ≡ true → (a || b) ≡ true
-still_in true b e = refl
-still_in false b e = e
-
 pub by_any : (graph : Graph) (third target more : ℕ) (path : List ℕ) (at : ℕ) → is_in third path ≡ true
     → reaches_by graph third target more path at ≡ reaches graph target more path at
 by_any graph third target zero path at e = and_with (at == target) (is_in third path) e
@@ -87,7 +77,7 @@ by_any graph third target (suc more) path at e =
     (λ next. let other = partner graph next in
     ap (λ found. cond (goes_on graph path next) found false)
     (by_any graph third target more (other ∷ next ∷ path) other
-    (still_in (other == third) (is_in third (next ∷ path)) (still_in (next == third) (is_in third path) e))))
+    (or_right (other == third) (is_in third (next ∷ path)) (or_right (next == third) (is_in third path) e))))
     (singles graph at) in
     ap (λ b. b || list_any (passes_through graph third target more path) (singles graph at))
     (and_with (at == target) (is_in third path) e)

@@ -1,5 +1,5 @@
 -- What is read of an atom line, field by field.
-use Rattle.std.proofs.Common.{◌≡◌, ℕ, ℤ, List, Result, Ok, Err, Option, Some, None, refl, sym, ap, ◌∙◌}
+use Rattle.std.proofs.Common.{◌≡◌, ℕ, ℤ, List, Result, Ok, Option, Some, refl, sym, ap, ◌∙◌}
 use Rattle.std.specs.Option.{ok_or}
 use Rattle.cip_text.specs.Columns.{field}
 use Rattle.cip_text.specs.Numbers.{decimal4_of}
@@ -75,13 +75,7 @@ fields (Ok x) (Ok y) (Ok z) (Some element) (Some difference) (Some code) (Some v
       z = ap (λ line. Ok line.atom.at.z) same;
       other = λ height. ap (λ line. Ok (at_height height line)) same;
     }
-fields (Err fault) y z element difference code valence given h = absurd cc
-fields (Ok x) (Err fault) z element difference code valence given h = absurd cc
-fields (Ok x) (Ok y) (Err fault) element difference code valence given h = absurd cc
-fields (Ok x) (Ok y) (Ok z) None difference code valence given h = absurd cc
-fields (Ok x) (Ok y) (Ok z) (Some element) None code valence given h = absurd cc
-fields (Ok x) (Ok y) (Ok z) (Some element) (Some difference) None valence given h = absurd cc
-fields (Ok x) (Ok y) (Ok z) (Some element) (Some difference) (Some code) None given h = absurd cc
+fields x y z element difference code valence given h = absurd cc
 
 -- the same of a line
 

@@ -1,9 +1,11 @@
 -- The lines of a record that is edited.
-use Rattle.std.proofs.Common.{◌≡◌, ◌<◌, ◌+◌, ◌++◌, ℕ, suc, List, [], ◌∷◌, Bool, true, false, not, ◌||◌, ◌&&◌, nat_lt, Some, refl, sym, ◌∙◌, ap, arith, length, map, inl, inr, append-nil, length-append}
+use Rattle.std.proofs.Common.{◌≡◌, ◌<◌, ◌+◌, ◌++◌, ℕ, suc, List, [], ◌∷◌, Bool, true, false, not, ◌&&◌, nat_lt, Some}
+use Rattle.std.proofs.Common.{refl, sym, ◌∙◌, ap, arith, length, map, inl, inr, append-nil, length-append}
 use Rattle.std.specs.List.{concat}
 use Rattle.std.specs.Prelude.{slice_get}
 use Rattle.std.proofs.lemmas.Bool.{and_parts, and_from, or_left, lt-ltb}
 use Rattle.std.proofs.lemmas.List.Folds.{concat-append}
+use Rattle.std.proofs.Math.Bool.{or-true}
 use Rattle.cip_text.specs.Lines.{lines_of, has_last, content_of, end_of}
 use Rattle.cip_text.specs.Laws.{has_line_feed, is_ended, are_ended}
 use Rattle.cip_text.specs.Kinds.{is_terminator}
@@ -75,11 +77,7 @@ pub record IsKept (line new content : List ℕ) : Type 0 where
 
 open_last : (line : List ℕ) → 0 < length line → has_line_feed line ≡ false → are_ended (line ∷ []) ≡ true
 open_last line some free =
-    rw (lt-ltb 0 (length line) some, free) (or_true (is_ended line))
-  where
-    or_true : (a : Bool) → (a || true) ≡ true
-    or_true true = refl
-    or_true false = refl
+    rw (lt-ltb 0 (length line) some, free) (or-true (is_ended line))
 
 kept_by : (line new : List ℕ) (k : Bool) → is_ended line ≡ k → are_ended (line ∷ []) ≡ true
     → Keeps (content_of line) new → IsKept line (new ++ end_of line) new

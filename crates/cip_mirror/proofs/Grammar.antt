@@ -1,5 +1,6 @@
 -- The parts of a molfile that gives a molecule.
-use Rattle.std.proofs.Common.{◌≡◌, ◌<◌, ◌+◌, ℕ, List, [], ◌∷◌, Option, Some, None, Result, Ok, Err, length, take, map, fold, get_or, refl, sym, ap, ◌∙◌, arith}
+use Rattle.std.proofs.Common.{◌≡◌, ◌<◌, ◌+◌, ℕ, List, [], ◌∷◌, Option, Some, None, Result, Ok, length, take, map, fold}
+use Rattle.std.proofs.Common.{get_or, refl, sym, ap, ◌∙◌, arith}
 use Rattle.std.specs.Prelude.{slice_get}
 use Rattle.std.specs.Option.{option_map}
 use Rattle.std.proofs.lemmas.List.{length-set, length-map}
@@ -8,7 +9,7 @@ use Rattle.cip_mol.specs.Drawing.{Drawing}
 use Rattle.cip_mol.specs.declared.molecule.Atom.{Atom}
 use Rattle.cip_mol.specs.declared.molecule.Bond.{Bond}
 use Rattle.cip_mol.specs.declared.refusal.ReadCause.{ReadCause}
-use Rattle.cip_reading.specs.Reading.{numbered, read_line, read_at, in_turn}
+use Rattle.cip_reading.specs.Reading.{read_line, read_at, in_turn}
 use Rattle.cip_v2000.specs.declared.atoms.AtomLine.{AtomLine}
 use Rattle.cip_v2000.specs.declared.counts.CountsLine.{CountsLine}
 use Rattle.cip_v2000.specs.declared.statements.Pair.{Pair}
@@ -20,6 +21,7 @@ use Rattle.cip_v2000.specs.LastStatements.{settled_atom}
 use Rattle.cip_v2000.specs.Statements.{with_pair, settled, kept, state_charges, state_isotopes}
 use Rattle.cip_v2000.proofs.Settling.{atoms_settled}
 use Rattle.cip_reading.proofs.InTurn.{follows, rows_of}
+use Rattle.cip_reading.proofs.Given.{numbered_given}
 
 -- one line
 
@@ -29,17 +31,12 @@ pub record IsReadAt {A : Type 0} (lines : List (List ℕ)) (place : ℕ) (read :
   pub there : slice_get lines place ≡ Some line
   pub gives : read line ≡ Ok given
 
-numbered_ok : {A : Type 0} (number : ℕ) (read : Result A ReadCause) (given : A) → numbered number read ≡ Ok given
-    → read ≡ Ok given
-numbered_ok number (Ok x) given h = let same : x ≡ given = cc in ap (λ x. Ok x) same
-numbered_ok number (Err cause) given h = absurd cc
-
 line_read : {A : Type 0} (lines : List (List ℕ)) (past place : ℕ) (read : List ℕ → Result A ReadCause) (given : A)
     (found : Option (List ℕ)) → slice_get lines place ≡ found → read_line past place read found ≡ Ok given
     → IsReadAt lines place read given
 line_read lines past place read given None is h = absurd cc
 line_read lines past place read given (Some line) is h =
-    record { line = line; there = is; gives = numbered_ok (place + 1) (read line) given h }
+    record { line = line; there = is; gives = numbered_given (place + 1) (read line) given h }
 
 pub read_there : {A : Type 0} (lines : List (List ℕ)) (place : ℕ) (read : List ℕ → Result A ReadCause) (given : A)
     → read_at lines place read ≡ Ok given → IsReadAt lines place read given

@@ -12,6 +12,7 @@ use Rattle.cip_text.specs.Numbers.{is_digit, is_point, value, whole, parts, cut_
 use Rattle.cip_text.specs.Numbers as numbers
 use Rattle.cip_mirror.specs.Columns.{is_printed}
 use Rattle.cip_text.specs.Writing.{four_digits, coordinate}
+use Rattle.cip_reading.proofs.UsualNumbers.{some_length}
 
 -- what `decimal` writes
 
@@ -48,9 +49,6 @@ digits_printed (b ∷ bs) h =
     and_from (nat_lt 32 b) (is_printed bs) (digit_printed b each.0) (digits_printed bs each.1)
 
 -- a text that begins with a digit
-
-some_length : (bs : List ℕ) → (suc (length bs) == 0) ≡ false
-some_length bs = grind (arith, nat_tests)
 
 not_negative : (b : ℕ) (bs : List ℕ) → is_digit b ≡ true → is_negative (b ∷ bs) ≡ false
 not_negative b bs h = and_right (nat_lt 0 (suc (length bs))) (b == 45) (grind (arith, nat_tests))

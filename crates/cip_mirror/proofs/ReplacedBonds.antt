@@ -77,21 +77,10 @@ stereo_small order Either = grind arith
 
 same_stereo : (one other : Mark) → (stereo_of 1 one == stereo_of 1 other) ≡ true → one ≡ other
 same_stereo Plain Plain h = refl
-same_stereo Plain Up h = absurd cc
-same_stereo Plain Down h = absurd cc
-same_stereo Plain Either h = absurd cc
-same_stereo Up Plain h = absurd cc
 same_stereo Up Up h = refl
-same_stereo Up Down h = absurd cc
-same_stereo Up Either h = absurd cc
-same_stereo Down Plain h = absurd cc
-same_stereo Down Up h = absurd cc
 same_stereo Down Down h = refl
-same_stereo Down Either h = absurd cc
-same_stereo Either Plain h = absurd cc
-same_stereo Either Up h = absurd cc
-same_stereo Either Down h = absurd cc
 same_stereo Either Either h = refl
+same_stereo one other h = absurd cc
 
 -- numbers right in three columns
 

@@ -12,6 +12,7 @@ use Rattle.cip_text.specs.Numbers.{is_digit, is_point, whole, parts, cut_at, dec
 use Rattle.cip_item.specs.Kinds.{is_heading, is_label_heading}
 use Rattle.cip_mirror.specs.EditedRows.{IsRow}
 use Rattle.cip_mirror.proofs.Fields.{trimmed}
+use Rattle.cip_reading.proofs.UsualNumbers.{some_length}
 
 -- a text that begins with a byte of a number
 
@@ -90,9 +91,6 @@ no_number b h =
     let second = or_parts (b == 45) (b == 43 || b == 46) first.1 in
     let third = or_parts (b == 43) (b == 46) second.1 in
     record { digit = first.0; minus = second.0; plus = third.0; point = third.1 }
-
-some_length : (bs : List ℕ) → (suc (length bs) == 0) ≡ false
-some_length bs = grind (arith, nat_tests)
 
 unsigned : (b : ℕ) (bs : List ℕ) → IsNoNumber b → without_sign (b ∷ bs) ≡ b ∷ bs
 unsigned b bs isnt = rw (

@@ -2,7 +2,7 @@
 use Rattle.std.proofs.Common.{◌≡◌, ◌<◌, ◌≤◌, ◌+◌, ℕ, zero, suc, Bool, true, false, cond, ◌||◌, ◌==◌, List, [], ◌∷◌, ◌++◌, length, length-append, take, get_or, append_assoc, refl, sym, ap, ◌∙◌, arith}
 use Rattle.std.specs.Prelude.{flat_map}
 use Rattle.std.specs.List.{AllByRecursion}
-use Rattle.std.proofs.lemmas.Bool.{eq-eqb}
+use Rattle.std.proofs.lemmas.Bool.{eq-eqb, or_left, or_right}
 use Rattle.std.proofs.lemmas.List.{append-nil, flat_map_more, get_or_append_left, take_at, take_more}
 use Rattle.cip_digraph.specs.rings.Alternating.{is_in}
 use Rattle.cip_digraph.specs.graph.Graph.{Graph}
@@ -42,14 +42,6 @@ pub same_there : (vertices xs : List ℕ) (k d : ℕ) → k < length vertices
     → get_or (with_new vertices xs) k d ≡ get_or vertices k d
 same_there vertices xs k d lt = let e = extends vertices xs in ap (λ vs. get_or vs k d) e.is
     ∙ get_or_append_left vertices e.added d k lt
-
-or_left : (a b : Bool) → a ≡ true → (a || b) ≡ true
-or_left true b e = refl
-or_left false b e = let bad : false ≡ true = e in cc
-
-or_right : (a b : Bool) → b ≡ true → (a || b) ≡ true
-or_right true b e = refl
-or_right false b e = e
 
 pub left_by : (here there more : Bool) → (there ≡ true → more ≡ true) → (here || there) ≡ true → (here || more) ≡ true
 left_by true there more f e = refl

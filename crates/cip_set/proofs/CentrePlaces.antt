@@ -25,7 +25,7 @@ use Rattle.cip_digraph.specs.units.DoubleBonds.{bond_site, bond_sites, is_bond_u
 use Rattle.cip_digraph.specs.units.Units.{centre_site, sites_of}
 use Rattle.cip_label.specs.Settings.{outcome_in, setting_in}
 use Rattle.cip_rank.specs.declared.rules.Rules.{Rules}
-use Rattle.cip_digraph.proofs.Lists.{all_append, all_mapped}
+use Rattle.cip_digraph.proofs.lists.Elements.{all_append, all_mapped}
 use Rattle.cip_digraph.specs.units.DrawnUnits.{units_in}
 use Rattle.cip_set.specs.FoundCentres.{shown_at, found_at, is_centre_at, is_centre_site}
 use Rattle.cip_set.specs.Marking.{has_centre}

@@ -19,7 +19,7 @@ use Rattle.cip_mol.specs.declared.site.Geometry.{Geometry}
 use Rattle.cip_mol.specs.declared.site.Geometry.TheVariants.{Known, Unknown}
 use Rattle.cip_digraph.specs.rings.Alternating.{is_in}
 use Rattle.cip_digraph.specs.units.Descriptors as senses
-use Rattle.cip_digraph.proofs.Lists.{Pairwise}
+use Rattle.cip_digraph.proofs.lists.Elements.{Pairwise}
 use Rattle.cip_set.specs.Marking.{without_mark, bare_bonds, marked_to, is_plain, is_free}
 
 pub and_off : (a b : Bool) → b ≡ false → (a && b) ≡ false

@@ -25,7 +25,7 @@ use Rattle.cip_digraph.specs.units.Descriptors.{letter}
 use Rattle.cip_mol.specs.Ends.{between_of}
 use Rattle.cip_digraph.specs.units.Ends.{End, end_at, ends_of}
 use Rattle.cip_digraph.specs.units.Ranked.{Root, has_tie}
-use Rattle.cip_digraph.proofs.Lists.{all_filtered}
+use Rattle.cip_digraph.proofs.lists.Elements.{all_filtered}
 use Rattle.cip_ligands.specs.Moving.{Moves}
 use Rattle.cip_ligands.proofs.MovedOrders.{moved_order}
 use Rattle.cip_set.specs.UnitsBeside.{IsCentreAt, IsSameBeside, AreSameBeside}

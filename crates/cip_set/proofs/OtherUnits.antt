@@ -26,8 +26,8 @@ use Rattle.cip_digraph.specs.units.Allenes.{doubles, is_axis_end, is_axis_unit, 
 use Rattle.cip_digraph.specs.units.Centres.{is_centre_by, drawn_neighbours, is_centre}
 use Rattle.cip_digraph.specs.units.DoubleBonds.{is_double_end, is_bond_end, is_bond_unit, bond_site, bond_sites}
 use Rattle.cip_digraph.specs.units.Units.{centre_site, sites_of}
-use Rattle.cip_digraph.proofs.Lists.{all_append, all_flat, all_mapped}
-use Rattle.cip_digraph.proofs.CentreBonds.{centre_parts, double_parts}
+use Rattle.cip_digraph.proofs.lists.Elements.{all_append, all_flat, all_mapped}
+use Rattle.cip_digraph.proofs.bonds.Centres.{centre_parts, double_parts}
 use Rattle.cip_set.specs.Remarked.{IsRemarked, AreRemarked}
 use Rattle.cip_set.specs.UnitsBeside.{IsCentreAt, AreSameBeside}
 

@@ -21,8 +21,8 @@ use Rattle.cip_digraph.specs.graph.DrawnGraph.{graph_of}
 use Rattle.cip_digraph.specs.units.Centres.{is_centre, centre_ligands}
 use Rattle.cip_digraph.specs.units.Descriptors.{opposite}
 use Rattle.cip_digraph.specs.units.Units.{centre_site}
-use Rattle.cip_digraph.proofs.DrawnSound.{drawn_sound}
-use Rattle.cip_digraph.proofs.Lists.{Pairwise}
+use Rattle.cip_digraph.proofs.bonds.Sound.{drawn_sound}
+use Rattle.cip_digraph.proofs.lists.Elements.{Pairwise}
 use Rattle.cip_mol.specs.Joins.{JoinsAlike, JoinAlike}
 use Rattle.cip_set.specs.Remarked.{IsRemarked, AreRemarked}
 use Rattle.cip_set.specs.Marking.{without_mark, bare_bonds, bare, is_free, is_plain, marked_to, with_mark, drawn_ligands, directions, shows_reentrant, is_eligible, chosen, has_centre}

@@ -16,7 +16,7 @@ use Rattle.cip_digraph.specs.outcome.Outcomes.{end_root, cost, label_of, known_o
 use Rattle.cip_digraph.specs.units.Descriptors.{opposite, sense_in_rank, letter_by, letter}
 use Rattle.cip_digraph.specs.units.Ends.{ends_of}
 use Rattle.cip_digraph.specs.units.Ranked.{Root, ranks, turned_ranks, has_tie}
-use Rattle.cip_digraph.proofs.ReflectedLetters.{opposite_in_rank}
+use Rattle.cip_digraph.proofs.reflected.Letters.{opposite_in_rank}
 use Rattle.cip_set.specs.TurnedLetters.{turned_letter, turned_outcome}
 
 other_letter : (at : ℕ) (ligands : List Ligand) (sense turned : Sense)

@@ -1,28 +1,6 @@
 -- The rules in turn, and the spheres of each in turn.
-use Rattle.std.proofs.Common.{
-  ◌≡◌,
-  ◌<◌,
-  ◌+◌,
-  ◌-◌,
-  ℕ,
-  suc,
-  true,
-  List,
-  [],
-  ◌∷◌,
-  None,
-  Some,
-  get_or,
-  length,
-  refl,
-  sym,
-  ap,
-  ◌∙◌,
-  arith,
-}
-use Rattle.std.specs.declared.option.Option.{Option}
-use Rattle.std.specs.declared.cmp.Ordering.{Ordering}
-use Rattle.std.specs.declared.cmp.Ordering.TheVariants.{Less, Equal, Greater}
+use Rattle.std.proofs.Common.{◌≡◌, ◌<◌, ◌+◌, ◌-◌, ℕ, suc, true, List, [], ◌∷◌, None, Some, get_or, length, refl, sym}
+use Rattle.std.proofs.Common.{ap, ◌∙◌, arith, Option, Ordering, Less, Equal, Greater}
 use Rattle.std.proofs.lemmas.List.{get_or_default}
 use Rattle.cip_rank.specs.Comparison.{comparison}
 use Rattle.cip_rank.specs.declared.rules.Rules.{Rules}

@@ -1,6 +1,5 @@
 -- Keys compare as their numbers do.
-use Rattle.std.proofs.Common.{◌≡◌, ℕ, zero, suc, pos, refl, arith}
-use Rattle.std.specs.Ordering.{int_cmp, nat_cmp}
+use Rattle.std.proofs.Common.{◌≡◌, ℕ, zero, pos, refl, arith, int_cmp, nat_cmp}
 use Rattle.std.proofs.lemmas.Bool.Decides.{nat_tests}
 use Rattle.cip_digraph.specs.rules.Keys.{lower_precedes}
 
@@ -9,6 +8,4 @@ pos_cmp m n = grind (arith, nat_tests)
 
 pub lower_cmp : (m n : ℕ) → int_cmp (lower_precedes m) (lower_precedes n) ≡ nat_cmp n m
 lower_cmp zero zero = refl
-lower_cmp zero (suc n) = grind (arith, nat_tests)
-lower_cmp (suc m) zero = grind (arith, nat_tests)
-lower_cmp (suc m) (suc n) = grind (arith, nat_tests)
+lower_cmp m n = grind (arith, nat_tests)

@@ -1,10 +1,11 @@
 -- Nodes with their children below them.
-use Rattle.std.proofs.Common.{◌≡◌, ◌<◌, ◌-◌, ℕ, zero, suc, Bool, true, false, cond, List, [], ◌∷◌, ◌++◌, drop, map, replicate, length, slice_index, refl, sym, ap, ◌∙◌, arith}
-use Rattle.std.specs.List.{flat_map}
+use Rattle.std.proofs.Common.{◌≡◌, ◌<◌, ◌-◌, ℕ, zero, suc, Bool, true, false, cond, List, [], ◌∷◌, ◌++◌, drop, map}
+use Rattle.std.proofs.Common.{replicate, length, slice_index, refl, sym, ap, ◌∙◌, arith, flat_map}
 use Rattle.std.proofs.lemmas.List.{map-append}
 use Rattle.cip_digraph.specs.declared.graph.Edge.{Edge}
 use Rattle.cip_digraph.specs.declared.nodes.NodeKind.TheVariants.{Closure, Multiple, Delocalised}
-use Rattle.cip_digraph.specs.digraph.Digraph.{Node, duplicate, begins_with, neighbour_child, edge_children, path_children, real_children}
+use Rattle.cip_digraph.specs.digraph.Digraph.{Node, duplicate, begins_with, neighbour_child, edge_children}
+use Rattle.cip_digraph.specs.digraph.Digraph.{path_children, real_children}
 use Rattle.cip_digraph.specs.digraph.View.{real_at}
 use Rattle.cip_digraph.specs.graph.Graph.{Graph, edges_at, other_end}
 use Rattle.cip_digraph.specs.rings.Alternating.{is_in}

@@ -1,7 +1,8 @@
 -- The nodes of a tree by spheres: their parents ascend and stand before them, and there are no more of them than nodes.
-use Rattle.std.proofs.Common.{◌≡◌, ◌<◌, ◌≤◌, ◌+◌, ℕ, zero, suc, List, [], ◌∷◌, ◌++◌, length, refl, sym, ap, subst, arith, length-append}
+use Rattle.std.proofs.Common.{◌≡◌, ◌<◌, ◌≤◌, ◌+◌, ℕ, zero, suc, List, [], ◌∷◌, ◌++◌, length, refl, sym, ap, subst}
+use Rattle.std.proofs.Common.{arith, length-append}
 use Rattle.std.specs.List.{AllByRecursion}
-use Rattle.cip_digraph.proofs.Lists.{all_by, all_append}
+use Rattle.cip_digraph.proofs.lists.Elements.{all_by, all_append}
 use Rattle.cip_tree.specs.Branches.{Branches, none, more, Branch, listed, children, count, node_count}
 use Rattle.cip_tree.specs.FlatTree.{Placed, hung, next_sphere, spheres, placed_to}
 use Rattle.cip_tree.specs.InOrder.{AreBehind, AreInOrder}

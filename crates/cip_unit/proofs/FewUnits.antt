@@ -2,9 +2,10 @@
 use Rattle.std.proofs.Common.{◌≡◌, ◌<◌, ◌≤◌, ◌^◌, ◌-◌, ◌*◌, ◌==◌, ◌&&◌, ◌||◌, ◌++◌, ◌∷◌, ◌∙◌, [], ℕ, ℤ, pos, int_eq, Bool, true, false, cond, List, refl, sym, ap, arith, inl, inr, length, length-append, flat_map, map}
 use Rattle.std.specs.Prelude.{filter}
 use Rattle.std.specs.List.{range_with_len}
-use Rattle.std.proofs.lemmas.Bool.{eqb-true}
+use Rattle.std.proofs.lemmas.Bool.{eqb-true, or_cases, true≢false, and_parts}
 use Rattle.std.proofs.lemmas.List.{length-map}
 use Rattle.std.proofs.lemmas.List.FromFn.{length-range_with_len}
+use Rattle.std.proofs.lemmas.List.Sums.{length-filter, count_by-le-length}
 use Rattle.cip_mol.specs.Drawing.{Drawing}
 use Rattle.cip_mol.specs.declared.site.Site.{Site}
 use Rattle.cip_mol.specs.declared.site.Unit as units
@@ -15,27 +16,9 @@ use Rattle.cip_digraph.specs.units.Allenes.{axis_site, axis_sites, doubles, is_a
 use Rattle.cip_digraph.specs.units.Centres.{is_centre}
 use Rattle.cip_digraph.specs.units.DoubleBonds.{bond_site, bond_sites, has_end_bonds, is_bond_end, is_bond_unit, is_double_end}
 use Rattle.cip_digraph.specs.units.Units.{centre_site, sites_of}
-use Rattle.cip_digraph.proofs.AlternatingWays.{either}
-
-and_left : (a b : Bool) → (a && b) ≡ true → a ≡ true
-and_left true b e = refl
-and_left false b e = e
-
-false_is : true ≡ false → ⊥
-false_is bad = cc
-
-and_right : (a b : Bool) → (a && b) ≡ true → b ≡ true
-and_right true b e = e
-and_right false b e = let bad : false ≡ true = e in cc
 
 pub passed_few : {X : Type 0} (test : X → Bool) (xs : List X) → length (filter test xs) ≤ length xs
-passed_few test [] = omega arith
-passed_few test (x ∷ xs) = by (passed_few test xs) (test x)
-  where
-    by : length (filter test xs) ≤ length xs → (b : Bool) →
-        length (cond b (x ∷ filter test xs) (filter test xs)) ≤ length (x ∷ xs)
-    by few true = omega (arith, few)
-    by few false = omega (arith, few)
+passed_few test xs = rw (length-filter test xs) (count_by-le-length test xs)
 
 -- where an entry that passes a test tells that a list is short, few entries pass it
 few_by : {X : Type 0} (test : X → Bool) (most : ℕ) (x : X) (xs : List X) (b : Bool) → test x ≡ b →
@@ -68,9 +51,9 @@ is_few number most other e few =
     omega (arith, same, few)
 
 edges_few : (edges : ℕ) (p q r : Bool) → (((edges == 3) && p) || (((edges == 2) && q) && r)) ≡ true → edges ≤ 3
-edges_few edges p q r e = elim (either ((edges == 3) && p) (((edges == 2) && q) && r) e) [
-  | inl three ↦ is_few edges 3 3 (and_left (edges == 3) p three) (omega arith)
-  | inr two ↦ is_few edges 2 3 (and_left (edges == 2) q (and_left ((edges == 2) && q) r two)) (omega arith)
+edges_few edges p q r e = elim (or_cases ((edges == 3) && p) (((edges == 2) && q) && r) e) [
+  | inl three ↦ is_few edges 3 3 (and_parts (edges == 3) p three).0 (omega arith)
+  | inr two ↦ is_few edges 2 3 (and_parts (edges == 2) q (and_parts ((edges == 2) && q) r two).0).0 (omega arith)
 ]
 
 double_end_few : (z : ℕ) (charge : ℤ) (edges : ℕ) → is_double_end z charge edges ≡ true → edges ≤ 3
@@ -86,11 +69,11 @@ module _ (graph : Graph) where
       → degree a ≤ 3
   first_end positions a edge is =
       let unit = a ∷ other_end a edge ∷ [] in
-      let both = and_left _ _ (and_left _ _ is) in
-      let first = and_right _ (is_bond_end graph unit a) (and_left _ _ both) in
+      let both = (and_parts _ _ (and_parts _ _ is).0).0 in
+      let first = (and_parts _ (is_bond_end graph unit a) (and_parts _ _ both).0).1 in
       let vertex = vertex_at graph a in
       double_end_few vertex.z vertex.charge (degree a)
-      (and_left (is_double_end vertex.z vertex.charge (degree a)) (has_end_bonds graph unit a) first)
+      (and_parts (is_double_end vertex.z vertex.charge (degree a)) (has_end_bonds graph unit a) first).0
 
   few_bonds : (positions : List (List ℕ)) (a : ℕ) → length (bond_sites graph positions a) ≤ 3
   few_bonds positions a =
@@ -100,14 +83,14 @@ module _ (graph : Graph) where
 
   allene_middle : (a middle b : ℕ) → is_axis_unit graph a middle b ≡ true → (length (doubles graph middle) == 2) ≡ true
   allene_middle a middle b is =
-      let here = and_right _ (is_allene_middle graph middle) (and_left _ _ (and_left _ _ is)) in
-      and_right _ (length (doubles graph middle) == 2) here
+      let here = (and_parts _ (is_allene_middle graph middle) (and_parts _ _ (and_parts _ _ is).0).0).1 in
+      (and_parts _ (length (doubles graph middle) == 2) here).1
 
   axis_end : (a middle b : ℕ) → is_axis_unit graph a middle b ≡ true → (degree a == 3) ≡ true
   axis_end a middle b is =
       let unit = a ∷ middle ∷ b ∷ [] in
-      let here = and_right _ (is_axis_end graph unit a) (and_left _ _ is) in
-      and_right _ (degree a == 3) (and_left _ _ (and_left _ _ here))
+      let here = (and_parts _ (is_axis_end graph unit a) (and_parts _ _ is).0).1 in
+      (and_parts _ (degree a == 3) (and_parts _ _ (and_parts _ _ here).0).0).1
 
   abbrev axes_over : ℕ → ℕ → List Site
   axes_over a middle = map (axis_site graph a middle) (filter (is_axis_unit graph a middle) (doubles graph middle))
@@ -133,7 +116,7 @@ module _ (graph : Graph) where
   axes_by a false e =
       let all : length (axis_sites graph a) ≤ length (doubles graph a) * 0 =
       few_each (axes_over a) 0 (doubles graph a) (λ middle. axes_over_few a middle 0
-      (λ b is. let bad : true ≡ false = sym (axis_end a middle b is) ∙ e in absurd (false_is bad))) in
+      (λ b is. let bad : true ≡ false = sym (axis_end a middle b is) ∙ e in absurd (true≢false bad))) in
       omega (arith, all)
 
   pub few_sites : (positions : List (List ℕ)) → length (sites_of graph positions) ≤ graph.drawn * 10

@@ -1,8 +1,8 @@
 -- A graph without double bonds has neither bond units nor axis units.
 use Rattle.std.proofs.Common.{◌≡◌, ℕ, Bool, false, ◌==◌, List, [], ◌∷◌, map, refl, ap}
 use Rattle.std.specs.Prelude.{filter, flat_map}
-use Rattle.std.specs.List.{AllByRecursion, list_any, range_with_len}
-use Rattle.std.proofs.lemmas.Bool.{eqb-false, false_from_ne_true, or_parts}
+use Rattle.std.specs.List.{AllByRecursion, range_with_len}
+use Rattle.std.proofs.lemmas.Bool.{eqb-false, false_from_ne_true}
 use Rattle.std.proofs.lemmas.List.{append-nil}
 use Rattle.cip_mol.specs.Drawing.{Drawing}
 use Rattle.cip_mol.specs.declared.site.Unit as units
@@ -10,19 +10,14 @@ use Rattle.cip_digraph.specs.declared.graph.Edge.{Edge}
 use Rattle.cip_digraph.specs.graph.Graph.{Graph, edges_at, other_end, touches}
 use Rattle.cip_digraph.specs.units.Allenes.{axis_site, axis_sites, doubles, is_axis_unit}
 use Rattle.cip_digraph.specs.units.DoubleBonds.{bond_site, bond_sites, is_bond_unit}
-use Rattle.cip_digraph.proofs.Lists.{all_by, all_filtered}
-use Rattle.cip_digraph.proofs.NeighbourOrder.{sorted_all}
+use Rattle.cip_digraph.proofs.lists.Elements.{all_by, all_filtered}
+use Rattle.cip_digraph.proofs.bonds.Neighbours.{sorted_all}
+use Rattle.cip_digraph.proofs.ties.Settled as settled
 use Rattle.cip_unit.specs.Sites.{has_double, with_axes, with_bonds}
 use Rattle.cip_unit.proofs.Shown.{unit_parts}
 
 abbrev IsOther : Edge → Type 0
 IsOther edge = (edge.order == 2) ≡ false
-
-none_double : (edges : List Edge) → list_any (λ edge. edge.order == 2) edges ≡ false → AllByRecursion IsOther edges
-none_double [] e = tt
-none_double (edge ∷ edges) e =
-    let p = or_parts (edge.order == 2) (list_any (λ edge. edge.order == 2) edges) e in
-    (p.0, none_double edges p.1)
 
 pub none_pass : (test : Edge → Bool) (edges : List Edge) → AllByRecursion (λ edge. test edge ≡ false) edges
     → filter test edges ≡ []
@@ -37,7 +32,7 @@ module _ (graph : Graph) (none : has_double graph ≡ false) where
   others_at : (vertex : ℕ) → AllByRecursion IsOther (edges_at graph vertex)
   others_at vertex =
       sorted_all IsOther vertex (filter (touches vertex) graph.edges)
-      (all_filtered IsOther (touches vertex) graph.edges (none_double graph.edges none))
+      (all_filtered IsOther (touches vertex) graph.edges (settled.none_pass (λ edge. edge.order == 2) graph.edges none))
 
   no_bonds : (positions : List (List ℕ)) (a : ℕ) → bond_sites graph positions a ≡ []
   no_bonds positions a =

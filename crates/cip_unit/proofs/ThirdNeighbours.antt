@@ -6,7 +6,7 @@ use Rattle.std.proofs.lemmas.Bool.{le-leb, le-ltb, lt-ltb, ltb-false, ltb-true}
 use Rattle.cip_digraph.specs.declared.graph.Edge.{Edge}
 use Rattle.cip_digraph.specs.graph.Graph.{other_end}
 use Rattle.cip_digraph.specs.graph.Incidence.{leads_lower}
-use Rattle.cip_digraph.proofs.Lists.{Pairwise}
+use Rattle.cip_digraph.proofs.lists.Elements.{Pairwise}
 
 abbrev kept : ℕ → List ℕ → List ℕ
 kept drawn ns = filter (λ n. nat_lt n drawn) ns
@@ -19,9 +19,8 @@ none_higher drawn low (n ∷ ns) far all =
 
 two_by : (a b : Bool) (m n : ℕ) → false ≡ nat_le 3 (length (cond a (m ∷ cond b (n ∷ []) []) (cond b (n ∷ []) [])))
 two_by true true m n = refl
-two_by true false m n = refl
 two_by false true m n = refl
-two_by false false m n = refl
+two_by a b m n = refl
 
 three_by : (drawn l m n : ℕ) (ns : List ℕ) → l < n → m < n → AllByRecursion (◌<◌ n) ns → (b : Bool)
     → nat_lt n drawn ≡ b → b ≡ nat_le 3 (length (kept drawn (l ∷ m ∷ n ∷ ns)))

@@ -16,7 +16,7 @@ use Rattle.cip_branches.specs.Layers.{Layers}
 use Rattle.cip_rows.specs.Parting.{has_flag}
 use Rattle.cip_rows.specs.Keys.{AreKeyed}
 use Rattle.cip_branches.specs.Walking.{kids_left, wanted_kids}
-use Rattle.cip_branches.proofs.SeenNodes.{AreSeen, around_is, seen_first, few_seen, seen_next}
+use Rattle.cip_branches.proofs.room.Seen.{AreSeen, around_is, seen_first, few_seen, seen_next}
 
 pub range_one : (first child : ℕ) → first ≤ child → range_with_len first (child + 1 - first)
     ≡ range_with_len first (child - first) ++ child ∷ []

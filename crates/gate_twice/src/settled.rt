@@ -95,9 +95,7 @@ fn compare_root<L: Ledger>(
         return Ok(None);
     }
     if settled == Settled::Whole {
-        tables
-            .work
-            .constitute(&tables.arena, graph, &drawn.positions, Rules::Wording2018);
+        tables.work.constitute(&tables.arena, Rules::Wording2018);
     }
     let tree = plain_tree(alloc, graph, &drawn.positions, root.vertex, sphere)?;
     compare_noted(alloc, &tree, tables.work.noted(), counts)

@@ -9,11 +9,11 @@ use Rattle.cip_digraph.specs.rings.Positions.{positions_of}
 use Rattle.cip_digraph.specs.rules.Decisions.{order}
 use Rattle.cip_digraph.specs.rules.Orders.{Seen}
 use Rattle.cip_digraph.specs.units.Ranked.{is_tie}
-use Rattle.cip_digraph.proofs.BranchesEnd.{ligands_end}
-use Rattle.cip_digraph.proofs.DrawnSound.{drawn_sound}
-use Rattle.cip_digraph.proofs.SameFromTie.{same_from_tie}
-use Rattle.cip_digraph.proofs.TieFromSame.{tie_from_same}
-use Rattle.cip_digraph.proofs.TurnedTies.{tie_turned}
+use Rattle.cip_digraph.proofs.tree.Branches.{ligands_end}
+use Rattle.cip_digraph.proofs.bonds.Sound.{drawn_sound}
+use Rattle.cip_digraph.proofs.ties.SameFromTie.{same_from_tie}
+use Rattle.cip_digraph.proofs.ties.TieFromSame.{tie_from_same}
+use Rattle.cip_digraph.proofs.ties.Turned.{tie_turned}
 use Rattle.cip_laws.specs.DrawnOutcomes.{mark_in}
 use Rattle.cip_laws.specs.TieLaw.{TiesAreSameTrees, LonePairsTieWithNothing}
 use Rattle.cip_image.proofs.lists.Among.{among_all}

@@ -4,7 +4,7 @@ use Rattle.cip_mol.specs.Bonds.{IsSound}
 use Rattle.cip_mol.specs.Drawing.{Drawing}
 use Rattle.cip_mol.specs.declared.molecule.Bond.{Bond}
 use Rattle.cip_mol.proofs.SimpleBonds.{Once, joins_same-flip, simple_from_sound}
-use Rattle.cip_digraph.proofs.Lists.{Pairwise, pairwise_from_pairs}
+use Rattle.cip_digraph.proofs.lists.Elements.{Pairwise, pairwise_from_pairs}
 
 pub once_back : (one other : Bond) → Once one other → Once other one
 once_back one other e = joins_same-flip other one ∙ e

@@ -1,5 +1,5 @@
 -- The mirror image of a drawing has the same graph and the reflected units.
-use Rattle.std.proofs.Common.{◌≡◌, ℕ, ◌+◌, List, [], ◌∷◌, ◌++◌, map, length, filter, sum, refl, sym, ap, subst, ◌∙◌, Bool, true, false, not, cond, ◌||◌, ◌&&◌, nat_le, flat_map, replicate}
+use Rattle.std.proofs.Common.{◌≡◌, ℕ, ◌+◌, List, [], ◌∷◌, map, length, refl, sym, ap, ◌∙◌, cond, flat_map, replicate}
 use Rattle.std.specs.List.{range_with_len}
 use Rattle.std.proofs.lemmas.List.{length-map}
 use Rattle.std.proofs.lemmas.List.Sums.{sum_by-cons}
@@ -11,7 +11,6 @@ use Rattle.cip_mol.specs.Points.{no_atom}
 use Rattle.cip_mol.specs.Reflection.{mirrored_atom, mirrored_bond, reflected}
 use Rattle.cip_mol.specs.Senses.{other_way}
 use Rattle.cip_mol.specs.declared.descriptor.Sense.TheVariants.{Plus, Minus}
-use Rattle.cip_mol.specs.declared.molecule.Atom.{Atom}
 use Rattle.cip_mol.specs.declared.molecule.Bond as molecules
 use Rattle.cip_mol.specs.declared.site.Geometry.{Geometry}
 use Rattle.cip_mol.specs.declared.site.Geometry.TheVariants.{Known, Unknown}
@@ -21,22 +20,21 @@ use Rattle.cip_mol.specs.declared.site.Unit as units
 use Rattle.cip_mol.proofs.ReflectedAxes.{reflection_turns_axes}
 use Rattle.cip_mol.proofs.ReflectedCentres.{reflection_turns_centres}
 use Rattle.cip_mol.proofs.ReflectedPairs.{reflection_keeps_bonds}
-use Rattle.cip_digraph.specs.graph.DrawnGraph.{atom_vertex, hydrogen, bond_edge, carriers, hydrogen_edges, graph_of}
+use Rattle.cip_digraph.specs.graph.DrawnGraph.{atom_vertex, bond_edge, carriers, graph_of}
 use Rattle.cip_digraph.specs.rules.Exchange.{reflected_geometry, reflected_unit}
-use Rattle.cip_digraph.specs.declared.graph.Vertex.{Vertex}
 use Rattle.cip_digraph.specs.declared.graph.Edge.{Edge}
 use Rattle.cip_digraph.specs.graph.Graph.{Graph}
-use Rattle.cip_digraph.specs.graph.Hydrogens.{atom_at, bond_orders, hydrogens, hydrogens_of}
-use Rattle.cip_digraph.specs.graph.LonePairs.{lone_pair, lone_pair_of}
-use Rattle.cip_digraph.specs.graph.Neglected.{neglects, neglects_at, is_counted}
-use Rattle.cip_digraph.specs.outcome.Outcomes.{cost, outcome_of}
+use Rattle.cip_digraph.specs.graph.Hydrogens.{atom_at, bond_orders, hydrogens_of}
+use Rattle.cip_digraph.specs.graph.LonePairs.{lone_pair_of}
+use Rattle.cip_digraph.specs.graph.Neglected.{neglects_at, is_counted}
 use Rattle.cip_digraph.specs.rings.Positions.{positions_of}
-use Rattle.cip_digraph.specs.rules.Auxiliary.{auxiliary}
 use Rattle.cip_digraph.specs.units.Ends.{ends_of}
 use Rattle.cip_digraph.specs.units.Units.{sites_of}
-use Rattle.cip_digraph.proofs.ReflectedUnits.{auxiliary_exchanged}
-use Rattle.cip_laws.specs.DrawnOutcomes.{units_in, outcome_in}
-use Rattle.cip_laws.specs.ReflectionLaw.{IsMirrorOutcome, ReflectsDrawing, ReflectionKeepsDrawings}
+use Rattle.cip_digraph.proofs.reflected.Units.{auxiliary_exchanged}
+use Rattle.cip_laws.specs.DrawnOutcomes.{units_in}
+use Rattle.cip_rank.specs.Matching.{InPairs}
+use Rattle.cip_laws.proofs.drawings.RenumberedAtoms.{orders_alike}
+use Rattle.cip_laws.specs.ReflectionLaw.{ReflectsDrawing, ReflectionKeepsDrawings}
 use Rattle.cip_image.proofs.lists.CarriedLists.{mapped_twice, mapped_by}
 use Rattle.cip_laws.proofs.outcomes.ReflectedOutcomes.{costs_stay, reflection_mirrors_outcomes}
 
@@ -47,22 +45,15 @@ module _ (drawing : Drawing) where
   atom_mirrored : (k : ℕ) → atom_at mirror k ≡ mirrored_atom (atom_at drawing k)
   atom_mirrored k = get_or-map mirrored_atom drawing.atoms k no_atom
 
+  in_mirror : (some : List molecules.Bond)
+      → InPairs (λ bond other. other ≡ mirrored_bond bond) some (map mirrored_bond some)
+  in_mirror [] = tt
+  in_mirror (bond ∷ some) = (refl, in_mirror some)
+
   orders_kept : (k : ℕ) (some : List molecules.Bond) → bond_orders k (map mirrored_bond some) ≡ bond_orders k some
-  orders_kept k [] = refl
-  orders_kept k (b ∷ some) = by (touches k b) (orders_kept k some)
-    where
-      by : (t : Bool) → bond_orders k (map mirrored_bond some) ≡ bond_orders k some
-          → sum
-          (map (λ (b : molecules.Bond). b.order)
-          (cond t (mirrored_bond b ∷ filter (touches k) (map mirrored_bond some))
-          (filter (touches k) (map mirrored_bond some))))
-          ≡ sum (map (λ (b : molecules.Bond). b.order) (cond t (b ∷ filter (touches k) some) (filter (touches k) some)))
-      by true e =
-          sum_by-cons (λ o. o) b.order
-          (map (λ (b : molecules.Bond). b.order) (filter (touches k) (map mirrored_bond some)))
-          ∙ ap (λ o. b.order + o) e
-          ∙ sym (sum_by-cons (λ o. o) b.order (map (λ (b : molecules.Bond). b.order) (filter (touches k) some)))
-      by false e = e
+  orders_kept k some =
+      orders_alike (λ bond other. other ≡ mirrored_bond bond) k k (λ n m e. ap (touches k) e)
+      (λ n m e. ap (λ (bond : molecules.Bond). bond.order) e) some (map mirrored_bond some) (in_mirror some)
 
   degree_kept : (k : ℕ) (some : List molecules.Bond) → degree k (map mirrored_bond some) ≡ degree k some
   degree_kept k [] = refl
@@ -72,46 +63,22 @@ module _ (drawing : Drawing) where
       ∙ sym (sum_by-cons (λ c. cond (touches k c) 1 0) b some)
 
   hydrogens_kept : (k : ℕ) → hydrogens_of mirror k ≡ hydrogens_of drawing k
-  hydrogens_kept k =
-      ap (λ a. hydrogens a (bond_orders k mirror.bonds)) (atom_mirrored k)
-      ∙ ap (hydrogens (atom_at drawing k)) (orders_kept k drawing.bonds)
+  hydrogens_kept k = rw (atom_mirrored k, orders_kept k drawing.bonds)
 
   lone_kept : (k : ℕ) → lone_pair_of mirror k ≡ lone_pair_of drawing k
-  lone_kept k =
-      ap (λ a. lone_pair a (bond_orders k mirror.bonds) (hydrogens_of mirror k)) (atom_mirrored k)
-      ∙ ap (λ o. lone_pair (atom_at drawing k) o (hydrogens_of mirror k)) (orders_kept k drawing.bonds)
-      ∙ ap (lone_pair (atom_at drawing k) (bond_orders k drawing.bonds)) (hydrogens_kept k)
+  lone_kept k = rw (hydrogens_kept k, atom_mirrored k, orders_kept k drawing.bonds)
 
   neglects_kept : (k : ℕ) → neglects_at mirror k ≡ neglects_at drawing k
-  neglects_kept k =
-      ap (λ (a : Atom). neglects a.z (degree k mirror.bonds + hydrogens_of mirror k) (lone_pair_of mirror k))
-      (atom_mirrored k)
-      ∙ ap (λ d. neglects (atom_at drawing k).z (d + hydrogens_of mirror k) (lone_pair_of mirror k))
-      (degree_kept k drawing.bonds)
-      ∙ ap (λ h. neglects (atom_at drawing k).z (degree k drawing.bonds + h) (lone_pair_of mirror k)) (hydrogens_kept k)
-      ∙ ap (neglects (atom_at drawing k).z (degree k drawing.bonds + hydrogens_of drawing k)) (lone_kept k)
+  neglects_kept k = rw (lone_kept k, hydrogens_kept k, degree_kept k drawing.bonds, atom_mirrored k)
 
   counted_kept : (b : molecules.Bond) → is_counted mirror (mirrored_bond b) ≡ is_counted drawing b
-  counted_kept b =
-      ap (λ x. nat_le 2 b.order && not (x || neglects_at mirror b.b)) (neglects_kept b.a)
-      ∙ ap (λ x. nat_le 2 b.order && not (neglects_at drawing b.a || x)) (neglects_kept b.b)
+  counted_kept b = rw (neglects_kept b.a, neglects_kept b.b)
 
   edge_kept : (b : molecules.Bond) → bond_edge mirror (mirrored_bond b) ≡ bond_edge drawing b
   edge_kept b = ap {B = Edge} (λ x. record { a = b.a; b = b.b; order = b.order; counted = x }) (counted_kept b)
 
   vertex_kept : (k : ℕ) → atom_vertex mirror k ≡ atom_vertex drawing k
-  vertex_kept k =
-      ap {B = Vertex}
-      (λ (a : Atom). record { z = a.z; isotope = a.isotope; charge = a.charge; lone = lone_pair_of mirror k })
-      (atom_mirrored k)
-      ∙ ap {B = Vertex}
-      (λ l. record {
-        z = (atom_at drawing k).z;
-        isotope = (atom_at drawing k).isotope;
-        charge =
-            (atom_at drawing k).charge;
-        lone = l;
-      }) (lone_kept k)
+  vertex_kept k = rw (lone_kept k, atom_mirrored k)
 
   long : length mirror.atoms ≡ length drawing.atoms
   long = length-map drawing.atoms mirrored_atom
@@ -132,33 +99,7 @@ module _ (drawing : Drawing) where
       let edges : map (bond_edge mirror) mirror.bonds ≡ map (bond_edge drawing) drawing.bonds =
       mapped_twice mirrored_bond (bond_edge mirror) drawing.bonds
       ∙ mapped_by (λ b. bond_edge mirror (mirrored_bond b)) (bond_edge drawing) edge_kept drawing.bonds in
-      ap {B = Graph}
-      (λ vs. record {
-        vertices = vs ++ map (λ _. hydrogen) (carriers mirror);
-        edges =
-            map (bond_edge mirror) mirror.bonds ++ hydrogen_edges (length mirror.atoms) (carriers mirror);
-        drawn =
-            length mirror.atoms;
-      }) theirs
-      ∙ ap {B = Graph} (λ es. record {
-        vertices =
-            map (atom_vertex drawing) (range_with_len 0 (length drawing.atoms))
-            ++ map (λ _. hydrogen) (carriers mirror);
-        edges = es ++ hydrogen_edges (length mirror.atoms) (carriers mirror);
-        drawn = length mirror.atoms;
-      }) edges
-      ∙ ap {B = Graph} (λ cs. record {
-        vertices = map (atom_vertex drawing) (range_with_len 0 (length drawing.atoms)) ++ map (λ _. hydrogen) cs;
-        edges = map (bond_edge drawing) drawing.bonds ++ hydrogen_edges (length mirror.atoms) cs;
-        drawn = length mirror.atoms;
-      }) carriers_kept
-      ∙ ap {B = Graph} (λ n. record {
-        vertices =
-            map (atom_vertex drawing) (range_with_len 0 (length drawing.atoms))
-            ++ map (λ _. hydrogen) (carriers drawing);
-        edges = map (bond_edge drawing) drawing.bonds ++ hydrogen_edges n (carriers drawing);
-        drawn = n;
-      }) long
+      rw (theirs, edges, carriers_kept, long)
 
   pub geometry_mirrored : (site : Site) → geometry_of mirror site ≡ reflected_geometry site (geometry_of drawing site)
   geometry_mirrored (Centre at ligands) =
@@ -200,23 +141,15 @@ module _ (drawing : Drawing) where
     graph = graph_kept;
     all_units = units_mirrored;
     marks = λ rules path.
-        ap (λ g. auxiliary rules g (positions_of g) (units_in mirror) path) graph_kept
-        ∙ ap (λ all. auxiliary rules (graph_of drawing) (positions_of (graph_of drawing)) all path) units_mirrored
-        ∙ auxiliary_exchanged rules (graph_of drawing) (positions_of (graph_of drawing)) (units_in drawing) path;
+        rw (units_mirrored, graph_kept)
+        (auxiliary_exchanged rules (graph_of drawing) (positions_of (graph_of drawing)) (units_in drawing) path);
     costs = λ rules unit.
-        let ends = ends_of unit.site in
-        ap (λ g. map (cost rules g (positions_of g) (units_in mirror)) ends) graph_kept
-        ∙ ap (λ all. map (cost rules (graph_of drawing) (positions_of (graph_of drawing)) all) ends) units_mirrored
-        ∙ costs_stay rules (graph_of drawing) (positions_of (graph_of drawing)) (units_in drawing) ends;
+        rw (units_mirrored, graph_kept)
+        (costs_stay rules (graph_of drawing) (positions_of (graph_of drawing)) (units_in drawing) (ends_of unit.site));
     outcomes = λ rules bound unit.
-        let here = outcome_in rules bound drawing unit in
-        subst (λ g. IsMirrorOutcome here
-        (outcome_of rules g (positions_of g) (units_in mirror) bound (reflected_unit unit))) (sym graph_kept)
-        (subst (λ all. IsMirrorOutcome here
-        (outcome_of rules (graph_of drawing) (positions_of (graph_of drawing)) all bound (reflected_unit unit)))
-        (sym units_mirrored)
+        rw (units_mirrored, graph_kept)
         (reflection_mirrors_outcomes rules (graph_of drawing) (positions_of (graph_of drawing)) (units_in drawing) bound
-        unit));
+        unit);
   }
 
 pub reflection_keeps_drawings : ReflectionKeepsDrawings

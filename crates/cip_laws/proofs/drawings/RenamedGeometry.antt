@@ -1,35 +1,27 @@
 -- What a drawing shows of a unit is what the renumbered one shows of its image, with the ligands in the same order.
 use Rattle.std.proofs.Common.{◌≡◌, ◌⊎◌, inl, inr, ◌<◌, ℕ, List, [], ◌∷◌, map, length, get_or, refl, sym, ap, subst, ◌∙◌, Bool, true, false, not, ◌==◌, ◌&&◌, ◌||◌, nat_lt, eqb-true, eq-eqb, ltb-true, arith, if◌then◌else◌}
-use Rattle.std.specs.Prelude.{None, Some}
-use Rattle.std.specs.List.{AllByRecursion, list_any, range_with_len, cons_option}
+use Rattle.std.specs.List.{AllByRecursion, list_any, range_with_len}
 use Rattle.std.specs.List.Sorted.{IsPermutation}
 use Rattle.std.proofs.lemmas.List.Sorted.{IsPermutation-refl, IsPermutation-cons, IsPermutation-trans, IsPermutation-map, IsPermutation-append_left, IsPermutation-append_comm, list_any-IsPermutation}
 use Rattle.cip_num.specs.declared.plane.Sign.{Sign}
 use Rattle.cip_num.specs.declared.plane.Sign.TheVariants.{Zero}
-use Rattle.cip_num.specs.declared.plane.Vec3.{Vec3}
 use Rattle.cip_rank.specs.Matching.{InPairs}
 use Rattle.cip_mol.specs.Bonds as bonds
 use Rattle.cip_mol.specs.Drawing.{Drawing}
 use Rattle.cip_mol.specs.DrawnLigands.{drawn}
-use Rattle.cip_mol.specs.FlatAxes.{by_marks}
-use Rattle.cip_mol.specs.FlatCentres.{in_plane}
-use Rattle.cip_mol.specs.Geometry.{of_centre, of_bond, of_axis, sides, twist, centre_geometry, bond_geometry, axis_geometry}
+use Rattle.cip_mol.specs.Geometry.{of_centre, of_bond, of_axis, centre_geometry, bond_geometry, axis_geometry}
 use Rattle.cip_mol.specs.Marks.{is_either, mark_sign, is_narrow_at, has_either, joins, is_crossed, mark_to}
-use Rattle.cip_mol.specs.Pairs.{by_pairs}
 use Rattle.cip_mol.specs.Points.{no_atom, point, step, flat_step, steps, flat_steps, is_nought, is_spatial}
-use Rattle.cip_mol.specs.SpatialCentres.{in_space}
 use Rattle.cip_mol.specs.declared.molecule.Atom.{Atom}
 use Rattle.cip_mol.specs.declared.molecule.Bond.{Bond}
 use Rattle.cip_mol.specs.declared.molecule.Mark.{Mark}
 use Rattle.cip_mol.specs.declared.molecule.Mark.TheVariants.{Plain}
-use Rattle.cip_mol.specs.declared.site.Cause.TheVariants.{Either}
 use Rattle.cip_mol.specs.declared.site.Geometry.{Geometry}
-use Rattle.cip_mol.specs.declared.site.Geometry.TheVariants.{Unknown}
 use Rattle.cip_mol.specs.declared.site.Ligand.{Ligand}
 use Rattle.cip_mol.specs.declared.site.Ligand.TheVariants.{Vertex, LonePair}
 use Rattle.cip_mol.proofs.SimpleBonds.{Once}
 use Rattle.cip_digraph.specs.graph.Renumbering.{IsForward, IsTurned, IsRenumbering}
-use Rattle.cip_digraph.proofs.Lists.{Pairwise}
+use Rattle.cip_digraph.proofs.lists.Elements.{Pairwise}
 use Rattle.cip_image.specs.Images.{ligand_image}
 use Rattle.cip_image.proofs.lists.Arranged.{arranged}
 use Rattle.cip_image.proofs.lists.CarriedLists.{mapped_twice, mapped_below}
@@ -38,13 +30,14 @@ use Rattle.cip_image.proofs.outcomes.LastReasons.{elements, pairwise_arranged}
 use Rattle.cip_laws.proofs.drawings.RenumberedAtoms.{IsImageBond, image_eq, bond_pairs}
 use Rattle.cip_laws.proofs.drawings.RenumberedBonds.{joins_image}
 use Rattle.cip_laws.proofs.graph.RenumberedGraph.{carry, drawn_same, of_atom}
-use Rattle.cip_image.proofs.lists.Truths.{true_not_false, last_false, middle_false}
+use Rattle.std.proofs.lemmas.Bool.{and_parts, and_right}
+use Rattle.cip_image.proofs.lists.Truths.{middle_false}
 
-mapped_all : {X Y : Type 0} (P : X → Type 0) (f g : X → Y) → ((x : X) → P x → f x ≡ g x) → (xs : List X)
-    → AllByRecursion P xs → map f xs ≡ map g xs
-mapped_all P f g same [] all = refl
-mapped_all P f g same (x ∷ xs) all =
-    ap (λ y. y ∷ map f xs) (same x all.0) ∙ ap (λ ys. g x ∷ ys) (mapped_all P f g same xs all.1)
+mapped_image : {Y : Type 0} (P : ℕ → Type 0) (image : ℕ → ℕ) (f g : ℕ → Y) → ((k : ℕ) → P k → f (image k) ≡ g k)
+    → (ks : List ℕ) → AllByRecursion P ks → map f (map image ks) ≡ map g ks
+mapped_image P image f g same [] all = refl
+mapped_image P image f g same (k ∷ ks) all =
+    ap (λ y. y ∷ map f (map image ks)) (same k all.0) ∙ ap (λ ys. g k ∷ ys) (mapped_image P image f g same ks all.1)
 
 module _ (at to : ℕ) where
   abbrev leads : Bond → Bool
@@ -53,25 +46,19 @@ module _ (at to : ℕ) where
   leads_twice : (one other : Bond) → Once one other → leads one ≡ true → leads other ≡ false
   leads_twice one other once e = by (leads other) refl
     where
-      parts : (a b c : Bool) → ((a && b) && c) ≡ true → (a ≡ true) × (c ≡ true)
-      parts true true c e = (refl, e)
-      parts true false c e = absurd (true_not_false (sym e))
-      parts false b c e = absurd (true_not_false (sym e))
+      narrow : (bond : Bond) → leads bond ≡ true → (bond.a ≡ at) × (bond.b ≡ to)
+      narrow bond f =
+          let p = and_parts ((bond.a == at) && (bond.order == 1)) (bond.b == to) f in
+          (eqb-true bond.a at (and_parts (bond.a == at) (bond.order == 1) p.0).0, eqb-true bond.b to p.1)
 
       by : (x : Bool) → leads other ≡ x → x ≡ false
       by false f = refl
       by true f =
-          let p = parts (one.a == at) (one.order == 1) (one.b == to) e in
-          let q = parts (other.a == at) (other.order == 1) (other.b == to) f in
-          let a : (one.a == other.a) ≡ true =
-          eq-eqb one.a other.a (eqb-true one.a at p.0 ∙ sym (eqb-true other.a at q.0)) in
-          let b : (one.b == other.b) ≡ true =
-          eq-eqb one.b other.b (eqb-true one.b to p.1 ∙ sym (eqb-true other.b to q.1)) in
-          absurd
-          (true_not_false
-          (sym
-          (ap (λ x. (x && (one.b == other.b)) || ((one.a == other.b) && (one.b == other.a))) a
-          ∙ ap (λ x. x || ((one.a == other.b) && (one.b == other.a))) b) ∙ once))
+          let p = narrow one e in
+          let q = narrow other f in
+          let both : (((one.a == other.a) && (one.b == other.b)) || ((one.a == other.b) && (one.b == other.a))) ≡ true =
+          rw (eq-eqb one.a other.a (p.0 ∙ sym q.0), eq-eqb one.b other.b (p.1 ∙ sym q.1)) in
+          sym both ∙ once
 
   mark_by : (bond : Bond) (rest : List Bond) → leads bond ≡ false → mark_to at (bond ∷ rest) to ≡ mark_to at rest to
   mark_by bond rest e = ap (λ x. if x then mark_sign bond.mark else mark_to at rest to) e
@@ -128,15 +115,11 @@ module _ (drawing other : Drawing) (image : ℕ → ℕ) (r : IsRenumbering draw
       by : IsForward image bond two ⊎ IsTurned image bond two
           → (is_narrow_at (image k) two && is_either two.mark) ≡ (is_narrow_at k bond && is_either bond.mark)
       by (inl f) =
-          ap (λ v. ((v == image k) && (two.order == 1)) && is_either two.mark) f.a
-          ∙ ap (λ x. (x && (two.order == 1)) && is_either two.mark)
-          (image_eq drawing other image r sound bond.a k b.joins.a lt)
-          ∙ ap (λ o. ((bond.a == k) && (o == 1)) && is_either two.mark) b.is.order
-          ∙ ap (λ m. ((bond.a == k) && (bond.order == 1)) && is_either m) b.is.mark
+          rw (f.a, image_eq drawing other image r sound bond.a k b.joins.a lt, b.is.order, b.is.mark)
       by (inr t) = elim t.may [
         | inl plain ↦
-            last_false (is_narrow_at (image k) two) (is_either two.mark) (plain_not two.mark (b.is.mark ∙ plain))
-            ∙ sym (last_false (is_narrow_at k bond) (is_either bond.mark) (plain_not bond.mark plain))
+            and_right (is_narrow_at (image k) two) (is_either two.mark) (plain_not two.mark (b.is.mark ∙ plain))
+            ∙ sym (and_right (is_narrow_at k bond) (is_either bond.mark) (plain_not bond.mark plain))
         | inr double ↦
             middle_false (two.a == image k) (two.order == 1) (is_either two.mark) (order_two two (b.is.order ∙ double))
             ∙ sym (middle_false (bond.a == k) (bond.order == 1) (is_either bond.mark) (order_two bond double))
@@ -169,9 +152,7 @@ module _ (drawing other : Drawing) (image : ℕ → ℕ) (r : IsRenumbering draw
   crossed_same a b lt_a lt_b =
       any_same (λ bond. joins a b bond && is_either bond.mark)
       (λ bond. joins (image a) (image b) bond && is_either bond.mark)
-      (λ bond two i. ap (λ x. x && is_either two.mark)
-      (joins_image drawing other image r sound a b lt_a lt_b bond two i)
-      ∙ ap (λ m. joins a b bond && is_either m) i.is.mark)
+      (λ bond two i. rw (joins_image drawing other image r sound a b lt_a lt_b bond two i, i.is.mark))
 
   -- marks
   once : Pairwise Once drawing.bonds
@@ -202,20 +183,15 @@ module _ (drawing other : Drawing) (image : ℕ → ℕ) (r : IsRenumbering draw
       by : IsForward image b m ⊎ IsTurned image b m → mark_to (image k) ms (image j) ≡ mark_to k ns j
           → mark_to (image k) (m ∷ ms) (image j) ≡ mark_to k (b ∷ ns) j
       by (inl f) rest =
-          ap
-          (λ v. mark_if (((v == image k) && (m.order == 1)) && (m.b == image j)) m.mark
-          (mark_to (image k) ms (image j))) f.a
-          ∙ ap
-          (λ v. mark_if (((image b.a == image k) && (m.order == 1)) && (v == image j)) m.mark
-          (mark_to (image k) ms (image j))) f.b
-          ∙ ap (λ x. mark_if ((x && (m.order == 1)) && (image b.b == image j)) m.mark (mark_to (image k) ms (image j)))
-          (image_eq drawing other image r sound b.a k p.0.joins.a lt_k)
-          ∙ ap (λ x. mark_if (((b.a == k) && (m.order == 1)) && x) m.mark (mark_to (image k) ms (image j)))
-          (image_eq drawing other image r sound b.b j p.0.joins.b lt_j)
-          ∙ ap (λ o. mark_if (((b.a == k) && (o == 1)) && (b.b == j)) m.mark (mark_to (image k) ms (image j)))
-          p.0.is.order
-          ∙ ap (λ mark. mark_if (leads k j b) mark (mark_to (image k) ms (image j))) p.0.is.mark
-          ∙ ap (mark_if (leads k j b) b.mark) rest
+          rw (
+            f.a,
+            f.b,
+            image_eq drawing other image r sound b.a k p.0.joins.a lt_k,
+            image_eq drawing other image r sound b.b j p.0.joins.b lt_j,
+            p.0.is.order,
+            p.0.is.mark,
+            rest,
+          )
       by (inr t) rest = elim t.may [
         | inl e ↦ plain (p.0.is.mark ∙ e) e rest (leads (image k) (image j) m) (leads k j b) refl refl
         | inr e ↦
@@ -256,155 +232,74 @@ module _ (drawing other : Drawing) (image : ℕ → ℕ) (r : IsRenumbering draw
   abbrev Below : List ℕ → Type 0
   Below ks = AllByRecursion (λ k. k < n) ks
 
+  step_same : (a b : ℕ) → a < n → b < n
+      → step (point other.atoms (image a)) (point other.atoms (image b))
+      ≡ step (point drawing.atoms a) (point drawing.atoms b)
+  step_same a b lt_a lt_b = rw (point_same a lt_a, point_same b lt_b)
+
   steps_same : (at : ℕ) → at < n → (ks : List ℕ) → Below ks
       → steps other.atoms (image at) (map image ks) ≡ steps drawing.atoms at ks
   steps_same at lt ks all =
-      mapped_twice image (λ k. step (point other.atoms (image at)) (point other.atoms k)) ks
-      ∙ mapped_all (λ k. k < n) (λ k. step (point other.atoms (image at)) (point other.atoms (image k)))
-      (λ k. step (point drawing.atoms at) (point drawing.atoms k))
-      (λ k low. ap (λ q. step q (point other.atoms (image k))) (point_same at lt)
-      ∙ ap (step (point drawing.atoms at)) (point_same k low)) ks all
+      mapped_image (λ k. k < n) image (λ k. step (point other.atoms (image at)) (point other.atoms k))
+      (λ k. step (point drawing.atoms at) (point drawing.atoms k)) (λ k low. step_same at k lt low) ks all
 
   flat_same : (at : ℕ) → at < n → (ks : List ℕ) → Below ks
       → flat_steps other.atoms (image at) (map image ks) ≡ flat_steps drawing.atoms at ks
   flat_same at lt ks all =
-      mapped_twice image (λ k. flat_step (point other.atoms (image at)) (point other.atoms k)) ks
-      ∙ mapped_all (λ k. k < n) (λ k. flat_step (point other.atoms (image at)) (point other.atoms (image k)))
+      mapped_image (λ k. k < n) image (λ k. flat_step (point other.atoms (image at)) (point other.atoms k))
       (λ k. flat_step (point drawing.atoms at) (point drawing.atoms k))
-      (λ k low. ap (λ q. flat_step q (point other.atoms (image k))) (point_same at lt)
-      ∙ ap (flat_step (point drawing.atoms at)) (point_same k low)) ks all
+      (λ k low. rw (point_same at lt, point_same k low)) ks all
 
   points_same : (ks : List ℕ) → Below ks → map (point other.atoms) (map image ks) ≡ map (point drawing.atoms) ks
-  points_same ks all =
-      mapped_twice image (point other.atoms) ks
-      ∙ mapped_all (λ k. k < n) (λ k. point other.atoms (image k)) (point drawing.atoms) point_same ks all
+  points_same = mapped_image (λ k. k < n) image (point other.atoms) (point drawing.atoms) point_same
 
   marks_same : (at : ℕ) → at < n → (ks : List ℕ) → Below ks
       → map (mark_to (image at) other.bonds) (map image ks) ≡ map (mark_to at drawing.bonds) ks
-  marks_same at lt ks all =
-      mapped_twice image (mark_to (image at) other.bonds) ks
-      ∙ mapped_all (λ k. k < n) (λ k. mark_to (image at) other.bonds (image k)) (mark_to at drawing.bonds)
-      (λ k low. mark_same at k lt low) ks all
+  marks_same at lt =
+      mapped_image (λ k. k < n) image (mark_to (image at) other.bonds) (mark_to at drawing.bonds)
+      (λ k low. mark_same at k lt low)
 
   centre_same : (at : ℕ) → at < n → (ks : List ℕ) → Below ks
       → of_centre other.atoms other.bonds (image at) (map image ks) ≡ of_centre drawing.atoms drawing.bonds at ks
   centre_same at lt ks all =
-      ap
-      (λ b. if b then Unknown Either else if is_spatial other.atoms then in_space (point other.atoms (image at))
-      (map (point other.atoms) (map image ks))
-      else in_plane (flat_steps other.atoms (image at) (map image ks))
-      (map (mark_to (image at) other.bonds) (map image ks))) (either_same at lt)
-      ∙ ap
-      (λ b. if has_either at drawing.bonds then Unknown Either else if b then in_space (point other.atoms (image at))
-      (map (point other.atoms) (map image ks))
-      else in_plane (flat_steps other.atoms (image at) (map image ks))
-      (map (mark_to (image at) other.bonds) (map image ks))) spatial_same
-      ∙ ap
-      (λ q. if has_either at drawing.bonds then Unknown Either else if is_spatial drawing.atoms then in_space q
-      (map (point other.atoms) (map image ks))
-      else in_plane (flat_steps other.atoms (image at) (map image ks))
-      (map (mark_to (image at) other.bonds) (map image ks))) (point_same at lt)
-      ∙ ap
-      (λ q. if has_either at drawing.bonds then Unknown Either else if is_spatial drawing.atoms then in_space
-      (point drawing.atoms at) q
-      else in_plane (flat_steps other.atoms (image at) (map image ks))
-      (map (mark_to (image at) other.bonds) (map image ks))) (points_same ks all)
-      ∙ ap
-      (λ q. if has_either at drawing.bonds then Unknown Either else if is_spatial drawing.atoms then in_space
-      (point drawing.atoms at) (map (point drawing.atoms) ks)
-      else in_plane q (map (mark_to (image at) other.bonds) (map image ks))) (flat_same at lt ks all)
-      ∙ ap
-      (λ q. if has_either at drawing.bonds then Unknown Either else if is_spatial drawing.atoms then in_space
-      (point drawing.atoms at) (map (point drawing.atoms) ks)
-      else in_plane (flat_steps drawing.atoms at ks) q) (marks_same at lt ks all)
-
-  step_same : (a b : ℕ) → a < n → b < n
-      → step (point other.atoms (image a)) (point other.atoms (image b))
-      ≡ step (point drawing.atoms a) (point drawing.atoms b)
-  step_same a b lt_a lt_b =
-      ap (λ q. step q (point other.atoms (image b))) (point_same a lt_a)
-      ∙ ap (step (point drawing.atoms a)) (point_same b lt_b)
+      rw (
+        points_same ks all,
+        flat_same at lt ks all,
+        marks_same at lt ks all,
+        either_same at lt,
+        spatial_same,
+        point_same at lt,
+      )
 
   bond_same : (a b : ℕ) → a < n → b < n → (ks ls : List ℕ) → Below ks → Below ls
       → of_bond other.atoms other.bonds (image a) (image b) (map image ks) (map image ls)
       ≡ of_bond drawing.atoms drawing.bonds a b ks ls
   bond_same a b lt_a lt_b ks ls all_k all_l =
-      ap
-      (λ x. if x || (has_either (image b) other.bonds || is_crossed (image a) (image b) other.bonds) then Unknown Either
-      else by_pairs (sides (step (point other.atoms (image a)) (point other.atoms (image b))))
-      (steps other.atoms (image a) (map image ks)) (steps other.atoms (image b) (map image ls))) (either_same a lt_a)
-      ∙ ap (λ x. if has_either a drawing.bonds || (x || is_crossed (image a) (image b) other.bonds) then Unknown Either
-      else by_pairs (sides (step (point other.atoms (image a)) (point other.atoms (image b))))
-      (steps other.atoms (image a) (map image ks)) (steps other.atoms (image b) (map image ls))) (either_same b lt_b)
-      ∙ ap (λ x. if has_either a drawing.bonds || (has_either b drawing.bonds || x) then Unknown Either
-      else by_pairs (sides (step (point other.atoms (image a)) (point other.atoms (image b))))
-      (steps other.atoms (image a) (map image ks)) (steps other.atoms (image b) (map image ls)))
-      (crossed_same a b lt_a lt_b)
-      ∙ ap
-      (λ q. if has_either a drawing.bonds || (has_either b drawing.bonds || is_crossed a b drawing.bonds) then Unknown
-      Either
-      else by_pairs (sides q) (steps other.atoms (image a) (map image ks))
-      (steps other.atoms (image b) (map image ls))) (step_same a b lt_a lt_b)
-      ∙ ap
-      (λ q. if has_either a drawing.bonds || (has_either b drawing.bonds || is_crossed a b drawing.bonds) then Unknown
-      Either
-      else by_pairs (sides (step (point drawing.atoms a) (point drawing.atoms b))) q
-      (steps other.atoms (image b) (map image ls))) (steps_same a lt_a ks all_k)
-      ∙ ap
-      (λ q. if has_either a drawing.bonds || (has_either b drawing.bonds || is_crossed a b drawing.bonds) then Unknown
-      Either
-      else by_pairs (sides (step (point drawing.atoms a) (point drawing.atoms b))) (steps drawing.atoms a ks) q)
-      (steps_same b lt_b ls all_l)
-
-  abbrev shape : Bool → Bool → Bool → Vec3 → List Vec3 → List Vec3 → List Sign → List Sign → Geometry
-  shape x y s q us vs mu mv =
-      if x || y then Unknown Either else if s then by_pairs (twist q) us vs else by_marks q mu mv us vs
+      rw (
+        steps_same a lt_a ks all_k,
+        steps_same b lt_b ls all_l,
+        either_same a lt_a,
+        either_same b lt_b,
+        crossed_same a b lt_a lt_b,
+        point_same a lt_a,
+        point_same b lt_b,
+      )
 
   axis_same : (a b : ℕ) → a < n → b < n → (ks ls : List ℕ) → Below ks → Below ls
       → of_axis other.atoms other.bonds (image a) (image b) (map image ks) (map image ls)
       ≡ of_axis drawing.atoms drawing.bonds a b ks ls
   axis_same a b lt_a lt_b ks ls all_k all_l =
-      ap
-      (λ x. shape x (has_either (image b) other.bonds) (is_spatial other.atoms)
-      (step (point other.atoms (image a)) (point other.atoms (image b))) (steps other.atoms (image a) (map image ks))
-      (steps other.atoms (image b) (map image ls))
-      (map (mark_to (image a) other.bonds) (map image ks)) (map (mark_to (image b) other.bonds) (map image ls)))
-      (either_same a lt_a)
-      ∙ ap
-      (λ y. shape (has_either a drawing.bonds) y (is_spatial other.atoms)
-      (step (point other.atoms (image a)) (point other.atoms (image b))) (steps other.atoms (image a) (map image ks))
-      (steps other.atoms (image b) (map image ls))
-      (map (mark_to (image a) other.bonds) (map image ks)) (map (mark_to (image b) other.bonds) (map image ls)))
-      (either_same b lt_b)
-      ∙ ap
-      (λ s. shape (has_either a drawing.bonds) (has_either b drawing.bonds) s
-      (step (point other.atoms (image a)) (point other.atoms (image b))) (steps other.atoms (image a) (map image ks))
-      (steps other.atoms (image b) (map image ls))
-      (map (mark_to (image a) other.bonds) (map image ks)) (map (mark_to (image b) other.bonds) (map image ls)))
-      spatial_same
-      ∙ ap
-      (λ q. shape (has_either a drawing.bonds) (has_either b drawing.bonds) (is_spatial drawing.atoms) q
-      (steps other.atoms (image a) (map image ks)) (steps other.atoms (image b) (map image ls))
-      (map (mark_to (image a) other.bonds) (map image ks)) (map (mark_to (image b) other.bonds) (map image ls)))
-      (step_same a b lt_a lt_b)
-      ∙ ap
-      (λ us. shape (has_either a drawing.bonds) (has_either b drawing.bonds) (is_spatial drawing.atoms)
-      (step (point drawing.atoms a) (point drawing.atoms b)) us (steps other.atoms (image b) (map image ls))
-      (map (mark_to (image a) other.bonds) (map image ks)) (map (mark_to (image b) other.bonds) (map image ls)))
-      (steps_same a lt_a ks all_k)
-      ∙ ap
-      (λ vs. shape (has_either a drawing.bonds) (has_either b drawing.bonds) (is_spatial drawing.atoms)
-      (step (point drawing.atoms a) (point drawing.atoms b)) (steps drawing.atoms a ks) vs
-      (map (mark_to (image a) other.bonds) (map image ks)) (map (mark_to (image b) other.bonds) (map image ls)))
-      (steps_same b lt_b ls all_l)
-      ∙ ap
-      (λ mu. shape (has_either a drawing.bonds) (has_either b drawing.bonds) (is_spatial drawing.atoms)
-      (step (point drawing.atoms a) (point drawing.atoms b)) (steps drawing.atoms a ks) (steps drawing.atoms b ls)
-      mu (map (mark_to (image b) other.bonds) (map image ls))) (marks_same a lt_a ks all_k)
-      ∙ ap
-      (λ mv. shape (has_either a drawing.bonds) (has_either b drawing.bonds) (is_spatial drawing.atoms)
-      (step (point drawing.atoms a) (point drawing.atoms b)) (steps drawing.atoms a ks) (steps drawing.atoms b ls)
-      (map (mark_to a drawing.bonds) ks) mv) (marks_same b lt_b ls all_l)
+      rw (
+        steps_same a lt_a ks all_k,
+        steps_same b lt_b ls all_l,
+        marks_same a lt_a ks all_k,
+        marks_same b lt_b ls all_l,
+        either_same a lt_a,
+        either_same b lt_b,
+        spatial_same,
+        point_same a lt_a,
+        point_same b lt_b,
+      )
 
   -- drawn ligands
   abbrev c : ℕ → ℕ
@@ -420,23 +315,11 @@ module _ (drawing other : Drawing) (image : ℕ → ℕ) (r : IsRenumbering draw
           → (drawn (length other.atoms) (map (ligand_image c) ls) ≡ map image (drawn n ls)) × Below (drawn n ls)
           → (drawn (length other.atoms) (Vertex (c v) ∷ map (ligand_image c) ls) ≡ map image (drawn n (Vertex v ∷ ls)))
           × Below (drawn n (Vertex v ∷ ls))
-      by b e rest = (
-        ap (λ x. cons_option (if x then Some (c v) else None) (drawn (length other.atoms) (map (ligand_image c) ls)))
-            (drawn_same drawing other image r sound v ∙ e)
-            ∙ ap (cons_option (if b then Some (c v) else None)) rest.0 ∙ kept b e
-            ∙ sym (ap (λ x. map image (cons_option (if x then Some v else None) (drawn n ls))) e),
-        subst (λ x. Below (cons_option (if x then Some v else None) (drawn n ls))) (sym e) (low b e),
-      )
-        where
-          kept : (b : Bool) → nat_lt v n ≡ b
-              → cons_option (if b then Some (c v) else None) (map image (drawn n ls))
-              ≡ map image (cons_option (if b then Some v else None) (drawn n ls))
-          kept true e = ap (λ w. w ∷ map image (drawn n ls)) (of_atom drawing other image r sound v (ltb-true v n e))
-          kept false e = refl
-
-          low : (b : Bool) → nat_lt v n ≡ b → Below (cons_option (if b then Some v else None) (drawn n ls))
-          low true e = (ltb-true v n e, rest.1)
-          low false e = rest.1
+      by true e rest =
+          let f = drawn_same drawing other image r sound v ∙ e in
+          let lt = ltb-true v n e in
+          (rw (f, e, of_atom drawing other image r sound v lt) (ap (λ vs. image v ∷ vs) rest.0), rw e (lt, rest.1))
+      by false e rest = let f = drawn_same drawing other image r sound v ∙ e in (rw (f, e) rest.0, rw e rest.1)
 
   pub centre_renamed : (at : ℕ) → at < n → (ls : List Ligand)
       → centre_geometry other (c at) (map (ligand_image c) ls) ≡ centre_geometry drawing at ls
@@ -446,38 +329,29 @@ module _ (drawing other : Drawing) (image : ℕ → ℕ) (r : IsRenumbering draw
       (of_atom drawing other image r sound at lt)
       ∙ ap (of_centre other.atoms other.bonds (image at)) d.0 ∙ centre_same at lt (drawn n ls) d.1
 
+  -- of two ends
+  two_renamed : (of : ℕ → ℕ → List ℕ → List ℕ → Geometry) (a b : ℕ) → a < n → b < n → (ks ls : List Ligand)
+      → of (c a) (c b) (drawn (length other.atoms) (map (ligand_image c) ks))
+      (drawn (length other.atoms) (map (ligand_image c) ls))
+      ≡ of (image a) (image b) (map image (drawn n ks)) (map image (drawn n ls))
+  two_renamed of a b lt_a lt_b ks ls =
+      rw (
+        of_atom drawing other image r sound a lt_a,
+        of_atom drawing other image r sound b lt_b,
+        (drawn_image ks).0,
+        (drawn_image ls).0,
+      )
+
   pub bond_renamed : (a b : ℕ) → a < n → b < n → (ks ls : List Ligand)
       → bond_geometry other (c a) (c b) (map (ligand_image c) ks) (map (ligand_image c) ls)
       ≡ bond_geometry drawing a b ks ls
   bond_renamed a b lt_a lt_b ks ls =
-      let d = drawn_image ks in
-      let e = drawn_image ls in
-      ap
-      (λ v. of_bond other.atoms other.bonds v (c b) (drawn (length other.atoms) (map (ligand_image c) ks))
-      (drawn (length other.atoms) (map (ligand_image c) ls))) (of_atom drawing other image r sound a lt_a)
-      ∙ ap
-      (λ v. of_bond other.atoms other.bonds (image a) v (drawn (length other.atoms) (map (ligand_image c) ks))
-      (drawn (length other.atoms) (map (ligand_image c) ls))) (of_atom drawing other image r sound b lt_b)
-      ∙ ap
-      (λ vs. of_bond other.atoms other.bonds (image a) (image b) vs
-      (drawn (length other.atoms) (map (ligand_image c) ls))) d.0
-      ∙ ap (of_bond other.atoms other.bonds (image a) (image b) (map image (drawn n ks))) e.0
-      ∙ bond_same a b lt_a lt_b (drawn n ks) (drawn n ls) d.1 e.1
+      two_renamed (of_bond other.atoms other.bonds) a b lt_a lt_b ks ls
+      ∙ bond_same a b lt_a lt_b (drawn n ks) (drawn n ls) (drawn_image ks).1 (drawn_image ls).1
 
   pub axis_renamed : (a b : ℕ) → a < n → b < n → (ks ls : List Ligand)
       → axis_geometry other (c a) (c b) (map (ligand_image c) ks) (map (ligand_image c) ls)
       ≡ axis_geometry drawing a b ks ls
   axis_renamed a b lt_a lt_b ks ls =
-      let d = drawn_image ks in
-      let e = drawn_image ls in
-      ap
-      (λ v. of_axis other.atoms other.bonds v (c b) (drawn (length other.atoms) (map (ligand_image c) ks))
-      (drawn (length other.atoms) (map (ligand_image c) ls))) (of_atom drawing other image r sound a lt_a)
-      ∙ ap
-      (λ v. of_axis other.atoms other.bonds (image a) v (drawn (length other.atoms) (map (ligand_image c) ks))
-      (drawn (length other.atoms) (map (ligand_image c) ls))) (of_atom drawing other image r sound b lt_b)
-      ∙ ap
-      (λ vs. of_axis other.atoms other.bonds (image a) (image b) vs
-      (drawn (length other.atoms) (map (ligand_image c) ls))) d.0
-      ∙ ap (of_axis other.atoms other.bonds (image a) (image b) (map image (drawn n ks))) e.0
-      ∙ axis_same a b lt_a lt_b (drawn n ks) (drawn n ls) d.1 e.1
+      two_renamed (of_axis other.atoms other.bonds) a b lt_a lt_b ks ls
+      ∙ axis_same a b lt_a lt_b (drawn n ks) (drawn n ls) (drawn_image ks).1 (drawn_image ls).1

@@ -1,5 +1,5 @@
 -- A renumbered drawing: its atoms have the same hydrogens and lone pairs, and its bonds are counted alike.
-use Rattle.std.proofs.Common.{◌≡◌, ◌≢◌, ◌⊎◌, inl, inr, ◌<◌, ◌≤◌, ◌+◌, ℕ, zero, suc, List, [], ◌∷◌, map, length, filter, sum, count_by, refl, sym, ap, subst, ◌∙◌, Bool, true, false, not, cond, ◌==◌, ◌&&◌, ◌||◌, nat_lt, nat_le, eqb-true, eq-eqb, ltb-true, ltb-false, arith}
+use Rattle.std.proofs.Common.{◌≡◌, ◌≢◌, ◌⊎◌, inl, inr, ◌<◌, ◌+◌, ℕ, zero, suc, List, [], ◌∷◌, map, length, filter, count_by, refl, sym, ap, ◌∙◌, Bool, true, false, not, cond, ◌==◌, ◌&&◌, ◌||◌, nat_le, eqb-true, eq-eqb, arith}
 use Rattle.std.specs.List.{AllByRecursion, range_with_len}
 use Rattle.std.specs.List.Sorted.{IsPermutation}
 use Rattle.std.proofs.lemmas.Bool.{eqb-false, ne_eqb}
@@ -10,20 +10,18 @@ use Rattle.cip_mol.specs.Bonds.{touches, degree}
 use Rattle.cip_mol.specs.Bonds as bonds
 use Rattle.cip_mol.specs.Drawing.{Drawing}
 use Rattle.cip_mol.specs.Points.{no_atom}
-use Rattle.cip_mol.specs.declared.molecule.Atom.{Atom}
 use Rattle.cip_mol.specs.declared.molecule.Bond.{Bond}
 use Rattle.cip_mol.proofs.SimpleBonds.{IsJoin, simple_from_sound}
-use Rattle.cip_digraph.specs.graph.Hydrogens.{atom_at, bond_orders, hydrogens, hydrogens_of}
-use Rattle.cip_digraph.specs.graph.LonePairs.{lone_pair, lone_pair_of}
-use Rattle.cip_digraph.specs.graph.Neglected.{neglects, neglects_at, is_counted}
+use Rattle.cip_digraph.specs.graph.Hydrogens.{atom_at, bond_orders, hydrogens_of}
+use Rattle.cip_digraph.specs.graph.LonePairs.{lone_pair_of}
+use Rattle.cip_digraph.specs.graph.Neglected.{neglects_at, is_counted}
 use Rattle.cip_digraph.specs.graph.Renumbering.{IsForward, IsTurned, IsImage, IsRenumbering}
-use Rattle.cip_digraph.proofs.Lists.{Pairwise, by_recursion}
+use Rattle.cip_digraph.proofs.lists.Elements.{Pairwise, by_recursion}
 use Rattle.cip_image.specs.Images.{Among}
 use Rattle.cip_image.proofs.lists.Among.{among_map, from_map, among_arranged, among_range, from_range, among_all}
 use Rattle.cip_image.proofs.lists.Arranged.{filter_arranged}
 use Rattle.cip_image.proofs.outcomes.LastReasons.{pairwise_arranged}
-use Rattle.cip_image.proofs.lists.Truths.{or_back}
-use Rattle.cip_image.proofs.lists.Elements.{unmapped}
+use Rattle.std.proofs.Math.Bool.{or_comm}
 
 -- a bond of a drawing and its image
 pub record IsImageBond (image : ℕ → ℕ) (atoms : ℕ) (bond other : Bond) : Type 0 where
@@ -38,20 +36,16 @@ range_apart start (suc count) = (above start (start + 1) count (omega arith), ra
     above v start zero lt = tt
     above v start (suc count) lt = (λ e. absurd (omega (arith, e, lt)), above v (start + 1) count (omega (arith, lt)))
 
--- two numbers of a range, the first one lower
-range_pair : (R : ℕ → ℕ → Type 0) (start count j k : ℕ) → Pairwise R (range_with_len start count) → start ≤ j → j < k
-    → k < start + count → R j k
-range_pair R start zero j k pairs low lt high = absurd (omega (arith, low, lt, high))
-range_pair R start (suc count) j k pairs low lt high =
-    by (j == start) refl (λ above. range_pair R (start + 1) count j k pairs.1 above lt (omega (arith, high)))
-  where
-    by : (b : Bool) → (j == start) ≡ b → (start + 1 ≤ j → R j k) → R j k
-    by true e rest =
-        let same : j ≡ start = eqb-true j start e in
-        subst (λ i. R i k) (sym same)
-        (among_all (R start) k (range_with_len (start + 1) count) pairs.0
-        (among_range (start + 1) count k (omega (arith, lt, same)) (omega (arith, high))))
-    by false e rest = rest (let differ = eqb-false j start e in omega (arith, low, differ))
+-- elements with different images are the same where their images are
+pub one_of : {X : Type 0} (f : X → ℕ) (xs : List X) → Pairwise ◌≢◌ (map f xs) → (x y : X) → Among x xs → Among y xs
+    → f x ≡ f y → x ≡ y
+one_of f [] differ x y h k e = absurd h
+one_of f (z ∷ zs) differ x y (inl p) (inl q) e = p ∙ sym q
+one_of f (z ∷ zs) differ x y (inl p) (inr k) e =
+    absurd (among_all (λ v. f z ≢ v) (f y) (map f zs) differ.0 (among_map f y zs k) (sym (ap f p) ∙ e))
+one_of f (z ∷ zs) differ x y (inr h) (inl q) e =
+    absurd (among_all (λ v. f z ≢ v) (f x) (map f zs) differ.0 (among_map f x zs h) (sym (ap f q) ∙ sym e))
+one_of f (z ∷ zs) differ x y (inr h) (inr k) e = one_of f zs differ.1 x y h k e
 
 pub pairs_all : {N : Type 0} (Q T : N → N → Type 0) (P : N → Type 0) → ((n m : N) → Q n m → P n → T n m)
     → (ns ms : List N) → AllByRecursion P ns → InPairs Q ns ms → InPairs T ns ms
@@ -68,6 +62,26 @@ all_arranged {X} P xs ys p all =
     each : (ys : List X) → ((y : X) → Among y ys → P y) → AllByRecursion P ys
     each [] f = tt
     each (y ∷ ys) f = (f y (inl refl), each ys (λ z h. f z (inr h)))
+
+-- bonds in pairs that touch alike and have the same orders
+pub orders_alike : (R : Bond → Bond → Type 0) (k j : ℕ) → ((n m : Bond) → R n m → touches j m ≡ touches k n)
+    → ((n m : Bond) → R n m → m.order ≡ n.order) → (ns ms : List Bond) → InPairs R ns ms
+    → bond_orders j ms ≡ bond_orders k ns
+orders_alike R k j touch order [] [] h = refl
+orders_alike R k j touch order [] (m ∷ ms) h = absurd h
+orders_alike R k j touch order (n ∷ ns) [] h = absurd h
+orders_alike R k j touch order (n ∷ ns) (m ∷ ms) h =
+    by (touches k n) refl (orders_alike R k j touch order ns ms h.1)
+  where
+    by : (t : Bool) → touches k n ≡ t → bond_orders j ms ≡ bond_orders k ns
+        → bond_orders j (m ∷ ms) ≡ bond_orders k (n ∷ ns)
+    by true e rest =
+        let f = touch n m h.0 ∙ e in
+        rw (f, e)
+        (sum_by-cons (λ o. o) m.order (map (λ (b : Bond). b.order) (filter (touches j) ms))
+        ∙ ap (λ o. o + bond_orders j ms) (order n m h.0) ∙ ap (λ s. n.order + s) rest
+        ∙ sym (sum_by-cons (λ o. o) n.order (map (λ (b : Bond). b.order) (filter (touches k) ns))))
+    by false e rest = let f = touch n m h.0 ∙ e in rw (f, e) rest
 
 module _ (drawing other : Drawing) (image : ℕ → ℕ) (r : IsRenumbering drawing other image)
     (sound : bonds.IsSound (length drawing.atoms) drawing.bonds) where
@@ -94,25 +108,13 @@ module _ (drawing other : Drawing) (image : ℕ → ℕ) (r : IsRenumbering draw
       let e = (from_range 0 atoms found.0 found.1).1 in
       (found.0, omega (arith, e), found.2)
 
-  images_apart : Pairwise (λ j k. image j ≢ image k) range
-  images_apart =
-      unmapped ◌≢◌ image range
-      (pairwise_arranged ◌≢◌ (λ a b differ e. differ (sym e)) range (map image range)
-      (IsPermutation-sym (map image range) range r.permutation) (range_apart 0 atoms))
-
   pub image_injective : (j k : ℕ) → j < atoms → k < atoms → image j ≡ image k → j ≡ k
-  image_injective j k lt_j lt_k e = by (nat_lt j k) (nat_lt k j) refl refl
-    where
-      by : (a b : Bool) → nat_lt j k ≡ a → nat_lt k j ≡ b → j ≡ k
-      by true b f g =
-          absurd
-          (range_pair (λ j k. image j ≢ image k) 0 atoms j k images_apart (omega arith) (ltb-true j k f)
-          (omega (arith, lt_k)) e)
-      by false true f g =
-          absurd
-          (range_pair (λ j k. image j ≢ image k) 0 atoms k j images_apart (omega arith) (ltb-true k j g)
-          (omega (arith, lt_j)) (sym e))
-      by false false f g = let one = ltb-false j k f in let two = ltb-false k j g in omega (arith, one, two)
+  image_injective j k lt_j lt_k e =
+      one_of image range
+      (pairwise_arranged ◌≢◌ (λ a b differ e. differ (sym e)) range (map image range)
+      (IsPermutation-sym (map image range) range r.permutation) (range_apart 0 atoms)) j k
+      (among_range 0 atoms j (omega arith) (omega (arith, lt_j)))
+      (among_range 0 atoms k (omega arith) (omega (arith, lt_k))) e
 
   pub image_eq : (j k : ℕ) → j < atoms → k < atoms → (image j == image k) ≡ (j == k)
   image_eq j k lt_j lt_k = by (j == k) refl
@@ -143,15 +145,10 @@ module _ (drawing other : Drawing) (image : ℕ → ℕ) (r : IsRenumbering draw
   touches_carried k lt bond two b = by b.is.ends
     where
       by : IsForward image bond two ⊎ IsTurned image bond two → touches (image k) two ≡ touches k bond
-      by (inl f) =
-          ap (λ v. (v == image k) || (two.b == image k)) f.a ∙ ap (λ v. (image bond.a == image k) || (v == image k)) f.b
-          ∙ ap (λ x. x || (image bond.b == image k)) (image_eq bond.a k b.joins.a lt)
-          ∙ ap (λ x. (bond.a == k) || x) (image_eq bond.b k b.joins.b lt)
+      by (inl f) = rw (f.a, f.b, image_eq bond.a k b.joins.a lt, image_eq bond.b k b.joins.b lt)
       by (inr t) =
-          ap (λ v. (v == image k) || (two.b == image k)) t.a ∙ ap (λ v. (image bond.b == image k) || (v == image k)) t.b
-          ∙ ap (λ x. x || (image bond.a == image k)) (image_eq bond.b k b.joins.b lt)
-          ∙ ap (λ x. (bond.b == k) || x) (image_eq bond.a k b.joins.a lt)
-          ∙ or_back (bond.b == k) (bond.a == k)
+          rw (t.a, t.b, image_eq bond.b k b.joins.b lt, image_eq bond.a k b.joins.a lt)
+          (or_comm (bond.b == k) (bond.a == k))
 
   abbrev weight : ℕ → Bond → ℕ
   weight k bond = cond (touches k bond) bond.order 0
@@ -175,25 +172,8 @@ module _ (drawing other : Drawing) (image : ℕ → ℕ) (r : IsRenumbering draw
 
   orders_pairs : (k : ℕ) → k < atoms → (ns ms : List Bond) → InPairs (IsImageBond image atoms) ns ms
       → bond_orders (image k) ms ≡ bond_orders k ns
-  orders_pairs k lt [] [] h = refl
-  orders_pairs k lt [] (m ∷ ms) h = absurd h
-  orders_pairs k lt (n ∷ ns) [] h = absurd h
-  orders_pairs k lt (n ∷ ns) (m ∷ ms) h =
-      ap
-      (λ t. sum
-      (map (λ (b : Bond). b.order) (cond t (m ∷ filter (touches (image k)) ms) (filter (touches (image k)) ms))))
-      (touches_carried k lt n m h.0)
-      ∙ by (touches k n) (orders_pairs k lt ns ms h.1)
-    where
-      by : (t : Bool) → bond_orders (image k) ms ≡ bond_orders k ns
-          → sum
-          (map (λ (b : Bond). b.order) (cond t (m ∷ filter (touches (image k)) ms) (filter (touches (image k)) ms)))
-          ≡ sum (map (λ (b : Bond). b.order) (cond t (n ∷ filter (touches k) ns) (filter (touches k) ns)))
-      by true e =
-          sum_by-cons (λ o. o) m.order (map (λ (b : Bond). b.order) (filter (touches (image k)) ms))
-          ∙ ap (λ o. o + bond_orders (image k) ms) h.0.is.order ∙ ap (λ s. n.order + s) e
-          ∙ sym (sum_by-cons (λ o. o) n.order (map (λ (b : Bond). b.order) (filter (touches k) ns)))
-      by false e = e
+  orders_pairs k lt =
+      orders_alike (IsImageBond image atoms) k (image k) (λ n m b. touches_carried k lt n m b) (λ n m b. b.is.order)
 
   orders_arranged : (k : ℕ) (ns ms : List Bond) → IsPermutation ns ms → bond_orders k ms ≡ bond_orders k ns
   orders_arranged k ns ms p =
@@ -212,26 +192,14 @@ module _ (drawing other : Drawing) (image : ℕ → ℕ) (r : IsRenumbering draw
   atom_same k lt = r.atoms k lt no_atom
 
   pub hydrogens_same : (k : ℕ) → k < atoms → hydrogens_of other (image k) ≡ hydrogens_of drawing k
-  hydrogens_same k lt =
-      ap (λ a. hydrogens a (bond_orders (image k) other.bonds)) (atom_same k lt)
-      ∙ ap (hydrogens (atom_at drawing k)) (orders_same k lt)
+  hydrogens_same k lt = rw (atom_same k lt, orders_same k lt)
 
   pub lone_same : (k : ℕ) → k < atoms → lone_pair_of other (image k) ≡ lone_pair_of drawing k
-  lone_same k lt =
-      ap (λ a. lone_pair a (bond_orders (image k) other.bonds) (hydrogens_of other (image k))) (atom_same k lt)
-      ∙ ap (λ o. lone_pair (atom_at drawing k) o (hydrogens_of other (image k))) (orders_same k lt)
-      ∙ ap (lone_pair (atom_at drawing k) (bond_orders k drawing.bonds)) (hydrogens_same k lt)
+  lone_same k lt = rw (hydrogens_same k lt, atom_same k lt, orders_same k lt)
 
   neglects_same : (k : ℕ) → k < atoms → neglects_at other (image k) ≡ neglects_at drawing k
   neglects_same k lt =
-      ap
-      (λ (a : Atom). neglects a.z (degree (image k) other.bonds + hydrogens_of other (image k))
-      (lone_pair_of other (image k))) (atom_same k lt)
-      ∙ ap (λ d. neglects (atom_at drawing k).z (d + hydrogens_of other (image k)) (lone_pair_of other (image k)))
-      (degree_same k lt)
-      ∙ ap (λ h. neglects (atom_at drawing k).z (degree k drawing.bonds + h) (lone_pair_of other (image k)))
-      (hydrogens_same k lt)
-      ∙ ap (neglects (atom_at drawing k).z (degree k drawing.bonds + hydrogens_of drawing k)) (lone_same k lt)
+      rw (lone_same k lt, hydrogens_same k lt, degree_same k lt, atom_same k lt)
 
   pub counted_same : (bond two : Bond) → IsImageBond image atoms bond two
       → is_counted other two ≡ is_counted drawing bond
@@ -242,14 +210,7 @@ module _ (drawing other : Drawing) (image : ℕ → ℕ) (r : IsRenumbering draw
       by : IsForward image bond two ⊎ IsTurned image bond two
           → (neglects_at other two.a || neglects_at other two.b)
           ≡ (neglects_at drawing bond.a || neglects_at drawing bond.b)
-      by (inl f) =
-          ap (λ v. neglects_at other v || neglects_at other two.b) f.a
-          ∙ ap (λ v. neglects_at other (image bond.a) || neglects_at other v) f.b
-          ∙ ap (λ x. x || neglects_at other (image bond.b)) (neglects_same bond.a b.joins.a)
-          ∙ ap (λ x. neglects_at drawing bond.a || x) (neglects_same bond.b b.joins.b)
+      by (inl f) = rw (f.a, f.b, neglects_same bond.a b.joins.a, neglects_same bond.b b.joins.b)
       by (inr t) =
-          ap (λ v. neglects_at other v || neglects_at other two.b) t.a
-          ∙ ap (λ v. neglects_at other (image bond.b) || neglects_at other v) t.b
-          ∙ ap (λ x. x || neglects_at other (image bond.a)) (neglects_same bond.b b.joins.b)
-          ∙ ap (λ x. neglects_at drawing bond.b || x) (neglects_same bond.a b.joins.a)
-          ∙ or_back (neglects_at drawing bond.b) (neglects_at drawing bond.a)
+          rw (t.a, t.b, neglects_same bond.b b.joins.b, neglects_same bond.a b.joins.a)
+          (or_comm (neglects_at drawing bond.b) (neglects_at drawing bond.a))

@@ -1,6 +1,6 @@
 -- A renumbered drawing has no fault where the drawing has none: its bonds join atoms, no two of them the same ones, and
 -- no atom has more of them.
-use Rattle.std.proofs.Common.{◌≡◌, ◌⊎◌, inl, inr, ◌<◌, ◌≤◌, ℕ, Bool, ◌==◌, ◌&&◌, ◌||◌, List, [], ◌∷◌, length, refl, sym, ap, subst, ◌∙◌, arith}
+use Rattle.std.proofs.Common.{◌≡◌, ◌⊎◌, inl, inr, ◌<◌, ◌≤◌, ℕ, ◌==◌, ◌&&◌, ◌||◌, List, [], ◌∷◌, length, refl, sym, ap, subst, ◌∙◌, arith}
 use Rattle.std.specs.List.{AllByRecursion}
 use Rattle.std.proofs.lemmas.List.Elements.{All-from_recursion}
 use Rattle.std.proofs.lemmas.List.Sorted.{IsPermutation-sym}
@@ -12,11 +12,11 @@ use Rattle.cip_mol.specs.Marks.{joins}
 use Rattle.cip_mol.specs.declared.molecule.Bond.{Bond}
 use Rattle.cip_mol.proofs.SimpleBonds.{IsJoin, Once, simple_from_sound, sound_from_simple}
 use Rattle.cip_digraph.specs.graph.Renumbering.{IsForward, IsTurned, IsRenumbering}
-use Rattle.cip_digraph.proofs.Lists.{Pairwise, pairs_from_pairwise}
+use Rattle.cip_digraph.proofs.lists.Elements.{Pairwise, pairs_from_pairwise}
 use Rattle.cip_laws.proofs.drawings.BondsOnce.{once_back, bonds_once}
 use Rattle.cip_image.proofs.outcomes.LastReasons.{pairwise_arranged}
 use Rattle.cip_laws.proofs.drawings.RenumberedAtoms.{IsImageBond, all_arranged, image_below, image_onto, image_injective, image_eq, bond_pairs, degree_same}
-use Rattle.cip_image.proofs.lists.Truths.{and_back, or_back}
+use Rattle.std.proofs.Math.Bool.{and_comm, or_comm}
 
 module _ (drawing other : Drawing) (image : ℕ → ℕ) (r : IsRenumbering drawing other image)
     (sound : bonds.IsSound (length drawing.atoms) drawing.bonds) where
@@ -66,10 +66,9 @@ module _ (drawing other : Drawing) (image : ℕ → ℕ) (r : IsRenumbering draw
         where
           turned : (c d : ℕ) → (((c == a) && (d == b)) || ((c == b) && (d == a)))
               ≡ (((d == a) && (c == b)) || ((d == b) && (c == a)))
-          turned c d = or_back ((c == a) && (d == b)) ((c == b) && (d == a)) ∙ both (c == b) (d == a) (c == a) (d == b)
-            where
-              both : (p q x y : Bool) → ((p && q) || (x && y)) ≡ ((q && p) || (y && x))
-              both p q x y = ap (λ z. z || (x && y)) (and_back p q) ∙ ap (λ z. (q && p) || z) (and_back x y)
+          turned c d =
+              rw (and_comm (c == a) (d == b), and_comm (c == b) (d == a))
+              (or_comm ((d == b) && (c == a)) ((d == a) && (c == b)))
 
   once_image : (one two his hers : Bond) → IsPair one his → IsPair two hers → Once one two → Once his hers
   once_image one two his hers i j e = by j.is.ends
@@ -80,7 +79,7 @@ module _ (drawing other : Drawing) (image : ℕ → ℕ) (r : IsRenumbering draw
       by (inr t) =
           rw (t.a, t.b)
           (joins_image two.b two.a j.joins.b j.joins.a one his i
-          ∙ or_back ((one.a == two.b) && (one.b == two.a)) ((one.a == two.a) && (one.b == two.b)) ∙ e)
+          ∙ or_comm ((one.a == two.b) && (one.b == two.a)) ((one.a == two.a) && (one.b == two.b)) ∙ e)
 
   all_join : (ns ms : List Bond) → InPairs IsPair ns ms → AllByRecursion (IsJoin n) ms
   all_join [] [] h = tt

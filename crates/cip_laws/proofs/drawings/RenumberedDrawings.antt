@@ -19,7 +19,7 @@ use Rattle.cip_mol.proofs.Renumbered.{for_renamed}
 use Rattle.cip_mol.proofs.SoundBonds.{finds_room}
 use Rattle.cip_digraph.specs.graph.Hydrogens.{hydrogens_of}
 use Rattle.cip_digraph.specs.graph.Renumbering.{hydrogen_number, IsImage, IsRenumbering}
-use Rattle.cip_digraph.proofs.Lists.{by_recursion}
+use Rattle.cip_digraph.proofs.lists.Elements.{by_recursion}
 use Rattle.cip_laws.specs.VertexImages.{hydrogen_image, vertex_image, RenumberedDrawingsAreRenumberings}
 use Rattle.cip_image.proofs.lists.CarriedLists.{mapped_below}
 
@@ -61,12 +61,9 @@ module _ (drawing : Drawing) (atoms bonds : List ℕ) (p : ArePlaces (length dra
   passed start (suc count) zero index lt few =
       let same : start + 0 ≡ start = omega arith in
       let few_here : index < h start = subst (λ atom. index < h atom) same few in
-      ap (λ left. hydrogen_image drawing other atoms (range_with_len start (suc count)) left)
-      (let e : 0 + index ≡ index = omega arith in e)
-      ∙ ap (λ b. cond b (hydrogen_number other (place_of atoms start) index)
-      (hydrogen_image drawing other atoms (range_with_len (start + 1) count) (index - h start)))
-      (lt-ltb index (h start) few_here)
-      ∙ ap (λ atom. hydrogen_number other (place_of atoms atom) index) (sym same)
+      let none : 0 + index ≡ index = omega arith in
+      rw (none, lt-ltb index (h start) few_here)
+      (ap (λ atom. hydrogen_number other (place_of atoms atom) index) (sym same))
   passed start (suc count) (suc before) index lt few =
       let rest = sum (map h (range_with_len (start + 1) before)) in
       let left = sum (map h (range_with_len start (suc before))) + index in

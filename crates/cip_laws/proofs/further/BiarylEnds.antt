@@ -1,25 +1,24 @@
 -- A delocalised atom beside a single bond in no ring is an end of a biaryl axis.
-use Rattle.std.proofs.Common.{◌≡◌, ◌≢◌, ◌<◌, ◌+◌, inl, ℕ, List, [], ◌∷◌, length, filter, refl, sym, ap, subst, ◌∙◌, Bool, true, false, not, cond, ◌==◌, ◌||◌, nat_lt, nat_le, eqb-true, eq-eqb, lt-ltb, ltb-true, arith}
+use Rattle.std.proofs.Common.{◌≡◌, ◌≢◌, ◌<◌, ◌+◌, ℕ, List, [], ◌∷◌, length, filter, refl, sym, ap, subst, ◌∙◌, Bool, true, false, not, cond, ◌==◌, ◌||◌, nat_lt, nat_le, eqb-true, eq-eqb, lt-ltb, ltb-true, arith}
 use Rattle.std.specs.List.{AllByRecursion, list_any}
-use Rattle.std.proofs.lemmas.Bool.{eqb-false, ne_eqb, leb-true, le-leb, or_from}
+use Rattle.std.proofs.lemmas.Bool.{eqb-false, ne_eqb, leb-true, le-leb, or_from, and_parts, and_from, true≢false}
 use Rattle.std.proofs.lemmas.List.{length-map}
 use Rattle.cip_digraph.specs.declared.graph.Edge.{Edge}
 use Rattle.cip_digraph.specs.graph.Graph.{Graph, edges_at, neighbours, other_end}
 use Rattle.cip_digraph.specs.graph.SoundGraphs.{IsSound}
-use Rattle.cip_digraph.specs.rings.Alternating.{is_in, counted_at, is_one_double, is_alternating, partner_by, partner, singles, reaches, closes_ring}
+use Rattle.cip_digraph.specs.rings.Alternating.{is_in, counted_at, is_one_double, is_alternating, partner, singles, reaches, closes_ring}
 use Rattle.cip_digraph.specs.rings.AlternatingRings.{Alternates, met, IsAlternatingRing}
 use Rattle.cip_digraph.specs.rings.Positions.{positions_of, is_delocalised}
 use Rattle.cip_digraph.specs.rings.RingsThrough.{IsRingThrough, Walks}
 use Rattle.cip_digraph.specs.units.Allenes.{doubles}
 use Rattle.cip_digraph.specs.units.DoubleBonds.{has_end_bonds, multiples, outer_neighbours}
-use Rattle.cip_digraph.proofs.AlternatingWays.{ring_found}
-use Rattle.cip_digraph.proofs.Lists.{by_recursion}
-use Rattle.cip_digraph.proofs.NeighbourOrder.{neighbours_differ}
+use Rattle.cip_digraph.proofs.ways.Alternating.{ring_found}
+use Rattle.cip_digraph.proofs.lists.Elements.{by_recursion}
+use Rattle.cip_digraph.proofs.bonds.Neighbours.{neighbours_differ}
 use Rattle.cip_image.specs.Images.{Among}
-use Rattle.cip_laws.proofs.graph.DelocalisedEnds.{one_edge, listed}
-use Rattle.cip_laws.proofs.graph.WaySymmetry.{one_of}
-use Rattle.cip_image.proofs.lists.Among.{among_map, from_map, among_filter, from_filter, in_from_among, among_from_in, among_all, any_from}
-use Rattle.cip_image.proofs.lists.Truths.{and_parts, and_both, true_not_false}
+use Rattle.cip_laws.proofs.graph.DelocalisedEnds.{Doubled, doubled, listed, partner_beside, single_beside, single_of}
+use Rattle.cip_laws.proofs.drawings.RenumberedAtoms.{one_of}
+use Rattle.cip_image.proofs.lists.Among.{among_map, among_filter, in_from_among, among_all, any_from}
 use Rattle.cip_unit.specs.Sites.{LeadsToAtoms}
 use Rattle.cip_label.proofs.FitUnits.{away}
 use Rattle.cip_axis.specs.Biaryls.{is_biaryl_end}
@@ -30,59 +29,14 @@ use Rattle.cip_laws.specs.BiarylLaws.{DelocalisedAtomsAreEnds}
 use Rattle.cip_laws.proofs.further.AllButOne.{one_fails, others_pass, same_kept, kept_mapped, one_equal}
 
 module _ (graph : Graph) where
-  -- the double bond of an alternating atom
-  record Doubled (v : ℕ) : Type 0 where
-    edge : Edge
-    among : Among edge (edges_at graph v)
-    order : edge.order ≡ 2
-    is : partner graph v ≡ other_end v edge
-
-  doubled : (v : ℕ) → is_alternating graph v ≡ true → Doubled v
-  doubled v e =
-      let one = one_edge (counted_at graph v)
-      (and_parts (is_one_double (counted_at graph v)) (nat_le (length (edges_at graph v)) 3) e).0 in
-      let kept = from_filter (λ edge. edge.counted) one.edge (edges_at graph v)
-      (subst (Among one.edge) (sym one.is) (inl refl)) in
-      record {
-        edge = one.edge;
-        among = kept.0;
-        order = eqb-true one.edge.order 2 one.double;
-        is = ap (partner_by v) one.is;
-      }
-
-  partner_beside : (v : ℕ) → is_alternating graph v ≡ true → Among (partner graph v) (neighbours graph v)
-  partner_beside v e =
-      let d = doubled v e in
-      subst (λ u. Among u (neighbours graph v)) (sym d.is) (among_map (other_end v) d.edge (edges_at graph v) d.among)
-
-  -- an edge of a single bond
-  record IsSingle (v to : ℕ) : Type 0 where
-    edge : Edge
-    among : Among edge (edges_at graph v)
-    order : edge.order ≡ 1
-    is : to ≡ other_end v edge
-
-  single_of : (v to : ℕ) → is_in to (singles graph v) ≡ true → IsSingle v to
-  single_of v to e =
-      let found = from_map (other_end v) to (filter (λ edge. edge.order == 1) (edges_at graph v))
-      (among_from_in to (singles graph v) e) in
-      let kept = from_filter (λ edge. edge.order == 1) found.0 (edges_at graph v) found.1 in
-      record { edge = found.0; among = kept.0; order = eqb-true found.0.order 1 kept.1; is = found.2 }
-
-  single_beside : (v to : ℕ) → is_in to (singles graph v) ≡ true → is_in to (neighbours graph v) ≡ true
-  single_beside v to e =
-      let s = single_of v to e in
-      in_from_among to (neighbours graph v)
-      (subst (λ u. Among u (neighbours graph v)) (sym s.is) (among_map (other_end v) s.edge (edges_at graph v) s.among))
-
   -- an alternating ring is a ring
   walks_of : (at : ℕ) (nexts : List ℕ) (target : ℕ) → Alternates graph at nexts target
       → AllByRecursion (λ v. is_alternating graph v ≡ true) (met graph nexts) → Walks graph at (met graph nexts) target
   walks_of at [] target way all = way
   walks_of at (next ∷ nexts) target way all = (
-    single_beside at next way.0,
+    in_from_among next (neighbours graph at) (single_beside graph at next way.0),
     (
-      in_from_among (partner graph next) (neighbours graph next) (partner_beside next all.0),
+      in_from_among (partner graph next) (neighbours graph next) (partner_beside graph next all.0),
       walks_of (partner graph next) nexts target way.1 all.1.1,
     ),
   )
@@ -95,7 +49,7 @@ module _ (graph : Graph) where
       let some = ring.some in
       record {
         way = (
-          in_from_among (partner graph v) (neighbours graph v) (partner_beside v all.0),
+          in_from_among (partner graph v) (neighbours graph v) (partner_beside graph v all.0),
           walks_of (partner graph v) nexts to ring.way all.1.1,
         );
         different = ring.different;
@@ -128,7 +82,7 @@ module _ (graph : Graph) (sound : IsSound graph) (v : ℕ) (here : v < length gr
   closing_by to true e differ free =
       let ring = ring_found graph sound v to e in
       absurd
-      (true_not_false
+      (true≢false
       (sym
       ((rings_are_found graph sound v to here differ).finds (partner graph v ∷ met graph ring.0)
       (ring_of_ring graph v to ring.0 ring.1))
@@ -269,9 +223,9 @@ module _ (graph : Graph) (sound : IsSound graph) (v : ℕ) (here : v < length gr
         ap (list_any (λ to. nat_lt to graph.drawn)) outer_is
         ∙ any_from (λ to. nat_lt to graph.drawn) (partner graph v) outer at (partner_drawn leads) in
         let ends : has_end_bonds graph (v ∷ far ∷ []) v ≡ true =
-        and_both _ _ (eq-eqb (length (multiples graph v)) 1 one_multiple) drawn in
-        and_both _ _
-        (and_both _ _ (and_both _ _ several (eq-eqb (length (edges_at graph v)) 3 counted.three)) ends)
+        and_from _ _ (eq-eqb (length (multiples graph v)) 1 one_multiple) drawn in
+        and_from _ _
+        (and_from _ _ (and_from _ _ several (eq-eqb (length (edges_at graph v)) 3 counted.three)) ends)
         (eq-eqb (length (outer_neighbours graph (v ∷ far ∷ []) v)) 2 (ap length outer_is ∙ counted.two))
 
 pub delocalised_atoms_are_ends : DelocalisedAtomsAreEnds

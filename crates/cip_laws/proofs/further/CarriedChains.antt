@@ -1,10 +1,8 @@
 -- Chains of double bonds of a renamed graph, and from their other end.
-use Rattle.std.proofs.Common.{◌≡◌, ◌≤◌, ◌+◌, ◌-◌, inl, inr, ℕ, zero, suc, List, [], ◌∷◌, map, length, filter, refl, sym, ap, subst, ◌∙◌, Bool, true, false, not, cond, ◌==◌, ◌&&◌, eqb-true, eq-eqb, arith}
+use Rattle.std.proofs.Common.{◌≡◌, ◌≤◌, ◌+◌, ◌-◌, ℕ, zero, suc, List, [], ◌∷◌, map, length, refl, sym, ap, subst, ◌∙◌, Bool, true, false, not, cond, ◌==◌, ◌&&◌, eqb-true, arith}
 use Rattle.std.specs.Prelude.{slice_index_or}
 use Rattle.std.specs.List.Sorted.{IsPermutation}
-use Rattle.std.proofs.lemmas.Bool.{ne_eqb}
 use Rattle.std.proofs.lemmas.List.{length-map}
-use Rattle.std.proofs.lemmas.List.Sorted.{length_permutation}
 use Rattle.cip_digraph.specs.graph.Graph.{Graph, edges_at, vertex_at}
 use Rattle.cip_digraph.specs.graph.SoundGraphs.{IsSound}
 use Rattle.cip_digraph.specs.units.Allenes.{doubles, is_allene_middle}
@@ -12,10 +10,12 @@ use Rattle.cip_axis.specs.Cumulenes.{onward, leads_on, next_atom, chain_from, ch
 use Rattle.cip_image.specs.Images.{Among}
 use Rattle.cip_image.proofs.lists.Arranged.{filter_arranged}
 use Rattle.cip_laws.proofs.units.CarriedAxes.{double_back, doubles_moved, middle_carried}
+use Rattle.cip_laws.proofs.units.CarriedSites.{moved_long}
 use Rattle.cip_image.proofs.lists.CarriedLists.{filter_carried, same_eq}
 use Rattle.cip_image.specs.Renamed.{IsRenamed}
 use Rattle.cip_image.proofs.graph.SingleLigands.{single}
-use Rattle.cip_image.proofs.lists.Truths.{and_parts, and_both, true_not_false}
+use Rattle.std.proofs.lemmas.Bool.{and_parts}
+use Rattle.cip_laws.proofs.further.InnerAtoms.{inner_leads, leads_inner}
 use Rattle.cip_laws.proofs.further.TurnedLists.{long_onto, onto}
 
 module _ (graph other : Graph) (image : ℕ → ℕ) (r : IsRenamed graph other image) where
@@ -30,14 +30,10 @@ module _ (graph other : Graph) (image : ℕ → ℕ) (r : IsRenamed graph other 
 
   onward_long : (before at : ℕ)
       → length (onward other (image before) (image at)) ≡ length (onward graph before at)
-  onward_long before at =
-      length_permutation (map image (onward graph before at)) (onward other (image before) (image at))
-      (onward_moved before at) ∙ length-map (onward graph before at) image
+  onward_long before at = moved_long image (onward graph before at) _ (onward_moved before at)
 
   leads_carried : (before at : ℕ) → leads_on other (image before) (image at) ≡ leads_on graph before at
-  leads_carried before at =
-      ap (λ b. b && (length (onward other (image before) (image at)) == 1)) (middle_carried graph other image r at)
-      ∙ ap (λ n. is_allene_middle graph at && (n == 1)) (onward_long before at)
+  leads_carried before at = rw (middle_carried graph other image r at, onward_long before at)
 
   first_image : (vs : List ℕ) (d : ℕ) → slice_index_or (map image vs) 0 (image d) ≡ image (slice_index_or vs 0 d)
   first_image [] d = refl
@@ -68,76 +64,14 @@ module _ (graph other : Graph) (image : ℕ → ℕ) (r : IsRenamed graph other 
           (chain_from other more (image at) (next_atom other (image before) (image at))) []
           ≡ map image (cond (leads_on graph before at) (chain_from graph more at (next_atom graph before at)) [])
       by true e rest =
-          ap
-          (λ c. cond c (chain_from other more (image at) (next_atom other (image before) (image at))) [])
-          (leads_carried before at ∙ e)
-          ∙ ap (chain_from other more (image at)) (next_carried before at e)
-          ∙ rest at (next_atom graph before at)
-          ∙ sym (ap (λ c. map image (cond c (chain_from graph more at (next_atom graph before at)) [])) e)
-      by false e rest =
-          ap
-          (λ c. cond c (chain_from other more (image at) (next_atom other (image before) (image at))) [])
-          (leads_carried before at ∙ e)
-          ∙ sym (ap (λ c. map image (cond c (chain_from graph more at (next_atom graph before at)) [])) e)
+          let f = leads_carried before at ∙ e in
+          rw (f, e, next_carried before at e) (rest at (next_atom graph before at))
+      by false e rest = let f = leads_carried before at ∙ e in rw (f, e)
 
   pub over_carried : (a next : ℕ) → chain_over other (image a) (image next) ≡ map image (chain_over graph a next)
   over_carried a next =
       ap (λ n. image a ∷ chain_from other n (image a) (image next)) r.count
       ∙ ap (λ vs. image a ∷ vs) (from_carried (length graph.vertices) a next)
-
--- of two, the one and the other
-module _ (d before : ℕ) where
-  abbrev without : ℕ → List ℕ → List ℕ
-  without x ds = filter (λ o. not (o == x)) ds
-
-  abbrev head : List ℕ → ℕ
-  head ns = slice_index_or ns 0 d
-
-  abbrev TurnsBy : List ℕ → List ℕ → Type 0
-  TurnsBy ds ns =
-      (length (without (head ns) ds) ≡ 1) × (head (without (head ns) ds) ≡ before) × Among (head ns) ds
-
-  abbrev Turns : List ℕ → Type 0
-  Turns ds = TurnsBy ds (without before ds)
-
-  abbrev keep : ℕ → ℕ → Bool → Bool → List ℕ
-  keep p q a b = cond (not a) (p ∷ cond (not b) (q ∷ []) []) (cond (not b) (q ∷ []) [])
-
-  kept : (x p q : ℕ) (a b : Bool) → (p == x) ≡ a → (q == x) ≡ b → without x (p ∷ q ∷ []) ≡ keep p q a b
-  kept x p q a b e f = ap (λ t. keep p q t (q == x)) e ∙ ap (keep p q a) f
-
-  pair_turns : (p q : ℕ) (a b : Bool) → (p == before) ≡ a → (q == before) ≡ b → Among before (p ∷ q ∷ [])
-      → length (without before (p ∷ q ∷ [])) ≡ 1 → Turns (p ∷ q ∷ [])
-  pair_turns p q true true e f h one =
-      let none : 0 ≡ 1 = sym (ap length (kept before p q true true e f)) ∙ one in absurd (omega (arith, none))
-  pair_turns p q true false e f h one =
-      let same : p ≡ before = eqb-true p before e in
-      let apart : (p == q) ≡ false = ap (λ v. v == q) same ∙ ne_eqb before q (λ s. true_not_false
-      (sym (eq-eqb q before (sym s)) ∙ f)) in
-      let w : without q (p ∷ q ∷ []) ≡ p ∷ [] = kept q p q false true apart (eq-eqb q q refl) in
-      subst (TurnsBy (p ∷ q ∷ [])) (sym (kept before p q true false e f))
-      (ap length w, ap head w ∙ same, inr (inl refl))
-  pair_turns p q false true e f h one =
-      let same : q ≡ before = eqb-true q before f in
-      let apart : (q == p) ≡ false = ap (λ v. v == p) same ∙ ne_eqb before p (λ s. true_not_false
-      (sym (eq-eqb p before (sym s)) ∙ e)) in
-      let w : without p (p ∷ q ∷ []) ≡ q ∷ [] = kept p p q true false (eq-eqb p p refl) apart in
-      subst (TurnsBy (p ∷ q ∷ [])) (sym (kept before p q false true e f))
-      (ap length w, ap head w ∙ same, inl refl)
-  pair_turns p q false false e f h one =
-      elim h [
-        | inl s ↦ absurd (true_not_false (sym (eq-eqb p before (sym s)) ∙ e))
-        | inr k ↦ elim k [
-          | inl s ↦ absurd (true_not_false (sym (eq-eqb q before (sym s)) ∙ f))
-          | inr bad ↦ absurd bad
-        ]
-      ]
-
-  two_turn : (ds : List ℕ) → length ds ≡ 2 → Among before ds → length (without before ds) ≡ 1 → Turns ds
-  two_turn [] long h one = absurd h
-  two_turn (p ∷ []) long h one = absurd (omega (arith, long))
-  two_turn (p ∷ q ∷ []) long h one = pair_turns p q (p == before) (q == before) refl refl h one
-  two_turn (p ∷ q ∷ s ∷ ds) long h one = absurd (omega (arith, long))
 
 -- a chain that is followed back, from its last atom
 pub record IsTurned (graph : Graph) (whole : List ℕ) : Type 0 where
@@ -157,17 +91,11 @@ module _ (graph : Graph) (sound : IsSound graph) where
   leads_back : (before at : ℕ) → Among before (doubles graph at) → leads_on graph before at ≡ true
       → LeadsBack before at
   leads_back before at h e =
-      let p = and_parts (is_allene_middle graph at) (length (onward graph before at) == 1) e in
-      let two : length (doubles graph at) ≡ 2 =
-      eqb-true (length (doubles graph at)) 2
-      (and_parts (((vertex_at graph at).z == 6) && (length (edges_at graph at) == 2)) _ p.0).1 in
-      let t = two_turn at before (doubles graph at) two h (eqb-true (length (onward graph before at)) 1 p.1) in
-      record {
-        leads = and_both (is_allene_middle graph at) _ p.0
-            (eq-eqb (length (onward graph (next_atom graph before at) at)) 1 t.0);
-        next = t.1;
-        near = double_back graph sound at (next_atom graph before at) t.2;
-      }
+      let i = leads_inner graph before at h e in
+      let l =
+      inner_leads graph (next_atom graph before at) at before
+      (record { middle = i.middle; back = i.on; on = i.back; differ = λ same. i.differ (sym same) }) in
+      record { leads = l.0; next = l.1; near = double_back graph sound at (next_atom graph before at) i.on }
 
   abbrev Back : ℕ → ℕ → List ℕ → Type 0
   Back before at acc = (j : ℕ) → chain_from graph (suc (length acc) + j) at before ≡ before ∷ acc
@@ -222,8 +150,7 @@ module _ (graph : Graph) (sound : IsSound graph) where
   -- from an atom with three bonds
   pub no_middle : (a : ℕ) → length (edges_at graph a) ≡ 3 → is_allene_middle graph a ≡ false
   no_middle a three =
-      ap (λ n. ((vertex_at graph a).z == 6) && (n == 2) && (length (doubles graph a) == 2)) three
-      ∙ by ((vertex_at graph a).z == 6)
+      rw three (by ((vertex_at graph a).z == 6))
     where
       by : (b : Bool) → (b && false && (length (doubles graph a) == 2)) ≡ false
       by true = refl

@@ -1,15 +1,15 @@
 -- The further units of a renamed graph are the renamed further units, with what is known of each in both.
-use Rattle.std.proofs.Common.{◌≡◌, ◌+◌, ℕ, List, [], ◌∷◌, ◌++◌, map, length, filter, flat_map, refl, sym, ap, subst, ◌∙◌, Bool, true, false, not, cond, ◌==◌, ◌||◌, ◌&&◌, nat_lt, nat_le, lt-ltb, ltb-true, leb-true, eqb-true, arith}
-use Rattle.std.specs.List.{list_any, range_with_len}
+use Rattle.std.proofs.Common.{◌≡◌, ◌+◌, ℕ, List, [], ◌∷◌, map, length, filter, flat_map, sym, ap, subst, ◌∙◌, Bool, true, false, not, cond, ◌==◌, ◌||◌, nat_lt, nat_le, lt-ltb, ltb-true, leb-true, eqb-true, arith}
+use Rattle.std.specs.List.{range_with_len}
 use Rattle.std.proofs.lemmas.List.{length-map}
+use Rattle.std.proofs.Math.Bool.{or-false}
 use Rattle.cip_mol.specs.Drawing.{Drawing}
-use Rattle.cip_mol.specs.declared.site.Ligand.TheVariants.{Vertex, LonePair}
-use Rattle.cip_digraph.specs.graph.Graph.{Graph, vertex_at, edges_at, neighbours, other_end}
+use Rattle.cip_digraph.specs.graph.Graph.{Graph, edges_at, neighbours, other_end}
 use Rattle.cip_digraph.specs.graph.SoundGraphs.{IsSound}
 use Rattle.cip_digraph.specs.rings.Alternating.{is_in}
-use Rattle.cip_digraph.specs.rings.Positions.{positions_of, is_delocalised}
+use Rattle.cip_digraph.specs.rings.Positions.{positions_of}
 use Rattle.cip_digraph.specs.units.Allenes.{doubles, is_axis_end}
-use Rattle.cip_digraph.specs.units.DoubleBonds.{multiples, outer_neighbours, end_ligands}
+use Rattle.cip_digraph.specs.units.DoubleBonds.{outer_neighbours, end_ligands}
 use Rattle.cip_ring.specs.AnyRings.{is_in_ring}
 use Rattle.cip_axis.specs.Biaryls.{hindered_at, is_hindered, is_biaryl, is_biaryl_end}
 use Rattle.cip_axis.specs.Cumulenes.{any_bond, chain_from, chain_over, chains, first_atom, last_atom, is_cumulene}
@@ -17,12 +17,13 @@ use Rattle.cip_axis.specs.Further.{cumulene_unit, cumulenes_of, biaryl_unit, bia
 use Rattle.cip_axis.specs.declared.site.FurtherUnit.{FurtherUnit}
 use Rattle.cip_image.specs.Images.{Among}
 use Rattle.cip_image.proofs.lists.Among.{among_map, from_map, among_filter, from_filter, among_flat, from_flat, among_arranged, among_range, from_range}
-use Rattle.cip_laws.proofs.units.CarriedAxes.{axis_end_carried, doubles_moved, double_from}
+use Rattle.cip_laws.proofs.units.CarriedAxes.{axis_end_carried, doubles_moved}
 use Rattle.cip_image.proofs.lists.CarriedLists.{in_carried}
 use Rattle.cip_image.specs.Renamed.{Way, way, ways, way_image, IsRenamed}
 use Rattle.cip_laws.proofs.units.CarriedSites.{SameUnit, two_same}
-use Rattle.cip_laws.proofs.graph.WaySymmetry.{back_way, leads_back, way_there, way_from}
-use Rattle.cip_image.proofs.lists.Truths.{and_parts, and_both, not_true, not_false}
+use Rattle.cip_laws.proofs.graph.WaySymmetry.{back_way, leads_back, way_there}
+use Rattle.cip_digraph.proofs.bonds.Tests.{or_swap}
+use Rattle.std.proofs.lemmas.Bool.{and_parts, and_from, not-true, not_from_false}
 use Rattle.cip_laws.proofs.further.CarriedChains.{over_carried, over_turned, from_short, IsTurnedOver}
 use Rattle.cip_laws.proofs.further.CarriedHindrance.{biaryl_end_carried, hindered_long, ring_back, ring_carried}
 use Rattle.cip_laws.proofs.further.TurnedLists.{onto, last_is, first_onto, last_onto, long_onto, in_onto, any_onto, any_mapped, last_mapped}
@@ -36,37 +37,20 @@ module _ (graph : Graph) (one two : List ℕ) (same : SameAtoms one two) where
   outer_same v = ap (λ test. filter test (neighbours graph v)) (λ i to. not (same to i))
 
   pub axis_end_same : (v : ℕ) → is_axis_end graph one v ≡ is_axis_end graph two v
-  axis_end_same v =
-      ap
-      (λ outer. ((vertex_at graph v).z == 6) && (length (edges_at graph v) == 3)
-      && ((length (multiples graph v) == 1) && list_any (λ to. nat_lt to graph.drawn) outer) && (length outer == 2))
-      (outer_same v)
+  axis_end_same v = rw (outer_same v)
 
   pub ligands_same : (v : ℕ) → end_ligands graph one v ≡ end_ligands graph two v
-  ligands_same v =
-      ap
-      (λ outer. map Vertex outer
-      ++ cond (((vertex_at graph v).z == 7) && (length (edges_at graph v) == 2)) (LonePair ∷ []) []) (outer_same v)
+  ligands_same v = rw (outer_same v)
 
   pub hindered_same : (v : ℕ) → hindered_at graph one v ≡ hindered_at graph two v
   hindered_same v = ap (filter (is_hindered graph v)) (outer_same v)
 
   pub biaryl_end_same : (positions : List (List ℕ)) (v : ℕ)
       → is_biaryl_end graph positions one v ≡ is_biaryl_end graph positions two v
-  biaryl_end_same positions v =
-      ap
-      (λ outer. is_delocalised positions v && (length (edges_at graph v) == 3)
-      && ((length (multiples graph v) == 1) && list_any (λ to. nat_lt to graph.drawn) outer) && (length outer == 2))
-      (outer_same v)
+  biaryl_end_same positions v = rw (outer_same v)
 
 pub pair_atoms : (a b : ℕ) → SameAtoms (b ∷ a ∷ []) (a ∷ b ∷ [])
-pair_atoms a b v = swapped (b == v) (a == v)
-  where
-    swapped : (p q : Bool) → (p || (q || false)) ≡ (q || (p || false))
-    swapped true true = refl
-    swapped true false = refl
-    swapped false true = refl
-    swapped false false = refl
+pair_atoms a b v = or_swap (b == v) (a == v) false
 
 -- a chain that is a unit, but for the order of its ends
 pub record IsCumuleneCore (graph : Graph) (a next : ℕ) : Type 0 where
@@ -84,14 +68,18 @@ pub record IsBiarylCore (graph : Graph) (a : ℕ) (w : Way) : Type 0 where
   pub there : nat_lt w.to graph.drawn ≡ true
   pub first : is_biaryl_end graph (positions_of graph) (a ∷ w.to ∷ []) a ≡ true
   pub second : is_biaryl_end graph (positions_of graph) (a ∷ w.to ∷ []) w.to ≡ true
-  pub hindered : nat_le 3 (length (hindered_at graph (a ∷ w.to ∷ []) a) + length (hindered_at graph (a ∷ w.to ∷ []) w.to))
-      ≡ true
+  pub hindered : nat_le 3
+      (length (hindered_at graph (a ∷ w.to ∷ []) a) + length (hindered_at graph (a ∷ w.to ∷ []) w.to)) ≡ true
   pub free : is_in_ring graph a w.to ≡ false
 
 pub three_of : (graph : Graph) (unit : List ℕ) (v : ℕ) → is_axis_end graph unit v ≡ true
     → (length (edges_at graph v) == 3) ≡ true
 three_of graph unit v e =
     (and_parts _ _ (and_parts _ _ (and_parts _ _ e).0).0).1
+
+pub in_if : (b : Bool) (x : List ℕ) (xs : List (List ℕ)) → Among x (cond b xs []) → Among x xs
+in_if true x xs h = h
+in_if false x xs h = absurd h
 
 module _ (drawing : Drawing) (graph : Graph) where
   pub cumulene_among : (a next : ℕ) → IsCumuleneCore graph a next → nat_lt a graph.drawn ≡ true
@@ -101,7 +89,7 @@ module _ (drawing : Drawing) (graph : Graph) where
   cumulene_among a next k drawn lower =
       let chain = chain_over graph a next in
       let test : is_cumulene graph chain ≡ true =
-      and_both _ _ (and_both _ _ (and_both _ _ (and_both _ _ k.long lower) k.first) k.last) (not_false _ k.free) in
+      and_from _ _ (and_from _ _ (and_from _ _ (and_from _ _ k.long lower) k.first) k.last) (not_from_false _ k.free) in
       let there : Among chain (chains graph a) =
       subst (λ b. Among chain (cond b (map (chain_over graph a) (doubles graph a)) []))
       (sym (three_of graph chain a k.first))
@@ -119,10 +107,6 @@ module _ (drawing : Drawing) (graph : Graph) where
     pub lower : nat_lt a (last_atom (chain_over graph a next)) ≡ true
     pub is : unit ≡ cumulene_unit drawing graph (chain_over graph a next)
 
-  in_if : (b : Bool) (x : List ℕ) (xs : List (List ℕ)) → Among x (cond b xs []) → Among x xs
-  in_if true x xs h = h
-  in_if false x xs h = absurd h
-
   pub found_cumulene : (unit : FurtherUnit)
       → Among unit (flat_map (cumulenes_of drawing graph) (range_with_len 0 graph.drawn)) → FoundCumulene unit
   found_cumulene unit h =
@@ -133,7 +117,8 @@ module _ (drawing : Drawing) (graph : Graph) where
       let over = from_map (chain_over graph a) by.0 (doubles graph a)
       (in_if (length (edges_at graph a) == 3) by.0 (map (chain_over graph a) (doubles graph a)) kept.0) in
       let next = over.0 in
-      let test : is_cumulene graph (chain_over graph a next) ≡ true = subst (λ c. is_cumulene graph c ≡ true) over.2 kept.1 in
+      let test : is_cumulene graph (chain_over graph a next) ≡ true =
+      subst (λ c. is_cumulene graph c ≡ true) over.2 kept.1 in
       let all4 = and_parts _ _ test in
       let all3 = and_parts _ _ all4.0 in
       let all2 = and_parts _ _ all3.0 in
@@ -141,7 +126,7 @@ module _ (drawing : Drawing) (graph : Graph) where
       record {
         a = a;
         next = next;
-        core = record { near = over.1; long = all1.0; first = all2.1; last = all3.1; free = not_true _ all4.1 };
+        core = record { near = over.1; long = all1.0; first = all2.1; last = all3.1; free = not-true _ all4.1 };
         drawn = (let lt = (from_range 0 graph.drawn a at.1).1 in lt-ltb a graph.drawn (omega (arith, lt)));
         lower = all1.1;
         is = by.2 ∙ ap (cumulene_unit drawing graph) over.2;
@@ -156,16 +141,13 @@ module _ (drawing : Drawing) (graph : Graph) where
       let edge = found.0 in
       let to : other_end a edge ≡ w.to = sym (ap (λ (v : Way). v.to) found.2) in
       let test : is_biaryl graph (positions_of graph) a edge ≡ true =
-      and_both _ _
-      (and_both _ _
-      (and_both _ _
-      (and_both _ _
-      (and_both _ _ (and_both _ _ (ap (λ o. o == 1) (sym (ap (λ (v : Way). v.order) found.2)) ∙ k.order)
-      (ap (nat_lt a) to ∙ lower)) (ap (λ b. nat_lt b graph.drawn) to ∙ k.there))
-      (ap (λ b. is_biaryl_end graph (positions_of graph) (a ∷ b ∷ []) a) to ∙ k.first))
-      (ap (λ b. is_biaryl_end graph (positions_of graph) (a ∷ b ∷ []) b) to ∙ k.second))
-      (ap (λ b. nat_le 3 (length (hindered_at graph (a ∷ b ∷ []) a) + length (hindered_at graph (a ∷ b ∷ []) b))) to
-      ∙ k.hindered)) (ap (λ b. not (is_in_ring graph a b)) to ∙ not_false _ k.free) in
+      rw to
+      (and_from _ _
+      (and_from _ _
+      (and_from _ _
+      (and_from _ _
+      (and_from _ _ (and_from _ _ (ap (λ o. o == 1) (sym (ap (λ (v : Way). v.order) found.2)) ∙ k.order) lower)
+      k.there) k.first) k.second) k.hindered) (not_from_false _ k.free)) in
       among_flat (biaryls_of drawing graph (positions_of graph)) a (biaryl_unit drawing graph a w.to)
       (range_with_len 0 graph.drawn)
       (among_range 0 graph.drawn a (omega arith) (let lt = ltb-true a graph.drawn k.here in omega (arith, lt)))
@@ -190,8 +172,8 @@ module _ (drawing : Drawing) (graph : Graph) where
       let at = from_flat (biaryls_of drawing graph (positions_of graph)) unit (range_with_len 0 graph.drawn) h in
       let a = at.0 in
       let by =
-      from_map (λ e. biaryl_unit drawing graph a (other_end a e)) unit (filter (is_biaryl graph (positions_of graph) a) (edges_at graph a))
-      at.2 in
+      from_map (λ e. biaryl_unit drawing graph a (other_end a e)) unit
+      (filter (is_biaryl graph (positions_of graph) a) (edges_at graph a)) at.2 in
       let kept = from_filter (is_biaryl graph (positions_of graph) a) by.0 (edges_at graph a) by.1 in
       let all5 = and_parts _ _ kept.1 in
       let all4 = and_parts _ _ all5.0 in
@@ -210,14 +192,14 @@ module _ (drawing : Drawing) (graph : Graph) where
           first = all2.1;
           second = all3.1;
           hindered = all4.1;
-          free = not_true _ all5.1;
+          free = not-true _ all5.1;
         };
         lower = all0.1;
         is = by.2;
       }
 
 module _ (graph other : Graph) (image : ℕ → ℕ) (r : IsRenamed graph other image) where
-  last_image : (a next : ℕ)
+  pub last_image : (a next : ℕ)
       → last_atom (map image (chain_over graph a next)) ≡ image (last_atom (chain_over graph a next))
   last_image a next =
       let tail = chain_from graph (length graph.vertices) a next in
@@ -234,60 +216,22 @@ module _ (graph other : Graph) (image : ℕ → ℕ) (r : IsRenamed graph other 
       → last_atom (chain_over other (image a) (image next)) ≡ image (last_atom (chain_over graph a next))
   last_carried a next = ap last_atom (over_carried graph other image r a next) ∙ last_image a next
 
-  record CumuleneSame (a next : ℕ) : Type 0 where
-    long : nat_le 4 (length (chain_over other (image a) (image next))) ≡ nat_le 4 (length (chain_over graph a next))
-    first : is_axis_end other (chain_over other (image a) (image next)) (image a)
-        ≡ is_axis_end graph (chain_over graph a next) a
-    last : is_axis_end other (chain_over other (image a) (image next))
-        (last_atom (chain_over other (image a) (image next)))
-        ≡ is_axis_end graph (chain_over graph a next) (last_atom (chain_over graph a next))
-    free : any_bond (is_in_ring other) (chain_over other (image a) (image next))
-        ≡ any_bond (is_in_ring graph) (chain_over graph a next)
-
-  cumulene_same : (a next : ℕ) → CumuleneSame a next
-  cumulene_same a next =
+  pub cumulene_there : (a next : ℕ) → IsCumuleneCore graph a next → IsCumuleneCore other (image a) (image next)
+  cumulene_there a next k =
       let chain = chain_over graph a next in
       let theirs = chain_over other (image a) (image next) in
       let e : theirs ≡ map image chain = over_carried graph other image r a next in
       record {
-        long = ap (λ c. nat_le 4 (length c)) e ∙ ap (nat_le 4) (length-map chain image);
-        first = axis_end_carried graph other image r chain theirs (chain_atoms a next) a;
-        last = ap (is_axis_end other theirs) (last_carried a next)
-            ∙ axis_end_carried graph other image r chain theirs (chain_atoms a next) (last_atom chain);
-        free = ap (any_bond (is_in_ring other)) e
-            ∙ any_mapped image (is_in_ring graph) (is_in_ring other) (ring_carried graph other image r) chain;
-      }
-
-  pub cumulene_there : (a next : ℕ) → IsCumuleneCore graph a next → IsCumuleneCore other (image a) (image next)
-  cumulene_there a next k =
-      let s = cumulene_same a next in
-      record {
         near =
             among_arranged (image next) (map image (doubles graph a)) (doubles other (image a))
             (doubles_moved graph other image r a) (among_map image next (doubles graph a) k.near);
-        long = s.long ∙ k.long;
-        first = s.first ∙ k.first;
-        last = s.last ∙ k.last;
-        free = s.free ∙ k.free;
+        long = ap (λ c. nat_le 4 (length c)) e ∙ ap (nat_le 4) (length-map chain image) ∙ k.long;
+        first = axis_end_carried graph other image r chain theirs (chain_atoms a next) a ∙ k.first;
+        last = ap (is_axis_end other theirs) (last_carried a next)
+            ∙ axis_end_carried graph other image r chain theirs (chain_atoms a next) (last_atom chain) ∙ k.last;
+        free = ap (any_bond (is_in_ring other)) e
+            ∙ any_mapped image (is_in_ring graph) (is_in_ring other) (ring_carried graph other image r) chain ∙ k.free;
       }
-
-  pub cumulene_from : (a n : ℕ) → IsCumuleneCore other (image a) n
-      → (next : ℕ) × IsCumuleneCore graph a next × (n ≡ image next)
-  cumulene_from a n k =
-      let found = double_from graph other image r a n k.near in
-      let next = found.0 in
-      let j = subst (IsCumuleneCore other (image a)) found.2 k in
-      let s = cumulene_same a next in (
-        next,
-        record {
-          near = found.1;
-          long = sym s.long ∙ j.long;
-          first = sym s.first ∙ j.first;
-          last = sym s.last ∙ j.last;
-          free = sym s.free ∙ j.free;
-        },
-        found.2,
-      )
 
   pub biaryl_there : (a : ℕ) (w : Way) → IsBiarylCore graph a w → IsBiarylCore other (image a) (way_image image w)
   biaryl_there a w k =
@@ -302,42 +246,12 @@ module _ (graph other : Graph) (image : ℕ → ℕ) (r : IsRenamed graph other 
         first = biaryl_end_carried graph other image r unit theirs same a ∙ k.first;
         second = biaryl_end_carried graph other image r unit theirs same w.to ∙ k.second;
         hindered =
-            ap (λ n. nat_le 3 (n + length (hindered_at other theirs (image w.to))))
-            (hindered_long graph other image r unit theirs same a)
-            ∙ ap (λ n. nat_le 3 (length (hindered_at graph unit a) + n))
-            (hindered_long graph other image r unit theirs same w.to)
-            ∙ k.hindered;
+            rw (
+              hindered_long graph other image r unit theirs same a,
+              hindered_long graph other image r unit theirs same w.to,
+            ) k.hindered;
         free = ring_carried graph other image r a w.to ∙ k.free;
       }
-
-  pub biaryl_from : (a : ℕ) (v : Way) → IsBiarylCore other (image a) v
-      → (w : Way) × IsBiarylCore graph a w × (v ≡ way_image image w)
-  biaryl_from a v k =
-      let found = way_from graph other image r a v k.among in
-      let w = found.0 in
-      let j = subst (IsBiarylCore other (image a)) found.2 k in
-      let unit = a ∷ w.to ∷ [] in
-      let theirs = image a ∷ image w.to ∷ [] in
-      let same = two_same graph other image r a w.to in (
-        w,
-        record {
-          among = found.1;
-          order = j.order;
-          here = sym (r.drawn a) ∙ j.here;
-          there = sym (r.drawn w.to) ∙ j.there;
-          first = sym (biaryl_end_carried graph other image r unit theirs same a) ∙ j.first;
-          second = sym (biaryl_end_carried graph other image r unit theirs same w.to) ∙ j.second;
-          hindered =
-              sym
-              (ap (λ n. nat_le 3 (n + length (hindered_at other theirs (image w.to))))
-              (hindered_long graph other image r unit theirs same a)
-              ∙ ap (λ n. nat_le 3 (length (hindered_at graph unit a) + n))
-              (hindered_long graph other image r unit theirs same w.to))
-              ∙ j.hindered;
-          free = sym (ring_carried graph other image r a w.to) ∙ j.free;
-        },
-        found.2,
-      )
 
 -- from the other end
 pub record CumuleneBack (graph : Graph) (a next : ℕ) : Type 0 where
@@ -350,16 +264,6 @@ pub record CumuleneBack (graph : Graph) (a next : ℕ) : Type 0 where
   pub same : SameAtoms (chain_over graph (last_atom (chain_over graph a next)) prev) (chain_over graph a next)
 
 module _ (graph : Graph) (sound : IsSound graph) where
-  or_turned : (p q : Bool) → (p || (q || false)) ≡ (q || p)
-  or_turned true true = refl
-  or_turned true false = refl
-  or_turned false true = refl
-  or_turned false false = refl
-
-  or_none : (p : Bool) → (p || false) ≡ p
-  or_none true = refl
-  or_none false = refl
-
   pub cumulene_back : (a next : ℕ) → IsCumuleneCore graph a next → CumuleneBack graph a next
   cumulene_back a next k =
       let tail = chain_from graph (length graph.vertices) a next in
@@ -379,7 +283,8 @@ module _ (graph : Graph) (sound : IsSound graph) where
           let is : chain_over graph (last_atom chain) t.prev ≡ onto tail (a ∷ []) =
           ap (λ v. chain_over graph v t.prev) (sym b) ∙ t.is in
           let same : SameAtoms (chain_over graph (last_atom chain) t.prev) chain =
-          (λ v. ap (is_in v) is ∙ in_onto v tail (a ∷ []) ∙ or_turned (is_in v tail) (a == v)) in
+          (λ v. ap (is_in v) is ∙ in_onto v tail (a ∷ [])
+          ∙ or_swap (is_in v tail) (a == v) false ∙ ap (λ b. (a == v) || b) (or-false (is_in v tail))) in
           let last : last_atom (chain_over graph (last_atom chain) t.prev) ≡ a =
           ap last_atom is ∙ last_onto tail a [] in
           let long : length (chain_over graph (last_atom chain) t.prev) ≡ length chain =
@@ -395,7 +300,7 @@ module _ (graph : Graph) (sound : IsSound graph) where
                   ∙ axis_end_same graph (chain_over graph (last_atom chain) t.prev) chain same a ∙ k.first;
               free = ap (any_bond (is_in_ring graph)) is
                   ∙ any_onto (is_in_ring graph) (ring_back graph sound) tail a []
-                  ∙ or_none (any_bond (is_in_ring graph) chain) ∙ k.free;
+                  ∙ or-false (any_bond (is_in_ring graph) chain) ∙ k.free;
             };
             is = is;
             last = last;
@@ -419,8 +324,6 @@ module _ (graph : Graph) (sound : IsSound graph) where
         first = biaryl_end_same graph turned unit same (positions_of graph) b ∙ k.second;
         second = biaryl_end_same graph turned unit same (positions_of graph) a ∙ k.first;
         hindered =
-            ap (λ vs. nat_le 3 (length vs + length (hindered_at graph turned a))) (hindered_same graph turned unit same b)
-            ∙ ap (λ vs. nat_le 3 (length (hindered_at graph unit b) + length vs)) (hindered_same graph turned unit same a)
-            ∙ ap (nat_le 3) sum ∙ k.hindered;
+            rw (hindered_same graph turned unit same b, hindered_same graph turned unit same a, sum) k.hindered;
         free = ring_back graph sound b a ∙ k.free;
       }

@@ -1,24 +1,22 @@
 -- Hindered neighbours of a renamed graph, and rings of any size.
-use Rattle.std.proofs.Common.{◌≡◌, ℕ, List, map, length, sym, ap, subst, ◌∙◌, not, ◌==◌, ◌&&◌}
+use Rattle.std.proofs.Common.{◌≡◌, ℕ, List, map, length, sym, ap, subst, ◌∙◌, ◌==◌, ◌&&◌}
 use Rattle.std.specs.List.{list_any}
 use Rattle.std.specs.List.Sorted.{IsPermutation}
-use Rattle.std.proofs.lemmas.List.{length-map}
-use Rattle.std.proofs.lemmas.List.Sorted.{length_permutation, list_any-IsPermutation}
-use Rattle.cip_digraph.specs.graph.Graph.{Graph, vertex_at, edges_at, neighbours}
+use Rattle.std.proofs.lemmas.List.Sorted.{list_any-IsPermutation}
+use Rattle.cip_digraph.specs.graph.Graph.{Graph, edges_at, neighbours}
 use Rattle.cip_digraph.specs.graph.SoundGraphs.{IsSound}
 use Rattle.cip_digraph.specs.rings.Alternating.{is_in}
-use Rattle.cip_digraph.specs.rings.Positions.{positions_of, is_delocalised}
+use Rattle.cip_digraph.specs.rings.Positions.{positions_of}
 use Rattle.cip_digraph.specs.rings.SmallRings.{within_steps}
-use Rattle.cip_digraph.specs.units.DoubleBonds.{has_end_bonds, outer_neighbours}
+use Rattle.cip_digraph.specs.units.DoubleBonds.{outer_neighbours}
 use Rattle.cip_ring.specs.AnyRings.{is_in_ring}
-use Rattle.cip_mancude.specs.SharedRings.{share_ring}
 use Rattle.cip_axis.specs.Biaryls.{stands_beside, is_hindered, hindered_at, is_biaryl_end}
 use Rattle.cip_image.proofs.lists.Arranged.{filter_arranged}
 use Rattle.cip_image.proofs.lists.CarriedLists.{filter_carried, any_carried, same_eq}
 use Rattle.cip_image.proofs.digraph.CarriedNodes.{delocalised_carried}
 use Rattle.cip_image.specs.Renamed.{IsRenamed}
 use Rattle.cip_image.proofs.graph.CarriedPositions.{degree_carried, neighbours_moved, positions_renamed}
-use Rattle.cip_laws.proofs.units.CarriedSites.{SameUnit, end_bonds_carried, outer_moved, z_same}
+use Rattle.cip_laws.proofs.units.CarriedSites.{SameUnit, end_bonds_carried, moved_long, outer_moved, z_same}
 use Rattle.cip_laws.proofs.graph.CarriedSmallRings.{steps_carried, steps_turned}
 use Rattle.cip_laws.proofs.further.CarriedSharing.{shared_carried}
 
@@ -34,14 +32,7 @@ module _ (graph other : Graph) (image : ℕ → ℕ) (r : IsRenamed graph other 
   beside_carried : (end neighbour o : ℕ)
       → stands_beside other (image end) (image neighbour) (image o) ≡ stands_beside graph end neighbour o
   beside_carried end neighbour o =
-      ap
-      (λ z. not (z == 1) && not (image o == image end) && not (share_ring other (image neighbour) (image o)))
-      (z_same graph other image r o)
-      ∙ ap
-      (λ b. not ((vertex_at graph o).z == 1) && not b && not (share_ring other (image neighbour) (image o)))
-      (same_eq image r.injective o end)
-      ∙ ap (λ b. not ((vertex_at graph o).z == 1) && not (o == end) && not b)
-      (shared_carried graph other image r neighbour o)
+      rw (z_same graph other image r o, same_eq image r.injective o end, shared_carried graph other image r neighbour o)
 
   hindered_carried : (end neighbour : ℕ)
       → is_hindered other (image end) (image neighbour) ≡ is_hindered graph end neighbour
@@ -61,37 +52,25 @@ module _ (graph other : Graph) (image : ℕ → ℕ) (r : IsRenamed graph other 
   outer_long : (unit theirs : List ℕ) → SameUnit graph other image r unit theirs → (v : ℕ)
       → length (outer_neighbours other theirs (image v)) ≡ length (outer_neighbours graph unit v)
   outer_long unit theirs same v =
-      length_permutation (map image (outer_neighbours graph unit v)) (outer_neighbours other theirs (image v))
-      (outer_moved graph other image r unit theirs same v)
-      ∙ length-map (outer_neighbours graph unit v) image
+      moved_long image (outer_neighbours graph unit v) _ (outer_moved graph other image r unit theirs same v)
 
   pub hindered_long : (unit theirs : List ℕ) → SameUnit graph other image r unit theirs → (end : ℕ)
       → length (hindered_at other theirs (image end)) ≡ length (hindered_at graph unit end)
   hindered_long unit theirs same end =
-      length_permutation (map image (hindered_at graph unit end)) (hindered_at other theirs (image end))
+      moved_long image (hindered_at graph unit end) (hindered_at other theirs (image end))
       (subst (λ vs. IsPermutation vs (hindered_at other theirs (image end)))
       (filter_carried image (is_hindered graph end) (is_hindered other (image end)) (hindered_carried end)
       (outer_neighbours graph unit end))
       (filter_arranged (is_hindered other (image end)) (map image (outer_neighbours graph unit end))
       (outer_neighbours other theirs (image end)) (outer_moved graph other image r unit theirs same end)))
-      ∙ length-map (hindered_at graph unit end) image
 
   pub biaryl_end_carried : (unit theirs : List ℕ) → SameUnit graph other image r unit theirs → (v : ℕ)
       → is_biaryl_end other (positions_of other) theirs (image v) ≡ is_biaryl_end graph (positions_of graph) unit v
   biaryl_end_carried unit theirs same v =
-      ap
-      (λ b. b && (length (edges_at other (image v)) == 3) && has_end_bonds other theirs (image v)
-      && (length (outer_neighbours other theirs (image v)) == 2))
-      (delocalised_carried graph other (positions_of graph) (positions_of other) image r
-      (positions_renamed graph other image r) v)
-      ∙ ap
-      (λ k. is_delocalised (positions_of graph) v && (k == 3) && has_end_bonds other theirs (image v)
-      && (length (outer_neighbours other theirs (image v)) == 2)) (degree_carried graph other image r v)
-      ∙ ap
-      (λ b. is_delocalised (positions_of graph) v && (length (edges_at graph v) == 3) && b
-      && (length (outer_neighbours other theirs (image v)) == 2))
-      (end_bonds_carried graph other image r unit theirs same v)
-      ∙ ap
-      (λ k. is_delocalised (positions_of graph) v && (length (edges_at graph v) == 3) && has_end_bonds graph unit v
-      && (k == 2))
-      (outer_long unit theirs same v)
+      rw (
+        delocalised_carried graph other (positions_of graph) (positions_of other) image r
+            (positions_renamed graph other image r) v,
+        degree_carried graph other image r v,
+        end_bonds_carried graph other image r unit theirs same v,
+        outer_long unit theirs same v,
+      )

@@ -1,5 +1,5 @@
 -- Atoms of a renamed graph share an alternating ring where those of the graph do.
-use Rattle.std.proofs.Common.{◌≡◌, ℕ, zero, suc, List, [], ◌∷◌, map, refl, sym, ap, ◌∙◌, Bool, true, false, not, cond, ◌==◌, ◌&&◌, ◌||◌}
+use Rattle.std.proofs.Common.{◌≡◌, ℕ, zero, suc, List, [], ◌∷◌, map, refl, sym, ap, ◌∙◌, Bool, true, false, cond, ◌==◌, ◌&&◌, ◌||◌}
 use Rattle.std.specs.List.{list_any}
 use Rattle.std.proofs.lemmas.List.Sorted.{list_any-IsPermutation}
 use Rattle.cip_digraph.specs.graph.Graph.{Graph}
@@ -22,32 +22,16 @@ module _ (graph other : Graph) (image : ℕ → ℕ) (r : IsRenamed graph other 
       → onward other (image third) (image target) more (map image path) (image next)
       ≡ onward graph third target more path next
   onward_by third target more rest path next false e =
-      ap
-      (λ g. cond g
-      (reaches_by other (image third) (image target) more (partner other (image next) ∷ image next ∷ map image path)
-      (partner other (image next))) false) (goes_carried graph other image r path next ∙ e)
-      ∙ sym
-      (ap
-      (λ g. cond g (reaches_by graph third target more (partner graph next ∷ next ∷ path) (partner graph next)) false)
-      e)
+      let f = goes_carried graph other image r path next ∙ e in rw (f, e)
   onward_by third target more rest path next true e =
-      ap
-      (λ g. cond g
-      (reaches_by other (image third) (image target) more (partner other (image next) ∷ image next ∷ map image path)
-      (partner other (image next))) false) (goes_carried graph other image r path next ∙ e)
-      ∙ ap (λ v. reaches_by other (image third) (image target) more (v ∷ image next ∷ map image path) v)
-      (partner_carried graph other image r next (goes_alternating graph other image r path next e))
-      ∙ rest (partner graph next ∷ next ∷ path) (partner graph next)
-      ∙ sym
-      (ap
-      (λ g. cond g (reaches_by graph third target more (partner graph next ∷ next ∷ path) (partner graph next)) false)
-      e)
+      let f = goes_carried graph other image r path next ∙ e in
+      rw (f, e, partner_carried graph other image r next (goes_alternating graph other image r path next e))
+      (rest (partner graph next ∷ next ∷ path) (partner graph next))
 
   ends_carried : (third target at : ℕ) (path : List ℕ)
       → ((image at == image target) && is_in (image third) (map image path)) ≡ ((at == target) && is_in third path)
   ends_carried third target at path =
-      ap (λ b. b && is_in (image third) (map image path)) (same_eq image r.injective at target)
-      ∙ ap (λ b. (at == target) && b) (in_carried image r.injective third path)
+      rw (same_eq image r.injective at target, in_carried image r.injective third path)
 
   reaches_carried : (third target more : ℕ) (path : List ℕ) (at : ℕ)
       → reaches_by other (image third) (image target) more (map image path) (image at)
@@ -70,20 +54,12 @@ module _ (graph other : Graph) (image : ℕ → ℕ) (r : IsRenamed graph other 
       → ring_meets other 11 (image third) (image vertex) (image to) ≡ ring_meets graph 11 third vertex to
   meets_carried third vertex to e =
       let next = partner graph vertex in
-      ap
-      (λ v. is_alternating other (image to) && not (image to == v)
-      && reaches_by other (image third) (image to) 11 (v ∷ image vertex ∷ []) v)
-      (partner_carried graph other image r vertex e)
-      ∙ ap
-      (λ b. b && not (image to == image next)
-      && reaches_by other (image third) (image to) 11 (image next ∷ image vertex ∷ []) (image next))
-      (alternating_carried graph other image r to)
-      ∙ ap
-      (λ b. is_alternating graph to && not b
-      && reaches_by other (image third) (image to) 11 (image next ∷ image vertex ∷ []) (image next))
-      (same_eq image r.injective to next)
-      ∙ ap (λ b. is_alternating graph to && not (to == next) && b)
-      (reaches_carried third to 11 (next ∷ vertex ∷ []) next)
+      rw (
+        partner_carried graph other image r vertex e,
+        alternating_carried graph other image r to,
+        same_eq image r.injective to next,
+        reaches_carried third to 11 (next ∷ vertex ∷ []) next,
+      )
 
   abbrev share_by : Bool → Graph → ℕ → ℕ → ℕ → Bool
   share_by first g vertex third next =

@@ -1,12 +1,15 @@
 -- No chain is tried twice.
-use Rattle.std.proofs.Common.{◌≡◌, ◌≢◌, ◌≤◌, ◌+◌, ℕ, zero, suc, List, [], ◌∷◌, length, filter, flat_map, map, refl, sym, ap, subst, ◌∙◌, Bool, true, false, cond, ◌==◌, arith}
+use Rattle.std.proofs.Common.{◌≡◌, ◌≢◌, ◌≤◌, ◌+◌, ℕ, zero, suc, List, [], length, filter, flat_map, map, refl, sym, ap}
+use Rattle.std.proofs.Common.{subst, ◌∙◌, Bool, true, false, cond, ◌==◌, arith}
 use Rattle.std.specs.Prelude.{slice_index_or}
 use Rattle.std.specs.List.{AllByRecursion, range_with_len}
 use Rattle.cip_digraph.specs.graph.Graph.{Graph, edges_at, other_end}
 use Rattle.cip_digraph.specs.graph.SoundGraphs.{IsSound}
 use Rattle.cip_digraph.specs.units.Allenes.{doubles}
-use Rattle.cip_digraph.proofs.Lists.{Pairwise, all_append, all_by, all_filtered, all_mapped, pairwise_append, pairwise_by, pairwise_filtered, pairwise_mapped}
-use Rattle.cip_digraph.proofs.NeighbourOrder.{neighbours_differ}
+use Rattle.cip_digraph.proofs.lists.Elements.{Pairwise, all_append, all_by, all_filtered, all_mapped, pairwise_append}
+use Rattle.cip_digraph.proofs.lists.Elements.{pairwise_by, pairwise_filtered, pairwise_mapped}
+use Rattle.cip_digraph.proofs.lists.Elements.{all_each}
+use Rattle.cip_digraph.proofs.bonds.Neighbours.{neighbours_differ}
 use Rattle.cip_axis.specs.Cumulenes.{chain_from, chain_over, chains, first_atom, is_cumulene}
 use Rattle.cip_image.proofs.lists.Elements.{unmapped}
 use Rattle.cip_laws.specs.CumuleneLaws.{chains_in}
@@ -36,16 +39,12 @@ module _ (f : ℕ → List (List ℕ)) (begin : (a : ℕ) → AllByRecursion (λ
       (above (start + 1) count))
       (f start) (begin start))
 
-each_of : {X : Type 0} (P : X → Type 0) → ((x : X) → P x) → (xs : List X) → AllByRecursion P xs
-each_of P f [] = tt
-each_of P f (x ∷ xs) = (f x, each_of P f xs)
-
 module _ (graph : Graph) (sound : IsSound graph) where
   tried_begin : (a : ℕ) (b : Bool)
       → AllByRecursion (λ c. first_atom c ≡ a) (cond b (map (chain_over graph a) (doubles graph a)) [])
   tried_begin a true =
       all_mapped (λ c. first_atom c ≡ a) (chain_over graph a) (doubles graph a)
-      (each_of (λ n. first_atom (chain_over graph a n) ≡ a) (λ n. refl) (doubles graph a))
+      (all_each (λ n. first_atom (chain_over graph a n) ≡ a) (λ n. refl) (doubles graph a))
   tried_begin a false = tt
 
   doubles_differ : (a : ℕ) → Pairwise ◌≢◌ (doubles graph a)

@@ -1,5 +1,5 @@
 -- Two further units of a drawing and of a renumbered one, end by end: what is found of both.
-use Rattle.std.proofs.Common.{◌≡◌, ◌≢◌, ◌⊎◌, inl, inr, ℕ, List, length, refl, sym, subst, Bool, true, false, cond, if◌then◌else◌}
+use Rattle.std.proofs.Common.{◌≡◌, ◌≢◌, ◌⊎◌, inl, inr, ℕ, List, length, refl, Bool, true, false, cond, if◌then◌else◌}
 use Rattle.cip_rank.specs.declared.rules.Rules.{Rules}
 use Rattle.cip_mol.specs.Bonds as bonds
 use Rattle.cip_mol.specs.Drawing.{Drawing}
@@ -18,7 +18,7 @@ use Rattle.cip_digraph.specs.rings.Positions.{positions_of}
 use Rattle.cip_digraph.specs.units.Descriptors.{shape_of}
 use Rattle.cip_digraph.specs.units.DoubleBonds.{end_ligands}
 use Rattle.cip_digraph.specs.units.Ends.{end_at, ends_of}
-use Rattle.cip_digraph.proofs.DrawnSound.{drawn_sound}
+use Rattle.cip_digraph.proofs.bonds.Sound.{drawn_sound}
 use Rattle.cip_laws.specs.DrawnOutcomes.{units_in, outcome_in, costs_in}
 use Rattle.cip_image.specs.Images.{AreForward, AreCrossed, IsImageOutcome, CostsGo}
 use Rattle.cip_image.specs.Renamed.{IsRenamed}
@@ -27,11 +27,10 @@ use Rattle.cip_image.proofs.graph.CarriedPositions.{positions_renamed}
 use Rattle.cip_laws.proofs.units.CarriedSites.{SameUnit, pair_forward, pair_crossed}
 use Rattle.cip_image.specs.CarriedUnits.{AreEndsCarried, IsCarriedPair, IsCarriedGeometry, UnitsMatch}
 use Rattle.cip_image.proofs.digraph.CarriedEnds.{two_go}
-use Rattle.cip_laws.proofs.graph.DelocalisedEnds.{delocalised_at_both}
-use Rattle.cip_laws.proofs.drawings.Renumbered.{senses}
+use Rattle.cip_laws.proofs.drawings.Renumbered.{matching}
 use Rattle.cip_laws.proofs.graph.RenumberedGraph.{carry, graph_renamed}
 use Rattle.cip_laws.proofs.units.RenumberedSenses.{IsEndListed, site_sense}
-use Rattle.cip_laws.proofs.units.RenumberedUnits.{carry_onto, ends_are, units_match}
+use Rattle.cip_laws.proofs.units.RenumberedUnits.{ends_are}
 
 abbrev pub two_ended : Bool → ℕ → ℕ → List Ligand → List Ligand → Site
 two_ended flat a b first second = cond flat (Bond a b first second) (Axis a a b first second)
@@ -65,11 +64,8 @@ module _ (drawing other : Drawing) (image : ℕ → ℕ) (r : IsRenumbering draw
   pub two_sound : IsSound theirs
   two_sound = drawn_sound other their_sound
 
-  matching : UnitsMatch c (units_in drawing) (units_in other)
-  matching =
-      units_match graph theirs c renamed (carry_onto drawing other image r sound) one_sound two_sound
-      (delocalised_at_both graph one_sound) (delocalised_at_both theirs two_sound) (geometry_of drawing)
-      (geometry_of other) (senses drawing other image sound their_sound r)
+  matched : UnitsMatch c (units_in drawing) (units_in other)
+  matched = matching drawing other image sound their_sound r
 
   -- what is found of two sites that go together, each with what is known of its geometry
   pub record TwoMatched (one two : Site) (geometry turned : Geometry) : Type 0 where
@@ -121,14 +117,14 @@ module _ (drawing other : Drawing) (image : ℕ → ℕ) (r : IsRenumbering draw
         ends = ends_are c odd one two ends;
         outcome = λ rules bound.
             outcome_by rules graph theirs (positions_of graph) (positions_of theirs) c renamed
-            (positions_renamed graph theirs c renamed) one_sound (units_in drawing) (units_in other) matching bound odd
+            (positions_renamed graph theirs c renamed) one_sound (units_in drawing) (units_in other) matched bound odd
             one two (unless undecided (geometry_of drawing one)) (unless undecided (geometry_of other two))
             (shape_two flat a b p q first second third fourth) ends
             (unless_carried odd undecided (geometry_of drawing one) (geometry_of other two)
             (sense_two flat odd a b p q first second third fourth pair k l m n));
         costs = λ rules.
             costs_carried rules graph theirs (positions_of graph) (positions_of theirs) c renamed
-            (positions_renamed graph theirs c renamed) one_sound (units_in drawing) (units_in other) matching odd one two
+            (positions_renamed graph theirs c renamed) one_sound (units_in drawing) (units_in other) matched odd one two
             ends;
       }
 
@@ -141,15 +137,7 @@ module _ (drawing other : Drawing) (image : ℕ → ℕ) (r : IsRenumbering draw
       (unless undecided (geometry_of drawing (two_ended flat a b first second)))
       (unless theirs_undecided (geometry_of other (two_ended their_flat p q third fourth)))
   two_matched flat their_flat odd undecided theirs_undecided e f a b p q first second third fourth pair k l m n =
-      subst
-      (λ x. TwoMatched (two_ended flat a b first second) (two_ended x p q third fourth)
-      (unless undecided (geometry_of drawing (two_ended flat a b first second)))
-      (unless theirs_undecided (geometry_of other (two_ended x p q third fourth)))) (sym e)
-      (subst
-      (λ x. TwoMatched (two_ended flat a b first second) (two_ended flat p q third fourth)
-      (unless undecided (geometry_of drawing (two_ended flat a b first second)))
-      (unless x (geometry_of other (two_ended flat p q third fourth)))) (sym f)
-      (same_matched flat odd undecided a b p q first second third fourth pair k l m n))
+      rw (e, f) (same_matched flat odd undecided a b p q first second third fourth pair k l m n)
 
   -- the two ends in their order, or crossed
   abbrev pub GoEnds : ℕ → ℕ → ℕ → ℕ → Type 0
@@ -164,10 +152,6 @@ module _ (drawing other : Drawing) (image : ℕ → ℕ) (r : IsRenumbering draw
   pub pair_of : (unit other_unit : List ℕ) (a b p q : ℕ) → SameUnit graph theirs c renamed unit other_unit → a ≢ b
       → GoEnds a b p q → PairOf unit other_unit a b p q
   pair_of unit other_unit a b p q same differ (inl e) =
-      subst (λ v. PairOf unit other_unit a b v q) (sym e.0)
-      (subst (PairOf unit other_unit a b (c a)) (sym e.1)
-      (pair_forward graph theirs c renamed a b unit other_unit same differ))
+      rw (e.0, e.1) (pair_forward graph theirs c renamed a b unit other_unit same differ)
   pair_of unit other_unit a b p q same differ (inr e) =
-      subst (λ v. PairOf unit other_unit a b v q) (sym e.0)
-      (subst (PairOf unit other_unit a b (c b)) (sym e.1)
-      (pair_crossed graph theirs c renamed a b unit other_unit same differ))
+      rw (e.0, e.1) (pair_crossed graph theirs c renamed a b unit other_unit same differ)

@@ -1,32 +1,25 @@
 -- Inner atoms of a chain: two double bonds, the one that leads to it and the one that leads on.
-use Rattle.std.proofs.Common.{◌≡◌, ◌≢◌, inl, inr, ℕ, List, [], ◌∷◌, length, filter, sym, ap, ◌∙◌, Bool, true, false, not, cond, ◌==◌, ◌&&◌, eqb-true, eq-eqb, arith}
-use Rattle.std.proofs.lemmas.Bool.{ne_eqb}
+use Rattle.std.proofs.Common.{◌≡◌, ◌≢◌, inl, inr, ℕ, List, [], ◌∷◌, length, filter, refl, sym, ap, ◌∙◌, true, not, ◌==◌, ◌&&◌, eqb-true, eq-eqb, arith}
+use Rattle.std.specs.Prelude.{slice_index_or}
+use Rattle.cip_axis.specs.Cumulenes.{onward, leads_on, next_atom}
+use Rattle.cip_image.proofs.lists.Among.{from_filter}
+use Rattle.std.proofs.lemmas.Bool.{eqb-false, ne_eqb, and_from, and_parts, not-true}
 use Rattle.cip_digraph.specs.graph.Graph.{Graph, edges_at, vertex_at}
-use Rattle.cip_digraph.specs.units.Allenes.{doubles}
+use Rattle.cip_digraph.specs.units.Allenes.{doubles, is_allene_middle}
 use Rattle.cip_image.specs.Images.{Among}
-use Rattle.cip_image.proofs.lists.Truths.{and_parts}
 use Rattle.cip_laws.specs.CumuleneLaws.{IsInner}
 
 -- of two, the one that isn't the given one
-abbrev kept : ℕ → ℕ → Bool → Bool → List ℕ
-kept p q a b = cond (not a) (p ∷ cond (not b) (q ∷ []) []) (cond (not b) (q ∷ []) [])
-
-kept_is : (before p q : ℕ) (a b : Bool) → (p == before) ≡ a → (q == before) ≡ b
-    → filter (λ o. not (o == before)) (p ∷ q ∷ []) ≡ kept p q a b
-kept_is before p q a b e f = ap (λ t. kept p q t (q == before)) e ∙ ap (kept p q a) f
-
 pub other_kept : (before behind : ℕ) (ds : List ℕ) → length ds ≡ 2 → Among before ds → Among behind ds → before ≢ behind
     → filter (λ o. not (o == before)) ds ≡ behind ∷ []
 other_kept before behind [] two h k differ = absurd h
 other_kept before behind (p ∷ []) two h k differ = absurd (omega (arith, two))
 other_kept before behind (p ∷ q ∷ []) two (inl e) (inl f) differ = absurd (differ (e ∙ sym f))
 other_kept before behind (p ∷ q ∷ []) two (inl e) (inr (inl f)) differ =
-    kept_is before p q true false (eq-eqb p before (sym e)) (ne_eqb q before (λ s. differ (sym s ∙ sym f)))
-    ∙ ap (λ v. v ∷ []) (sym f)
+    rw (eq-eqb p before (sym e), ne_eqb q before (λ s. differ (sym s ∙ sym f))) (ap (λ v. v ∷ []) (sym f))
 other_kept before behind (p ∷ q ∷ []) two (inl e) (inr (inr bad)) differ = absurd bad
 other_kept before behind (p ∷ q ∷ []) two (inr (inl e)) (inl f) differ =
-    kept_is before p q false true (ne_eqb p before (λ s. differ (sym s ∙ sym f))) (eq-eqb q before (sym e))
-    ∙ ap (λ v. v ∷ []) (sym f)
+    rw (ne_eqb p before (λ s. differ (sym s ∙ sym f)), eq-eqb q before (sym e)) (ap (λ v. v ∷ []) (sym f))
 other_kept before behind (p ∷ q ∷ []) two (inr (inl e)) (inr (inl f)) differ = absurd (differ (e ∙ sym f))
 other_kept before behind (p ∷ q ∷ []) two (inr (inl e)) (inr (inr bad)) differ = absurd bad
 other_kept before behind (p ∷ q ∷ []) two (inr (inr bad)) k differ = absurd bad
@@ -37,3 +30,33 @@ pub two_doubles : (graph : Graph) (before at behind : ℕ) → IsInner graph bef
 two_doubles graph before at behind i =
     eqb-true (length (doubles graph at)) 2
     (and_parts (((vertex_at graph at).z == 6) && (length (edges_at graph at) == 2)) _ i.middle).1
+
+pub head_among : (vs : List ℕ) (d : ℕ) → length vs ≡ 1 → Among (slice_index_or vs 0 d) vs
+head_among [] d one = absurd (omega (arith, one))
+head_among (v ∷ vs) d one = inl refl
+
+module _ (graph : Graph) where
+  pub inner_leads : (before at behind : ℕ) → IsInner graph before at behind
+      → (leads_on graph before at ≡ true) × (next_atom graph before at ≡ behind)
+  inner_leads before at behind i =
+      let two : length (doubles graph at) ≡ 2 = two_doubles graph before at behind i in
+      let one : onward graph before at ≡ behind ∷ [] =
+      other_kept before behind (doubles graph at) two i.back i.on i.differ in (
+        and_from (is_allene_middle graph at) (length (onward graph before at) == 1) i.middle
+            (ap (λ vs. length vs == 1) one),
+        ap (λ vs. slice_index_or vs 0 at) one,
+      )
+
+  pub leads_inner : (before at : ℕ) → Among before (doubles graph at) → leads_on graph before at ≡ true
+      → IsInner graph before at (next_atom graph before at)
+  leads_inner before at h e =
+      let p = and_parts (is_allene_middle graph at) (length (onward graph before at) == 1) e in
+      let next = next_atom graph before at in
+      let among = from_filter (λ o. not (o == before)) next (doubles graph at)
+      (head_among (onward graph before at) at (eqb-true (length (onward graph before at)) 1 p.1)) in
+      record {
+        middle = p.0;
+        back = h;
+        on = among.0;
+        differ = λ same. eqb-false next before (not-true (next == before) among.1) (sym same);
+      }

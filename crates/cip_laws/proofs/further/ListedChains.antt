@@ -1,44 +1,27 @@
 -- The chains that are listed are those of cumulated double bonds.
-use Rattle.std.proofs.Common.{◌≡◌, ◌≢◌, ◌<◌, ◌-◌, inl, ℕ, zero, suc, List, [], ◌∷◌, ◌++◌, length, filter, flat_map, map, refl, sym, ap, subst, ◌∙◌, Bool, true, false, not, cond, ◌==◌, ◌&&◌, eqb-true, lt-ltb, ltb-true, nat_lt, arith}
-use Rattle.std.specs.Prelude.{slice_index_or}
+use Rattle.std.proofs.Common.{◌≡◌, ◌≢◌, ◌<◌, ◌-◌, ℕ, zero, suc, List, [], ◌∷◌, ◌++◌, length, filter, flat_map, map, refl, sym, ap, subst, ◌∙◌, Bool, true, false, cond, ◌==◌, ◌&&◌, lt-ltb, ltb-true, nat_lt, arith}
 use Rattle.std.specs.List.{range_with_len}
-use Rattle.std.proofs.lemmas.Bool.{eqb-false, leb-true, le-leb}
+use Rattle.std.proofs.lemmas.Bool.{leb-true, le-leb, and_parts, and_from, not_from_false, not-true}
 use Rattle.std.proofs.lemmas.List.{map-append}
 use Rattle.cip_mol.specs.Drawing.{Drawing}
 use Rattle.cip_digraph.specs.graph.Graph.{Graph, edges_at}
 use Rattle.cip_digraph.specs.graph.SoundGraphs.{IsSound}
-use Rattle.cip_digraph.proofs.Lists.{pairs_from_pairwise}
-use Rattle.cip_digraph.specs.units.Allenes.{doubles, is_allene_middle, is_axis_end}
+use Rattle.cip_digraph.proofs.lists.Elements.{pairs_from_pairwise}
+use Rattle.cip_digraph.specs.units.Allenes.{doubles, is_axis_end}
 use Rattle.cip_axis.specs.Cumulenes.{first_atom, last_atom, onward, leads_on, next_atom, chain_from, chain_over, chains, is_cumulene}
 use Rattle.cip_axis.specs.Further.{cumulene_unit, cumulenes_of}
 use Rattle.cip_image.specs.Images.{Among}
 use Rattle.cip_image.proofs.lists.Among.{among_filter, among_flat, among_map, among_range, from_filter, from_flat, from_map, from_range}
-use Rattle.cip_image.proofs.lists.Truths.{and_parts, and_both, not_false, not_true}
 use Rattle.cip_laws.proofs.units.CarriedAxes.{double_back}
-use Rattle.cip_laws.specs.CumuleneLaws.{IsInner, AreInner, IsCumulene, chains_in, ChainsAreListed}
+use Rattle.cip_laws.specs.CumuleneLaws.{AreInner, IsCumulene, chains_in, ChainsAreListed}
 use Rattle.cip_laws.proofs.further.CarriedChains.{no_middle}
-use Rattle.cip_laws.proofs.further.CarriedFurther.{three_of}
+use Rattle.cip_laws.proofs.further.CarriedFurther.{in_if, three_of}
 use Rattle.cip_laws.proofs.further.ChainsOnce.{chains_differ}
-use Rattle.cip_laws.proofs.further.InnerAtoms.{other_kept, two_doubles}
+use Rattle.cip_laws.proofs.further.InnerAtoms.{inner_leads, leads_inner}
 use Rattle.cip_laws.proofs.further.ShortChains.{chain_differs, chain_short, last_ends}
 use Rattle.cip_laws.proofs.further.TurnedLists.{last_from}
 
-head_among : (vs : List ℕ) (d : ℕ) → length vs ≡ 1 → Among (slice_index_or vs 0 d) vs
-head_among [] d one = absurd (omega (arith, one))
-head_among (v ∷ vs) d one = inl refl
-
 module _ (graph : Graph) (sound : IsSound graph) where
-  inner_leads : (before at behind : ℕ) → IsInner graph before at behind
-      → (leads_on graph before at ≡ true) × (next_atom graph before at ≡ behind)
-  inner_leads before at behind i =
-      let two : length (doubles graph at) ≡ 2 = two_doubles graph before at behind i in
-      let one : onward graph before at ≡ behind ∷ [] =
-      other_kept before behind (doubles graph at) two i.back i.on i.differ in (
-        and_both (is_allene_middle graph at) (length (onward graph before at) == 1) i.middle
-            (ap (λ vs. length vs == 1) one),
-        ap (λ vs. slice_index_or vs 0 at) one,
-      )
-
   -- a chain of inner atoms is followed to its end
   follows : (fuel before at : ℕ) (more : List ℕ) → AreInner graph before at more
       → length (edges_at graph (last_from at more)) ≡ 3 → length more < fuel
@@ -49,7 +32,7 @@ module _ (graph : Graph) (sound : IsSound graph) where
       (chain_from graph fuel at (next_atom graph before at)) [])
       (no_middle graph sound at three)
   follows (suc fuel) before at (behind ∷ more) i three lt =
-      let l = inner_leads before at behind i.0 in
+      let l = inner_leads graph before at behind i.0 in
       ap (λ b. at ∷ cond b (chain_from graph fuel at (next_atom graph before at)) []) l.0
       ∙ ap (λ v. at ∷ chain_from graph fuel at v) l.1
       ∙ ap (λ vs. at ∷ vs) (follows fuel at behind more i.1 three (omega (arith, lt)))
@@ -59,20 +42,6 @@ module _ (graph : Graph) (sound : IsSound graph) where
     more : List ℕ
     is : chain_from graph (suc fuel) before at ≡ at ∷ more
     inner : AreInner graph before at more
-
-  leads_inner : (before at : ℕ) → Among before (doubles graph at) → leads_on graph before at ≡ true
-      → IsInner graph before at (next_atom graph before at)
-  leads_inner before at h e =
-      let p = and_parts (is_allene_middle graph at) (length (onward graph before at) == 1) e in
-      let next = next_atom graph before at in
-      let among = from_filter (λ o. not (o == before)) next (doubles graph at)
-      (head_among (onward graph before at) at (eqb-true (length (onward graph before at)) 1 p.1)) in
-      record {
-        middle = p.0;
-        back = h;
-        on = among.0;
-        differ = λ same. eqb-false next before (not_true (next == before) among.1) (sym same);
-      }
 
   followed : (fuel before at : ℕ) → Among before (doubles graph at) → Followed fuel before at
   followed zero before at h = by (leads_on graph before at) refl
@@ -86,7 +55,7 @@ module _ (graph : Graph) (sound : IsSound graph) where
           → ((x : ℕ) → Among at (doubles graph x) → Followed fuel at x) → Followed (suc fuel) before at
       by true e rest =
           let next = next_atom graph before at in
-          let i = leads_inner before at h e in
+          let i = leads_inner graph before at h e in
           let later = rest next (double_back graph sound at next i.on) in
           record {
             more = next ∷ later.more;
@@ -116,8 +85,8 @@ module _ (graph : Graph) (sound : IsSound graph) where
       ap (λ v. nat_lt v (last_atom chain)) begins ∙ lt-ltb c.a (last_atom chain) c.lower in
       let first : is_axis_end graph chain (first_atom chain) ≡ true = ap (is_axis_end graph chain) begins ∙ c.first in
       let test : is_cumulene graph chain ≡ true =
-      and_both _ _ (and_both _ _ (and_both _ _ (and_both _ _ (le-leb 4 (length chain) c.long) lower) first) c.last)
-      (not_false _ c.free) in
+      and_from _ _ (and_from _ _ (and_from _ _ (and_from _ _ (le-leb 4 (length chain) c.long) lower) first) c.last)
+      (not_from_false _ c.free) in
       let tried : Among chain (map (chain_over graph c.a) (doubles graph c.a)) =
       subst (λ vs. Among vs (map (chain_over graph c.a) (doubles graph c.a))) (over_is chain c)
       (among_map (chain_over graph c.a) c.next (doubles graph c.a) c.joined) in
@@ -152,12 +121,8 @@ module _ (graph : Graph) (sound : IsSound graph) where
         lower = ltb-true a (last_atom (chain_over graph a next)) all1.1;
         first = all2.1;
         last = all3.1;
-        free = not_true _ all4.1;
+        free = not-true _ all4.1;
       }
-
-  in_if : (b : Bool) (x : List ℕ) (xs : List (List ℕ)) → Among x (cond b xs []) → Among x xs
-  in_if true x xs h = h
-  in_if false x xs h = absurd h
 
   -- and what passes is one
   found : (chain : List ℕ) → Among chain (chains_in graph) → IsCumulene graph chain

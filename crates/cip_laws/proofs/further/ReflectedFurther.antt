@@ -1,10 +1,10 @@
 -- The mirror image of a drawing has the reflected further units.
-use Rattle.std.proofs.Common.{◌≡◌, ℕ, List, [], ◌∷◌, ◌++◌, map, filter, flat_map, refl, sym, ap, ◌∙◌, Bool, true, false, ◌||◌, ◌&&◌, if◌then◌else◌}
+use Rattle.std.proofs.Common.{◌≡◌, ℕ, List, [], ◌∷◌, ◌++◌, map, filter, flat_map, refl, sym, ap, ◌∙◌, Bool, true, false, if◌then◌else◌}
 use Rattle.std.specs.List.{range_with_len}
 use Rattle.std.proofs.lemmas.List.{map-append}
 use Rattle.cip_mol.specs.Drawing.{Drawing}
 use Rattle.cip_mol.specs.Geometry.{geometry_of}
-use Rattle.cip_mol.specs.Marks.{is_crossed, is_either, joins}
+use Rattle.cip_mol.specs.Marks.{is_crossed, is_either}
 use Rattle.cip_mol.specs.Reflection.{exchanged, mirrored_bond, reflected}
 use Rattle.cip_mol.specs.declared.molecule.Bond as molecules
 use Rattle.cip_mol.specs.declared.molecule.Mark.{Mark}
@@ -29,22 +29,12 @@ use Rattle.cip_laws.proofs.drawings.ReflectedDrawings.{geometry_mirrored, graph_
 
 either_kept : (mark : Mark) → is_either (exchanged mark) ≡ is_either mark
 either_kept marks.Up = refl
-either_kept marks.Down = refl
-either_kept marks.Plain = refl
-either_kept marks.Either = refl
+either_kept mark = refl
 
 crossed_kept : (a b : ℕ) (some : List molecules.Bond) → is_crossed a b (map mirrored_bond some) ≡ is_crossed a b some
 crossed_kept a b [] = refl
 crossed_kept a b (x ∷ some) =
-    ap (λ e. (joins a b x && e) || is_crossed a b (map mirrored_bond some)) (either_kept x.mark)
-    ∙ ap (λ t. (joins a b x && is_either x.mark) || t) (crossed_kept a b some)
-
-any_kept : (test tests : ℕ → ℕ → Bool) → ((x y : ℕ) → tests x y ≡ test x y) → (xs : List ℕ)
-    → any_bond tests xs ≡ any_bond test xs
-any_kept test tests same [] = refl
-any_kept test tests same (x ∷ []) = refl
-any_kept test tests same (x ∷ y ∷ ys) =
-    ap (λ b. b || any_bond tests (y ∷ ys)) (same x y) ∙ ap (λ b. test x y || b) (any_kept test tests same (y ∷ ys))
+    rw (either_kept x.mark, crossed_kept a b some)
 
 unless_mirrored : (undecided : Bool) (site : Site) (geometry : Geometry)
     → (if undecided then Unknown Either else reflected_geometry site geometry)
@@ -61,12 +51,10 @@ module _ (drawing : Drawing) where
   cumulene_mirrored graph chain =
       let site = cumulene_site graph chain in
       let crosses : has_crossed mirror.bonds chain ≡ has_crossed drawing.bonds chain =
-      any_kept (λ x y. is_crossed x y drawing.bonds) (λ x y. is_crossed x y mirror.bonds)
-      (λ x y. crossed_kept x y drawing.bonds) chain in
+      ap (λ test. any_bond test chain) (λ i x y. crossed_kept x y drawing.bonds i) in
       ap {B = FurtherUnit} (λ g. record { site = site; geometry = g })
-      (ap (λ b. if b then Unknown Either else geometry_of mirror (like site)) crosses
-      ∙ ap (λ g. if has_crossed drawing.bonds chain then Unknown Either else g) (geometry_mirrored drawing (like site))
-      ∙ unless_mirrored (has_crossed drawing.bonds chain) (like site) (geometry_of drawing (like site)))
+      (rw (crosses, geometry_mirrored drawing (like site))
+      (unless_mirrored (has_crossed drawing.bonds chain) (like site) (geometry_of drawing (like site))))
 
   biaryl_mirrored : (graph : Graph) (a b : ℕ)
       → biaryl_unit mirror graph a b ≡ reflected_further (biaryl_unit drawing graph a b)

@@ -5,15 +5,15 @@ use Rattle.std.specs.List.{AllByRecursion, AllPairs, IsDistinct}
 use Rattle.std.proofs.lemmas.Bool.Decides.{Decides-eqb}
 use Rattle.std.proofs.lemmas.Map.Made.{IsDistinct-from_AllPairs}
 use Rattle.std.proofs.lemmas.Map.Steps.{length-le_from_distinct_below}
+use Rattle.std.proofs.lemmas.Bool.{not_from_false, true≢false}
 use Rattle.cip_digraph.specs.graph.Graph.{Graph, edges_at, other_end}
 use Rattle.cip_digraph.specs.graph.SoundGraphs.{IsSound}
 use Rattle.cip_digraph.specs.units.Allenes.{doubles, is_axis_end}
-use Rattle.cip_digraph.proofs.Ended.{leads_below, member_below}
-use Rattle.cip_digraph.proofs.Lists.{Pairwise, all_filtered, all_mapped, pairs_from_pairwise}
+use Rattle.cip_digraph.proofs.tree.Ended.{leads_below, member_below}
+use Rattle.cip_digraph.proofs.lists.Elements.{Pairwise, all_filtered, all_mapped, pairs_from_pairwise}
 use Rattle.cip_axis.specs.Cumulenes.{last_atom}
 use Rattle.cip_image.specs.Images.{Among}
 use Rattle.cip_image.proofs.lists.Among.{among_all, among_filter}
-use Rattle.cip_image.proofs.lists.Truths.{not_false, true_not_false}
 use Rattle.cip_laws.specs.CumuleneLaws.{IsInner, AreInner, IsCumulene}
 use Rattle.cip_laws.proofs.further.CarriedChains.{no_middle}
 use Rattle.cip_laws.proofs.further.CarriedFurther.{three_of}
@@ -33,7 +33,7 @@ one_of u v x ds two h k differ j = by (x == u) refl
     by true e = inl (eqb-true x u e)
     by false e =
         inr (subst (Among x) (other_kept u v ds two h k differ)
-        (among_filter (λ o. not (o == u)) x ds j (not_false (x == u) e)))
+        (among_filter (λ o. not (o == u)) x ds j (not_from_false (x == u) e)))
 
 between : (x b v w : ℕ) (tail : List ℕ) → Among x (b ∷ w ∷ []) → Among x (b ∷ v ∷ w ∷ tail)
 between x b v w tail (inl e) = inl e
@@ -45,7 +45,7 @@ module _ (graph : Graph) (sound : IsSound graph) where
   IsEnd vertex = length (edges_at graph vertex) ≡ 3
 
   not_inner : (before at behind : ℕ) → IsInner graph before at behind → IsEnd at → ⊥
-  not_inner before at behind i end = true_not_false (sym i.middle ∙ no_middle graph sound at end)
+  not_inner before at behind i end = true≢false (sym i.middle ∙ no_middle graph sound at end)
 
   -- where a chain meets an inner atom, it meets both neighbours of it
   met : (before at behind : ℕ) → IsInner graph before at behind → (b v : ℕ) (tail : List ℕ) → AreInner graph b v tail

@@ -11,7 +11,8 @@ use Rattle.cip_image.proofs.lists.CarriedLists.{mapped_twice, same_eq}
 use Rattle.cip_image.specs.Renamed.{Way, way, ways, IsRenamed}
 use Rattle.cip_image.proofs.graph.CarriedPositions.{neighbours_moved}
 use Rattle.cip_laws.proofs.graph.WaySymmetry.{leads_back}
-use Rattle.cip_image.proofs.lists.Truths.{same_truth, or_back}
+use Rattle.std.proofs.Math.Bool.{and_comm, or_comm}
+use Rattle.cip_image.proofs.lists.Truths.{same_truth}
 
 among_new : (x : ℕ) (others vertices : List ℕ) → Among x vertices ⊎ Among x others → Among x (with_new vertices others)
 among_new x [] vertices (inl h) = h
@@ -113,22 +114,7 @@ module _ (graph : Graph) (sound : IsSound graph) where
   crosses a b x y = ((x == a) && (y == b)) || ((x == b) && (y == a))
 
   crosses_back : (p q s t : Bool) → ((p && q) || (s && t)) ≡ ((t && s) || (q && p))
-  crosses_back true true true true = refl
-  crosses_back true true true false = refl
-  crosses_back true true false true = refl
-  crosses_back true true false false = refl
-  crosses_back true false true true = refl
-  crosses_back true false true false = refl
-  crosses_back true false false true = refl
-  crosses_back true false false false = refl
-  crosses_back false true true true = refl
-  crosses_back false true true false = refl
-  crosses_back false true false true = refl
-  crosses_back false true false false = refl
-  crosses_back false false true true = refl
-  crosses_back false false true false = refl
-  crosses_back false false false true = refl
-  crosses_back false false false false = refl
+  crosses_back p q s t = rw (and_comm p q, and_comm s t) (or_comm (q && p) (t && s))
 
   aside_back : (a b x y : ℕ) → Among y (neighbours_aside graph a b x) → Among x (neighbours_aside graph a b y)
   aside_back a b x y h =
@@ -138,7 +124,7 @@ module _ (graph : Graph) (sound : IsSound graph) where
 
   aside_same : (a b : ℕ) → neighbours_aside graph a b ≡ neighbours_aside graph b a
   aside_same a b i vertex =
-      filter (λ other. not (or_back ((vertex == a) && (other == b)) ((vertex == b) && (other == a)) i))
+      filter (λ other. not (or_comm ((vertex == a) && (other == b)) ((vertex == b) && (other == a)) i))
       (neighbours graph vertex)
 
   -- within so many steps, from either end
@@ -175,12 +161,12 @@ module _ (graph other : Graph) (image : ℕ → ℕ) (r : IsRenamed graph other 
       → not (((image x == image a) && (image y == image b)) || ((image x == image b) && (image y == image a)))
       ≡ not (((x == a) && (y == b)) || ((x == b) && (y == a)))
   crosses_carried a b x y =
-      ap (λ t. not ((t && (image y == image b)) || ((image x == image b) && (image y == image a))))
-      (same_eq image r.injective x a)
-      ∙ ap (λ t. not (((x == a) && t) || ((image x == image b) && (image y == image a))))
-      (same_eq image r.injective y b)
-      ∙ ap (λ t. not (((x == a) && (y == b)) || (t && (image y == image a)))) (same_eq image r.injective x b)
-      ∙ ap (λ t. not (((x == a) && (y == b)) || ((x == b) && t))) (same_eq image r.injective y a)
+      rw (
+        same_eq image r.injective x a,
+        same_eq image r.injective y b,
+        same_eq image r.injective x b,
+        same_eq image r.injective y a,
+      )
 
   steps_there : (a b steps x : ℕ) → Among x (within_steps graph a b steps)
       → Among (image x) (within_steps other (image a) (image b) steps)
@@ -216,26 +202,19 @@ module _ (graph other : Graph) (image : ℕ → ℕ) (r : IsRenamed graph other 
             (found.0, among_new found.0 (flat_map (neighbours_aside graph a b) before) before (inl found.1), found.2)
         | inr g ↦
             let there = from_flat (neighbours_aside other (image a) (image b)) z theirs g in
-            let at = steps_back a b steps there.0 there.1 in
+            let near = steps_back a b steps there.0 there.1 in
             let kept =
             from_filter
             (λ to. not (((there.0 == image a) && (to == image b)) || ((there.0 == image b) && (to == image a)))) z
             (neighbours other there.0) there.2 in
-            let found = neighbour_from at.0 z (subst (λ v. Among z (neighbours other v)) at.2 kept.0) in
-            let passes : not (((at.0 == a) && (found.0 == b)) || ((at.0 == b) && (found.0 == a))) ≡ true =
-            sym (crosses_carried a b at.0 found.0)
-            ∙ ap
-            (λ v. not
-            (((v == image a) && (image found.0 == image b)) || ((v == image b) && (image found.0 == image a))))
-            (sym at.2)
-            ∙ ap (λ v. not (((there.0 == image a) && (v == image b)) || ((there.0 == image b) && (v == image a))))
-            (sym found.2)
-            ∙ kept.1 in (
+            let found = neighbour_from near.0 z (subst (λ v. Among z (neighbours other v)) near.2 kept.0) in
+            let passes : not (((near.0 == a) && (found.0 == b)) || ((near.0 == b) && (found.0 == a))) ≡ true =
+            sym (crosses_carried a b near.0 found.0) ∙ rw (← near.2, ← found.2) kept.1 in (
               found.0,
               among_new found.0 (flat_map (neighbours_aside graph a b) before) before
                   (inr
-                  (among_flat (neighbours_aside graph a b) at.0 found.0 before at.1
-                  (among_filter _ found.0 (neighbours graph at.0) found.1 passes))),
+                  (among_flat (neighbours_aside graph a b) near.0 found.0 before near.1
+                  (among_filter _ found.0 (neighbours graph near.0) found.1 passes))),
               found.2,
             )
       ]
@@ -243,7 +222,8 @@ module _ (graph other : Graph) (image : ℕ → ℕ) (r : IsRenamed graph other 
   pub steps_carried : (steps a b : ℕ)
       → is_in (image b) (within_steps other (image a) (image b) steps) ≡ is_in b (within_steps graph a b steps)
   steps_carried steps a b =
-      same_truth (is_in (image b) (within_steps other (image a) (image b) steps)) (is_in b (within_steps graph a b steps))
+      same_truth (is_in (image b) (within_steps other (image a) (image b) steps))
+      (is_in b (within_steps graph a b steps))
       (λ e.
       let found =
       steps_back a b steps (image b) (among_from_in (image b) (within_steps other (image a) (image b) steps) e) in

@@ -1,5 +1,5 @@
 -- A double bond of an alternating ring is delocalised at both of its ends: the ring can be gone round the other way.
-use Rattle.std.proofs.Common.{◌≡◌, ◌≢◌, inl, inr, ◌<◌, ℕ, List, [], ◌∷◌, ◌++◌, length, filter, refl, sym, ap, subst, ◌∙◌, Bool, true, false, cond, ◌==◌, ◌||◌, nat_lt, nat_le, eqb-true, eq-eqb, lt-ltb, ltb-true, arith}
+use Rattle.std.proofs.Common.{◌≡◌, ◌≢◌, inl, inr, ◌<◌, ℕ, List, [], ◌∷◌, ◌++◌, length, filter, refl, sym, ap, append_assoc, subst, ◌∙◌, Bool, true, false, cond, ◌==◌, ◌||◌, nat_lt, nat_le, eqb-true, eq-eqb, lt-ltb, ltb-true, arith}
 use Rattle.std.specs.Prelude.{◌↔◌}
 use Rattle.std.specs.List.{AllByRecursion}
 use Rattle.std.specs.List.Sorted.{IsPermutation}
@@ -12,17 +12,17 @@ use Rattle.cip_digraph.specs.declared.graph.Edge.{Edge}
 use Rattle.cip_digraph.specs.graph.Graph.{Graph, edges_at, other_end, neighbours}
 use Rattle.cip_digraph.specs.rings.Positions.{positions_at, positions_of, is_delocalised}
 use Rattle.cip_digraph.specs.graph.SoundGraphs.{JoinsBelow, IsSound}
-use Rattle.cip_digraph.proofs.AlternatingWays.{ring_found, ring_finds}
-use Rattle.cip_digraph.proofs.Lists.{Pairwise, pairwise_filtered, pairwise_from_pairs, pairs_from_pairwise, by_recursion}
-use Rattle.cip_digraph.proofs.NeighbourOrder.{neighbours_differ}
+use Rattle.cip_digraph.proofs.ways.Alternating.{ring_found, ring_finds}
+use Rattle.cip_digraph.proofs.lists.Elements.{Pairwise, pairwise_filtered, pairwise_from_pairs, pairs_from_pairwise, by_recursion}
+use Rattle.cip_digraph.proofs.bonds.Neighbours.{neighbours_differ}
 use Rattle.cip_image.specs.Images.{Among}
 use Rattle.cip_image.proofs.lists.Among.{among_map, from_map, among_filter, from_filter, in_from_among, among_from_in, among_all}
-use Rattle.cip_laws.proofs.units.CarriedAxes.{DelocalisedAtBoth}
-use Rattle.cip_image.proofs.lists.CarriedLists.{mapped_twice}
 use Rattle.cip_image.specs.Renamed.{Way, way, ways}
 use Rattle.cip_image.proofs.outcomes.LastReasons.{pairwise_arranged}
+use Rattle.cip_laws.proofs.further.AllButOne.{two_members}
 use Rattle.cip_laws.proofs.graph.WaySymmetry.{edge_of, back_way, leads_back, one_way_to}
-use Rattle.cip_image.proofs.lists.Truths.{true_not_false, same_truth, and_parts, or_true}
+use Rattle.std.proofs.lemmas.Bool.{true≢false, and_parts, or_right}
+use Rattle.cip_image.proofs.lists.Truths.{same_truth}
 
 pub record OneEdge (edges : List Edge) : Type 0 where
   pub edge : Edge
@@ -30,28 +30,21 @@ pub record OneEdge (edges : List Edge) : Type 0 where
   pub double : (edge.order == 2) ≡ true
 
 pub one_edge : (edges : List Edge) → is_one_double edges ≡ true → OneEdge edges
-one_edge [] e = absurd (true_not_false (sym e))
+one_edge [] e = absurd (true≢false (sym e))
 one_edge (edge ∷ []) e = record { edge = edge; is = refl; double = e }
-one_edge (edge ∷ next ∷ edges) e = absurd (true_not_false (sym e))
+one_edge (edge ∷ next ∷ edges) e = absurd (true≢false (sym e))
 
-two_members : (xs : List ℕ) (x y : ℕ) → Among x xs → Among y xs → x ≢ y → 1 < length xs
-two_members [] x y h k differ = absurd h
-two_members (z ∷ []) x y (inl p) (inl q) differ = absurd (differ (p ∙ sym q))
-two_members (z ∷ []) x y (inr bad) k differ = absurd bad
-two_members (z ∷ []) x y (inl p) (inr bad) differ = absurd bad
-two_members (z ∷ w ∷ zs) x y h k differ = omega arith
-
-module _ (graph : Graph) (sound : IsSound graph) where
+module _ (graph : Graph) where
   -- the double bond of an alternating atom
-  record Doubled (v : ℕ) : Type 0 where
-    w : Way
-    among : Among w (ways graph v)
-    counted : w.counted ≡ true
-    order : (w.order == 2) ≡ true
-    is : partner graph v ≡ w.to
-    only : (u : Way) → Among u (ways graph v) → u.counted ≡ true → u ≡ w
+  pub record Doubled (v : ℕ) : Type 0 where
+    pub edge : Edge
+    pub among : Among edge (edges_at graph v)
+    pub counted : edge.counted ≡ true
+    pub order : edge.order ≡ 2
+    pub is : partner graph v ≡ other_end v edge
+    pub only : (u : Way) → Among u (ways graph v) → u.counted ≡ true → u ≡ way v edge
 
-  doubled : (v : ℕ) → is_alternating graph v ≡ true → Doubled v
+  pub doubled : (v : ℕ) → is_alternating graph v ≡ true → Doubled v
   doubled v e =
       let one =
       one_edge (counted_at graph v)
@@ -59,10 +52,10 @@ module _ (graph : Graph) (sound : IsSound graph) where
       let kept =
       from_filter (λ edge. edge.counted) one.edge (edges_at graph v) (subst (Among one.edge) (sym one.is) (inl refl)) in
       record {
-        w = way v one.edge;
-        among = among_map (way v) one.edge (edges_at graph v) kept.0;
+        edge = one.edge;
+        among = kept.0;
         counted = kept.1;
-        order = one.double;
+        order = eqb-true one.edge.order 2 one.double;
         is = ap (partner_by v) one.is;
         only = λ u h c.
             let found = from_map (way v) u (edges_at graph v) h in
@@ -73,34 +66,41 @@ module _ (graph : Graph) (sound : IsSound graph) where
             elim again [ inl same ↦ found.2 ∙ ap (way v) same | inr bad ↦ absurd bad ];
       }
 
-  partner_back : (v : ℕ) → is_alternating graph v ≡ true → is_alternating graph (partner graph v) ≡ true
-      → partner graph (partner graph v) ≡ v
-  partner_back v e f =
+  pub partner_beside : (v : ℕ) → is_alternating graph v ≡ true → Among (partner graph v) (neighbours graph v)
+  partner_beside v e =
       let d = doubled v e in
-      let there = doubled d.w.to (subst (λ u. is_alternating graph u ≡ true) d.is f) in
-      let back = (leads_back graph sound v d.w d.among).back in
-      ap (partner graph) d.is ∙ there.is
-      ∙ sym (ap (λ (w : Way). w.to) (there.only (back_way graph v d.w) back d.counted))
+      subst (λ u. Among u (neighbours graph v)) (sym d.is) (among_map (other_end v) d.edge (edges_at graph v) d.among)
 
-  record SingleTo (v to : ℕ) : Type 0 where
-    w : Way
-    among : Among w (ways graph v)
-    order : (w.order == 1) ≡ true
-    is : to ≡ w.to
+  -- an edge of a single bond
+  pub record IsSingle (v to : ℕ) : Type 0 where
+    pub edge : Edge
+    pub among : Among edge (edges_at graph v)
+    pub order : edge.order ≡ 1
+    pub is : to ≡ other_end v edge
 
-  single_way : (v to : ℕ) → is_in to (singles graph v) ≡ true → SingleTo v to
-  single_way v to e =
+  pub single_of : (v to : ℕ) → is_in to (singles graph v) ≡ true → IsSingle v to
+  single_of v to e =
       let found =
       from_map (other_end v) to (filter (λ edge. edge.order == 1) (edges_at graph v))
       (among_from_in to (singles graph v) e) in
       let kept = from_filter (λ edge. edge.order == 1) found.0 (edges_at graph v) found.1 in
-      record {
-        w = way v found.0;
-        among = among_map (way v) found.0 (edges_at graph v) kept.0;
-        order = kept.1;
-        is =
-            found.2;
-      }
+      record { edge = found.0; among = kept.0; order = eqb-true found.0.order 1 kept.1; is = found.2 }
+
+  pub single_beside : (v to : ℕ) → is_in to (singles graph v) ≡ true → Among to (neighbours graph v)
+  single_beside v to e =
+      let s = single_of v to e in
+      subst (λ u. Among u (neighbours graph v)) (sym s.is) (among_map (other_end v) s.edge (edges_at graph v) s.among)
+
+module _ (graph : Graph) (sound : IsSound graph) where
+  partner_back : (v : ℕ) → is_alternating graph v ≡ true → is_alternating graph (partner graph v) ≡ true
+      → partner graph (partner graph v) ≡ v
+  partner_back v e f =
+      let d = doubled graph v e in
+      let there = doubled graph (other_end v d.edge) (subst (λ u. is_alternating graph u ≡ true) d.is f) in
+      let back =
+      (leads_back graph sound v (way v d.edge) (among_map (way v) d.edge (edges_at graph v) d.among)).back in
+      ap (partner graph) d.is ∙ there.is
+      ∙ sym (ap (λ (w : Way). w.to) (there.only (back_way graph v (way v d.edge)) back d.counted))
 
   way_single : (v : ℕ) (w : Way) → Among w (ways graph v) → (w.order == 1) ≡ true → is_in w.to (singles graph v) ≡ true
   way_single v w h e =
@@ -113,24 +113,24 @@ module _ (graph : Graph) (sound : IsSound graph) where
 
   single_back : (v to : ℕ) → is_in to (singles graph v) ≡ true → is_in v (singles graph to) ≡ true
   single_back v to e =
-      let s = single_way v to e in
+      let s = single_of graph v to e in
       subst (λ u. is_in v (singles graph u) ≡ true) (sym s.is)
-      (way_single s.w.to (back_way graph v s.w) (leads_back graph sound v s.w s.among).back s.order)
-
-  near : (v : ℕ) (w : Way) → Among w (ways graph v) → Among w.to (neighbours graph v)
-  near v w h =
-      subst (Among w.to) (mapped_twice (way v) (λ (u : Way). u.to) (edges_at graph v))
-      (among_map (λ (u : Way). u.to) w (ways graph v) h)
+      (way_single (other_end v s.edge) (back_way graph v (way v s.edge))
+      (leads_back graph sound v (way v s.edge) (among_map (way v) s.edge (edges_at graph v) s.among)).back
+      (eq-eqb s.edge.order 1 s.order))
 
   single_not_partner : (v to : ℕ) → is_alternating graph v ≡ true → is_in to (singles graph v) ≡ true
       → partner graph v ≢ to
   single_not_partner v to e f same =
-      let d = doubled v e in
-      let s = single_way v to f in
-      let one : d.w ≡ s.w = one_way_to graph sound v d.w s.w d.among s.among (sym d.is ∙ same ∙ s.is) in
-      let two = eqb-true d.w.order 2 d.order in
-      let first = eqb-true s.w.order 1 s.order in
-      let orders : d.w.order ≡ s.w.order = ap (λ (w : Way). w.order) one in
+      let d = doubled graph v e in
+      let s = single_of graph v to f in
+      let one : way v d.edge ≡ way v s.edge =
+      one_way_to graph sound v (way v d.edge) (way v s.edge)
+      (among_map (way v) d.edge (edges_at graph v) d.among) (among_map (way v) s.edge (edges_at graph v) s.among)
+      (sym d.is ∙ same ∙ s.is) in
+      let orders : d.edge.order ≡ s.edge.order = ap (λ (w : Way). w.order) one in
+      let two = d.order in
+      let first = s.order in
       absurd (omega (arith, two, first, orders))
 
   -- the ring gone round the other way
@@ -167,21 +167,15 @@ module _ (graph : Graph) (sound : IsSound graph) where
       let ih : IsPermutation (rest ++ (p ∷ next ∷ behind)) (met graph (turned others (p ∷ after))) =
       subst (λ ms. IsPermutation (rest ++ ms) (met graph (turned others (p ∷ after)))) same
       (turned_met others (p ∷ after) all.1.1) in
-      let first : IsPermutation (rest ++ (p ∷ next ∷ behind)) (p ∷ (rest ++ (next ∷ behind))) =
-      IsPermutation-middle rest p (next ∷ behind) in
-      let second : IsPermutation (p ∷ (rest ++ (next ∷ behind))) (p ∷ next ∷ (rest ++ behind)) =
-      IsPermutation-cons p (rest ++ (next ∷ behind)) (next ∷ (rest ++ behind))
-      (IsPermutation-middle rest next behind) in
-      let third : IsPermutation (p ∷ next ∷ (rest ++ behind)) (next ∷ p ∷ (rest ++ behind)) =
-      IsPermutation-append (p ∷ next ∷ []) (next ∷ p ∷ []) (rest ++ behind) (rest ++ behind)
-      (IsPermutation-append_comm (p ∷ []) (next ∷ [])) (IsPermutation-refl (rest ++ behind)) in
-      let away : IsPermutation (rest ++ (p ∷ next ∷ behind)) (next ∷ p ∷ (rest ++ behind)) =
-      IsPermutation-trans (rest ++ (p ∷ next ∷ behind)) (p ∷ next ∷ (rest ++ behind)) (next ∷ p ∷ (rest ++ behind))
-      (IsPermutation-trans (rest ++ (p ∷ next ∷ behind)) (p ∷ (rest ++ (next ∷ behind))) (p ∷ next ∷ (rest ++ behind))
-      first second) third in
+      let first : IsPermutation (rest ++ (p ∷ next ∷ behind)) (next ∷ (rest ++ (p ∷ behind))) =
+      rw (← append_assoc rest (p ∷ []) (next ∷ behind), ← append_assoc rest (p ∷ []) behind)
+      (IsPermutation-middle (rest ++ (p ∷ [])) next behind) in
       IsPermutation-trans (next ∷ p ∷ (rest ++ behind)) (rest ++ (p ∷ next ∷ behind))
       (met graph (turned others (p ∷ after)))
-      (IsPermutation-sym (rest ++ (p ∷ next ∷ behind)) (next ∷ p ∷ (rest ++ behind)) away) ih
+      (IsPermutation-sym (rest ++ (p ∷ next ∷ behind)) (next ∷ p ∷ (rest ++ behind))
+      (IsPermutation-trans (rest ++ (p ∷ next ∷ behind)) (next ∷ (rest ++ (p ∷ behind))) (next ∷ p ∷ (rest ++ behind))
+      first
+      (IsPermutation-cons next (rest ++ (p ∷ behind)) (p ∷ (rest ++ behind)) (IsPermutation-middle rest p behind)))) ih
 
   ring_back : (a o : ℕ) (nexts : List ℕ) → IsAlternatingRing graph a o nexts
       → (b : ℕ) × IsAlternatingRing graph (partner graph a) b (turned nexts [])
@@ -191,34 +185,28 @@ module _ (graph : Graph) (sound : IsSound graph) where
       let all = by_recursion IsAlternatingAtom (ring_of graph a (next ∷ others)) ring.alternating in
       let back : partner graph b ≡ a = partner_back a all.0 all.1.0 in
       let p = partner graph next in
-      let pair : IsPermutation (a ∷ b ∷ met graph (next ∷ others)) (b ∷ a ∷ met graph (next ∷ others)) =
-      IsPermutation-append (a ∷ b ∷ []) (b ∷ a ∷ []) (met graph (next ∷ others)) (met graph (next ∷ others))
-      (IsPermutation-append_comm (a ∷ []) (b ∷ [])) (IsPermutation-refl (met graph (next ∷ others))) in
-      let moved : IsPermutation (met graph (next ∷ others)) (met graph (turned (next ∷ others) [])) =
-      subst (λ ms. IsPermutation ms (met graph (turned (next ∷ others) [])))
-      (append-nil (met graph (next ∷ others))) (turned_met (next ∷ others) [] all.1.1) in
-      let whole : IsPermutation (ring_of graph a (next ∷ others)) (ring_of graph b (turned (next ∷ others) [])) =
-      IsPermutation-trans (a ∷ b ∷ met graph (next ∷ others)) (b ∷ a ∷ met graph (next ∷ others))
-      (ring_of graph b (turned (next ∷ others) [])) pair
-      (subst (λ v. IsPermutation (b ∷ a ∷ met graph (next ∷ others)) (b ∷ v ∷ met graph (turned (next ∷ others) [])))
-      (sym back)
-      (IsPermutation-cons b (a ∷ met graph (next ∷ others)) (a ∷ met graph (turned (next ∷ others) []))
-      (IsPermutation-cons a (met graph (next ∷ others)) (met graph (turned (next ∷ others) [])) moved))) in
-      let long : length (ring_of graph b (turned (next ∷ others) [])) ≡ length (ring_of graph a (next ∷ others)) =
-      length_permutation (ring_of graph a (next ∷ others)) (ring_of graph b (turned (next ∷ others) [])) whole in (
+      let here = met graph (next ∷ others) in
+      let nexts = turned (next ∷ others) [] in
+      let moved : IsPermutation here (met graph nexts) =
+      subst (λ ms. IsPermutation ms (met graph nexts)) (append-nil here) (turned_met (next ∷ others) [] all.1.1) in
+      let whole : IsPermutation (ring_of graph a (next ∷ others)) (ring_of graph b nexts) =
+      rw back
+      (IsPermutation-append (a ∷ b ∷ []) (b ∷ a ∷ []) here (met graph nexts)
+      (IsPermutation-append_comm (a ∷ []) (b ∷ [])) moved) in
+      let long : length (ring_of graph b nexts) ≡ length (ring_of graph a (next ∷ others)) =
+      length_permutation (ring_of graph a (next ∷ others)) (ring_of graph b nexts) whole in (
         next,
         record {
           single = ring.way.0;
-          way = subst (λ v. Alternates graph v (turned (next ∷ others) []) next) (sym back)
+          way = subst (λ v. Alternates graph v nexts next) (sym back)
               (turned_way next p others (p ∷ []) o ring.way.1 all.1.1.1.1
               (λ y e. (e, partner_back next all.1.1.0 all.1.1.1.0)) a ring.single);
           alternating =
-              All-permutation IsAlternatingAtom (ring_of graph a (next ∷ others))
-              (ring_of graph b (turned (next ∷ others) [])) whole ring.alternating;
-          different = pairs_from_pairwise ◌≢◌ (ring_of graph b (turned (next ∷ others) []))
-              (pairwise_arranged ◌≢◌ (λ x y d e. d (sym e)) (ring_of graph a (next ∷ others))
-              (ring_of graph b (turned (next ∷ others) [])) whole
-              (pairwise_from_pairs ◌≢◌ (ring_of graph a (next ∷ others)) ring.different));
+              All-permutation IsAlternatingAtom (ring_of graph a (next ∷ others)) (ring_of graph b nexts) whole
+              ring.alternating;
+          different = pairs_from_pairwise ◌≢◌ (ring_of graph b nexts)
+              (pairwise_arranged ◌≢◌ (λ x y d e. d (sym e)) (ring_of graph a (next ∷ others)) (ring_of graph b nexts)
+              whole (pairwise_from_pairs ◌≢◌ (ring_of graph a (next ∷ others)) ring.different));
           some = (let most = ring.some in omega (arith, most, long));
           few = (let most = ring.few in omega (arith, most, long));
         },
@@ -244,17 +232,15 @@ module _ (graph : Graph) (sound : IsSound graph) where
   many_if : (v : ℕ) → Closes v → nat_lt 1 (length (positions_at graph v)) ≡ true
   many_if v c =
       let e = alternates_if v c in
-      let d = doubled v e in
       let ring = ring_found graph sound v c.0 c.1 in
-      let s = single_way v c.0 ring.1.single in
       let here : Among (partner graph v) (filter (position_test v) (neighbours graph v)) =
       among_filter (position_test v) (partner graph v) (neighbours graph v)
-      (subst (λ u. Among u (neighbours graph v)) (sym d.is) (near v d.w d.among))
+      (partner_beside graph v e)
       (ap (λ b. b || closes_ring graph v (partner graph v)) (eq-eqb (partner graph v) (partner graph v) refl)) in
       let there : Among c.0 (filter (position_test v) (neighbours graph v)) =
       among_filter (position_test v) c.0 (neighbours graph v)
-      (subst (λ u. Among u (neighbours graph v)) (sym s.is) (near v s.w s.among))
-      (or_true (c.0 == partner graph v) (closes_ring graph v c.0) c.1) in
+      (single_beside graph v c.0 ring.1.single)
+      (or_right (c.0 == partner graph v) (closes_ring graph v c.0) c.1) in
       ap (λ b. nat_lt 1 (length (cond b (filter (position_test v) (neighbours graph v)) []))) e
       ∙ lt-ltb 1 (length (filter (position_test v) (neighbours graph v)))
       (two_members _ (partner graph v) c.0 here there (single_not_partner v c.0 e ring.1.single))
@@ -330,12 +316,13 @@ module _ (graph : Graph) (sound : IsSound graph) where
   one_end v w h c e =
       let r = in_range v w h in
       let closes = closes_if v (sym (listed v r.here) ∙ e) in
-      let d = doubled v (alternates_if v closes) in
+      let d = doubled graph v (alternates_if v closes) in
       let to : partner graph v ≡ w.to = d.is ∙ sym (ap (λ (u : Way). u.to) (d.only w h c)) in
       listed w.to r.there ∙ many_if w.to (subst (λ u. Closes u) to (closes_back v closes))
 
   -- both ends of a double bond are delocalised, or neither is
-  pub delocalised_at_both : DelocalisedAtBoth graph
+  pub delocalised_at_both : (a : ℕ) (w : Way) → Among w (ways graph a) → w.counted ≡ true → (w.order == 2) ≡ true
+      → is_delocalised (positions_of graph) w.to ≡ is_delocalised (positions_of graph) a
   delocalised_at_both a w h c o =
       same_truth (is_delocalised (positions_of graph) w.to) (is_delocalised (positions_of graph) a)
       (one_end w.to (back_way graph a w) (leads_back graph sound a w h).back c) (one_end a w h c)

@@ -1,9 +1,9 @@
 -- Implicit hydrogens are numbered in turn: each number behind the atoms is one hydrogen of one atom.
-use Rattle.std.proofs.Common.{◌≡◌, ◌≢◌, ◌⊎◌, inl, inr, ◌<◌, ◌≤◌, ◌+◌, ◌-◌, ℕ, zero, suc, List, [], ◌∷◌, ◌++◌, map, length, filter, replicate, sum, refl, sym, ap, subst, ◌∙◌, Bool, true, false, cond, ◌==◌, ◌||◌, nat_lt, flat_map, eqb-true, eq-eqb, ltb-true, ltb-false, arith}
+use Rattle.std.proofs.Common.{◌≡◌, ◌≢◌, ◌⊎◌, inl, inr, ◌<◌, ◌≤◌, ◌+◌, ◌-◌, ℕ, zero, suc, List, [], ◌∷◌, ◌++◌, map, length, filter, replicate, sum, refl, sym, ap, subst, ◌∙◌, Bool, true, false, ◌==◌, nat_lt, flat_map, eqb-true, eq-eqb, ltb-true, ltb-false, arith}
 use Rattle.std.specs.List.{range_with_len}
 use Rattle.std.proofs.lemmas.Bool.{eqb-false, ne_eqb}
 use Rattle.std.proofs.lemmas.List.Sums.{sum_by-cons}
-use Rattle.std.proofs.lemmas.List.{map-append, length-append}
+use Rattle.std.proofs.lemmas.List.{append-nil, map-append, length-append}
 use Rattle.std.proofs.lemmas.List.Elements.{filter-append}
 use Rattle.cip_digraph.specs.graph.DrawnGraph.{hydrogen_edges}
 use Rattle.cip_digraph.specs.declared.graph.Edge.{Edge}
@@ -125,22 +125,12 @@ module _ (atom : ℕ) where
   abbrev hydrogen_edge : ℕ → Edge
   hydrogen_edge number = record { a = atom; b = number; order = 1; counted = false }
 
-  own_by : (number : ℕ) (rest : List Edge) (b : Bool) → (atom == atom) ≡ b → b ≡ true
-      → map (way atom)
-      (cond (b || (number == atom)) (hydrogen_edge number ∷ filter (touches atom) rest) (filter (touches atom) rest))
-      ≡ single_way number ∷ map (way atom) (filter (touches atom) rest)
-  own_by number rest true e sure =
-      ap
-      (λ b. record { to = cond b number atom; order = 1; counted = false }
-      ∷ map (way atom) (filter (touches atom) rest)) e
-  own_by number rest false e sure = absurd (eqb-false atom atom e refl)
-
   pub own_ways : (count number : ℕ)
       → ways_in atom (hydrogen_edges number (replicate count atom)) ≡ ways_from number count
   own_ways zero number = refl
   own_ways (suc count) number =
-      own_by number (hydrogen_edges (number + 1) (replicate count atom)) (atom == atom) refl (eq-eqb atom atom refl)
-      ∙ ap (λ ws. single_way number ∷ ws) (own_ways count (number + 1))
+      rw (eq-eqb atom atom refl, eq-eqb atom atom refl)
+      (ap (λ ws. single_way number ∷ ws) (own_ways count (number + 1)))
 
   pub no_ways : (vertex : ℕ) → atom ≢ vertex → (count number : ℕ) → (vertex < number) ⊎ (number + count ≤ vertex)
       → ways_in vertex (hydrogen_edges number (replicate count atom)) ≡ []
@@ -148,19 +138,9 @@ module _ (atom : ℕ) where
   no_ways vertex differ (suc count) number out =
       let other : number ≢ vertex =
       λ e. elim out [ inl lt ↦ absurd (omega (arith, lt, e)) | inr le ↦ absurd (omega (arith, le, e)) ] in
-      ap
-      (λ b. map (way vertex)
-      (cond (b || (number == vertex)) (hydrogen_edge number ∷ filter (touches vertex) rest)
-      (filter (touches vertex) rest))) (ne_eqb atom vertex differ)
-      ∙ ap
-      (λ b. map (way vertex)
-      (cond b (hydrogen_edge number ∷ filter (touches vertex) rest) (filter (touches vertex) rest)))
-      (ne_eqb number vertex other)
-      ∙ no_ways vertex differ count (number + 1)
-      (elim out [ inl lt ↦ inl (omega (arith, lt)) | inr le ↦ inr (omega (arith, le)) ])
-    where
-      rest : List Edge
-      rest = hydrogen_edges (number + 1) (replicate count atom)
+      rw (ne_eqb atom vertex differ, ne_eqb number vertex other)
+      (no_ways vertex differ count (number + 1)
+      (elim out [ inl lt ↦ inl (omega (arith, lt)) | inr le ↦ inr (omega (arith, le)) ]))
 
   pub one_way : (vertex : ℕ) → atom ≢ vertex → (count number : ℕ) → number ≤ vertex → vertex < number + count
       → ways_in vertex (hydrogen_edges number (replicate count atom)) ≡ single_way atom ∷ []
@@ -175,26 +155,11 @@ module _ (atom : ℕ) where
           → ways_in vertex (hydrogen_edge number ∷ rest) ≡ single_way atom ∷ []
       by true e more =
           let same = eqb-true number vertex e in
-          ap
-          (λ b. map (way vertex)
-          (cond (b || (number == vertex)) (hydrogen_edge number ∷ filter (touches vertex) rest)
-          (filter (touches vertex) rest))) (ne_eqb atom vertex differ)
-          ∙ ap
-          (λ b. map (way vertex)
-          (cond b (hydrogen_edge number ∷ filter (touches vertex) rest) (filter (touches vertex) rest))) e
-          ∙ ap (λ b. record { to = cond b number atom; order = 1; counted = false } ∷ ways_in vertex rest)
-          (ne_eqb atom vertex differ)
-          ∙ ap (λ ws. single_way atom ∷ ws) (no_ways vertex differ count (number + 1) (inl (omega (arith, same))))
+          rw (ne_eqb atom vertex differ, e, ne_eqb atom vertex differ)
+          (ap (λ ws. single_way atom ∷ ws) (no_ways vertex differ count (number + 1) (inl (omega (arith, same)))))
       by false e more =
           let differs = eqb-false number vertex e in
-          ap
-          (λ b. map (way vertex)
-          (cond (b || (number == vertex)) (hydrogen_edge number ∷ filter (touches vertex) rest)
-          (filter (touches vertex) rest))) (ne_eqb atom vertex differ)
-          ∙ ap
-          (λ b. map (way vertex)
-          (cond b (hydrogen_edge number ∷ filter (touches vertex) rest) (filter (touches vertex) rest))) e
-          ∙ more (omega (arith, low, differs))
+          rw (ne_eqb atom vertex differ, e) (more (omega (arith, low, differs)))
 
 -- the hydrogens of atoms in turn
 module _ (f : ℕ → ℕ) where
@@ -224,13 +189,14 @@ module _ (f : ℕ → ℕ) where
       → ways_in vertex (hydrogen_edges number (carried start count)) ≡ []
   not_carried vertex start zero number out lt = refl
   not_carried vertex start (suc count) number out lt =
-      turn vertex start count number
-      ∙ ap (λ ws. ws ++ ways_in vertex (hydrogen_edges (number + f start) (carried (start + 1) count)))
-      (no_ways start vertex
-      (λ e. elim out [ inl low ↦ absurd (omega (arith, low, e)) | inr high ↦ absurd (omega (arith, high, e)) ])
-      (f start) number (inl lt))
-      ∙ not_carried vertex (start + 1) count (number + f start)
-      (elim out [ inl low ↦ inl (omega (arith, low)) | inr high ↦ inr (omega (arith, high)) ]) (omega (arith, lt))
+      rw (
+        turn vertex start count number,
+        no_ways start vertex
+            (λ e. elim out [ inl low ↦ absurd (omega (arith, low, e)) | inr high ↦ absurd (omega (arith, high, e)) ])
+            (f start) number (inl lt),
+      )
+      (not_carried vertex (start + 1) count (number + f start)
+      (elim out [ inl low ↦ inl (omega (arith, low)) | inr high ↦ inr (omega (arith, high)) ]) (omega (arith, lt)))
 
   pub atom_ways : (place start count number : ℕ) → place < count → start + place < number
       → ways_in (start + place) (hydrogen_edges number (carried start count))
@@ -238,31 +204,26 @@ module _ (f : ℕ → ℕ) where
   atom_ways place start zero number lt low = absurd (omega (arith, lt))
   atom_ways zero start (suc count) number lt low =
       let same : start + 0 ≡ start = omega arith in
-      ap (λ v. ways_in v (hydrogen_edges number (carried start (suc count)))) same
-      ∙ turn start start count number
-      ∙ ap (λ ws. ws ++ ways_in start (hydrogen_edges (number + f start) (carried (start + 1) count)))
-      (own_ways start (f start) number)
-      ∙ ap (λ ws. ways_from number (f start) ++ ws)
-      (not_carried start (start + 1) count (number + f start) (inl (omega arith)) (omega (arith, low)))
-      ∙ nothing_more (ways_from number (f start))
-      ∙ ap (λ n. ways_from n (f start)) (let e : number ≡ number + 0 = omega arith in e)
-      ∙ ap (λ v. ways_from (number + 0) (f v)) (sym same)
-    where
-      nothing_more : (ws : List Way) → ws ++ [] ≡ ws
-      nothing_more [] = refl
-      nothing_more (w ∷ ws) = ap (λ vs. w ∷ vs) (nothing_more ws)
+      rw (
+        same,
+        turn start start count number,
+        own_ways start (f start) number,
+        not_carried start (start + 1) count (number + f start) (inl (omega arith)) (omega (arith, low)),
+        append-nil (ways_from number (f start)),
+      )
+      (ap (λ n. ways_from n (f start)) (let e : number ≡ number + 0 = omega arith in e))
   atom_ways (suc place) start (suc count) number lt low =
       let same : start + suc place ≡ start + 1 + place = omega arith in
-      ap (λ v. ways_in v (hydrogen_edges number (carried start (suc count)))) same
-      ∙ turn (start + 1 + place) start count number
-      ∙ ap (λ ws. ws ++ ways_in (start + 1 + place) (hydrogen_edges (number + f start) (carried (start + 1) count)))
-      (no_ways start (start + 1 + place) (λ e. absurd (omega (arith, e))) (f start) number (inl (omega (arith, low))))
-      ∙ atom_ways place (start + 1) count (number + f start) (omega (arith, lt)) (omega (arith, low))
+      rw (
+        same,
+        turn (start + 1 + place) start count number,
+        no_ways start (start + 1 + place) (λ e. absurd (omega (arith, e))) (f start) number (inl (omega (arith, low))),
+      )
+      (atom_ways place (start + 1) count (number + f start) (omega (arith, lt)) (omega (arith, low))
       ∙ ap (λ n. ways_from n (f (start + 1 + place)))
       (let more = before_more f start place in
       let e : number + f start + before f (start + 1) place ≡ number + before f start (suc place) =
-      omega (arith, more) in e)
-      ∙ ap (λ v. ways_from (number + before f start (suc place)) (f v)) (sym same)
+      omega (arith, more) in e))
 
   -- of a hydrogen
   pub hydrogen_ways : (place start count number index : ℕ) → place < count → index < f (start + place)
@@ -275,38 +236,37 @@ module _ (f : ℕ → ℕ) where
       let at : number + before f start 0 + index ≡ number + index =
       (let none : before f start 0 ≡ 0 = refl in omega (arith, none)) in
       let few : index < f start = subst (λ v. index < f v) same within in
-      ap (λ v. ways_in v (hydrogen_edges number (carried start (suc count)))) at
-      ∙ turn (number + index) start count number
-      ∙ ap (λ ws. ws ++ ways_in (number + index) (hydrogen_edges (number + f start) (carried (start + 1) count)))
-      (one_way start (number + index) (λ e. absurd (omega (arith, e, low))) (f start) number (omega arith)
-      (omega (arith, few)))
-      ∙ ap (λ ws. single_way start ∷ ws)
-      (before_all (number + index) (start + 1) count (number + f start) (omega (arith, few)) (omega (arith, low)))
-      ∙ ap (λ v. single_way v ∷ []) (sym same)
+      rw (
+        at,
+        turn (number + index) start count number,
+        one_way start (number + index) (λ e. absurd (omega (arith, e, low))) (f start) number (omega arith)
+            (omega (arith, few)),
+        before_all (number + index) (start + 1) count (number + f start) (omega (arith, few)) (omega (arith, low)),
+        same,
+      )
     where
       before_all : (vertex start count number : ℕ) → vertex < number → start + count ≤ vertex
           → ways_in vertex (hydrogen_edges number (carried start count)) ≡ []
       before_all vertex start zero number lt le = refl
       before_all vertex start (suc count) number lt le =
-          turn vertex start count number
-          ∙ ap (λ ws. ws ++ ways_in vertex (hydrogen_edges (number + f start) (carried (start + 1) count)))
-          (no_ways start vertex (λ e. absurd (omega (arith, e, le))) (f start) number (inl lt))
-          ∙ before_all vertex (start + 1) count (number + f start) (omega (arith, lt)) (omega (arith, le))
+          rw (
+            turn vertex start count number,
+            no_ways start vertex (λ e. absurd (omega (arith, e, le))) (f start) number (inl lt),
+          )
+          (before_all vertex (start + 1) count (number + f start) (omega (arith, lt)) (omega (arith, le)))
   hydrogen_ways (suc place) start (suc count) number index lt within low =
       let same : start + suc place ≡ start + 1 + place = omega arith in
       let at : number + before f start (suc place) + index ≡ number + f start + before f (start + 1) place + index =
       (let more = before_more f start place in omega (arith, more)) in
-      ap (λ v. ways_in v (hydrogen_edges number (carried start (suc count)))) at
-      ∙ turn (number + f start + before f (start + 1) place + index) start count number
-      ∙ ap
-      (λ ws. ws
-      ++ ways_in (number + f start + before f (start + 1) place + index)
-      (hydrogen_edges (number + f start) (carried (start + 1) count)))
-      (no_ways start (number + f start + before f (start + 1) place + index) (λ e. absurd (omega (arith, e, low)))
-      (f start) number (inr (omega arith)))
-      ∙ hydrogen_ways place (start + 1) count (number + f start) index (omega (arith, lt))
-      (subst (λ v. index < f v) same within) (omega (arith, low))
-      ∙ ap (λ v. single_way v ∷ []) (sym same)
+      rw (
+        at,
+        turn (number + f start + before f (start + 1) place + index) start count number,
+        no_ways start (number + f start + before f (start + 1) place + index) (λ e. absurd (omega (arith, e, low)))
+            (f start) number (inr (omega arith)),
+        same,
+      )
+      (hydrogen_ways place (start + 1) count (number + f start) index (omega (arith, lt))
+      (subst (λ v. index < f v) same within) (omega (arith, low)))
 
   -- behind all hydrogens
   pub beyond_ways : (vertex start count number : ℕ) → number + before f start count ≤ vertex → start + count ≤ number

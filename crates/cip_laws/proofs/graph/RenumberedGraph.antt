@@ -1,33 +1,30 @@
 -- The graph of a renumbered drawing is a renamed graph: atoms and bonds go to their images, and hydrogens follow.
-use Rattle.std.proofs.Common.{◌≡◌, ◌⊎◌, inl, inr, ◌<◌, ◌≤◌, ◌+◌, ◌-◌, ℕ, zero, suc, List, [], ◌∷◌, ◌++◌, map, length, filter, get_or, sum, refl, sym, ap, subst, ◌∙◌, Bool, true, false, cond, ◌==◌, ◌||◌, nat_lt, eqb-true, ltb-true, ltb-false, lt-ltb, le-ltb, arith}
+use Rattle.std.proofs.Common.{◌≡◌, ◌⊎◌, inl, inr, ◌<◌, ◌≤◌, ◌+◌, ◌-◌, ℕ, zero, suc, List, [], ◌∷◌, ◌++◌, map, length, filter, sum, refl, sym, ap, subst, ◌∙◌, Bool, true, false, cond, ◌==◌, ◌||◌, nat_lt, eqb-true, ltb-true, ltb-false, lt-ltb, le-ltb, arith}
 use Rattle.std.specs.List.{AllByRecursion, range_with_len}
 use Rattle.std.specs.List.Sorted.{IsPermutation}
-use Rattle.std.proofs.lemmas.Bool.{ne_eqb}
-use Rattle.std.proofs.lemmas.List.{length-map, length-append, get_or_append_left, get_or-append_right, map-append}
+use Rattle.std.proofs.lemmas.Bool.{cases_lt, ne_eqb}
+use Rattle.std.proofs.lemmas.List.{length-map, length-append, get_or_append_left, get_or-append_right, get_or-map, get_or_past, map-append}
 use Rattle.std.proofs.lemmas.List.FromFn.{length-range_with_len, get_or-map-range_with_len}
 use Rattle.std.proofs.lemmas.List.Sorted.{IsPermutation-refl, IsPermutation-sym, IsPermutation-trans, IsPermutation-cons, IsPermutation-map, IsPermutation-append_left, IsPermutation-append_comm, sum_by-IsPermutation}
 use Rattle.cip_rank.specs.Matching.{InPairs}
 use Rattle.cip_mol.specs.Bonds as bonds
 use Rattle.cip_mol.specs.Drawing.{Drawing}
 use Rattle.cip_mol.specs.declared.molecule.Bond.{Bond}
-use Rattle.cip_mol.specs.declared.molecule.Atom.{Atom}
 use Rattle.cip_mol.proofs.SimpleBonds.{IsJoin}
 use Rattle.cip_digraph.specs.graph.DrawnGraph.{atom_vertex, hydrogen, bond_edge, carriers, hydrogen_edges, graph_of}
-use Rattle.cip_digraph.specs.declared.graph.Vertex.{Vertex}
 use Rattle.cip_digraph.specs.declared.graph.Edge.{Edge}
 use Rattle.cip_digraph.specs.graph.Graph.{Graph, no_vertex, vertex_at, other_end, insert_up, sorted_up, edges_at}
 use Rattle.cip_digraph.specs.graph.Graph as graphs
-use Rattle.cip_digraph.specs.graph.Hydrogens.{atom_at, hydrogens_of}
-use Rattle.cip_digraph.specs.graph.LonePairs.{lone_pair_of}
-use Rattle.cip_digraph.specs.graph.Neglected.{is_counted}
+use Rattle.cip_digraph.specs.graph.Hydrogens.{hydrogens_of}
 use Rattle.cip_digraph.specs.graph.Renumbering.{IsForward, IsTurned, hydrogen_number, IsRenumbering}
-use Rattle.cip_digraph.proofs.Lists.{all_by}
+use Rattle.cip_digraph.proofs.lists.Elements.{all_by}
 use Rattle.cip_image.proofs.lists.Arranged.{filter_arranged}
 use Rattle.cip_image.proofs.lists.CarriedLists.{mapped_twice, mapped_below}
 use Rattle.cip_image.specs.Renamed.{IsInjective}
 use Rattle.cip_image.specs.Renamed.{Way, way, ways, way_image, IsRenamed}
-use Rattle.cip_laws.proofs.graph.HydrogenPlaces.{before, IsPlaced, locate, below_later, one_place, single_way, ways_from, ways_in, ways_append, carried_long, atom_ways, hydrogen_ways, beyond_ways}
-use Rattle.cip_laws.proofs.drawings.RenumberedAtoms.{IsImageBond, image_below, image_injective, image_eq, bond_pairs, touches_carried, hydrogens_same, atom_same, lone_same, counted_same, all_arranged, bonds_join}
+use Rattle.cip_laws.proofs.graph.Inverses.{IsOnto}
+use Rattle.cip_laws.proofs.graph.HydrogenPlaces.{before, locate, below_later, one_place, single_way, ways_from, ways_in, ways_append, carried_long, atom_ways, hydrogen_ways, beyond_ways}
+use Rattle.cip_laws.proofs.drawings.RenumberedAtoms.{IsImageBond, image_below, image_injective, image_onto, image_eq, bond_pairs, touches_carried, hydrogens_same, atom_same, lone_same, counted_same, all_arranged, bonds_join}
 
 insert_permutes : (vertex : ℕ) (edge : Edge) (edges : List Edge)
     → IsPermutation (edge ∷ edges) (insert_up vertex edge edges)
@@ -56,18 +53,6 @@ ways_unsorted graph vertex =
     IsPermutation-map (way vertex) (filter (graphs.touches vertex) graph.edges) (edges_at graph vertex)
     (sorted_permutes vertex (filter (graphs.touches vertex) graph.edges))
 
--- at the place of a range
-
-same_place : {X Y : Type 0} (x : X) (d : X) (ys : List Y) (k : ℕ) → k < length ys → get_or (map (λ _. x) ys) k d ≡ x
-same_place x d [] k lt = absurd (omega (arith, lt))
-same_place x d (y ∷ ys) zero lt = refl
-same_place x d (y ∷ ys) (suc k) lt = same_place x d ys k (omega (arith, lt))
-
-past_place : {X : Type 0} (d : X) (xs : List X) (k : ℕ) → length xs ≤ k → get_or xs k d ≡ d
-past_place d [] k le = refl
-past_place d (x ∷ xs) zero le = absurd (omega (arith, le))
-past_place d (x ∷ xs) (suc k) le = past_place d xs k (omega (arith, le))
-
 module _ (drawing : Drawing) where
   abbrev pub count : ℕ
   count = length drawing.atoms
@@ -94,34 +79,61 @@ module _ (drawing : Drawing) where
       no_vertex v (let e = atoms_long in omega (arith, e, lt))
       ∙ get_or-map-range_with_len (atom_vertex drawing) 0 count v v no_vertex lt (omega arith)
 
-  pub vertex_of_hydrogen : (v : ℕ) → count ≤ v → v < total → vertex_at (graph_of drawing) v ≡ hydrogen
+  -- one of an atom's implicit hydrogens
+  pub record IsHydrogen (v : ℕ) : Type 0 where
+    pub atom : ℕ
+    pub index : ℕ
+    pub below : atom < count
+    pub within : index < hydrogens_of drawing atom
+    pub is : v ≡ hydrogen_number drawing atom index
+
+  -- each of them comes behind the atoms
+  pub hydrogen_range : (v : ℕ) → IsHydrogen v → (count ≤ v) × (v < total)
+  hydrogen_range v p =
+      let e = p.is in
+      let few = p.within in
+      let most = below_later (hydrogens_of drawing) 0 p.atom count p.below in
+      let same : hydrogens_of drawing (0 + p.atom) ≡ hydrogens_of drawing p.atom =
+      ap (hydrogens_of drawing) (let zero_more : 0 + p.atom ≡ p.atom = omega arith in zero_more) in
+      (omega (arith, e), omega (arith, e, few, most, same))
+
+  hydrogen_at : (v : ℕ) → count ≤ v → v < total → IsHydrogen v
+  hydrogen_at v le lt =
+      let p = locate (hydrogens_of drawing) 0 count (v - count) (omega (arith, lt, le)) in
+      record {
+        atom = p.place;
+        index = p.index;
+        below = p.below;
+        within =
+            subst (λ k. p.index < hydrogens_of drawing k)
+            (let zero_more : 0 + p.place ≡ p.place = omega arith in zero_more) p.within;
+        is = (let e = p.is in omega (arith, e, le));
+      }
+
+  -- what stands at a number
+  pub data Kind (v : ℕ) : Type 0 where
+    Drawn : v < count → Kind v
+    Implicit : IsHydrogen v → Kind v
+    Beyond : total ≤ v → Kind v
+
+  pub kind_of : (v : ℕ) → Kind v
+  kind_of v = elim (cases_lt v count) [
+    | inl lt ↦ Drawn lt
+    | inr le ↦ elim (cases_lt v total) [ inl lt ↦ Implicit (hydrogen_at v le lt) | inr beyond ↦ Beyond beyond ]
+  ]
+
+  pub vertex_of_hydrogen : (v : ℕ) → IsHydrogen v → vertex_at (graph_of drawing) v ≡ hydrogen
   unfolding graph_of
-  vertex_of_hydrogen v le lt =
+  vertex_of_hydrogen v p =
+      let range = hydrogen_range v p in
       get_or-append_right (map (atom_vertex drawing) (range_with_len 0 count)) (map (λ _. hydrogen) (carriers drawing))
-      count v no_vertex atoms_long le
-      ∙ same_place hydrogen no_vertex (carriers drawing) (v - count)
-      (let e = carried_long (hydrogens_of drawing) 0 count in omega (arith, e, lt, le))
+      count v no_vertex atoms_long range.0
+      ∙ get_or-map (λ _. hydrogen) (carriers drawing) (v - count) 0 no_vertex
+      (let e = carried_long (hydrogens_of drawing) 0 count in omega (arith, e, range))
 
   pub vertex_of_none : (v : ℕ) → total ≤ v → vertex_at (graph_of drawing) v ≡ no_vertex
   vertex_of_none v le =
-      past_place no_vertex (graph_of drawing).vertices v (let e = vertices_long in omega (arith, e, le))
-
-  -- where a vertex stands
-  pub place_of : (v : ℕ)
-      → (v < count) ⊎ (((count ≤ v) × IsPlaced (hydrogens_of drawing) 0 count (v - count)) ⊎ (total ≤ v))
-  place_of v = by (nat_lt v count) (nat_lt v total) refl refl
-    where
-      by : (a b : Bool) → nat_lt v count ≡ a → nat_lt v total ≡ b
-          → (v < count) ⊎ (((count ≤ v) × IsPlaced (hydrogens_of drawing) 0 count (v - count)) ⊎ (total ≤ v))
-      by true b e f = inl (ltb-true v count e)
-      by false true e f =
-          inr
-          (inl (
-            ltb-false v count e,
-            locate (hydrogens_of drawing) 0 count (v - count)
-                (let lt = ltb-true v total f in let le = ltb-false v count e in omega (arith, lt, le)),
-          ))
-      by false false e f = inr (inr (ltb-false v total f))
+      get_or_past (graph_of drawing).vertices v no_vertex (let e = vertices_long in omega (arith, e, le))
 
   abbrev pub bond_ways : ℕ → List Bond → List Way
   bond_ways v some = ways_in v (map (bond_edge drawing) some)
@@ -145,17 +157,11 @@ module _ (drawing : Drawing) where
   no_bonds v le (bond ∷ some) all =
       let lt_a = all.0.a in
       let lt_b = all.0.b in
-      ap
-      (λ x. map (way v)
-      (cond (x || (bond.b == v)) (bond_edge drawing bond ∷ filter (graphs.touches v) (map (bond_edge drawing) some))
-      (filter (graphs.touches v) (map (bond_edge drawing) some))))
-      (ne_eqb bond.a v (λ e. absurd (omega (arith, e, lt_a, le))))
-      ∙ ap
-      (λ x. map (way v)
-      (cond x (bond_edge drawing bond ∷ filter (graphs.touches v) (map (bond_edge drawing) some))
-      (filter (graphs.touches v) (map (bond_edge drawing) some))))
-      (ne_eqb bond.b v (λ e. absurd (omega (arith, e, lt_b, le))))
-      ∙ no_bonds v le some all.1
+      rw (
+        ne_eqb bond.a v (λ e. absurd (omega (arith, e, lt_a, le))),
+        ne_eqb bond.b v (λ e. absurd (omega (arith, e, lt_b, le))),
+      )
+      (no_bonds v le some all.1)
 
   pub bonds_arranged : (v : ℕ) (xs ys : List Bond) → IsPermutation xs ys
       → IsPermutation (bond_ways v xs) (bond_ways v ys)
@@ -164,6 +170,26 @@ module _ (drawing : Drawing) where
       (filter (graphs.touches v) (map (bond_edge drawing) ys))
       (filter_arranged (graphs.touches v) (map (bond_edge drawing) xs) (map (bond_edge drawing) ys)
       (IsPermutation-map (bond_edge drawing) xs ys p))
+
+  -- the ways to an atom's hydrogens, and from each of them
+  hydrogens_from : (v : ℕ) → v < count
+      → hydrogen_part v ≡ ways_from (count + before (hydrogens_of drawing) 0 v) (hydrogens_of drawing v)
+  hydrogens_from v lt =
+      subst
+      (λ w. hydrogen_part w ≡ ways_from (count + before (hydrogens_of drawing) 0 v) (hydrogens_of drawing w))
+      (let zero_more : 0 + v ≡ v = omega arith in zero_more)
+      (atom_ways (hydrogens_of drawing) v 0 count count lt (omega (arith, lt)))
+
+  hydrogen_from : (v : ℕ) (p : IsHydrogen v) → hydrogen_part v ≡ single_way p.atom ∷ []
+  hydrogen_from v p =
+      let zero_more : 0 + p.atom ≡ p.atom = omega arith in
+      ap hydrogen_part p.is
+      ∙ hydrogen_ways (hydrogens_of drawing) p.atom 0 count count p.index p.below
+      (subst (λ k. p.index < hydrogens_of drawing k) (sym zero_more) p.within) (omega arith)
+      ∙ ap (λ k. single_way k ∷ []) zero_more
+
+  hydrogens_beyond : (v : ℕ) → total ≤ v → hydrogen_part v ≡ []
+  hydrogens_beyond v le = beyond_ways (hydrogens_of drawing) v 0 count count le (omega arith)
 
 -- image on the vertices, and the identity elsewhere
 abbrev pub carry : Drawing → (ℕ → ℕ) → ℕ → ℕ
@@ -205,140 +231,117 @@ module _ (drawing other : Drawing) (image : ℕ → ℕ) (r : IsRenumbering draw
   pub of_none : (v : ℕ) → total drawing ≤ v → c v ≡ v
   of_none v le = ap (λ b. cond b (image v) v) (le-ltb v (total drawing) le)
 
-  -- a hydrogen and its image
-  record IsHydrogen (v : ℕ) : Type 0 where
-    atom : ℕ
-    index : ℕ
-    below : atom < n
-    within : index < h atom
-    is : v ≡ hydrogen_number drawing atom index
-    goes : c v ≡ hydrogen_number other (image atom) index
+  their_atom : (v : ℕ) → v < n → image v < length other.atoms
+  their_atom v lt = let low = image_below drawing other image r sound v lt in let same = r.len in
+      omega (arith, low, same)
 
-  hydrogen_at : (v : ℕ) → n ≤ v → IsPlaced h 0 n (v - n) → IsHydrogen v
-  hydrogen_at v le p =
-      let same : 0 + p.place ≡ p.place = omega arith in
-      let within : p.index < h p.place = subst (λ k. p.index < h k) same p.within in
-      let is : v ≡ hydrogen_number drawing p.place p.index = (let e = p.is in omega (arith, e, le)) in
-      let lt : v < total drawing =
-      (let e = p.is in let most = below_later h 0 p.place n p.below in let few = p.within in
-      omega (arith, e, most, few, le)) in
-      record {
-        atom = p.place;
-        index = p.index;
-        below = p.below;
-        within = within;
-        is = is;
-        goes = of_vertex v lt ∙ ap image is ∙ r.hydrogens p.place p.index p.below within;
-      }
+  pub goes : (k i : ℕ) → k < n → i < h k → c (hydrogen_number drawing k i) ≡ hydrogen_number other (image k) i
+  goes k i lt few =
+      of_vertex (hydrogen_number drawing k i)
+      (hydrogen_range drawing (hydrogen_number drawing k i)
+      (record { atom = k; index = i; below = lt; within = few; is = refl })).1
+      ∙ r.hydrogens k i lt few
 
-  their_within : (v : ℕ) (p : IsHydrogen v) → p.index < g (image p.atom)
-  their_within v p = subst (λ m. p.index < m) (sym (hydrogens_same drawing other image r sound p.atom p.below)) p.within
+  abbrev image_hydrogen : (v : ℕ) → IsHydrogen drawing v → IsHydrogen other (c v)
+  image_hydrogen v p = record {
+    atom = image p.atom;
+    index = p.index;
+    below = their_atom p.atom p.below;
+    within = subst (λ m. p.index < m) (sym (hydrogens_same drawing other image r sound p.atom p.below)) p.within;
+    is = ap c p.is ∙ goes p.atom p.index p.below p.within;
+  }
 
-  their_range : (v : ℕ) → IsHydrogen v → (n ≤ c v) × (c v < total drawing)
-  their_range v p =
-      let e = p.goes in
-      let same : length other.atoms ≡ n = r.len in
-      let lt = image_below drawing other image r sound p.atom p.below in
-      let most = below_later g 0 (image p.atom) n lt in
-      let zero_more : g (0 + image p.atom) ≡ g (image p.atom) =
-      ap g (let f : 0 + image p.atom ≡ image p.atom = omega arith in f) in
-      let few = their_within v p in
-      let sums = hydrogens_together in
-      (omega (arith, e, same), omega (arith, e, same, most, zero_more, few, sums))
+  -- each kind goes to its own
+  below : (v : ℕ) → v < n → c v < length other.atoms
+  below v lt = let e = of_atom v lt in let low = their_atom v lt in omega (arith, e, low)
 
-  atom_range : (v : ℕ) → v < n → c v < n
-  atom_range v lt = let e = of_atom v lt in let low = image_below drawing other image r sound v lt in
-      omega (arith, e, low)
+  above : (v : ℕ) → n ≤ v → length other.atoms ≤ c v
+  above v le = elim (cases_lt v (total drawing)) [
+    | inl lt ↦ (hydrogen_range other (c v) (image_hydrogen v (hydrogen_at drawing v le lt))).0
+    | inr beyond ↦ let e = of_none v beyond in let same = r.len in omega (arith, e, le, same)
+  ]
+
+  inside : (v : ℕ) → v < total drawing → c v < total other
+  inside v lt = elim (cases_lt v n) [
+    | inl low ↦ let there = below v low in omega (arith, there)
+    | inr le ↦ (hydrogen_range other (c v) (image_hydrogen v (hydrogen_at drawing v le lt))).1
+  ]
+
+  outside : (v : ℕ) → total drawing ≤ v → total other ≤ c v
+  outside v le = let e = of_none v le in let same = total_same in omega (arith, e, same, le)
+
+  same_side : (a b m k : ℕ) → (a < m → b < k) → (m ≤ a → k ≤ b) → nat_lt b k ≡ nat_lt a m
+  same_side a b m k f g = elim (cases_lt a m) [
+    | inl lt ↦ lt-ltb b k (f lt) ∙ sym (lt-ltb a m lt)
+    | inr le ↦ le-ltb b k (g le) ∙ sym (le-ltb a m le)
+  ]
+
+  pub drawn_same : (v : ℕ) → nat_lt (c v) (length other.atoms) ≡ nat_lt v n
+  drawn_same v = same_side v (c v) n (length other.atoms) (below v) (above v)
+
+  within_same : (v : ℕ) → nat_lt (c v) (total other) ≡ nat_lt v (total drawing)
+  within_same v = same_side v (c v) (total drawing) (total other) (inside v) (outside v)
 
   injective : IsInjective c
-  injective a b e = by (place_of drawing a) (place_of drawing b)
+  injective a b e = by (kind_of drawing a)
     where
-      two_hydrogens : IsHydrogen a → IsHydrogen b → a ≡ b
+      low : nat_lt b n ≡ nat_lt a n
+      low = sym (drawn_same b) ∙ ap (λ v. nat_lt v (length other.atoms)) (sym e) ∙ drawn_same a
+
+      inner : nat_lt b (total drawing) ≡ nat_lt a (total drawing)
+      inner = sym (within_same b) ∙ ap (λ v. nat_lt v (total other)) (sym e) ∙ within_same a
+
+      two_hydrogens : IsHydrogen drawing a → IsHydrogen drawing b → a ≡ b
       two_hydrogens p q =
-          let same : before g 0 (image p.atom) + p.index ≡ before g 0 (image q.atom) + q.index =
-          (let e1 = p.goes in let e2 = q.goes in omega (arith, e, e1, e2)) in
-          let places =
-          one_place g (image p.atom) (image q.atom) p.index q.index (their_within a p) (their_within b q) same in
-          let atoms : p.atom ≡ q.atom =
-          image_injective drawing other image r sound p.atom q.atom p.below q.below places.0 in
-          let counts : before h 0 p.atom ≡ before h 0 q.atom = ap (before h 0) atoms in
-          let index = places.1 in
-          let is_a = p.is in
-          let is_b = q.is in
-          omega (arith, counts, index, is_a, is_b)
+          let one = image_hydrogen a p in
+          let two = image_hydrogen b q in
+          let same : before g 0 one.atom + one.index ≡ before g 0 two.atom + two.index =
+          (let e1 = one.is in let e2 = two.is in omega (arith, e, e1, e2)) in
+          let places = one_place g one.atom two.atom one.index two.index one.within two.within same in
+          let atoms = image_injective drawing other image r sound p.atom q.atom p.below q.below places.0 in
+          p.is ∙ ap (λ k. hydrogen_number drawing k p.index) atoms ∙ ap (hydrogen_number drawing q.atom) places.1
+          ∙ sym q.is
 
-      by : (a < n) ⊎ (((n ≤ a) × IsPlaced h 0 n (a - n)) ⊎ (total drawing ≤ a))
-          → (b < n) ⊎ (((n ≤ b) × IsPlaced h 0 n (b - n)) ⊎ (total drawing ≤ b)) → a ≡ b
-      by (inl p) (inl q) = image_injective drawing other image r sound a b p q (sym (of_atom a p) ∙ e ∙ of_atom b q)
-      by (inl p) (inr (inl q)) =
-          absurd
-          (let low = atom_range a p in let high = (their_range b (hydrogen_at b q.0 q.1)).0 in
-          omega (arith, low, high, e))
-      by (inl p) (inr (inr q)) =
-          absurd (let low = atom_range a p in let high = of_none b q in omega (arith, low, high, e, q))
-      by (inr (inl p)) (inl q) =
-          absurd
-          (let low = atom_range b q in let high = (their_range a (hydrogen_at a p.0 p.1)).0 in
-          omega (arith, low, high, e))
-      by (inr (inl p)) (inr (inl q)) = two_hydrogens (hydrogen_at a p.0 p.1) (hydrogen_at b q.0 q.1)
-      by (inr (inl p)) (inr (inr q)) =
-          absurd
-          (let low = (their_range a (hydrogen_at a p.0 p.1)).1 in let high = of_none b q in
-          omega (arith, low, high, e, q))
-      by (inr (inr p)) (inl q) =
-          absurd (let low = atom_range b q in let high = of_none a p in omega (arith, low, high, e, p))
-      by (inr (inr p)) (inr (inl q)) =
-          absurd
-          (let low = (their_range b (hydrogen_at b q.0 q.1)).1 in let high = of_none a p in
-          omega (arith, low, high, e, p))
-      by (inr (inr p)) (inr (inr q)) = sym (of_none a p) ∙ e ∙ of_none b q
+      by : Kind drawing a → a ≡ b
+      by (Drawn lt) =
+          let lt_b = ltb-true b n (low ∙ lt-ltb a n lt) in
+          image_injective drawing other image r sound a b lt lt_b (sym (of_atom a lt) ∙ e ∙ of_atom b lt_b)
+      by (Implicit p) =
+          let range = hydrogen_range drawing a p in
+          two_hydrogens p
+          (hydrogen_at drawing b (ltb-false b n (low ∙ le-ltb a n range.0))
+          (ltb-true b (total drawing) (inner ∙ lt-ltb a (total drawing) range.1)))
+      by (Beyond le) =
+          sym (of_none a le) ∙ e ∙ of_none b (ltb-false b (total drawing) (inner ∙ le-ltb a (total drawing) le))
 
-  truth_of : (a b m k : ℕ) → (a < m → b < k) → (m ≤ a → k ≤ b) → nat_lt b k ≡ nat_lt a m
-  truth_of a b m k f g = by (nat_lt a m) refl
+  pub carry_onto : IsOnto c
+  carry_onto w = by (kind_of other w)
     where
-      by : (t : Bool) → nat_lt a m ≡ t → nat_lt b k ≡ t
-      by true e = lt-ltb b k (f (ltb-true a m e))
-      by false e = le-ltb b k (g (ltb-false a m e))
+      by : Kind other w → (v : ℕ) × (w ≡ c v)
+      by (Drawn lt) =
+          let found = image_onto drawing other image r sound w (let same = r.len in omega (arith, lt, same)) in
+          (found.0, found.2 ∙ sym (of_atom found.0 found.1))
+      by (Implicit p) =
+          let low = p.below in
+          let found = image_onto drawing other image r sound p.atom (let same = r.len in omega (arith, low, same)) in
+          let few : p.index < h found.0 =
+          subst (λ k. p.index < k) (ap g found.2 ∙ hydrogens_same drawing other image r sound found.0 found.1)
+          p.within in (
+            hydrogen_number drawing found.0 p.index,
+            p.is ∙ ap (λ k. hydrogen_number other k p.index) found.2 ∙ sym (goes found.0 p.index found.1 few),
+          )
+      by (Beyond le) = (w, sym (of_none w (let same = total_same in omega (arith, same, le))))
 
   vertex_same : (v : ℕ) → vertex_at (graph_of other) (c v) ≡ vertex_at (graph_of drawing) v
-  vertex_same v = by (place_of drawing v)
+  vertex_same v = by (kind_of drawing v)
     where
-      by : (v < n) ⊎ (((n ≤ v) × IsPlaced h 0 n (v - n)) ⊎ (total drawing ≤ v))
-          → vertex_at (graph_of other) (c v) ≡ vertex_at (graph_of drawing) v
-      by (inl p) =
-          let low = image_below drawing other image r sound v p in
-          ap (vertex_at (graph_of other)) (of_atom v p)
-          ∙ vertex_of_atom other (image v) (let same = r.len in omega (arith, low, same))
-          ∙ ap {B = Vertex}
-          (λ (a : Atom). record {
-            z = a.z;
-            isotope = a.isotope;
-            charge = a.charge;
-            lone =
-                lone_pair_of other (image v);
-          }) (atom_same drawing other image r sound v p)
-          ∙ ap {B = Vertex}
-          (λ b. record {
-            z = (atom_at drawing v).z;
-            isotope = (atom_at drawing v).isotope;
-            charge =
-                (atom_at drawing v).charge;
-            lone = b;
-          }) (lone_same drawing other image r sound v p)
-          ∙ sym (vertex_of_atom drawing v p)
-      by (inr (inl p)) =
-          let q = hydrogen_at v p.0 p.1 in
-          let there = their_range v q in
-          let lt : v < total drawing =
-          (let e = p.1.is in let most = below_later h 0 p.1.place n p.1.below in let few = p.1.within in let low =
-          p.0 in omega (arith, e, most, few, low)) in
-          vertex_of_hydrogen other (c v) (let same = r.len in let low = there.0 in omega (arith, same, low))
-          (let same = total_same in let high = there.1 in omega (arith, same, high))
-          ∙ sym (vertex_of_hydrogen drawing v p.0 lt)
-      by (inr (inr p)) =
-          ap (vertex_at (graph_of other)) (of_none v p)
-          ∙ vertex_of_none other v (let same = total_same in omega (arith, same, p))
-          ∙ sym (vertex_of_none drawing v p)
+      by : Kind drawing v → vertex_at (graph_of other) (c v) ≡ vertex_at (graph_of drawing) v
+      by (Drawn lt) =
+          ap (vertex_at (graph_of other)) (of_atom v lt) ∙ vertex_of_atom other (image v) (their_atom v lt)
+          ∙ rw (lone_same drawing other image r sound v lt, atom_same drawing other image r sound v lt)
+          (sym (vertex_of_atom drawing v lt))
+      by (Implicit p) = vertex_of_hydrogen other (c v) (image_hydrogen v p) ∙ sym (vertex_of_hydrogen drawing v p)
+      by (Beyond le) = vertex_of_none other (c v) (outside v le) ∙ sym (vertex_of_none drawing v le)
 
   -- the ways over bonds
   other_same : (v : ℕ) → v < n → (bond two : Bond) → IsImageBond image n bond two
@@ -354,39 +357,23 @@ module _ (drawing other : Drawing) (image : ℕ → ℕ) (r : IsRenumbering draw
 
       by : IsForward image bond two ⊎ IsTurned image bond two → (x : Bool) → (bond.a == v) ≡ x
           → cond (two.a == image v) two.b two.a ≡ c (cond (bond.a == v) bond.b bond.a)
-      by (inl f) x e =
-          ap (λ w. cond (w == image v) two.b w) f.a ∙ ap (λ w. cond (image bond.a == image v) w (image bond.a)) f.b
-          ∙ ap (λ t. cond t (image bond.b) (image bond.a))
-          (image_eq drawing other image r sound bond.a v b.joins.a lt ∙ e)
-          ∙ forward x ∙ ap (λ t. c (cond t bond.b bond.a)) (sym e)
-        where
-          forward : (x : Bool) → cond x (image bond.b) (image bond.a) ≡ c (cond x bond.b bond.a)
-          forward true = sym image_of_b
-          forward false = sym image_of_a
+      by (inl f) true e =
+          rw (f.a, f.b, image_eq drawing other image r sound bond.a v b.joins.a lt, e) (sym image_of_b)
+      by (inl f) false e =
+          rw (f.a, f.b, image_eq drawing other image r sound bond.a v b.joins.a lt, e) (sym image_of_a)
       by (inr t) true e =
           let not_b : (bond.b == v) ≡ false =
           ne_eqb bond.b v (λ same. b.joins.differ (eqb-true bond.a v e ∙ sym same)) in
-          ap (λ w. cond (w == image v) two.b w) t.a ∙ ap (λ w. cond (image bond.b == image v) w (image bond.b)) t.b
-          ∙ ap (λ y. cond y (image bond.a) (image bond.b))
-          (image_eq drawing other image r sound bond.b v b.joins.b lt ∙ not_b)
-          ∙ sym image_of_b ∙ ap (λ y. c (cond y bond.b bond.a)) (sym e)
+          rw (t.a, t.b, image_eq drawing other image r sound bond.b v b.joins.b lt, not_b, e) (sym image_of_b)
       by (inr t) false e =
           let is_b : (bond.b == v) ≡ true = sym (ap (λ y. y || (bond.b == v)) e) ∙ touched in
-          ap (λ w. cond (w == image v) two.b w) t.a ∙ ap (λ w. cond (image bond.b == image v) w (image bond.b)) t.b
-          ∙ ap (λ y. cond y (image bond.a) (image bond.b))
-          (image_eq drawing other image r sound bond.b v b.joins.b lt ∙ is_b)
-          ∙ sym image_of_a ∙ ap (λ y. c (cond y bond.b bond.a)) (sym e)
+          rw (t.a, t.b, image_eq drawing other image r sound bond.b v b.joins.b lt, is_b, e) (sym image_of_a)
 
   way_same : (v : ℕ) → v < n → (bond two : Bond) → IsImageBond image n bond two
       → graphs.touches v (bond_edge drawing bond) ≡ true
       → way (image v) (bond_edge other two) ≡ way_image c (way v (bond_edge drawing bond))
   way_same v lt bond two b touched =
-      ap {B = Way} (λ to. record { to = to; order = two.order; counted = is_counted other two })
-      (other_same v lt bond two b touched)
-      ∙ ap {B = Way}
-      (λ o. record { to = c (cond (bond.a == v) bond.b bond.a); order = o; counted = is_counted other two }) b.is.order
-      ∙ ap {B = Way} (λ x. record { to = c (cond (bond.a == v) bond.b bond.a); order = bond.order; counted = x })
-      (counted_same drawing other image r sound bond two b)
+      rw (counted_same drawing other image r sound bond two b, other_same v lt bond two b touched, b.is.order)
 
   pairs_ways : (v : ℕ) → v < n → (some theirs : List Bond) → InPairs (IsImageBond image n) some theirs
       → bond_ways other (image v) theirs ≡ map (way_image c) (bond_ways drawing v some)
@@ -394,33 +381,22 @@ module _ (drawing other : Drawing) (image : ℕ → ℕ) (r : IsRenumbering draw
   pairs_ways v lt [] (two ∷ theirs) p = absurd p
   pairs_ways v lt (bond ∷ some) [] p = absurd p
   pairs_ways v lt (bond ∷ some) (two ∷ theirs) p =
-      ap
-      (λ b. map (way (image v))
-      (cond b (bond_edge other two ∷ filter (graphs.touches (image v)) (map (bond_edge other) theirs))
-      (filter (graphs.touches (image v)) (map (bond_edge other) theirs))))
-      (touches_carried drawing other image r sound v lt bond two p.0)
-      ∙ by (graphs.touches v (bond_edge drawing bond)) refl (pairs_ways v lt some theirs p.1)
+      by (graphs.touches v (bond_edge drawing bond)) refl (pairs_ways v lt some theirs p.1)
     where
       by : (b : Bool) → graphs.touches v (bond_edge drawing bond) ≡ b
           → bond_ways other (image v) theirs ≡ map (way_image c) (bond_ways drawing v some)
-          → map (way (image v))
-          (cond b (bond_edge other two ∷ filter (graphs.touches (image v)) (map (bond_edge other) theirs))
-          (filter (graphs.touches (image v)) (map (bond_edge other) theirs)))
-          ≡ map (way_image c)
-          (map (way v)
-          (cond b (bond_edge drawing bond ∷ filter (graphs.touches v) (map (bond_edge drawing) some))
-          (filter (graphs.touches v) (map (bond_edge drawing) some))))
+          → bond_ways other (image v) (two ∷ theirs) ≡ map (way_image c) (bond_ways drawing v (bond ∷ some))
       by true e rest =
-          ap (λ w. w ∷ bond_ways other (image v) theirs) (way_same v lt bond two p.0 e)
-          ∙ ap (λ ws. way_image c (way v (bond_edge drawing bond)) ∷ ws) rest
-      by false e rest = rest
+          let f = touches_carried drawing other image r sound v lt bond two p.0 ∙ e in
+          rw (f, e) (ap (λ w. w ∷ bond_ways other (image v) theirs) (way_same v lt bond two p.0 e)
+          ∙ ap (λ ws. way_image c (way v (bond_edge drawing bond)) ∷ ws) rest)
+      by false e rest =
+          let f = touches_carried drawing other image r sound v lt bond two p.0 ∙ e in rw (f, e) rest
 
   bonds_atom : (v : ℕ) → v < n
       → IsPermutation (map (way_image c) (bond_ways drawing v drawing.bonds)) (bond_ways other (c v) other.bonds)
   bonds_atom v lt =
-      subst
-      (λ w. IsPermutation (map (way_image c) (bond_ways drawing v drawing.bonds)) (bond_ways other w other.bonds))
-      (sym (of_atom v lt))
+      rw (of_atom v lt)
       (IsPermutation-trans (map (way_image c) (bond_ways drawing v drawing.bonds))
       (map (way_image c) (bond_ways drawing v r.bonds.one)) (bond_ways other (image v) other.bonds)
       (IsPermutation-map (way_image c) (bond_ways drawing v drawing.bonds) (bond_ways drawing v r.bonds.one)
@@ -442,23 +418,13 @@ module _ (drawing other : Drawing) (image : ℕ → ℕ) (r : IsRenumbering draw
       (each r.bonds.one r.bonds.other (bond_pairs drawing other image r sound))
     where
       one : (bond two : Bond) → IsImageBond image n bond two → Below other two
-      one bond two b = by b.is.ends
-        where
-          low_a : image bond.a < n
-          low_a = image_below drawing other image r sound bond.a b.joins.a
-
-          low_b : image bond.b < n
-          low_b = image_below drawing other image r sound bond.b b.joins.b
-
-          by : IsForward image bond two ⊎ IsTurned image bond two → Below other two
-          by (inl f) = record {
-            a = (let e = f.a in let same = r.len in let low = low_a in omega (arith, e, same, low));
-            b = (let e = f.b in let same = r.len in let low = low_b in omega (arith, e, same, low));
-          }
-          by (inr t) = record {
-            a = (let e = t.a in let same = r.len in let low = low_b in omega (arith, e, same, low));
-            b = (let e = t.b in let same = r.len in let low = low_a in omega (arith, e, same, low));
-          }
+      one bond two b =
+          let low_a = their_atom bond.a b.joins.a in
+          let low_b = their_atom bond.b b.joins.b in
+          elim b.is.ends [
+            | inl f ↦ let a = f.a in let b = f.b in record { a = omega (arith, a, low_a); b = omega (arith, b, low_b) }
+            | inr t ↦ let a = t.a in let b = t.b in record { a = omega (arith, a, low_b); b = omega (arith, b, low_a) }
+          ]
 
       each : (some theirs : List Bond) → InPairs (IsImageBond image n) some theirs → AllByRecursion (Below other) theirs
       each [] [] p = tt
@@ -466,14 +432,11 @@ module _ (drawing other : Drawing) (image : ℕ → ℕ) (r : IsRenumbering draw
       each (bond ∷ some) [] p = absurd p
       each (bond ∷ some) (two ∷ theirs) p = (one bond two p.0, each some theirs p.1)
 
-  bonds_beyond : (v : ℕ) → n ≤ v → n ≤ c v
+  bonds_beyond : (v : ℕ) → n ≤ v
       → IsPermutation (map (way_image c) (bond_ways drawing v drawing.bonds)) (bond_ways other (c v) other.bonds)
-  bonds_beyond v le their_le =
-      subst (λ ws. IsPermutation (map (way_image c) ws) (bond_ways other (c v) other.bonds))
-      (sym (no_bonds drawing v le drawing.bonds our_below))
-      (subst (IsPermutation [])
-      (sym (no_bonds other (c v) (let same = r.len in omega (arith, same, their_le)) other.bonds their_below))
-      (IsPermutation-refl []))
+  bonds_beyond v le =
+      rw (no_bonds drawing v le drawing.bonds our_below, no_bonds other (c v) (above v le) other.bonds their_below)
+      (IsPermutation-refl [])
 
   -- the ways to and from hydrogens
   from_carried : (many a b : ℕ) → ((i : ℕ) → i < many → c (a + i) ≡ b + i)
@@ -487,60 +450,19 @@ module _ (drawing other : Drawing) (image : ℕ → ℕ) (r : IsRenumbering draw
       (λ i lt. ap c (let e : a + 1 + i ≡ a + suc i = omega arith in e) ∙ same (suc i) (omega (arith, lt))
       ∙ (let e : b + suc i ≡ b + 1 + i = omega arith in e)))
 
-  pub goes : (k i : ℕ) → k < n → i < h k → c (hydrogen_number drawing k i) ≡ hydrogen_number other (image k) i
-  goes k i lt few =
-      let most = below_later h 0 k n lt in
-      let same : h (0 + k) ≡ h k = ap h (let e : 0 + k ≡ k = omega arith in e) in
-      of_vertex (hydrogen_number drawing k i) (omega (arith, most, same, few)) ∙ r.hydrogens k i lt few
-
-  our_hydrogens : (v : ℕ) → v < n → hydrogen_part drawing v ≡ ways_from (n + before h 0 v) (h v)
-  our_hydrogens v lt =
-      let zero_more : 0 + v ≡ v = omega arith in
-      ap (hydrogen_part drawing) (sym zero_more) ∙ atom_ways h v 0 n n lt (omega (arith, lt))
-      ∙ ap (λ w. ways_from (n + before h 0 v) (h w)) zero_more
-
-  their_hydrogens : (m : ℕ) → m < length other.atoms
-      → hydrogen_part other m ≡ ways_from (length other.atoms + before g 0 m) (g m)
-  their_hydrogens m lt =
-      let zero_more : 0 + m ≡ m = omega arith in
-      ap (hydrogen_part other) (sym zero_more)
-      ∙ atom_ways g m 0 (length other.atoms) (length other.atoms) lt (omega (arith, lt))
-      ∙ ap (λ w. ways_from (length other.atoms + before g 0 m) (g w)) zero_more
-
   hydrogens_atom : (v : ℕ) → v < n → map (way_image c) (hydrogen_part drawing v) ≡ hydrogen_part other (c v)
   hydrogens_atom v lt =
-      let low = image_below drawing other image r sound v lt in
-      ap (map (way_image c)) (our_hydrogens v lt)
+      ap (map (way_image c)) (hydrogens_from drawing v lt)
       ∙ from_carried (h v) (n + before h 0 v) (length other.atoms + before g 0 (image v)) (λ i few. goes v i lt few)
       ∙ ap (ways_from (length other.atoms + before g 0 (image v)))
       (sym (hydrogens_same drawing other image r sound v lt))
-      ∙ sym (their_hydrogens (image v) (let same = r.len in omega (arith, same, low)))
-      ∙ ap (hydrogen_part other) (sym (of_atom v lt))
+      ∙ sym (hydrogens_from other (image v) (their_atom v lt)) ∙ ap (hydrogen_part other) (sym (of_atom v lt))
 
-  hydrogens_hydrogen : (v : ℕ) → IsHydrogen v → map (way_image c) (hydrogen_part drawing v) ≡ hydrogen_part other (c v)
+  hydrogens_hydrogen : (v : ℕ) → IsHydrogen drawing v
+      → map (way_image c) (hydrogen_part drawing v) ≡ hydrogen_part other (c v)
   hydrogens_hydrogen v p =
-      let low = image_below drawing other image r sound p.atom p.below in
-      let their_low : image p.atom < length other.atoms = (let same = r.len in omega (arith, same, low)) in
-      let here : hydrogen_part drawing v ≡ single_way p.atom ∷ [] =
-      ap (hydrogen_part drawing) p.is
-      ∙ hydrogen_ways h p.atom 0 n n p.index p.below
-      (subst (λ k. p.index < h k) (let e : p.atom ≡ 0 + p.atom = omega arith in e) p.within) (omega arith)
-      ∙ ap (λ k. single_way k ∷ []) (let e : 0 + p.atom ≡ p.atom = omega arith in e) in
-      let there : hydrogen_part other (c v) ≡ single_way (image p.atom) ∷ [] =
-      ap (hydrogen_part other) p.goes
-      ∙ hydrogen_ways g (image p.atom) 0 (length other.atoms) (length other.atoms) p.index their_low
-      (subst (λ k. p.index < g k) (let e : image p.atom ≡ 0 + image p.atom = omega arith in e) (their_within v p))
-      (omega arith)
-      ∙ ap (λ k. single_way k ∷ []) (let e : 0 + image p.atom ≡ image p.atom = omega arith in e) in
-      ap (map (way_image c)) here ∙ ap (λ k. single_way k ∷ []) (of_atom p.atom p.below) ∙ sym there
-
-  hydrogens_none : (v : ℕ) → total drawing ≤ v → map (way_image c) (hydrogen_part drawing v) ≡ hydrogen_part other (c v)
-  hydrogens_none v le =
-      ap (map (way_image c)) (beyond_ways h v 0 n n le (omega arith))
-      ∙ sym
-      (ap (hydrogen_part other) (of_none v le)
-      ∙ beyond_ways g v 0 (length other.atoms) (length other.atoms) (let same = total_same in omega (arith, same, le))
-      (omega arith))
+      ap (map (way_image c)) (hydrogen_from drawing v p) ∙ ap (λ k. single_way k ∷ []) (of_atom p.atom p.below)
+      ∙ sym (hydrogen_from other (c v) (image_hydrogen v p))
 
   both_parts : (v : ℕ)
       → IsPermutation (map (way_image c) (bond_ways drawing v drawing.bonds)) (bond_ways other (c v) other.bonds)
@@ -555,57 +477,19 @@ module _ (drawing other : Drawing) (image : ℕ → ℕ) (r : IsRenumbering draw
       (IsPermutation-sym (here ++ hydrogen_part drawing v) (ways (graph_of drawing) v) (parts drawing v)))
       (IsPermutation-trans (map (way_image c) (here ++ hydrogen_part drawing v)) (there ++ hydrogen_part other (c v))
       (ways (graph_of other) (c v))
-      (subst (λ ws. IsPermutation ws (there ++ hydrogen_part other (c v)))
-      (sym (map-append (way_image c) here (hydrogen_part drawing v)))
-      (subst (λ ws. IsPermutation (map (way_image c) here ++ ws) (there ++ hydrogen_part other (c v))) (sym e)
-      (IsPermutation-append_left (hydrogen_part other (c v)) (map (way_image c) here) there p)))
+      (rw (map-append (way_image c) here (hydrogen_part drawing v), e)
+      (IsPermutation-append_left (hydrogen_part other (c v)) (map (way_image c) here) there p))
       (parts other (c v)))
 
   ways_same : (v : ℕ) → IsPermutation (map (way_image c) (ways (graph_of drawing) v)) (ways (graph_of other) (c v))
-  ways_same v = by (place_of drawing v)
+  ways_same v = by (kind_of drawing v)
     where
-      by : (v < n) ⊎ (((n ≤ v) × IsPlaced h 0 n (v - n)) ⊎ (total drawing ≤ v))
-          → IsPermutation (map (way_image c) (ways (graph_of drawing) v)) (ways (graph_of other) (c v))
-      by (inl p) = both_parts v (bonds_atom v p) (hydrogens_atom v p)
-      by (inr (inl p)) = let q = hydrogen_at v p.0 p.1 in
-          both_parts v (bonds_beyond v p.0 (their_range v q).0) (hydrogens_hydrogen v q)
-      by (inr (inr p)) =
-          both_parts v (bonds_beyond v (omega (arith, p)) (let e = of_none v p in omega (arith, e, p)))
-          (hydrogens_none v p)
-
-  within_same : (v : ℕ) → nat_lt (c v) (total other) ≡ nat_lt v (total drawing)
-  within_same v = by (place_of drawing v)
-    where
-      both : (x y m k : ℕ) → x < m → y < k → nat_lt x m ≡ nat_lt y k
-      both x y m k p q = lt-ltb x m p ∙ sym (lt-ltb y k q)
-
-      by : (v < n) ⊎ (((n ≤ v) × IsPlaced h 0 n (v - n)) ⊎ (total drawing ≤ v))
-          → nat_lt (c v) (total other) ≡ nat_lt v (total drawing)
-      by (inl p) = let low = atom_range v p in let same = total_same in
-          both (c v) v (total other) (total drawing) (omega (arith, low, same)) (omega (arith, p))
-      by (inr (inl p)) =
-          let high = (their_range v (hydrogen_at v p.0 p.1)).1 in
-          let same = total_same in
-          let lt : v < total drawing =
-          (let e = p.1.is in let most = below_later h 0 p.1.place n p.1.below in let few = p.1.within in let low =
-          p.0 in omega (arith, e, most, few, low)) in
-          both (c v) v (total other) (total drawing) (omega (arith, high, same)) lt
-      by (inr (inr p)) = let e = of_none v p in let same = total_same in
-          le-ltb (c v) (total other) (omega (arith, e, same, p)) ∙ sym (le-ltb v (total drawing) p)
-
-  pub drawn_same : (v : ℕ) → nat_lt (c v) (length other.atoms) ≡ nat_lt v n
-  drawn_same v = by (place_of drawing v)
-    where
-      by : (v < n) ⊎ (((n ≤ v) × IsPlaced h 0 n (v - n)) ⊎ (total drawing ≤ v))
-          → nat_lt (c v) (length other.atoms) ≡ nat_lt v n
-      by (inl p) = let low = atom_range v p in let same = r.len in
-          lt-ltb (c v) (length other.atoms) (omega (arith, low, same)) ∙ sym (lt-ltb v n p)
-      by (inr (inl p)) =
-          let low = (their_range v (hydrogen_at v p.0 p.1)).0 in
-          let same = r.len in
-          le-ltb (c v) (length other.atoms) (omega (arith, low, same)) ∙ sym (le-ltb v n p.0)
-      by (inr (inr p)) = let e = of_none v p in let same = r.len in
-          le-ltb (c v) (length other.atoms) (omega (arith, e, same, p)) ∙ sym (le-ltb v n (omega (arith, p)))
+      by : Kind drawing v → IsPermutation (map (way_image c) (ways (graph_of drawing) v)) (ways (graph_of other) (c v))
+      by (Drawn lt) = both_parts v (bonds_atom v lt) (hydrogens_atom v lt)
+      by (Implicit p) = both_parts v (bonds_beyond v (hydrogen_range drawing v p).0) (hydrogens_hydrogen v p)
+      by (Beyond le) =
+          both_parts v (bonds_beyond v (omega (arith, le)))
+          (ap (map (way_image c)) (hydrogens_beyond drawing v le) ∙ sym (hydrogens_beyond other (c v) (outside v le)))
 
   drawn_renamed : (v : ℕ) → nat_lt (c v) (graph_of other).drawn ≡ nat_lt v (graph_of drawing).drawn
   unfolding graph_of

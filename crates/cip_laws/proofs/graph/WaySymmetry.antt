@@ -1,29 +1,19 @@
 -- In a sound graph each way leads back, and two ways to one vertex are the same.
-use Rattle.std.proofs.Common.{◌≡◌, ◌≢◌, inl, inr, ℕ, List, [], ◌∷◌, map, length, filter, refl, sym, ap, subst, ◌∙◌, Bool, true, false, cond, ◌==◌, ◌||◌, eqb-true, eq-eqb}
+use Rattle.std.proofs.Common.{◌≡◌, ◌≢◌, ℕ, map, length, filter, refl, sym, ap, subst, ◌∙◌, Bool, true, false, cond, ◌==◌, ◌||◌, eqb-true, eq-eqb}
 use Rattle.std.specs.List.{AllByRecursion}
-use Rattle.std.proofs.lemmas.Bool.{ne_eqb}
+use Rattle.std.proofs.lemmas.Bool.{ne_eqb, or_right}
 use Rattle.std.proofs.lemmas.List.Sorted.{IsPermutation-sym}
 use Rattle.cip_digraph.specs.declared.graph.Edge.{Edge}
 use Rattle.cip_digraph.specs.graph.Graph.{Graph, touches, other_end, edges_at}
 use Rattle.cip_digraph.specs.graph.SoundGraphs.{JoinsBelow, IsSound}
-use Rattle.cip_digraph.proofs.Lists.{Pairwise, by_recursion}
-use Rattle.cip_digraph.proofs.NeighbourOrder.{neighbours_differ}
+use Rattle.cip_digraph.proofs.lists.Elements.{Pairwise, by_recursion}
+use Rattle.cip_digraph.proofs.bonds.Neighbours.{neighbours_differ}
 use Rattle.cip_image.specs.Images.{Among}
 use Rattle.cip_image.proofs.lists.Among.{among_map, from_map, among_filter, from_filter, among_arranged, among_all}
 use Rattle.cip_image.proofs.lists.CarriedLists.{mapped_twice}
 use Rattle.cip_image.specs.Renamed.{Way, way, ways, way_image, IsRenamed}
+use Rattle.cip_laws.proofs.drawings.RenumberedAtoms.{one_of}
 use Rattle.cip_laws.proofs.graph.RenumberedGraph.{sorted_permutes}
-
--- elements with different images are the same where their images are
-pub one_of : {X : Type 0} (f : X → ℕ) (xs : List X) → Pairwise ◌≢◌ (map f xs) → (x y : X) → Among x xs → Among y xs
-    → f x ≡ f y → x ≡ y
-one_of f [] differ x y h k e = absurd h
-one_of f (z ∷ zs) differ x y (inl p) (inl q) e = p ∙ sym q
-one_of f (z ∷ zs) differ x y (inl p) (inr k) e =
-    absurd (among_all (λ v. f z ≢ v) (f y) (map f zs) differ.0 (among_map f y zs k) (sym (ap f p) ∙ e))
-one_of f (z ∷ zs) differ x y (inr h) (inl q) e =
-    absurd (among_all (λ v. f z ≢ v) (f x) (map f zs) differ.0 (among_map f x zs h) (sym (ap f q) ∙ sym e))
-one_of f (z ∷ zs) differ x y (inr h) (inr k) e = one_of f zs differ.1 x y h k e
 
 -- an edge at a vertex
 pub record IsEdgeAt (graph : Graph) (vertex : ℕ) (w : Way) : Type 0 where
@@ -70,46 +60,34 @@ module _ (graph : Graph) where
         j : JoinsBelow (length graph.vertices) edge
         j = among_all (JoinsBelow (length graph.vertices)) edge graph.edges joins h
 
-        or_true : (a b : Bool) → b ≡ true → (a || b) ≡ true
-        or_true true b e = refl
-        or_true false b e = e
-
         by : (b : Bool) → (edge.a == vertex) ≡ b
             → LeadsBack vertex
             (record { to = cond (edge.a == vertex) edge.b edge.a; order = edge.order; counted = edge.counted })
         by true e =
             let is_a = eqb-true edge.a vertex e in
             let there : touches edge.b edge ≡ true =
-            or_true (edge.a == edge.b) (edge.b == edge.b) (eq-eqb edge.b edge.b refl) in
+            or_right (edge.a == edge.b) (edge.b == edge.b) (eq-eqb edge.b edge.b refl) in
             let back : other_end edge.b edge ≡ vertex =
             ap (λ x. cond x edge.b edge.a) (ne_eqb edge.a edge.b j.differ) ∙ is_a in
-            let to : cond (edge.a == vertex) edge.b edge.a ≡ edge.b = ap (λ x. cond x edge.b edge.a) e in
-            record {
+            rw e
+            (record {
               back =
-                  subst
-                  (λ v. Among (record { to = vertex; order = edge.order; counted = edge.counted }) (ways graph v))
-                  (sym to)
-                  (subst
-                  (λ v. Among (record { to = v; order = edge.order; counted = edge.counted }) (ways graph edge.b)) back
-                  (way_of edge.b edge h there));
-              differ = λ same. j.differ (is_a ∙ same ∙ to);
-            }
+                  subst (λ v. Among (record { to = v; order = edge.order; counted = edge.counted }) (ways graph edge.b))
+                  back (way_of edge.b edge h there);
+              differ = λ same. j.differ (is_a ∙ same);
+            })
         by false e =
             let is_b = eqb-true edge.b vertex (sym (ap (λ x. x || (edge.b == vertex)) e) ∙ t) in
             let there : touches edge.a edge ≡ true = ap (λ x. x || (edge.b == edge.a)) (eq-eqb edge.a edge.a refl) in
             let back : other_end edge.a edge ≡ vertex =
             ap (λ x. cond x edge.b edge.a) (eq-eqb edge.a edge.a refl) ∙ is_b in
-            let to : cond (edge.a == vertex) edge.b edge.a ≡ edge.a = ap (λ x. cond x edge.b edge.a) e in
-            record {
+            rw e
+            (record {
               back =
-                  subst
-                  (λ v. Among (record { to = vertex; order = edge.order; counted = edge.counted }) (ways graph v))
-                  (sym to)
-                  (subst
-                  (λ v. Among (record { to = v; order = edge.order; counted = edge.counted }) (ways graph edge.a)) back
-                  (way_of edge.a edge h there));
-              differ = λ same. j.differ (sym to ∙ sym same ∙ sym is_b);
-            }
+                  subst (λ v. Among (record { to = v; order = edge.order; counted = edge.counted }) (ways graph edge.a))
+                  back (way_of edge.a edge h there);
+              differ = λ same. j.differ (sym same ∙ sym is_b);
+            })
 
     pub leads_back : (vertex : ℕ) (w : Way) → Among w (ways graph vertex) → LeadsBack vertex w
     leads_back vertex w h = let e = edge_of vertex w h in
@@ -128,10 +106,3 @@ module _ (graph other : Graph) (image : ℕ → ℕ) (r : IsRenamed graph other 
   way_there vertex w h =
       among_arranged (way_image image w) (map (way_image image) (ways graph vertex)) (ways other (image vertex))
       (r.ways vertex) (among_map (way_image image) w (ways graph vertex) h)
-
-  pub way_from : (vertex : ℕ) (v : Way) → Among v (ways other (image vertex))
-      → (w : Way) × Among w (ways graph vertex) × (v ≡ way_image image w)
-  way_from vertex v h =
-      from_map (way_image image) v (ways graph vertex)
-      (among_arranged v (ways other (image vertex)) (map (way_image image) (ways graph vertex))
-      (IsPermutation-sym (map (way_image image) (ways graph vertex)) (ways other (image vertex)) (r.ways vertex)) h)

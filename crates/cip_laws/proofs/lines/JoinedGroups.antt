@@ -1,8 +1,10 @@
 -- Names of groups that are put together.
 use Rattle.std.proofs.Common.{◌≡◌, ℕ, List, [], ◌∷◌, ◌++◌, ◌||◌, ◌&&◌, Bool, true, false, not, cond, refl, sym, ap, ◌∙◌, eq-eqb, eqb-true}
+use Rattle.std.proofs.Common.{arith}
 use Rattle.std.specs.Prelude.{nat_eq}
 use Rattle.std.specs.List.{list_any}
 use Rattle.std.proofs.lemmas.List.Folds.{list_any-append}
+use Rattle.std.proofs.Math.Bool.{or-false}
 use Rattle.cip_groups.specs.declared.groups.Group.{Group}
 use Rattle.cip_groups.specs.declared.kinds.GroupKind.{GroupKind}
 use Rattle.cip_groups.specs.declared.kinds.GroupKind.TheVariants.{Absolute, Racemic, Relative}
@@ -12,14 +14,9 @@ use Rattle.cip_laws.specs.GroupLaws.{is_named, holds, are_different}
 
 pub same_is : (one other : GroupKind) → same_kind one other ≡ true → one ≡ other
 same_is Absolute Absolute e = refl
-same_is Absolute (Racemic b) e = absurd cc
-same_is Absolute (Relative b) e = absurd cc
-same_is (Racemic a) Absolute e = absurd cc
 same_is (Racemic a) (Racemic b) e = ap Racemic (eqb-true a b e)
-same_is (Racemic a) (Relative b) e = absurd cc
-same_is (Relative a) Absolute e = absurd cc
-same_is (Relative a) (Racemic b) e = absurd cc
 same_is (Relative a) (Relative b) e = ap Relative (eqb-true a b e)
+same_is one other e = absurd cc
 
 itself : (kind : GroupKind) → same_kind kind kind ≡ true
 itself Absolute = refl
@@ -34,25 +31,17 @@ same_by one other true is e = sym (itself one) ∙ ap (same_kind one) (sym (same
 pub apart : (one other : GroupKind) → same_kind one other ≡ false → same_kind other one ≡ false
 apart one other e = same_by one other (same_kind other one) refl e ∙ refl
 
-or_none : (b : Bool) → (b || false) ≡ b
-or_none true = refl
-or_none false = refl
-
 or_again : (a b : Bool) → (a || b) ≡ ((a || b) || a)
-or_again true true = refl
-or_again true false = refl
-or_again false true = refl
-or_again false false = refl
+or_again a b = grind arith
 
 or_assoc : (a b c : Bool) → (a || (b || c)) ≡ ((a || b) || c)
-or_assoc true b c = refl
-or_assoc false b c = refl
+or_assoc a b c = grind arith
 
 module _ (kind : GroupKind) (number : ℕ) (atoms : List ℕ) where
   -- a line names its own group beside those that are there
   pub named_with : (name : GroupKind) (groups : List Group)
       → is_named name (with_line kind number atoms groups) ≡ (is_named name groups || same_kind name kind)
-  named_with name [] = or_none (same_kind name kind)
+  named_with name [] = or-false (same_kind name kind)
   named_with name (group ∷ groups) = by (same_kind kind group.kind) refl (named_with name groups)
     where
       by : (b : Bool) → same_kind kind group.kind ≡ b
@@ -70,16 +59,7 @@ module _ (kind : GroupKind) (number : ℕ) (atoms : List ℕ) where
           ∙ or_assoc (same_kind name group.kind) (is_named name groups) (same_kind name kind)
 
   both_any : (a b c d : Bool) → ((a && (b || c)) || d) ≡ (((a && b) || d) || (a && c))
-  both_any true true true true = refl
-  both_any true true true false = refl
-  both_any true true false true = refl
-  both_any true true false false = refl
-  both_any true false true true = refl
-  both_any true false true false = refl
-  both_any true false false true = refl
-  both_any true false false false = refl
-  both_any false b c true = refl
-  both_any false b c false = refl
+  both_any a b c d = grind arith
 
   -- a group of this name holds the atom
   abbrev held : GroupKind → ℕ → Group → Bool
@@ -89,7 +69,7 @@ module _ (kind : GroupKind) (number : ℕ) (atoms : List ℕ) where
   pub held_with : (name : GroupKind) (atom : ℕ) (groups : List Group)
       → holds name atom (with_line kind number atoms groups)
       ≡ (holds name atom groups || (same_kind name kind && list_any (nat_eq atom) atoms))
-  held_with name atom [] = or_none (same_kind name kind && list_any (nat_eq atom) atoms)
+  held_with name atom [] = or-false (same_kind name kind && list_any (nat_eq atom) atoms)
   held_with name atom (group ∷ groups) = by (same_kind kind group.kind) refl (held_with name atom groups)
     where
       by : (b : Bool) → same_kind kind group.kind ≡ b
@@ -142,7 +122,7 @@ joined_more groups (line ∷ lines) more = joined_more (with_line line.kind line
 
 pub named_joined : (kind : GroupKind) (groups lines : List Group)
     → is_named kind (joined groups lines) ≡ (is_named kind groups || is_named kind lines)
-named_joined kind groups [] = sym (or_none (is_named kind groups))
+named_joined kind groups [] = sym (or-false (is_named kind groups))
 named_joined kind groups (line ∷ lines) =
     named_joined kind (with_line line.kind line.line line.atoms groups) lines
     ∙ ap (λ b. b || is_named kind lines) (named_with line.kind line.line line.atoms kind groups)
@@ -150,7 +130,7 @@ named_joined kind groups (line ∷ lines) =
 
 pub held_joined : (kind : GroupKind) (atom : ℕ) (groups lines : List Group)
     → holds kind atom (joined groups lines) ≡ (holds kind atom groups || holds kind atom lines)
-held_joined kind atom groups [] = sym (or_none (holds kind atom groups))
+held_joined kind atom groups [] = sym (or-false (holds kind atom groups))
 held_joined kind atom groups (line ∷ lines) =
     held_joined kind atom (with_line line.kind line.line line.atoms groups) lines
     ∙ ap (λ b. b || holds kind atom lines) (held_with line.kind line.line line.atoms kind atom groups)

@@ -3,6 +3,7 @@ use Rattle.std.proofs.Common.{◌≡◌, inl, inr, ℕ, List, [], ◌∷◌, ◌
 use Rattle.std.specs.Prelude.{nat_eq}
 use Rattle.std.specs.List.{list_any, cons_option}
 use Rattle.std.proofs.lemmas.List.{append-nil}
+use Rattle.std.proofs.Math.Bool.{or-true}
 use Rattle.cip_reading.specs.Reading.{◌>>=◌}
 use Rattle.cip_reading.specs.Turns.{over}
 use Rattle.cip_v3000.specs.declared.frames.FrameLine.TheVariants.{BeginCollection, EndCollection}
@@ -23,10 +24,6 @@ use Rattle.cip_laws.proofs.lines.LineSteps.{reads_as}
 use Rattle.cip_laws.proofs.lines.OtherCauses.{refused_of, kind_not_told, names_not_told, atoms_not_told}
 use Rattle.cip_laws.proofs.lines.TakenAtoms.{taken_by}
 
-or_true : (b : Bool) → (b || true) ≡ true
-or_true true = refl
-or_true false = refl
-
 again : (before : List ℕ) (atom : ℕ) (b : Bool) → list_any (nat_eq atom) before ≡ b
     → with_taken before atom ≡ Err Repeated → b ≡ true
 again before atom true is e = refl
@@ -44,7 +41,7 @@ taken_twice before (atom ∷ atoms) e =
           let one = taken_by before atom later.0 (list_any (nat_eq atom) before) refl later.1 in
           ap (λ b. list_any (nat_eq atom) before || b)
           (ap (λ taken. repeats taken atoms) (sym one.all) ∙ taken_twice later.0 atoms later.2)
-          ∙ or_true (list_any (nat_eq atom) before)
+          ∙ or-true (list_any (nat_eq atom) before)
     ]
 
 abbrev pub repeated_at : ℕ → GroupFault

@@ -5,7 +5,6 @@ use Rattle.std.proofs.lemmas.Bool.{and_parts}
 use Rattle.cip_rank.specs.declared.rules.Rules.{Rules}
 use Rattle.cip_mol.specs.Bonds as bonds
 use Rattle.cip_mol.specs.Drawing.{Drawing}
-use Rattle.cip_mol.specs.Geometry.{geometry_of}
 use Rattle.cip_mol.specs.Marks.{is_narrow_at, joins}
 use Rattle.cip_mol.specs.declared.descriptor.Sense.{Sense}
 use Rattle.cip_mol.specs.declared.descriptor.Sense.TheVariants.{Plus}
@@ -22,17 +21,15 @@ use Rattle.cip_digraph.specs.units.Centres.{is_centre}
 use Rattle.cip_digraph.specs.units.Descriptors.{turned_if}
 use Rattle.cip_digraph.specs.units.DrawnUnits.{units_in}
 use Rattle.cip_digraph.specs.units.Units.{centre_site}
-use Rattle.cip_digraph.proofs.DrawnSound.{drawn_sound}
+use Rattle.cip_digraph.proofs.bonds.Sound.{drawn_sound}
 use Rattle.cip_image.specs.Images.{IsImageOutcome}
-use Rattle.cip_laws.proofs.drawings.Renumbered.{senses}
+use Rattle.cip_laws.proofs.drawings.Renumbered.{matching}
 use Rattle.cip_laws.proofs.drawings.RenumberedBonds.{renumbered_sound}
 use Rattle.cip_image.proofs.graph.CarriedPositions.{positions_renamed}
-use Rattle.cip_laws.proofs.graph.DelocalisedEnds.{delocalised_at_both}
 use Rattle.cip_laws.proofs.graph.RenumberedGraph.{carry, graph_renamed}
 use Rattle.cip_image.proofs.outcomes.CarriedOutcomes.{outcome_carried}
 use Rattle.cip_image.specs.Renamed.{IsRenamed}
 use Rattle.cip_laws.proofs.units.CarriedSites.{SiteImage, centre_carried, centre_image}
-use Rattle.cip_laws.proofs.units.RenumberedUnits.{carry_onto, units_match}
 use Rattle.cip_set.specs.FoundCentres.{outcome_as, shown_at}
 use Rattle.cip_set.specs.MarkLaw.{KeepsRanks}
 use Rattle.cip_set.specs.Marking.{bare, bare_bonds, has_centre, is_free, is_plain, marked, marked_to, with_mark}
@@ -114,11 +111,7 @@ module _ (rules : Rules) (nodes : ℕ) (drawing : Drawing) (atom neighbour : ℕ
   carried =
       outcome_carried rules graph other (positions_of graph) (positions_of other) image r
       (positions_renamed graph other image r) (drawn_sound ours ours_sound) (units_in ours) (units_in theirs)
-      (units_match graph other image r (carry_onto ours theirs still (turned_still atom neighbour ours) ours_sound)
-      (drawn_sound ours ours_sound) (drawn_sound theirs theirs_sound)
-      (delocalised_at_both graph (drawn_sound ours ours_sound))
-      (delocalised_at_both other (drawn_sound theirs theirs_sound)) (geometry_of ours) (geometry_of theirs)
-      (senses ours theirs still ours_sound theirs_sound (turned_still atom neighbour ours)))
+      (matching ours theirs still ours_sound theirs_sound (turned_still atom neighbour ours))
       nodes (record { site = centre_site graph atom; geometry = Known Plus })
       (record { site = centre_site other (image atom); geometry = Known (turned_if s.odd Plus) })
       (record { odd = s.odd; site = s.carried; geometry = refl })
@@ -139,13 +132,7 @@ module _ (rules : Rules) (nodes : ℕ) (drawing : Drawing) (atom neighbour : ℕ
   -- and of the centre in the drawing as it was
   as_drawn : IsImageOutcome still (centre_site (graph_of drawing) atom) (centre_site other atom)
       (outcome_as rules nodes drawing atom (Known Plus)) (opened still)
-  as_drawn =
-      subst
-      (λ (g : Graph). IsImageOutcome still (centre_site g atom) (centre_site other atom)
-      (outcome_as rules nodes drawing atom (Known Plus)) (opened still)) kept.graph
-      (subst
-      (λ (found : Outcome). IsImageOutcome still (centre_site graph atom) (centre_site other atom) found (opened still))
-      (kept.outcomes rules nodes (Known Plus)) unmoved)
+  as_drawn = rw (← kept.outcomes rules nodes (Known Plus), ← kept.graph) unmoved
 
   given : (mark : Mark) (sense : Sense) → shown_at (with_mark drawing atom neighbour mark) atom ≡ Known sense
       → KeepsLigands rules nodes drawing (with_mark drawing atom neighbour mark) atom
@@ -159,10 +146,7 @@ module _ (rules : Rules) (nodes : ℕ) (drawing : Drawing) (atom neighbour : ℕ
             marks_keep rules nodes theirs (with_mark drawing atom neighbour mark).bonds atom sense stands_there remarked
             shown
             ∙ sym (senses_keep (setting_in rules theirs) nodes (centre_site other atom) (turned_if s.odd Plus));
-        ligands =
-            subst
-            (λ (g : Graph). IsImageOutcome still (centre_site (graph_of drawing) atom) (centre_site g atom)
-            (outcome_as rules nodes drawing atom (Known Plus)) (opened still)) (sym there.graph) as_drawn;
+        ligands = rw there.graph as_drawn;
       }
 
 pub given_keep : GivenMarksKeepLigands

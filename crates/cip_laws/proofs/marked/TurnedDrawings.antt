@@ -1,10 +1,10 @@
 -- A drawing in which the free bond to a neighbour is turned is a renumbering that leaves each vertex where it is.
-use Rattle.std.proofs.Common.{◌≡◌, ◌∙◌, ◌+◌, inl, inr, ap, sym, subst, refl, ℕ, List, [], ◌∷◌, Bool, true, false, cond, map, filter, length, sum, ◌==◌, ◌&&◌, ◌||◌, eqb-true}
+use Rattle.std.proofs.Common.{◌≡◌, ◌∙◌, ◌+◌, inl, inr, ap, sym, subst, refl, ℕ, List, [], ◌∷◌, Bool, true, false, cond, map, length, sum, ◌==◌, ◌&&◌, ◌||◌, eqb-true}
 use Rattle.std.specs.List.{range_with_len}
 use Rattle.std.specs.List.Sorted.{IsPermutation}
 use Rattle.std.proofs.lemmas.Bool.{and_parts, or_cases}
+use Rattle.std.proofs.lemmas.List.{map-id}
 use Rattle.std.proofs.lemmas.List.Sorted.{IsPermutation-refl}
-use Rattle.std.proofs.lemmas.List.Sums.{sum_by-cons}
 use Rattle.cip_rank.specs.Matching.{InPairs}
 use Rattle.cip_mol.specs.Bonds.{touches}
 use Rattle.cip_mol.specs.Drawing.{Drawing}
@@ -14,6 +14,8 @@ use Rattle.cip_mol.specs.declared.molecule.Mark.{Mark}
 use Rattle.cip_mol.specs.declared.molecule.Mark.TheVariants.{Plain, Up, Down, Either}
 use Rattle.cip_digraph.specs.graph.Hydrogens.{atom_at, bond_orders, hydrogens, hydrogens_of}
 use Rattle.cip_digraph.specs.graph.Renumbering.{IsImage, IsRenumbering}
+use Rattle.std.proofs.Math.Bool.{or_comm}
+use Rattle.cip_laws.proofs.drawings.RenumberedAtoms.{orders_alike}
 use Rattle.cip_set.specs.Marking.{is_free, is_plain, marked, marked_to}
 use Rattle.cip_laws.proofs.graph.RenumberedGraph.{carry}
 
@@ -26,12 +28,6 @@ plain_is Up e = let bad : false ≡ true = e in cc
 plain_is Down e = let bad : false ≡ true = e in cc
 plain_is Either e = let bad : false ≡ true = e in cc
 
-either_way : (a b : Bool) → (a || b) ≡ (b || a)
-either_way true true = refl
-either_way true false = refl
-either_way false true = refl
-either_way false false = refl
-
 both_same : (b : Bool) (v : ℕ) → cond b v v ≡ v
 both_same true v = refl
 both_same false v = refl
@@ -39,37 +35,17 @@ both_same false v = refl
 pub carried_still : (drawing : Drawing) (v : ℕ) → carry drawing still v ≡ v
 carried_still drawing v = both_same _ v
 
-map_still : (vs : List ℕ) → map still vs ≡ vs
-map_still [] = refl
-map_still (v ∷ vs) = ap (λ us. v ∷ us) (map_still vs)
-
 module _ (k : ℕ) where
   touched : (one other : Bond) → IsImage still one other → touches k other ≡ touches k one
   touched one other image =
       elim image.ends [
         | inl forward ↦ (λ i. (forward.a i == k) || (forward.b i == k))
-        | inr turned ↦ (λ i. (turned.a i == k) || (turned.b i == k)) ∙ either_way (one.b == k) (one.a == k)
+        | inr turned ↦ (λ i. (turned.a i == k) || (turned.b i == k)) ∙ or_comm (one.b == k) (one.a == k)
       ]
 
   orders_same : (some others : List Bond) → InPairs (IsImage still) some others
       → bond_orders k others ≡ bond_orders k some
-  orders_same [] [] h = refl
-  orders_same [] (m ∷ ms) h = absurd h
-  orders_same (n ∷ ns) [] h = absurd h
-  orders_same (n ∷ ns) (m ∷ ms) h =
-      ap
-      (λ t. sum (map (λ (bond : Bond). bond.order) (cond t (m ∷ filter (touches k) ms) (filter (touches k) ms))))
-      (touched n m h.0)
-      ∙ by (touches k n) (orders_same ns ms h.1)
-    where
-      by : (t : Bool) → bond_orders k ms ≡ bond_orders k ns
-          → sum (map (λ (bond : Bond). bond.order) (cond t (m ∷ filter (touches k) ms) (filter (touches k) ms)))
-          ≡ sum (map (λ (bond : Bond). bond.order) (cond t (n ∷ filter (touches k) ns) (filter (touches k) ns)))
-      by true e =
-          sum_by-cons (λ o. o) m.order (map (λ (bond : Bond). bond.order) (filter (touches k) ms))
-          ∙ ap (λ o. o + bond_orders k ms) h.0.order ∙ ap (λ s. n.order + s) e
-          ∙ sym (sum_by-cons (λ o. o) n.order (map (λ (bond : Bond). bond.order) (filter (touches k) ns)))
-      by false e = e
+  orders_same = orders_alike (IsImage still) k k touched (λ n m image. image.order)
 
 module _ (atom neighbour : ℕ) where
   abbrev turned : Bond → Bond
@@ -125,7 +101,7 @@ module _ (atom neighbour : ℕ) where
         let all = range_with_len 0 (length drawing.atoms) in
         record {
           len = refl;
-          permutation = subst (λ vs. IsPermutation vs all) (sym (map_still all)) (IsPermutation-refl all);
+          permutation = subst (λ vs. IsPermutation vs all) (sym (map-id all)) (IsPermutation-refl all);
           atoms = λ k lt d. refl;
           bonds = record {
             one = drawing.bonds;

@@ -22,8 +22,8 @@ use Rattle.cip_digraph.specs.rules.Orders.{rule_1a, rule_1b, rule_2}
 use Rattle.cip_digraph.specs.units.Descriptors.{reason_needed}
 use Rattle.cip_digraph.specs.units.Ends.{End, ends_of, atoms_of}
 use Rattle.cip_digraph.specs.units.Ranked.{Root, has_tie}
-use Rattle.cip_digraph.proofs.ReflectedLetters.{swapped, root_exchanged}
-use Rattle.cip_digraph.proofs.ReflectedUnits.{auxiliary_exchanged, outcome_exchanged}
+use Rattle.cip_digraph.proofs.reflected.Letters.{swapped, root_exchanged}
+use Rattle.cip_digraph.proofs.reflected.Units.{auxiliary_exchanged, outcome_exchanged}
 use Rattle.cip_laws.specs.ReflectionLaw.{IsMirrorOutcome, ReflectionMirrorsOutcomes}
 use Rattle.cip_image.proofs.outcomes.ReflectedReasons.{reason_swapped, ends_ranked}
 

@@ -1,15 +1,17 @@
 -- No vertex is an end of two units.
-use Rattle.std.proofs.Common.{◌≡◌, ◌≢◌, ◌⊎◌, inl, inr, ℕ, ℤ, pos, List, [], ◌∷◌, map, length, filter, refl, sym, ap, subst, ◌∙◌, Bool, true, false, cond, ◌==◌, ◌||◌, ◌&&◌, nat_lt, nat_le, is_some, eqb-true, le-ltb, ltb-true, arith, eq-eqb}
+use Rattle.std.proofs.Common.{◌≡◌, ◌≢◌, ◌⊎◌, inl, inr, ℕ, List, [], ◌∷◌, map, length, filter, refl, sym, ap, subst, ◌∙◌}
+use Rattle.std.proofs.Common.{true, false, cond, ◌==◌, ◌||◌, nat_lt, nat_le, is_some, eqb-true, le-ltb, ltb-true, arith}
+use Rattle.std.proofs.Common.{eq-eqb}
 use Rattle.std.specs.List.{list_any}
-use Rattle.std.specs.Ordering.{int_eq}
 use Rattle.std.proofs.lemmas.List.{length-map}
+use Rattle.std.proofs.lemmas.Bool.{and_parts, or_cases, or_right, true≢false}
 use Rattle.cip_elem.specs.Electrons.{outer_of}
 use Rattle.cip_mol.specs.declared.site.Site.{Site}
 use Rattle.cip_mol.specs.declared.site.Geometry.{Geometry}
 use Rattle.cip_mol.specs.declared.site.Unit as units
 use Rattle.cip_mol.specs.Geometry.{geometry_of}
 use Rattle.cip_digraph.specs.units.Allenes.{doubles, is_allene_middle, is_axis_end}
-use Rattle.cip_digraph.specs.units.Centres.{is_quadriligant, is_centre_by, drawn_neighbours, is_centre}
+use Rattle.cip_digraph.specs.units.Centres.{drawn_neighbours, is_centre}
 use Rattle.cip_digraph.specs.units.DoubleBonds.{is_double_end, multiples, is_bond_end}
 use Rattle.cip_digraph.specs.graph.Graph.{Graph, vertex_at, edges_at, neighbours, other_end}
 use Rattle.cip_digraph.specs.rings.Positions.{positions_of}
@@ -17,7 +19,8 @@ use Rattle.cip_digraph.specs.graph.SoundGraphs.{IsSound}
 use Rattle.cip_digraph.specs.units.Units.{centre_site, sites_of, units_of}
 use Rattle.cip_digraph.specs.units.Ends.{End, ends_of}
 use Rattle.cip_digraph.specs.graph.DrawnGraph.{graph_of}
-use Rattle.cip_digraph.proofs.DrawnSound.{drawn_sound}
+use Rattle.cip_digraph.proofs.bonds.Sound.{drawn_sound}
+use Rattle.cip_digraph.proofs.bonds.Centres.{centre_parts, double_parts, no_outer}
 use Rattle.cip_image.specs.Images.{Among}
 use Rattle.cip_laws.specs.RenumberingLaw.{UnitsShareNoEnd}
 use Rattle.cip_image.proofs.lists.Among.{among_map, from_map, among_filter, from_filter}
@@ -27,53 +30,6 @@ use Rattle.cip_image.specs.Renamed.{Way, way, ways}
 use Rattle.cip_laws.proofs.units.CarriedSites.{bond_of, FoundBond}
 use Rattle.cip_image.specs.CarriedUnits.{stands_at, AreAlone}
 use Rattle.cip_laws.proofs.graph.WaySymmetry.{back_way, leads_back}
-use Rattle.cip_image.proofs.lists.Truths.{true_not_false, and_parts, either_true, or_true}
-
--- what a centre is, and what an end of a double bond
-centre_parts : (z : ℕ) (charge : ℤ) (edges drawn : ℕ) (lone : Bool) → is_centre_by z charge edges drawn lone ≡ true
-    → (edges ≡ 4) ⊎ ((edges ≡ 3) × (is_some (outer_of z) ≡ true))
-centre_parts z charge edges drawn lone e =
-    elim (either_true ((edges == 4) && is_quadriligant z charge) ((edges == 3) && is_some (outer_of z) && lone)
-    (and_parts (nat_le 3 drawn)
-    (((edges == 4) && is_quadriligant z charge) || ((edges == 3) && is_some (outer_of z) && lone)) e).1) [
-      | inl four ↦ inl (eqb-true edges 4 (and_parts (edges == 4) (is_quadriligant z charge) four).0)
-      | inr three ↦
-          let most = and_parts ((edges == 3) && is_some (outer_of z)) lone three in
-          let first = and_parts (edges == 3) (is_some (outer_of z)) most.0 in
-          inr (eqb-true edges 3 first.0, first.1)
-    ]
-
-no_outer : (z : ℕ) → ((z ≡ 6) ⊎ (z ≡ 14)) ⊎ ((z ≡ 32) ⊎ (z ≡ 7)) → is_some (outer_of z) ≡ false
-no_outer z (inl (inl e)) = ap (λ n. is_some (outer_of n)) e
-no_outer z (inl (inr e)) = ap (λ n. is_some (outer_of n)) e
-no_outer z (inr (inl e)) = ap (λ n. is_some (outer_of n)) e
-no_outer z (inr (inr e)) = ap (λ n. is_some (outer_of n)) e
-
-pub double_parts : (z : ℕ) (charge : ℤ) (edges : ℕ) → is_double_end z charge edges ≡ true
-    → ((edges ≡ 3) × (is_some (outer_of z) ≡ false)) ⊎ ((edges ≡ 2) × (z ≡ 7))
-double_parts z charge edges e =
-    let elements = (z == 6) || (z == 14) || (z == 32) || ((z == 7) && int_eq charge (pos 1)) in
-    elim (either_true ((edges == 3) && elements) ((edges == 2) && (z == 7) && int_eq charge (pos 0)) e) [
-      | inl three ↦
-          let parts = and_parts (edges == 3) elements three in
-          inl (
-            eqb-true edges 3 parts.0,
-            no_outer z
-                (elim (either_true ((z == 6) || (z == 14) || (z == 32)) ((z == 7) && int_eq charge (pos 1)) parts.1) [
-                  | inl more ↦ elim (either_true ((z == 6) || (z == 14)) (z == 32) more) [
-                    | inl fewer ↦
-                        elim (either_true (z == 6) (z == 14) fewer)
-                        [ inl six ↦ inl (inl (eqb-true z 6 six)) | inr fourteen ↦ inl (inr (eqb-true z 14 fourteen)) ]
-                    | inr thirty ↦ inr (inl (eqb-true z 32 thirty))
-                  ]
-                  | inr seven ↦ inr (inr (eqb-true z 7 (and_parts (z == 7) (int_eq charge (pos 1)) seven).0))
-                ]),
-          )
-      | inr two ↦
-          let parts = and_parts ((edges == 2) && (z == 7)) (int_eq charge (pos 0)) two in
-          let first = and_parts (edges == 2) (z == 7) parts.0 in
-          inr (eqb-true edges 2 first.0, eqb-true z 7 first.1)
-    ]
 
 -- of one element, and of two
 one_element : {X : Type 0} (xs : List X) → length xs ≡ 1 → (x y : X) → Among x xs → Among y xs → x ≡ y
@@ -195,10 +151,10 @@ module _ (graph : Graph) (sound : IsSound graph) where
     as_axis : AxisAt v site → Standing v site
 
   ends_two : (a b v : ℕ) → ((a == v) || ((b == v) || false)) ≡ true → (a ≡ v) ⊎ (b ≡ v)
-  ends_two a b v e = elim (either_true (a == v) ((b == v) || false) e) [
+  ends_two a b v e = elim (or_cases (a == v) ((b == v) || false) e) [
     | inl f ↦ inl (eqb-true a v f)
     | inr f ↦
-        elim (either_true (b == v) false f) [ inl g ↦ inr (eqb-true b v g) | inr g ↦ absurd (true_not_false (sym g)) ]
+        elim (or_cases (b == v) false f) [ inl g ↦ inr (eqb-true b v g) | inr g ↦ absurd (true≢false (sym g)) ]
   ]
 
   standing : (v : ℕ) (site : Site) → Among site (sites_of graph (positions_of graph)) → stands_at v site ≡ true
@@ -223,7 +179,7 @@ module _ (graph : Graph) (sound : IsSound graph) where
     where
       centre_at : (a : ℕ) → ((a == v) || false) ≡ true → a ≡ v
       centre_at a e =
-          elim (either_true (a == v) false e) [ inl f ↦ eqb-true a v f | inr f ↦ absurd (true_not_false (sym f)) ]
+          elim (or_cases (a == v) false e) [ inl f ↦ eqb-true a v f | inr f ↦ absurd (true≢false (sym f)) ]
 
   -- the one multiple bond
   multiple_ways : (v : ℕ) → (length (multiples graph v) == 1) ≡ true
@@ -302,7 +258,7 @@ module _ (graph : Graph) (sound : IsSound graph) where
           ((length (edges_at graph v) ≡ 2) × ((vertex_at graph v).z ≡ 7)) → ⊥
       by (inl f) (inl g) = let d = g.0 in absurd (omega (arith, f, d))
       by (inl f) (inr g) = let d = g.0 in absurd (omega (arith, f, d))
-      by (inr f) (inl g) = true_not_false (sym f.1 ∙ g.1)
+      by (inr f) (inl g) = true≢false (sym f.1 ∙ g.1)
       by (inr f) (inr g) = let c = f.0 in let d = g.0 in absurd (omega (arith, c, d))
 
   no_centre_axis : (v : ℕ) (site : Site) → is_centre graph v ≡ true → AxisAt v site → ⊥
@@ -315,7 +271,7 @@ module _ (graph : Graph) (sound : IsSound graph) where
       by : (length (edges_at graph v) ≡ 4) ⊎
           ((length (edges_at graph v) ≡ 3) × (is_some (outer_of (vertex_at graph v).z) ≡ true)) → ⊥
       by (inl f) = let d = parts.1.0 in absurd (omega (arith, f, d))
-      by (inr f) = true_not_false (sym f.1 ∙ no_outer (vertex_at graph v).z (inl (inl parts.0)))
+      by (inr f) = true≢false (sym f.1 ∙ no_outer (vertex_at graph v).z (inl (inl parts.0)))
 
   no_bond_axis : (v : ℕ) (one two : Site) → BondAt v one → AxisAt v two → ⊥
   no_bond_axis v one two b x =
@@ -390,7 +346,7 @@ at_end vertex [] h = absurd h
 at_end vertex (end ∷ ends) (inl e) =
     ap (λ b. b || list_any (λ other. other.at == vertex) ends) (eq-eqb end.at vertex (sym e))
 at_end vertex (end ∷ ends) (inr h) =
-    or_true (end.at == vertex) (list_any (λ other. other.at == vertex) ends) (at_end vertex ends h)
+    or_right (end.at == vertex) (list_any (λ other. other.at == vertex) ends) (at_end vertex ends h)
 
 pub units_share_no_end : UnitsShareNoEnd
 units_share_no_end drawing sound one two h k vertex e f =

@@ -1,25 +1,24 @@
 -- The axis units of a renamed graph, and then all its units.
-use Rattle.std.proofs.Common.{◌≡◌, ◌⊎◌, ◌≢◌, inl, inr, ℕ, List, [], ◌∷◌, ◌++◌, map, length, filter, flat_map, refl, sym, ap, subst, ◌∙◌, Bool, true, false, not, ◌==◌, ◌||◌, ◌&&◌, nat_lt, lt-ltb, ltb-true, ltb-false, arith}
+use Rattle.std.proofs.Common.{◌≡◌, ◌⊎◌, ◌≢◌, inl, inr, ℕ, List, [], ◌∷◌, ◌++◌, map, length, filter, flat_map, refl, sym, ap, subst, ◌∙◌, Bool, true, false, not, ◌<◌, ◌==◌, ◌&&◌, nat_lt, lt-ltb, ltb-true, ltb-false, arith}
 use Rattle.std.specs.List.{list_any, range_with_len}
 use Rattle.std.specs.List.Sorted.{IsPermutation}
-use Rattle.std.proofs.lemmas.List.{length-map}
-use Rattle.std.proofs.lemmas.List.Sorted.{IsPermutation-refl, IsPermutation-sym, length_permutation}
 use Rattle.cip_mol.specs.declared.site.Site.{Site}
 use Rattle.cip_mol.specs.declared.site.Site.TheVariants.{Axis}
 use Rattle.cip_digraph.specs.units.Allenes.{doubles, is_allene_middle, is_axis_end, is_axis_unit, axis_site, axis_sites}
 use Rattle.cip_digraph.specs.units.Centres.{is_centre}
 use Rattle.cip_digraph.specs.units.DoubleBonds.{multiples, outer_neighbours, end_ligands, bond_sites}
 use Rattle.cip_digraph.specs.graph.Graph.{Graph, vertex_at, edges_at, neighbours}
-use Rattle.cip_digraph.specs.rings.Positions.{positions_of, is_delocalised}
+use Rattle.cip_digraph.specs.rings.Positions.{positions_of}
 use Rattle.cip_digraph.specs.graph.SoundGraphs.{IsSound}
 use Rattle.cip_digraph.specs.units.Units.{centre_site, sites_of}
 use Rattle.cip_image.specs.Images.{Among}
 use Rattle.cip_image.proofs.lists.Among.{among_map, from_map, among_filter, from_filter, among_left, among_right, from_append, among_flat, from_flat, among_arranged, among_range, from_range}
-use Rattle.cip_image.specs.Renamed.{Way, ways, way_image, IsRenamed}
-use Rattle.cip_image.proofs.graph.CarriedPositions.{degree_carried, passed_moved, tos_are}
-use Rattle.cip_laws.proofs.units.CarriedSites.{SiteImage, pair_image, centre_image, centre_carried, z_same, SameUnit, end_bonds_carried, outer_moved, three_same, three_crossed, two_same, two_crossed, pair_forward, pair_crossed, IsBondCore, bond_of, bond_among, FoundBond, found_bond, core_back, core_there, core_from}
+use Rattle.cip_image.proofs.lists.CarriedLists.{filter_carried, mapped_twice}
+use Rattle.cip_image.specs.Renamed.{Way, way, ways, way_image, IsRenamed}
+use Rattle.cip_image.proofs.graph.CarriedPositions.{degree_carried, passed_moved}
+use Rattle.cip_laws.proofs.units.CarriedSites.{SiteImage, pair_image, centre_image, centre_carried, z_same, SameUnit, end_bonds_carried, outer_moved, three_same, three_crossed, two_same, two_crossed, pair_forward, pair_crossed, moved_long, or_turn, bond_of, bond_among, FoundBond, found_bond, core_back, core_there}
 use Rattle.cip_laws.proofs.graph.WaySymmetry.{back_way, leads_back}
-use Rattle.cip_image.proofs.lists.Truths.{and_parts, and_both}
+use Rattle.std.proofs.lemmas.Bool.{and_parts, and_from}
 
 pub record IsAxisCore (graph : Graph) (a middle b : ℕ) : Type 0 where
   pub toward : Among middle (doubles graph a)
@@ -37,7 +36,7 @@ module _ (graph : Graph) where
       → Among (axis_of graph a middle b) (flat_map (axis_sites graph) (range_with_len 0 graph.drawn))
   axis_among a middle b k drawn lower =
       let test : is_axis_unit graph a middle b ≡ true =
-      and_both _ _ (and_both _ _ (and_both _ _ lower k.is_middle) k.first) k.second in
+      and_from _ _ (and_from _ _ (and_from _ _ lower k.is_middle) k.first) k.second in
       among_flat (axis_sites graph) a (axis_of graph a middle b) (range_with_len 0 graph.drawn)
       (among_range 0 graph.drawn a (omega arith) (let lt = ltb-true a graph.drawn drawn in omega (arith, lt)))
       (among_flat (λ m. map (axis_site graph a m) (filter (is_axis_unit graph a m) (doubles graph m))) middle
@@ -78,49 +77,31 @@ module _ (graph : Graph) where
         is = by.2;
       }
 
+  doubles_are : (v : ℕ)
+      → map (λ (w : Way). w.to) (filter (λ (w : Way). w.order == 2) (ways graph v)) ≡ doubles graph v
+  doubles_are v =
+      ap (map (λ (w : Way). w.to))
+      (filter_carried (way v) (λ edge. edge.order == 2) (λ (w : Way). w.order == 2) (λ edge. refl) (edges_at graph v))
+      ∙ mapped_twice (way v) (λ (w : Way). w.to) (filter (λ edge. edge.order == 2) (edges_at graph v))
+
   pub double_back : IsSound graph → (x y : ℕ) → Among y (doubles graph x) → Among x (doubles graph y)
   double_back sound x y h =
       let test = λ (w : Way). w.order == 2 in
       let found =
-      from_map (λ (w : Way). w.to) y (filter test (ways graph x))
-      (subst (Among y) (tos_are graph graph (λ v. v) (self graph) test graph x) h) in
+      from_map (λ (w : Way). w.to) y (filter test (ways graph x)) (subst (Among y) (sym (doubles_are x)) h) in
       let kept = from_filter test found.0 (ways graph x) found.1 in
       let back = (leads_back graph sound x found.0 kept.0).back in
-      subst (Among x) (sym (tos_are graph graph (λ v. v) (self graph) test graph y))
+      subst (Among x) (doubles_are y)
       (subst (λ v. Among x (map (λ (w : Way). w.to) (filter test (ways graph v)))) (sym found.2)
       (among_map (λ (w : Way). w.to) (back_way graph x found.0) (filter test (ways graph found.0.to))
       (among_filter test (back_way graph x found.0) (ways graph found.0.to) back kept.1)))
-    where
-      self : (g : Graph) → IsRenamed g g (λ v. v)
-      self g = record {
-        injective = λ a b e. e;
-        count = refl;
-        vertices = λ v. refl;
-        ways = λ v. subst (λ ws. IsPermutation ws (ways g v)) (sym (same (ways g v))) (IsPermutation-refl (ways g v));
-        within = λ v. refl;
-        drawn = λ v. refl;
-      }
-        where
-          same : (ws : List Way) → map (way_image (λ v. v)) ws ≡ ws
-          same [] = refl
-          same (w ∷ ws) = ap (λ vs. w ∷ vs) (same ws)
-
-  or_turned : (p q s : Bool) → (p || (q || (s || false))) ≡ (s || (q || (p || false)))
-  or_turned true true true = refl
-  or_turned true true false = refl
-  or_turned true false true = refl
-  or_turned true false false = refl
-  or_turned false true true = refl
-  or_turned false true false = refl
-  or_turned false false true = refl
-  or_turned false false false = refl
 
   end_turned : (a m b v : ℕ) → is_axis_end graph (b ∷ m ∷ a ∷ []) v ≡ is_axis_end graph (a ∷ m ∷ b ∷ []) v
   end_turned a m b v =
       ap (λ test. ((vertex_at graph v).z == 6) && (length (edges_at graph v) == 3)
       && ((length (multiples graph v) == 1)
       && list_any (λ to. nat_lt to graph.drawn) (filter test (neighbours graph v)))
-      && (length (filter test (neighbours graph v)) == 2)) (λ i to. not (or_turned (b == to) (m == to) (a == to) i))
+      && (length (filter test (neighbours graph v)) == 2)) (λ i to. not (or_turn (a == to) (m == to) (b == to) i))
 
   pub axis_back : IsSound graph → (a middle b : ℕ) → IsAxisCore graph a middle b → IsAxisCore graph b middle a
   axis_back sound a middle b k = record {
@@ -136,9 +117,7 @@ module _ (graph other : Graph) (image : ℕ → ℕ) (r : IsRenamed graph other 
   doubles_moved v = passed_moved graph other image r (λ w. w.order == 2) (λ w. refl) v
 
   doubles_long : (v : ℕ) → length (doubles other (image v)) ≡ length (doubles graph v)
-  doubles_long v =
-      length_permutation (map image (doubles graph v)) (doubles other (image v)) (doubles_moved v)
-      ∙ length-map (doubles graph v) image
+  doubles_long v = moved_long image (doubles graph v) _ (doubles_moved v)
 
   pub middle_carried : (v : ℕ) → is_allene_middle other (image v) ≡ is_allene_middle graph v
   middle_carried v = rw (z_same graph other image r v, degree_carried graph other image r v, doubles_long v)
@@ -146,8 +125,8 @@ module _ (graph other : Graph) (image : ℕ → ℕ) (r : IsRenamed graph other 
   pub axis_end_carried : (unit theirs : List ℕ) → SameUnit graph other image r unit theirs → (v : ℕ)
       → is_axis_end other theirs (image v) ≡ is_axis_end graph unit v
   axis_end_carried unit theirs same v =
-      let outer = length_permutation _ _ (outer_moved graph other image r unit theirs same v)
-      ∙ length-map (outer_neighbours graph unit v) image in
+      let outer =
+      moved_long image (outer_neighbours graph unit v) _ (outer_moved graph other image r unit theirs same v) in
       rw (
         z_same graph other image r v,
         degree_carried graph other image r v,
@@ -171,44 +150,6 @@ module _ (graph other : Graph) (image : ℕ → ℕ) (r : IsRenamed graph other 
         axis_end_carried (a ∷ m ∷ b ∷ []) (image a ∷ image m ∷ image b ∷ []) (three_same graph other image r a m b) b
         ∙ k.second;
   }
-
-  pub double_from : (v to : ℕ) → Among to (doubles other (image v)) → (u : ℕ) × Among u (doubles graph v) × (to ≡ image u)
-  double_from v to h =
-      from_map image to (doubles graph v)
-      (among_arranged to (doubles other (image v)) (map image (doubles graph v))
-      (IsPermutation-sym (map image (doubles graph v)) (doubles other (image v)) (doubles_moved v)) h)
-
-  axis_from : (a m b : ℕ) → IsAxisCore other (image a) m b
-      → (u : ℕ) × (v : ℕ) × IsAxisCore graph a u v × (m ≡ image u) × (b ≡ image v)
-  axis_from a m b k =
-      let mid = double_from a m k.toward in
-      let far = double_from mid.0 b (subst (λ v. Among b (doubles other v)) mid.2 k.onward) in
-      let j =
-      subst (λ w. IsAxisCore other (image a) w (image far.0)) mid.2 (subst (IsAxisCore other (image a) m) far.2 k) in (
-        mid.0,
-        far.0,
-        record {
-          toward = mid.1;
-          onward = far.1;
-          is_middle = sym (middle_carried mid.0) ∙ j.is_middle;
-          first =
-              sym
-              (axis_end_carried (a ∷ mid.0 ∷ far.0 ∷ []) (image a ∷ image mid.0 ∷ image far.0 ∷ [])
-              (three_same graph other image r a mid.0 far.0) a) ∙ j.first;
-          second =
-              sym
-              (axis_end_carried (a ∷ mid.0 ∷ far.0 ∷ []) (image a ∷ image mid.0 ∷ image far.0 ∷ [])
-              (three_same graph other image r a mid.0 far.0) far.0) ∙ j.second;
-        },
-        mid.2,
-        far.2,
-      )
-
--- a delocalised double bond is one at both ends
-abbrev pub DelocalisedAtBoth : Graph → Type 0
-DelocalisedAtBoth graph =
-    (a : ℕ) (w : Way) → Among w (ways graph a) → w.counted ≡ true → (w.order == 2) ≡ true
-    → is_delocalised (positions_of graph) w.to ≡ is_delocalised (positions_of graph) a
 
 -- a centre that is a unit
 pub record FoundCentre (graph : Graph) (site : Site) : Type 0 where
@@ -249,218 +190,34 @@ found_site graph site h =
       | inr g ↦ inr (inr (found_axis graph site g))
     ]
 
-module _ (graph other : Graph) (image : ℕ → ℕ) (r : IsRenamed graph other image)
-    (onto : (w : ℕ) → (v : ℕ) × (w ≡ image v)) (sound : IsSound graph) (their_sound : IsSound other)
-    (deloc : DelocalisedAtBoth graph) (their_deloc : DelocalisedAtBoth other) where
-  abbrev sites : List Site
-  sites = sites_of graph (positions_of graph)
-
-  abbrev theirs : List Site
-  theirs = sites_of other (positions_of other)
-
-  in_centres : (g : Graph) (site : Site)
-      → Among site (map (centre_site g) (filter (is_centre g) (range_with_len 0 g.drawn)))
+-- the three kinds of sites
+module _ (g : Graph) (site : Site) where
+  in_centres : Among site (map (centre_site g) (filter (is_centre g) (range_with_len 0 g.drawn)))
       → Among site (sites_of g (positions_of g))
   unfolding sites_of
-  in_centres g site h = among_left site _ _ (among_left site _ _ h)
+  in_centres h = among_left site _ _ (among_left site _ _ h)
 
-  in_bonds : (g : Graph) (site : Site)
-      → Among site (flat_map (bond_sites g (positions_of g)) (range_with_len 0 g.drawn))
+  in_bonds : Among site (flat_map (bond_sites g (positions_of g)) (range_with_len 0 g.drawn))
       → Among site (sites_of g (positions_of g))
   unfolding sites_of
-  in_bonds g site h =
+  in_bonds h =
       among_left site _ _ (among_right site (map (centre_site g) (filter (is_centre g) (range_with_len 0 g.drawn))) _ h)
 
-  in_axes : (g : Graph) (site : Site) → Among site (flat_map (axis_sites g) (range_with_len 0 g.drawn))
-      → Among site (sites_of g (positions_of g))
+  in_axes : Among site (flat_map (axis_sites g) (range_with_len 0 g.drawn)) → Among site (sites_of g (positions_of g))
   unfolding sites_of
-  in_axes g site h =
+  in_axes h =
       among_right site
       (map (centre_site g) (filter (is_centre g) (range_with_len 0 g.drawn))
       ++ flat_map (bond_sites g (positions_of g)) (range_with_len 0 g.drawn)) _ h
 
-  differs : (a b : ℕ) → nat_lt a b ≡ true → a ≢ b
-  differs a b e same = let lt = ltb-true a b e in absurd (omega (arith, lt, same))
+pub differs : (a b : ℕ) → nat_lt a b ≡ true → a ≢ b
+differs a b e same = let lt = ltb-true a b e in absurd (omega (arith, lt, same))
 
-  lower_or : (a b : ℕ) → a ≢ b → (x : Bool) → nat_lt a b ≡ x → x ≡ false → nat_lt b a ≡ true
-  lower_or a b differ x e f = let le = ltb-false a b (e ∙ f) in lt-ltb b a (omega (arith, le, differ))
+module _ (graph other : Graph) (image : ℕ → ℕ) (r : IsRenamed graph other image) (sound : IsSound other) where
+  abbrev There : Site → Type 0
+  There site = (two : Site) × Among two (sites_of other (positions_of other)) × SiteImage image site two
 
-  lower_drawn : (g : Graph) (a b : ℕ) → nat_lt b a ≡ true → nat_lt a g.drawn ≡ true → nat_lt b g.drawn ≡ true
-  lower_drawn g a b e f = let lt = ltb-true b a e in let high = ltb-true a g.drawn f in
-      lt-ltb b g.drawn (omega (arith, lt, high))
-
-  bond_there : (site : Site) → FoundBond graph site → (two : Site) × Among two theirs × SiteImage image site two
-  bond_there site f = by (nat_lt (image f.a) (image f.w.to)) refl
-    where
-      drawn : nat_lt (image f.a) other.drawn ≡ true
-      drawn = r.drawn f.a ∙ f.drawn
-
-      core : IsBondCore other (image f.a) (way_image image f.w)
-      core = core_there graph other image r f.a f.w f.core
-
-      apart : image f.a ≢ image f.w.to
-      apart e = differs f.a f.w.to f.lower (r.injective f.a f.w.to e)
-
-      by : (x : Bool) → nat_lt (image f.a) (image f.w.to) ≡ x
-          → (two : Site) × Among two theirs × SiteImage image site two
-      by true e =
-          let pair =
-          pair_forward graph other image r f.a f.w.to (f.a ∷ f.w.to ∷ []) (image f.a ∷ image f.w.to ∷ [])
-          (two_same graph other image r f.a f.w.to) (differs f.a f.w.to f.lower) in (
-            bond_of other (image f.a) (image f.w.to),
-            in_bonds other _ (bond_among other (image f.a) (way_image image f.w) core drawn e),
-            subst (λ s. SiteImage image s (bond_of other (image f.a) (image f.w.to))) (sym f.is)
-                (pair_image graph other image r _ _ _ _ _ _ refl refl refl refl pair),
-          )
-      by false e =
-          let pair =
-          pair_crossed graph other image r f.a f.w.to (f.a ∷ f.w.to ∷ []) (image f.w.to ∷ image f.a ∷ [])
-          (two_crossed graph other image r f.a f.w.to) (differs f.a f.w.to f.lower) in
-          let lower = lower_or (image f.a) (image f.w.to) apart false e refl in
-          let back = core_back other their_sound their_deloc (image f.a) (way_image image f.w) core in (
-            bond_of other (image f.w.to) (image f.a),
-            in_bonds other _
-                (bond_among other (image f.w.to) (back_way other (image f.a) (way_image image f.w)) back
-                (lower_drawn other (image f.a) (image f.w.to) lower drawn) lower),
-            subst (λ s. SiteImage image s (bond_of other (image f.w.to) (image f.a))) (sym f.is)
-                (pair_image graph other image r _ _ _ _ _ _ refl refl refl refl pair),
-          )
-
-  bond_back : (two : Site) → FoundBond other two → (site : Site) × Among site sites × SiteImage image site two
-  bond_back two f = by (nat_lt a w.to) refl
-    where
-      at : (v : ℕ) × (f.a ≡ image v)
-      at = onto f.a
-
-      a : ℕ
-      a = at.0
-
-      found : (w : Way) × IsBondCore graph a w × (f.w ≡ way_image image w)
-      found = core_from graph other image r a f.w (subst (λ v. IsBondCore other v f.w) at.1 f.core)
-
-      w : Way
-      w = found.0
-
-      drawn : nat_lt a graph.drawn ≡ true
-      drawn = sym (r.drawn a) ∙ ap (λ v. nat_lt v other.drawn) (sym at.1) ∙ f.drawn
-
-      is : two ≡ bond_of other (image a) (image w.to)
-      is = f.is ∙ ap (λ v. bond_of other v f.w.to) at.1 ∙ ap (λ (v : Way). bond_of other (image a) v.to) found.2
-
-      apart : a ≢ w.to
-      apart e = differs f.a f.w.to f.lower (at.1 ∙ ap image e ∙ sym (ap (λ (v : Way). v.to) found.2))
-
-      by : (x : Bool) → nat_lt a w.to ≡ x → (site : Site) × Among site sites × SiteImage image site two
-      by true e =
-          let pair =
-          pair_forward graph other image r a w.to (a ∷ w.to ∷ []) (image a ∷ image w.to ∷ [])
-          (two_same graph other image r a w.to) apart in (
-            bond_of graph a w.to,
-            in_bonds graph _ (bond_among graph a w found.1 drawn e),
-            subst (SiteImage image (bond_of graph a w.to)) (sym is) (pair_image graph other image r _ _ _ _ _ _ refl refl refl refl pair),
-          )
-      by false e =
-          let pair =
-          pair_crossed graph other image r w.to a (w.to ∷ a ∷ []) (image a ∷ image w.to ∷ [])
-          (two_crossed graph other image r w.to a) (λ same. apart (sym same)) in
-          let lower = lower_or a w.to apart false e refl in (
-            bond_of graph w.to a,
-            in_bonds graph _
-                (bond_among graph w.to (back_way graph a w) (core_back graph sound deloc a w found.1)
-                (lower_drawn graph a w.to lower drawn) lower),
-            subst (SiteImage image (bond_of graph w.to a)) (sym is) (pair_image graph other image r _ _ _ _ _ _ refl refl refl refl pair),
-          )
-
-  axis_image_there : (site : Site) → FoundAxis graph site → (two : Site) × Among two theirs × SiteImage image site two
-  axis_image_there site f = by (nat_lt (image f.a) (image f.b)) refl
-    where
-      drawn : nat_lt (image f.a) other.drawn ≡ true
-      drawn = r.drawn f.a ∙ f.drawn
-
-      core : IsAxisCore other (image f.a) (image f.middle) (image f.b)
-      core = axis_there graph other image r f.a f.middle f.b f.core
-
-      apart : image f.a ≢ image f.b
-      apart e = differs f.a f.b f.lower (r.injective f.a f.b e)
-
-      by : (x : Bool) → nat_lt (image f.a) (image f.b) ≡ x → (two : Site) × Among two theirs × SiteImage image site two
-      by true e =
-          let pair =
-          pair_forward graph other image r f.a f.b (f.a ∷ f.middle ∷ f.b ∷ [])
-          (image f.a ∷ image f.middle ∷ image f.b ∷ []) (three_same graph other image r f.a f.middle f.b)
-          (differs f.a f.b f.lower) in (
-            axis_of other (image f.a) (image f.middle) (image f.b),
-            in_axes other _ (axis_among other (image f.a) (image f.middle) (image f.b) core drawn e),
-            subst (λ s. SiteImage image s (axis_of other (image f.a) (image f.middle) (image f.b))) (sym f.is)
-                (pair_image graph other image r _ _ _ _ _ _ refl refl refl refl pair),
-          )
-      by false e =
-          let pair =
-          pair_crossed graph other image r f.a f.b (f.a ∷ f.middle ∷ f.b ∷ [])
-          (image f.b ∷ image f.middle ∷ image f.a ∷ []) (three_crossed graph other image r f.a f.middle f.b)
-          (differs f.a f.b f.lower) in
-          let lower = lower_or (image f.a) (image f.b) apart false e refl in
-          let back = axis_back other their_sound (image f.a) (image f.middle) (image f.b) core in (
-            axis_of other (image f.b) (image f.middle) (image f.a),
-            in_axes other _
-                (axis_among other (image f.b) (image f.middle) (image f.a) back
-                (lower_drawn other (image f.a) (image f.b) lower drawn) lower),
-            subst (λ s. SiteImage image s (axis_of other (image f.b) (image f.middle) (image f.a))) (sym f.is)
-                (pair_image graph other image r _ _ _ _ _ _ refl refl refl refl pair),
-          )
-
-  axis_image_back : (two : Site) → FoundAxis other two → (site : Site) × Among site sites × SiteImage image site two
-  axis_image_back two f = by (nat_lt a b) refl
-    where
-      at : (v : ℕ) × (f.a ≡ image v)
-      at = onto f.a
-
-      a : ℕ
-      a = at.0
-
-      found : (u : ℕ) × (v : ℕ) × IsAxisCore graph a u v × (f.middle ≡ image u) × (f.b ≡ image v)
-      found = axis_from graph other image r a f.middle f.b (subst (λ v. IsAxisCore other v f.middle f.b) at.1 f.core)
-
-      m : ℕ
-      m = found.0
-
-      b : ℕ
-      b = found.1
-
-      drawn : nat_lt a graph.drawn ≡ true
-      drawn = sym (r.drawn a) ∙ ap (λ v. nat_lt v other.drawn) (sym at.1) ∙ f.drawn
-
-      is : two ≡ axis_of other (image a) (image m) (image b)
-      is =
-          f.is ∙ ap (λ v. axis_of other v f.middle f.b) at.1 ∙ ap (λ v. axis_of other (image a) v f.b) found.3
-          ∙ ap (axis_of other (image a) (image m)) found.4
-
-      apart : a ≢ b
-      apart e = differs f.a f.b f.lower (at.1 ∙ ap image e ∙ sym found.4)
-
-      by : (x : Bool) → nat_lt a b ≡ x → (site : Site) × Among site sites × SiteImage image site two
-      by true e =
-          let pair =
-          pair_forward graph other image r a b (a ∷ m ∷ b ∷ []) (image a ∷ image m ∷ image b ∷ [])
-          (three_same graph other image r a m b) apart in (
-            axis_of graph a m b,
-            in_axes graph _ (axis_among graph a m b found.2 drawn e),
-            subst
-                (SiteImage image (axis_of graph a m b)) (sym is) (pair_image graph other image r _ _ _ _ _ _ refl refl refl refl pair),
-          )
-      by false e =
-          let pair =
-          pair_crossed graph other image r b a (b ∷ m ∷ a ∷ []) (image a ∷ image m ∷ image b ∷ [])
-          (three_crossed graph other image r b m a) (λ same. apart (sym same)) in
-          let lower = lower_or a b apart false e refl in (
-            axis_of graph b m a,
-            in_axes graph _
-                (axis_among graph b m a (axis_back graph sound a m b found.2) (lower_drawn graph a b lower drawn)
-                lower),
-            subst (SiteImage image (axis_of graph b m a)) (sym is) (pair_image graph other image r _ _ _ _ _ _ refl refl refl refl pair),
-          )
-
-  centre_there : (site : Site) → FoundCentre graph site → (two : Site) × Among two theirs × SiteImage image site two
+  centre_there : (site : Site) → FoundCentre graph site → There site
   centre_there site f = (
     centre_site other (image f.a),
     in_centres other _
@@ -468,24 +225,65 @@ module _ (graph other : Graph) (image : ℕ → ℕ) (r : IsRenamed graph other 
     subst (λ s. SiteImage image s (centre_site other (image f.a))) (sym f.is) (centre_image graph other image r f.a),
   )
 
-  centre_back : (two : Site) → FoundCentre other two → (site : Site) × Among site sites × SiteImage image site two
-  centre_back two f = let v = onto f.a in (
-    centre_site graph v.0,
-    in_centres graph _
-        (centre_among graph v.0 (sym (r.drawn v.0) ∙ ap (λ w. nat_lt w other.drawn) (sym v.1) ∙ f.drawn)
-        (sym (centre_carried graph other image r v.0) ∙ ap (is_centre other) (sym v.1) ∙ f.stands)),
-    subst (SiteImage image (centre_site graph v.0)) (sym (f.is ∙ ap (centre_site other) v.1))
-        (centre_image graph other image r v.0),
-  )
+  -- of two images of a site, the one whose lower end stands first
+  lower_first : (a b : ℕ) → nat_lt a b ≡ true → nat_lt a graph.drawn ≡ true → (site one two : Site)
+      → (nat_lt (image a) (image b) ≡ true → Among one (sites_of other (positions_of other)))
+      → (nat_lt (image b) (image a) ≡ true → nat_lt (image b) other.drawn ≡ true
+      → Among two (sites_of other (positions_of other)))
+      → SiteImage image site one → SiteImage image site two → There site
+  lower_first a b lower drawn site one two first second forward turned = by (nat_lt (image a) (image b)) refl
+    where
+      by : (x : Bool) → nat_lt (image a) (image b) ≡ x → There site
+      by true e = (one, first e, forward)
+      by false e =
+          let apart : image a ≢ image b = λ same. differs a b lower (r.injective a b same) in
+          let le = ltb-false (image a) (image b) e in
+          let lt : image b < image a = omega (arith, le, apart) in
+          let high = ltb-true (image a) other.drawn (r.drawn a ∙ drawn) in
+          (two, second (lt-ltb (image b) (image a) lt) (lt-ltb (image b) other.drawn (omega (arith, lt, high))), turned)
 
-  pub sites_there : (site : Site) → Among site sites → (two : Site) × Among two theirs × SiteImage image site two
+  bond_there : (site : Site) → FoundBond graph site → There site
+  bond_there site f =
+      let a = f.a in
+      let b = f.w.to in
+      let w = way_image image f.w in
+      let core = core_there graph other image r a f.w f.core in
+      let back = core_back other sound (image a) w core in
+      let differ = differs a b f.lower in
+      subst There (sym f.is)
+      (lower_first a b f.lower f.drawn (bond_of graph a b) (bond_of other (image a) (image b))
+      (bond_of other (image b) (image a))
+      (λ e. in_bonds other _ (bond_among other (image a) w core (r.drawn a ∙ f.drawn) e))
+      (λ e drawn. in_bonds other _ (bond_among other (image b) (back_way other (image a) w) back drawn e))
+      (pair_image graph other image r _ _ _ _ _ _ refl refl refl refl
+      (pair_forward graph other image r a b (a ∷ b ∷ []) (image a ∷ image b ∷ []) (two_same graph other image r a b)
+      differ))
+      (pair_image graph other image r _ _ _ _ _ _ refl refl refl refl
+      (pair_crossed graph other image r a b (a ∷ b ∷ []) (image b ∷ image a ∷ [])
+      (two_crossed graph other image r a b) differ)))
+
+  axis_image_there : (site : Site) → FoundAxis graph site → There site
+  axis_image_there site f =
+      let a = f.a in
+      let m = f.middle in
+      let b = f.b in
+      let core = axis_there graph other image r a m b f.core in
+      let back = axis_back other sound (image a) (image m) (image b) core in
+      let differ = differs a b f.lower in
+      subst There (sym f.is)
+      (lower_first a b f.lower f.drawn (axis_of graph a m b) (axis_of other (image a) (image m) (image b))
+      (axis_of other (image b) (image m) (image a))
+      (λ e. in_axes other _ (axis_among other (image a) (image m) (image b) core (r.drawn a ∙ f.drawn) e))
+      (λ e drawn. in_axes other _ (axis_among other (image b) (image m) (image a) back drawn e))
+      (pair_image graph other image r _ _ _ _ _ _ refl refl refl refl
+      (pair_forward graph other image r a b (a ∷ m ∷ b ∷ []) (image a ∷ image m ∷ image b ∷ [])
+      (three_same graph other image r a m b) differ))
+      (pair_image graph other image r _ _ _ _ _ _ refl refl refl refl
+      (pair_crossed graph other image r a b (a ∷ m ∷ b ∷ []) (image b ∷ image m ∷ image a ∷ [])
+      (three_crossed graph other image r a m b) differ)))
+
+  pub sites_there : (site : Site) → Among site (sites_of graph (positions_of graph)) → There site
   sites_there site h = elim (found_site graph site h) [
     | inl f ↦ centre_there site f
     | inr found ↦ elim found [ inl f ↦ bond_there site f | inr f ↦ axis_image_there site f ]
-  ]
-
-  pub sites_back : (two : Site) → Among two theirs → (site : Site) × Among site sites × SiteImage image site two
-  sites_back two h = elim (found_site other two h) [
-    | inl f ↦ centre_back two f
-    | inr found ↦ elim found [ inl f ↦ bond_back two f | inr f ↦ axis_image_back two f ]
   ]

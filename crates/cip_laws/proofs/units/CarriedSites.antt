@@ -10,7 +10,7 @@ use Rattle.cip_mol.specs.declared.site.Ligand.TheVariants as ligands
 use Rattle.cip_mol.specs.declared.site.Site.{Site}
 use Rattle.cip_mol.specs.declared.site.Site.TheVariants.{Bond}
 use Rattle.cip_digraph.specs.rings.Alternating.{is_in}
-use Rattle.cip_digraph.specs.units.Centres.{is_centre_by, drawn_neighbours, is_centre, centre_ligands}
+use Rattle.cip_digraph.specs.units.Centres.{drawn_neighbours, is_centre, centre_ligands}
 use Rattle.cip_digraph.specs.units.Descriptors.{is_odd, shape_of}
 use Rattle.cip_digraph.specs.units.DoubleBonds.{is_double_end, multiples, outer_neighbours, has_end_bonds, is_bond_end, end_ligands, is_bond_unit, bond_site, bond_sites}
 use Rattle.cip_digraph.specs.units.Ends.{End, end_at, ends_of}
@@ -30,11 +30,21 @@ use Rattle.cip_image.proofs.digraph.CarriedNodes.{delocalised_carried}
 use Rattle.cip_image.specs.Renamed.{Way, way, ways, way_image, IsRenamed}
 use Rattle.cip_image.proofs.graph.CarriedPositions.{degree_carried, neighbours_moved, passed_moved, positions_renamed}
 use Rattle.cip_laws.proofs.graph.CarriedSmallRings.{small_ring_back, small_ring_carried}
+use Rattle.cip_laws.proofs.graph.DelocalisedEnds.{delocalised_at_both}
 use Rattle.cip_image.specs.CarriedUnits.{AreCarriedEnds, IsCarriedEnd, IsCarriedPair, IsCarriedSite}
 use Rattle.cip_image.proofs.lists.Exchanges.{exchanged_from}
 use Rattle.cip_image.specs.Exchanged.{turned_twice}
-use Rattle.cip_laws.proofs.graph.WaySymmetry.{back_way, leads_back, way_there, way_from}
-use Rattle.cip_image.proofs.lists.Truths.{and_parts, and_both, or_swap, not_true, not_false}
+use Rattle.cip_laws.proofs.graph.WaySymmetry.{back_way, leads_back, way_there}
+use Rattle.cip_digraph.proofs.bonds.Tests.{or_swap}
+use Rattle.std.proofs.lemmas.Bool.{and_parts, and_from, not-true, not_from_false}
+
+-- the first of three in the place of the last
+pub or_turn : (p q s : Bool) → (s || (q || (p || false))) ≡ (p || (q || (s || false)))
+or_turn p q s = or_swap s q (p || false) ∙ ap (λ b. q || b) (or_swap s p false) ∙ or_swap q p (s || false)
+
+-- as many elements as images
+pub moved_long : (image : ℕ → ℕ) (xs ys : List ℕ) → IsPermutation (map image xs) ys → length ys ≡ length xs
+moved_long image xs ys p = length_permutation (map image xs) ys p ∙ length-map xs image
 
 mapped_ligands : (image : ℕ → ℕ) (vs : List ℕ)
     → map (ligand_image image) (map ligands.Vertex vs) ≡ map ligands.Vertex (map image vs)
@@ -45,14 +55,14 @@ with_lone : (image : ℕ → ℕ) (vs theirs : List ℕ) (a b : Bool) → IsPerm
     → IsPermutation (map (ligand_image image) (map ligands.Vertex vs ++ cond a (LonePair ∷ []) []))
     (map ligands.Vertex theirs ++ cond b (LonePair ∷ []) [])
 with_lone image vs theirs a b p e =
-    subst (λ ls. IsPermutation ls (map ligands.Vertex theirs ++ cond b (LonePair ∷ []) []))
-    (sym (map-append (ligand_image image) (map ligands.Vertex vs) (cond a (LonePair ∷ []) [])))
-    (IsPermutation-append (map (ligand_image image) (map ligands.Vertex vs)) (map ligands.Vertex theirs)
-    (map (ligand_image image) (cond a (LonePair ∷ []) [])) (cond b (LonePair ∷ []) [])
-    (subst (λ ls. IsPermutation ls (map ligands.Vertex theirs)) (sym (mapped_ligands image vs))
-    (IsPermutation-map ligands.Vertex (map image vs) theirs p))
-    (subst (λ x. IsPermutation (map (ligand_image image) (cond a (LonePair ∷ []) [])) (cond x (LonePair ∷ []) []))
-    (sym e) (lone a)))
+    rw (
+      e,
+      map-append (ligand_image image) (map ligands.Vertex vs) (cond a (LonePair ∷ []) []),
+      mapped_ligands image vs,
+    )
+    (IsPermutation-append (map ligands.Vertex (map image vs)) (map ligands.Vertex theirs)
+    (map (ligand_image image) (cond a (LonePair ∷ []) [])) (cond a (LonePair ∷ []) [])
+    (IsPermutation-map ligands.Vertex (map image vs) theirs p) (lone a))
   where
     lone : (a : Bool) → IsPermutation (map (ligand_image image) (cond a (LonePair ∷ []) [])) (cond a (LonePair ∷ []) [])
     lone true = IsPermutation-refl (LonePair ∷ [])
@@ -75,9 +85,7 @@ module _ (graph other : Graph) (image : ℕ → ℕ) (r : IsRenamed graph other 
   z_same v = ap (λ (x : Vertex). x.z) (r.vertices v)
 
   neighbours_long : (v : ℕ) → length (neighbours other (image v)) ≡ length (neighbours graph v)
-  neighbours_long v =
-      length_permutation (map image (neighbours graph v)) (neighbours other (image v))
-      (neighbours_moved graph other image r v) ∙ length-map (neighbours graph v) image
+  neighbours_long v = moved_long image (neighbours graph v) _ (neighbours_moved graph other image r v)
 
   drawn_moved : (v : ℕ) → IsPermutation (map image (drawn_neighbours graph v)) (drawn_neighbours other (image v))
   drawn_moved v =
@@ -88,17 +96,7 @@ module _ (graph other : Graph) (image : ℕ → ℕ) (r : IsRenamed graph other 
 
   pub centre_carried : (v : ℕ) → is_centre other (image v) ≡ is_centre graph v
   centre_carried v =
-      ap
-      (λ (x : Vertex). is_centre_by x.z x.charge (length (neighbours other (image v)))
-      (length (drawn_neighbours other (image v))) x.lone) (r.vertices v)
-      ∙ ap
-      (λ k. is_centre_by (vertex_at graph v).z (vertex_at graph v).charge k (length (drawn_neighbours other (image v)))
-      (vertex_at graph v).lone) (neighbours_long v)
-      ∙ ap
-      (λ k. is_centre_by (vertex_at graph v).z (vertex_at graph v).charge (length (neighbours graph v)) k
-      (vertex_at graph v).lone)
-      (length_permutation (map image (drawn_neighbours graph v)) (drawn_neighbours other (image v)) (drawn_moved v)
-      ∙ length-map (drawn_neighbours graph v) image)
+      rw (r.vertices v, neighbours_long v, moved_long image (drawn_neighbours graph v) _ (drawn_moved v))
 
   centre_ligands_moved : (v : ℕ)
       → IsPermutation (map (ligand_image image) (centre_ligands graph v)) (centre_ligands other (image v))
@@ -181,14 +179,7 @@ module _ (graph other : Graph) (image : ℕ → ℕ) (r : IsRenamed graph other 
   bond_end_carried : (unit theirs : List ℕ) → SameUnit unit theirs → (v : ℕ)
       → is_bond_end other theirs (image v) ≡ is_bond_end graph unit v
   bond_end_carried unit theirs same v =
-      ap
-      (λ (x : Vertex). is_double_end x.z x.charge (length (edges_at other (image v)))
-      && has_end_bonds other theirs (image v)) (r.vertices v)
-      ∙ ap
-      (λ k. is_double_end (vertex_at graph v).z (vertex_at graph v).charge k && has_end_bonds other theirs (image v))
-      (degree_carried graph other image r v)
-      ∙ ap (λ b. is_double_end (vertex_at graph v).z (vertex_at graph v).charge (length (edges_at graph v)) && b)
-      (end_bonds_carried unit theirs same v)
+      rw (r.vertices v, degree_carried graph other image r v, end_bonds_carried unit theirs same v)
 
   end_ligands_moved : (unit theirs : List ℕ) → SameUnit unit theirs → (v : ℕ)
       → IsPermutation (map (ligand_image image) (end_ligands graph unit v)) (end_ligands other theirs (image v))
@@ -197,8 +188,7 @@ module _ (graph other : Graph) (image : ℕ → ℕ) (r : IsRenamed graph other 
       (((vertex_at graph v).z == 7) && (length (edges_at graph v) == 2))
       (((vertex_at other (image v)).z == 7) && (length (edges_at other (image v)) == 2))
       (outer_moved unit theirs same v)
-      (ap (λ z. (z == 7) && (length (edges_at other (image v)) == 2)) (z_same v)
-      ∙ ap (λ k. ((vertex_at graph v).z == 7) && (k == 2)) (degree_carried graph other image r v))
+      (rw (z_same v, degree_carried graph other image r v))
 
   pub two_same : (a b : ℕ) → SameUnit (a ∷ b ∷ []) (image a ∷ image b ∷ [])
   two_same a b v = in_carried image r.injective v (a ∷ b ∷ [])
@@ -209,16 +199,6 @@ module _ (graph other : Graph) (image : ℕ → ℕ) (r : IsRenamed graph other 
 
   pub three_same : (a m b : ℕ) → SameUnit (a ∷ m ∷ b ∷ []) (image a ∷ image m ∷ image b ∷ [])
   three_same a m b v = in_carried image r.injective v (a ∷ m ∷ b ∷ [])
-
-  or_turn : (p q s : Bool) → (s || (q || (p || false))) ≡ (p || (q || (s || false)))
-  or_turn true true true = refl
-  or_turn true true false = refl
-  or_turn true false true = refl
-  or_turn true false false = refl
-  or_turn false true true = refl
-  or_turn false true false = refl
-  or_turn false false true = refl
-  or_turn false false false = refl
 
   pub three_crossed : (a m b : ℕ) → SameUnit (a ∷ m ∷ b ∷ []) (image b ∷ image m ∷ image a ∷ [])
   three_crossed a m b v =
@@ -279,14 +259,14 @@ module _ (graph : Graph) where
       let edge = found.0 in
       let to : other_end a edge ≡ w.to = sym (ap (λ (v : Way). v.to) found.2) in
       let test : is_bond_unit graph (positions_of graph) a edge ≡ true =
-      and_both _ _
-      (and_both _ _
-      (and_both _ _
-      (and_both _ _ (and_both _ _ (and_both _ _ (sym (ap (λ (v : Way). v.counted) found.2) ∙ k.counted)
-      (ap (λ o. o == 2) (sym (ap (λ (v : Way). v.order) found.2)) ∙ k.order)) (ap (nat_lt a) to ∙ lower))
-      (ap (λ b. is_bond_end graph (a ∷ b ∷ []) a) to ∙ k.first))
-      (ap (λ b. is_bond_end graph (a ∷ b ∷ []) b) to ∙ k.second)) (not_false _ k.localised))
-      (ap (λ b. not (is_in_small_ring graph a b)) to ∙ not_false _ k.large) in
+      rw to
+      (and_from _ _
+      (and_from _ _
+      (and_from _ _
+      (and_from _ _
+      (and_from _ _ (and_from _ _ (sym (ap (λ (v : Way). v.counted) found.2) ∙ k.counted)
+      (ap (λ o. o == 2) (sym (ap (λ (v : Way). v.order) found.2)) ∙ k.order)) lower) k.first) k.second)
+      (not_from_false _ k.localised)) (not_from_false _ k.large)) in
       among_flat (bond_sites graph (positions_of graph)) a (bond_of graph a w.to) (range_with_len 0 graph.drawn)
       (among_range 0 graph.drawn a (omega arith) (let lt = ltb-true a graph.drawn drawn in omega (arith, lt)))
       (subst (λ b. Among (bond_of graph a b) (bond_sites graph (positions_of graph) a)) to
@@ -324,8 +304,8 @@ module _ (graph : Graph) where
           order = all1.1;
           first = all3.1;
           second = all4.1;
-          localised = not_true _ all5.1;
-          large = not_true _ all6.1;
+          localised = not-true _ all5.1;
+          large = not-true _ all6.1;
         };
         drawn = (let lt = (from_range 0 graph.drawn a at.1).1 in lt-ltb a graph.drawn (omega (arith, lt)));
         lower = all2.1;
@@ -338,25 +318,16 @@ module _ (graph : Graph) where
       ap (λ test. is_double_end (vertex_at graph v).z (vertex_at graph v).charge (length (edges_at graph v))
       && ((length (multiples graph v) == 1)
       && list_any (λ to. nat_lt to graph.drawn) (filter test (neighbours graph v))))
-      (λ i to. not (swapped (b == to) (a == to) i))
-    where
-      swapped : (p q : Bool) → (p || (q || false)) ≡ (q || (p || false))
-      swapped true true = refl
-      swapped true false = refl
-      swapped false true = refl
-      swapped false false = refl
+      (λ i to. not (or_swap (b == to) (a == to) false i))
 
-  pub core_back : (sound : IsSound graph)
-      → ((a : ℕ) (w : Way) → Among w (ways graph a) → w.counted ≡ true → (w.order == 2) ≡ true
-      → is_delocalised (positions_of graph) w.to ≡ is_delocalised (positions_of graph) a)
-      → (a : ℕ) (w : Way) → IsBondCore graph a w → IsBondCore graph w.to (back_way graph a w)
-  core_back sound deloc a w k = record {
+  pub core_back : IsSound graph → (a : ℕ) (w : Way) → IsBondCore graph a w → IsBondCore graph w.to (back_way graph a w)
+  core_back sound a w k = record {
     among = (leads_back graph sound a w k.among).back;
     counted = k.counted;
     order = k.order;
     first = end_crossed a w.to w.to ∙ k.second;
     second = end_crossed a w.to a ∙ k.first;
-    localised = deloc a w k.among k.counted k.order ∙ k.localised;
+    localised = delocalised_at_both graph sound a w k.among k.counted k.order ∙ k.localised;
     large = small_ring_back graph sound w.to a ∙ k.large;
   }
 
@@ -377,31 +348,3 @@ module _ (graph other : Graph) (image : ℕ → ℕ) (r : IsRenamed graph other 
         (positions_renamed graph other image r) a ∙ k.localised;
     large = small_ring_carried graph other image r a w.to ∙ k.large;
   }
-
-  pub core_from : (a : ℕ) (v : Way) → IsBondCore other (image a) v
-      → (w : Way) × IsBondCore graph a w × (v ≡ way_image image w)
-  core_from a v k =
-      let found = way_from graph other image r a v k.among in
-      let w = found.0 in
-      let j = subst (IsBondCore other (image a)) found.2 k in (
-        w,
-        record {
-          among = found.1;
-          counted = j.counted;
-          order = j.order;
-          first =
-              sym
-              (bond_end_carried graph other image r (a ∷ w.to ∷ []) (image a ∷ image w.to ∷ [])
-              (two_same graph other image r a w.to) a) ∙ j.first;
-          second =
-              sym
-              (bond_end_carried graph other image r (a ∷ w.to ∷ []) (image a ∷ image w.to ∷ [])
-              (two_same graph other image r a w.to) w.to) ∙ j.second;
-          localised =
-              sym
-              (delocalised_carried graph other (positions_of graph) (positions_of other) image r
-              (positions_renamed graph other image r) a) ∙ j.localised;
-          large = sym (small_ring_carried graph other image r a w.to) ∙ j.large;
-        },
-        found.2,
-      )

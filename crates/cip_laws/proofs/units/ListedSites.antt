@@ -1,10 +1,11 @@
 -- The ligands of units as they are listed: ascending, so the drawn ones first, and at most one that isn't drawn.
-use Rattle.std.proofs.Common.{◌≡◌, ◌≢◌, ◌⊎◌, inl, inr, ◌<◌, ◌≤◌, ◌+◌, ℕ, suc, ℤ, pos, List, [], ◌∷◌, ◌++◌, map, length, filter, refl, sym, ap, subst, ◌∙◌, Bool, true, false, not, cond, ◌==◌, ◌&&◌, ◌||◌, nat_lt, eqb-true, eq-eqb, le-ltb, ltb-true, ltb-false, leb-true, arith, if◌then◌else◌}
+use Rattle.std.proofs.Common.{◌≡◌, ◌≢◌, ◌⊎◌, inl, inr, ◌<◌, ◌≤◌, ◌+◌, ℕ, suc, ℤ, pos, List, [], ◌∷◌, ◌++◌, map, length, filter, refl, sym, ap, subst, ◌∙◌, Bool, true, false, not, cond, ◌==◌, ◌&&◌, ◌||◌, nat_lt, eqb-true, le-ltb, ltb-true, ltb-false, leb-true, arith, if◌then◌else◌}
 use Rattle.std.specs.Prelude.{None, Some}
 use Rattle.std.specs.List.{AllByRecursion, list_any, cons_option}
 use Rattle.std.specs.Ordering.{int_eq}
-use Rattle.std.proofs.lemmas.Bool.{ne_eqb}
+use Rattle.std.proofs.lemmas.Bool.{ne_eqb, true≢false, and_parts, and_right}
 use Rattle.std.proofs.lemmas.List.{length-map}
+use Rattle.std.proofs.Math.Bool.{or-false}
 use Rattle.cip_mol.specs.Drawing.{Drawing}
 use Rattle.cip_mol.specs.DrawnLigands.{drawn}
 use Rattle.cip_mol.specs.declared.site.Ligand.{Ligand}
@@ -22,20 +23,22 @@ use Rattle.cip_digraph.specs.graph.Graph.{Graph, vertex_at, edges_at, neighbours
 use Rattle.cip_digraph.specs.rings.Positions.{positions_of}
 use Rattle.cip_digraph.specs.graph.SoundGraphs.{IsSound}
 use Rattle.cip_digraph.specs.units.Units.{centre_site, sites_of}
-use Rattle.cip_digraph.proofs.Lists.{Pairwise, pairwise_by, pairwise_filtered, all_by}
-use Rattle.cip_digraph.proofs.NeighbourOrder.{neighbours_ascend, neighbours_differ}
+use Rattle.cip_digraph.proofs.lists.Elements.{Pairwise, pairwise_by, pairwise_filtered, all_by}
+use Rattle.cip_digraph.proofs.bonds.Neighbours.{neighbours_ascend, neighbours_differ}
 use Rattle.cip_image.specs.Images.{Among}
-use Rattle.cip_laws.proofs.units.AloneSites.{centre_is, double_parts, axis_end_parts}
-use Rattle.cip_image.proofs.lists.Among.{from_map, among_map, among_filter, found_any, among_all}
+use Rattle.cip_digraph.proofs.bonds.Centres.{double_parts}
+use Rattle.cip_laws.proofs.units.AloneSites.{centre_is, axis_end_parts}
+use Rattle.cip_image.proofs.lists.Among.{from_map, among_map, among_filter, found_any}
 use Rattle.cip_laws.proofs.units.CarriedAxes.{FoundAxis, found_site}
 use Rattle.cip_image.proofs.lists.CarriedLists.{mapped_twice}
 use Rattle.cip_image.specs.Renamed.{Way, way, ways}
 use Rattle.cip_laws.proofs.units.CarriedSites.{FoundBond}
-use Rattle.cip_laws.proofs.graph.RenumberedGraph.{total, vertex_of_hydrogen, vertex_of_none}
+use Rattle.cip_laws.proofs.further.AllButOne.{all_but_one, some_member}
+use Rattle.cip_laws.proofs.graph.RenumberedGraph.{Drawn, Implicit, Beyond, kind_of, vertex_of_hydrogen, vertex_of_none}
 use Rattle.cip_laws.proofs.units.RenumberedSenses.{IsListed, IsEndListed, IsSiteListed}
 use Rattle.cip_laws.proofs.units.TurnedSenses.{undrawn, behind}
 use Rattle.cip_laws.proofs.graph.WaySymmetry.{back_way, leads_back}
-use Rattle.cip_image.proofs.lists.Truths.{true_not_false, and_parts, eq_back, last_false}
+use Rattle.cip_image.proofs.lists.Truths.{eq_back}
 
 pub neighbours_rise : (graph : Graph) → IsSound graph → (v : ℕ) → Pairwise ◌≤◌ (neighbours graph v)
 neighbours_rise graph sound v =
@@ -94,14 +97,11 @@ module _ (n : ℕ) (lone : Bool) where
     where
       by : (b : Bool) → nat_lt v n ≡ b → behind n (ligands_of vs) ≡ 0
           → cond (nat_lt v n) 0 (length (drawn n (ligands_of vs))) + behind n (ligands_of vs) ≡ 0
-      by true e rest =
-          ap (λ b. cond b 0 (length (drawn n (ligands_of vs))) + behind n (ligands_of vs)) e
-          ∙ (let f : 0 + behind n (ligands_of vs) ≡ behind n (ligands_of vs) = omega arith in f) ∙ rest
+      by true e rest = rw e (omega (arith, rest))
       by false e rest =
           let le = ltb-false v n e in
           let none = none_drawn vs (all_by (λ w. v ≤ w) (λ w. n ≤ w) (λ w h. omega (arith, le, h)) vs up.0) in
-          ap (λ b. cond b 0 (length (drawn n (ligands_of vs))) + behind n (ligands_of vs)) e
-          ∙ (omega (arith, none, rest))
+          rw e (omega (arith, none, rest))
 
   pub listed : (least most : ℕ) (vs : List ℕ) → Pairwise ◌≤◌ vs → least ≤ length (filter (λ v. nat_lt v n) vs)
       → length vs + lone_count ≡ most → most ≤ least + 1 → IsListed n least most (ligands_of vs)
@@ -116,47 +116,13 @@ module _ (n : ℕ) (lone : Bool) where
         less = omega (arith, counted, count);
       }
 
--- all but one
-all_but_one : (test : ℕ → Bool) (target : ℕ) (xs : List ℕ) → ((x : ℕ) → Among x xs → test x ≡ not (x == target))
-    → Pairwise ◌≢◌ xs → Among target xs → length (filter test xs) + 1 ≡ length xs
-all_but_one test target [] same differ h = absurd h
-all_but_one test target (x ∷ xs) same differ (inl e) =
-    let here : test x ≡ false = same x (inl refl) ∙ ap not (eq-eqb x target (sym e)) in
-    ap (λ b. length (cond b (x ∷ filter test xs) (filter test xs)) + 1) here
-    ∙ ap (λ ys. length ys + 1) (rest xs (λ y g. same y (inr g)) differ.0)
-    ∙ (let f : length xs + 1 ≡ suc (length xs) = omega arith in f)
-  where
-    rest : (ys : List ℕ) → ((y : ℕ) → Among y ys → test y ≡ not (y == target)) → AllByRecursion (λ y. x ≢ y) ys
-        → filter test ys ≡ ys
-    rest [] s d = refl
-    rest (y ∷ ys) s d =
-        ap (λ b. cond b (y ∷ filter test ys) (filter test ys))
-        (s y (inl refl) ∙ ap not (ne_eqb y target (λ f. d.0 (sym e ∙ sym f))))
-        ∙ ap (λ zs. y ∷ zs) (rest ys (λ z g. s z (inr g)) d.1)
-all_but_one test target (x ∷ xs) same differ (inr h) =
-    let apart : x ≢ target = among_all (λ y. x ≢ y) target xs differ.0 h in
-    let here : test x ≡ true = same x (inl refl) ∙ ap not (ne_eqb x target apart) in
-    let ih = all_but_one test target xs (λ y g. same y (inr g)) differ.1 h in
-    ap (λ b. length (cond b (x ∷ filter test xs) (filter test xs)) + 1) here
-    ∙ (let f : suc (length (filter test xs)) + 1 ≡ suc (length (filter test xs) + 1) = omega arith in f) ∙ ap suc ih
-
 some_kept : (test : ℕ → Bool) (xs : List ℕ) → list_any test xs ≡ true → 1 ≤ length (filter test xs)
 some_kept test xs e = let found = found_any test xs e in
-    long found.0 (filter test xs) (among_filter test found.0 xs found.1 found.2)
-  where
-    long : (x : ℕ) (ys : List ℕ) → Among x ys → 1 ≤ length ys
-    long x [] h = absurd h
-    long x (y ∷ ys) h = omega arith
+    some_member (filter test xs) found.0 (among_filter test found.0 xs found.1 found.2)
 
 not_double : (z : ℕ) (charge : ℤ) (edges : ℕ) → (z ≡ 1) ⊎ (z ≡ 0) → is_double_end z charge edges ≡ false
-not_double z charge edges (inl e) = ap (λ z. is_double_end z charge edges) e ∙ by (edges == 3) (edges == 2)
-  where
-    by : (a b : Bool) → ((a && false) || ((b && false) && int_eq charge (pos 0))) ≡ false
-    by true true = refl
-    by true false = refl
-    by false true = refl
-    by false false = refl
-not_double z charge edges (inr e) = ap (λ z. is_double_end z charge edges) e ∙ by (edges == 3) (edges == 2)
+not_double z charge edges e =
+    elim e [ inl one ↦ rw one (by (edges == 3) (edges == 2)) | inr none ↦ rw none (by (edges == 3) (edges == 2)) ]
   where
     by : (a b : Bool) → ((a && false) || ((b && false) && int_eq charge (pos 0))) ≡ false
     by true true = refl
@@ -177,17 +143,11 @@ module _ (drawing : Drawing) (sound : IsSound (graph_of drawing)) where
 
   -- what isn't hydrogen is an atom
   atom_if : (v : ℕ) → ((vertex_at g v).z ≡ 1 → ⊥) → ((vertex_at g v).z ≡ 0 → ⊥) → v < n
-  atom_if v one none = by (nat_lt v n) (nat_lt v (total drawing)) refl refl
-    where
-      by : (a b : Bool) → nat_lt v n ≡ a → nat_lt v (total drawing) ≡ b → v < n
-      by true b e f = ltb-true v n e
-      by false true e f =
-          absurd
-          (one
-          (ap (λ (x : Vertex). x.z)
-          (vertex_of_hydrogen drawing v (ltb-false v n e) (ltb-true v (total drawing) f))))
-      by false false e f =
-          absurd (none (ap (λ (x : Vertex). x.z) (vertex_of_none drawing v (ltb-false v (total drawing) f))))
+  atom_if v one none = elim (kind_of drawing v) [
+    | Drawn lt ↦ lt
+    | Implicit p ↦ absurd (one (ap (λ (x : Vertex). x.z) (vertex_of_hydrogen drawing v p)))
+    | Beyond le ↦ absurd (none (ap (λ (x : Vertex). x.z) (vertex_of_none drawing v le)))
+  ]
 
   centre_listed : (v : ℕ) → v < n → is_centre g v ≡ true → IsSiteListed drawing (centre_site g v)
   centre_listed v lt e =
@@ -223,26 +183,28 @@ module _ (drawing : Drawing) (sound : IsSound (graph_of drawing)) where
       (leads_back g sound v found.0 found.1).differ (same ∙ found.2)
 
   in_first : (a b x : ℕ) → Among x (neighbours g a) → is_in x (a ∷ b ∷ []) ≡ (x == b)
-  in_first a b x h =
-      ap (λ t. t || ((b == x) || false)) (ne_eqb a x (apart_from a x h)) ∙ or_nothing (b == x) ∙ eq_back b x
-    where
-      or_nothing : (t : Bool) → (t || false) ≡ t
-      or_nothing true = refl
-      or_nothing false = refl
+  in_first a b x h = rw (ne_eqb a x (apart_from a x h), eq_back x b) (or-false (b == x))
 
   in_second : (a b x : ℕ) → Among x (neighbours g b) → is_in x (a ∷ b ∷ []) ≡ (x == a)
-  in_second a b x h =
-      ap (λ t. (a == x) || (t || false)) (ne_eqb b x (apart_from b x h)) ∙ or_nothing (a == x) ∙ eq_back a x
-    where
-      or_nothing : (t : Bool) → (t || false) ≡ t
-      or_nothing true = refl
-      or_nothing false = refl
+  in_second a b x h = rw (ne_eqb b x (apart_from b x h), eq_back x a) (or-false (a == x))
 
   pub some_drawn : (unit : List ℕ) (v : ℕ) → has_end_bonds g unit v ≡ true
       → 1 ≤ length (filter (λ w. nat_lt w n) (outer_neighbours g unit v))
   some_drawn unit v e =
       subst (λ d. 1 ≤ length (filter (λ w. nat_lt w d) (outer_neighbours g unit v))) drawn_is
       (some_kept (λ w. nat_lt w g.drawn) (outer_neighbours g unit v) (and_parts _ _ e).1)
+
+  -- an end whose two ligands are drawn, or a drawn one and a lone pair
+  pub end_listed : (unit : List ℕ) (v : ℕ) → v < n → has_end_bonds g unit v ≡ true
+      → length (outer_neighbours g unit v) + cond (((vertex_at g v).z == 7) && (length (edges_at g v) == 2)) 1 0 ≡ 2
+      → IsEndListed drawing (end_at v (end_ligands g unit v))
+  end_listed unit v lt bonds two = record {
+    at = lt;
+    ligands =
+        listed n (((vertex_at g v).z == 7) && (length (edges_at g v) == 2)) 1 2 (outer_neighbours g unit v)
+        (pairwise_filtered ◌≤◌ (λ x. not (is_in x unit)) (neighbours g v) (neighbours_rise g sound v))
+        (some_drawn unit v bonds) two (omega arith);
+  }
 
   bond_end_listed : (unit : List ℕ) (v to : ℕ) → is_bond_end g unit v ≡ true
       → length (outer_neighbours g unit v) + 1 ≡ length (edges_at g v)
@@ -251,33 +213,23 @@ module _ (drawing : Drawing) (sound : IsSound (graph_of drawing)) where
       let both =
       and_parts (is_double_end (vertex_at g v).z (vertex_at g v).charge (length (edges_at g v)))
       (has_end_bonds g unit v) e in
-      let outer = outer_neighbours g unit v in
-      let lone = ((vertex_at g v).z == 7) && (length (edges_at g v) == 2) in
-      let two : length outer + cond lone 1 0 ≡ 2 =
-      elim (double_parts (vertex_at g v).z (vertex_at g v).charge (length (edges_at g v)) both.0) [
+      end_listed unit v
+      (atom_if v
+      (λ z. true≢false
+      (sym both.0 ∙ not_double (vertex_at g v).z (vertex_at g v).charge (length (edges_at g v)) (inl z)))
+      (λ z. true≢false
+      (sym both.0 ∙ not_double (vertex_at g v).z (vertex_at g v).charge (length (edges_at g v)) (inr z))))
+      both.1
+      (elim (double_parts (vertex_at g v).z (vertex_at g v).charge (length (edges_at g v)) both.0) [
         | inl three ↦
             let d = three.0 in
-            let none : lone ≡ false =
-            ap (λ k. ((vertex_at g v).z == 7) && (k == 2)) d ∙ last_false ((vertex_at g v).z == 7) false refl in
-            let long : length outer ≡ 2 = omega (arith, count, d) in
-            ap (λ b. length outer + cond b 1 0) none ∙ ap (λ k. k + 0) long
+            let long : length (outer_neighbours g unit v) ≡ 2 = omega (arith, count, d) in
+            rw (d, long) (ap (λ b. 2 + cond b 1 0) (and_right ((vertex_at g v).z == 7) false refl))
         | inr pair ↦
             let d = pair.0 in
-            let one : lone ≡ true = ap (λ z. (z == 7) && (length (edges_at g v) == 2)) pair.1 ∙ ap (λ k. k == 2) d in
-            let long : length outer ≡ 1 = omega (arith, count, d) in
-            ap (λ b. length outer + cond b 1 0) one ∙ ap (λ k. k + 1) long
-      ] in
-      record {
-        at = atom_if v
-            (λ z. true_not_false
-            (sym both.0 ∙ not_double (vertex_at g v).z (vertex_at g v).charge (length (edges_at g v)) (inl z)))
-            (λ z. true_not_false
-            (sym both.0 ∙ not_double (vertex_at g v).z (vertex_at g v).charge (length (edges_at g v)) (inr z)));
-        ligands =
-            listed n lone 1 2 outer
-            (pairwise_filtered ◌≤◌ (λ x. not (is_in x unit)) (neighbours g v) (neighbours_rise g sound v))
-            (some_drawn unit v both.1) two (omega arith);
-      }
+            let long : length (outer_neighbours g unit v) ≡ 1 = omega (arith, count, d) in
+            rw (d, pair.1, long)
+      ])
 
   bond_listed : (site : Site) → FoundBond g site → IsSiteListed drawing site
   bond_listed site f =
@@ -294,20 +246,9 @@ module _ (drawing : Drawing) (sound : IsSound (graph_of drawing)) where
       → IsEndListed drawing (end_at v (end_ligands g unit v))
   axis_end_listed unit v e =
       let four = and_parts _ _ e in
-      let three = and_parts _ _ four.0 in
       let six = (axis_end_parts g sound unit v e).0 in
-      let outer = outer_neighbours g unit v in
-      let lone = ((vertex_at g v).z == 7) && (length (edges_at g v) == 2) in
-      let none : lone ≡ false = ap (λ z. (z == 7) && (length (edges_at g v) == 2)) six in
-      let two : length outer + cond lone 1 0 ≡ 2 =
-      ap (λ b. length outer + cond b 1 0) none ∙ ap (λ k. k + 0) (eqb-true (length outer) 2 four.1) in
-      record {
-        at = atom_if v (λ z. absurd (omega (arith, z, six))) (λ z. absurd (omega (arith, z, six)));
-        ligands =
-            listed n lone 1 2 outer
-            (pairwise_filtered ◌≤◌ (λ x. not (is_in x unit)) (neighbours g v) (neighbours_rise g sound v))
-            (some_drawn unit v three.1) two (omega arith);
-      }
+      end_listed unit v (atom_if v (λ z. absurd (omega (arith, z, six))) (λ z. absurd (omega (arith, z, six))))
+      (and_parts _ _ four.0).1 (rw (six, eqb-true (length (outer_neighbours g unit v)) 2 four.1))
 
   axis_listed : (site : Site) → FoundAxis g site → IsSiteListed drawing site
   axis_listed site f =

@@ -1,10 +1,9 @@
 -- The senses of units go to their images: they turn with each exchange of ligands that ascending numbers make.
-use Rattle.std.proofs.Common.{◌≡◌, inl, inr, ◌<◌, ◌≤◌, ◌+◌, ℕ, suc, List, [], ◌∷◌, map, length, swap, refl, sym, ap, subst, ◌∙◌, Bool, true, false, cond, nat_lt, arith, if◌then◌else◌}
-use Rattle.std.specs.Prelude.{None, Some}
-use Rattle.std.specs.List.{cons_option}
+use Rattle.std.proofs.Common.{◌≡◌, inl, inr, ◌<◌, ◌≤◌, ◌+◌, ℕ, suc, List, [], ◌∷◌, map, length, swap, refl, sym, ap, subst, ◌∙◌, Bool, true, false, nat_lt, arith}
 use Rattle.cip_mol.specs.Bonds as bonds
 use Rattle.cip_mol.specs.Drawing.{Drawing}
 use Rattle.cip_mol.specs.DrawnLigands.{drawn}
+use Rattle.cip_mol.specs.Senses.{other_way}
 use Rattle.cip_mol.specs.Geometry.{centre_geometry, bond_geometry, axis_geometry, of_centre, of_bond, of_axis, geometry_of}
 use Rattle.cip_mol.specs.declared.descriptor.Sense.TheVariants.{Plus, Minus}
 use Rattle.cip_mol.specs.declared.site.Geometry.{Geometry}
@@ -74,31 +73,35 @@ module _ (drawing : Drawing) where
   first_of_two : (i m : ℕ) → i + 1 < m → m ≤ 2 → (i ≡ 0) × (m ≡ 2)
   first_of_two i m lt le = (omega (arith, lt, le), omega (arith, lt, le))
 
-  bond_turned : (a b : ℕ) (second : List Ligand) → 1 ≤ length (drawn n second)
-      → (places : List ℕ) (ls ms : List Ligand) → IsExchanged places ls ms → IsListed n 1 2 ls → behind n ms ≡ 0
-      → bond_geometry drawing a b ms second ≡ flip (is_odd (length places)) (bond_geometry drawing a b ls second)
-  bond_turned a b second some places ls ms e l last =
-      turned_together n (λ ls. bond_geometry drawing a b ls second) Few
-      (λ ls ms same. ap (λ ks. of_bond drawing.atoms drawing.bonds a b ks (drawn n second)) same)
+  -- at one of two ends, the other one as it is
+  abbrev Turns : (List Ligand → Geometry) → Type 0
+  Turns of =
+      (places : List ℕ) (ls ms : List Ligand) → IsExchanged places ls ms → IsListed n 1 2 ls → behind n ms ≡ 0
+      → of ms ≡ flip (is_odd (length places)) (of ls)
+
+  end_turned : (of : List ℕ → Geometry)
+      → ((ls ms : List Ligand) → length (drawn n ls) ≡ 2 → drawn n ms ≡ swap (drawn n ls) 0 1
+      → of (drawn n ms) ≡ other_way (of (drawn n ls)))
+      → Turns (λ ls. of (drawn n ls))
+  end_turned of turns places ls ms e l last =
+      turned_together n (λ ls. of (drawn n ls)) Few (λ ls ms same. ap of same)
       (λ ls ms i fits lt same.
       let two = first_of_two i (length (drawn n ls)) lt fits in
       let next : i + 1 ≡ 1 = let zero_i = two.0 in omega (arith, zero_i) in
-      exchange_turns_bonds drawing a b ls ms second two.1 some
-      (same ∙ ap (λ j. swap (drawn n ls) j (i + 1)) two.0 ∙ ap (swap (drawn n ls) 0) next))
+      turns ls ms two.1 (same ∙ ap (λ j. swap (drawn n ls) j (i + 1)) two.0 ∙ ap (swap (drawn n ls) 0) next))
       places ls ms e l.few l.less l.last last
 
+  bond_turned : (a b : ℕ) (second : List Ligand) → 1 ≤ length (drawn n second)
+      → Turns (λ ls. bond_geometry drawing a b ls second)
+  bond_turned a b second some =
+      end_turned (λ ks. of_bond drawing.atoms drawing.bonds a b ks (drawn n second))
+      (λ ls ms two same. exchange_turns_bonds drawing a b ls ms second two some same)
+
   axis_turned : (a b : ℕ) (second : List Ligand) → 1 ≤ length (drawn n second)
-      → (places : List ℕ) (ls ms : List Ligand) → IsExchanged places ls ms → IsListed n 1 2 ls → behind n ms ≡ 0
-      → axis_geometry drawing a b ms second ≡ flip (is_odd (length places)) (axis_geometry drawing a b ls second)
-  axis_turned a b second some places ls ms e l last =
-      turned_together n (λ ls. axis_geometry drawing a b ls second) Few
-      (λ ls ms same. ap (λ ks. of_axis drawing.atoms drawing.bonds a b ks (drawn n second)) same)
-      (λ ls ms i fits lt same.
-      let two = first_of_two i (length (drawn n ls)) lt fits in
-      let next : i + 1 ≡ 1 = let zero_i = two.0 in omega (arith, zero_i) in
-      exchange_turns_axes drawing a b ls ms second two.1 some
-      (same ∙ ap (λ j. swap (drawn n ls) j (i + 1)) two.0 ∙ ap (swap (drawn n ls) 0) next))
-      places ls ms e l.few l.less l.last last
+      → Turns (λ ls. axis_geometry drawing a b ls second)
+  axis_turned a b second some =
+      end_turned (λ ks. of_axis drawing.atoms drawing.bonds a b ks (drawn n second))
+      (λ ls ms two same. exchange_turns_axes drawing a b ls ms second two some same)
 
 -- what a site of a drawing is, as far as its geometry is concerned
 pub record IsEndListed (drawing : Drawing) (end : End) : Type 0 where
@@ -123,20 +126,14 @@ module _ (drawing other : Drawing) (image : ℕ → ℕ) (r : IsRenumbering draw
       → length (drawn (length other.atoms) (map (ligand_image c) ls)) ≡ length (drawn (length drawing.atoms) ls)
   drawn_long [] = refl
   drawn_long (LonePair ∷ ls) = drawn_long ls
-  drawn_long (ligands.Vertex v ∷ ls) =
-      ap
-      (λ b. length
-      (cons_option (if b then Some (c v) else None) (drawn (length other.atoms) (map (ligand_image c) ls))))
-      (drawn_same drawing other image r sound v)
-      ∙ by (nat_lt v (length drawing.atoms)) (drawn_long ls)
+  drawn_long (ligands.Vertex v ∷ ls) = by (nat_lt v (length drawing.atoms)) refl (drawn_long ls)
     where
-      by : (b : Bool)
+      by : (b : Bool) → nat_lt v (length drawing.atoms) ≡ b
           → length (drawn (length other.atoms) (map (ligand_image c) ls)) ≡ length (drawn (length drawing.atoms) ls)
-          → length
-          (cons_option (if b then Some (c v) else None) (drawn (length other.atoms) (map (ligand_image c) ls)))
-          ≡ length (cons_option (if b then Some v else None) (drawn (length drawing.atoms) ls))
-      by true e = ap suc e
-      by false e = e
+          → length (drawn (length other.atoms) (map (ligand_image c) (ligands.Vertex v ∷ ls)))
+          ≡ length (drawn (length drawing.atoms) (ligands.Vertex v ∷ ls))
+      by true e rest = let f = drawn_same drawing other image r sound v ∙ e in rw (f, e) (ap suc rest)
+      by false e rest = let f = drawn_same drawing other image r sound v ∙ e in rw (f, e) rest
 
   is_drawn_same : (l : Ligand) → is_drawn (length other.atoms) (ligand_image c l) ≡ is_drawn (length drawing.atoms) l
   is_drawn_same (ligands.Vertex v) = drawn_same drawing other image r sound v
@@ -145,21 +142,12 @@ module _ (drawing other : Drawing) (image : ℕ → ℕ) (r : IsRenumbering draw
   undrawn_same : (ls : List Ligand)
       → undrawn (length other.atoms) (map (ligand_image c) ls) ≡ undrawn (length drawing.atoms) ls
   undrawn_same [] = refl
-  undrawn_same (l ∷ ls) =
-      ap (λ b. cond b 0 1 + undrawn (length other.atoms) (map (ligand_image c) ls)) (is_drawn_same l)
-      ∙ ap (λ k. cond (is_drawn (length drawing.atoms) l) 0 1 + k) (undrawn_same ls)
+  undrawn_same (l ∷ ls) = rw (undrawn_same ls, is_drawn_same l)
 
   behind_same : (ls : List Ligand)
       → behind (length other.atoms) (map (ligand_image c) ls) ≡ behind (length drawing.atoms) ls
   behind_same [] = refl
-  behind_same (l ∷ ls) =
-      ap
-      (λ b. cond b 0 (length (drawn (length other.atoms) (map (ligand_image c) ls)))
-      + behind (length other.atoms) (map (ligand_image c) ls)) (is_drawn_same l)
-      ∙ ap (λ k. cond (is_drawn (length drawing.atoms) l) 0 k + behind (length other.atoms) (map (ligand_image c) ls))
-      (drawn_long ls)
-      ∙ ap (λ k. cond (is_drawn (length drawing.atoms) l) 0 (length (drawn (length drawing.atoms) ls)) + k)
-      (behind_same ls)
+  behind_same (l ∷ ls) = rw (drawn_long ls, behind_same ls, is_drawn_same l)
 
   listed_image : (least most : ℕ) (ls : List Ligand) → IsListed (length drawing.atoms) least most ls
       → IsListed (length other.atoms) least most (map (ligand_image c) ls)
@@ -180,48 +168,45 @@ module _ (drawing other : Drawing) (image : ℕ → ℕ) (r : IsRenumbering draw
       ∙ ap (λ b. flip b (centre_geometry other (c at) (map (ligand_image c) ls))) e.parity
       ∙ ap (flip odd) (centre_renamed drawing other image r sound their_sound at lt ls)
 
-  -- two ends in their order
-  bond_forward : (odd : Bool) (a b d e : ℕ) (ks ls us vs : List Ligand)
-      → AreCarriedEnds c odd (end_at a ks) (end_at b ls) (end_at d us) (end_at e vs)
-      → IsEndListed drawing (end_at a ks) → IsEndListed drawing (end_at b ls)
-      → IsListed (length other.atoms) 1 2 us → IsListed (length other.atoms) 1 2 vs
-      → bond_geometry other d e us vs ≡ flip odd (bond_geometry drawing a b ks ls)
-  bond_forward odd a b d e ks ls us vs x la lb lu lv =
-      ap (λ v. bond_geometry other v e us vs) x.near.at ∙ ap (λ v. bond_geometry other (c a) v us vs) x.far.at
-      ∙ bond_turned other (c a) (c b) vs lv.some x.near.places (map (ligand_image c) ks) us x.near.exchanged
-      (listed_image 1 2 ks la.ligands) lu.last
-      ∙ ap (flip (is_odd (length x.near.places)))
-      (sym (exchanged_ends_keep_bonds other (c a) (c b) (map (ligand_image c) ks) vs)
-      ∙ bond_turned other (c b) (c a) (map (ligand_image c) ks) (listed_image 1 2 ks la.ligands).some x.far.places
-      (map (ligand_image c) ls) vs x.far.exchanged (listed_image 1 2 ls lb.ligands) lv.last
-      ∙ ap (flip (is_odd (length x.far.places)))
-      (exchanged_ends_keep_bonds other (c a) (c b) (map (ligand_image c) ks) (map (ligand_image c) ls)
-      ∙ bond_renamed drawing other image r sound their_sound a b la.at lb.at ks ls))
-      ∙ flip_both (is_odd (length x.near.places)) (is_odd (length x.far.places)) (bond_geometry drawing a b ks ls)
-      ∙ ap (λ o. flip (turned_twice o (is_odd (length x.far.places))) (bond_geometry drawing a b ks ls)) x.near.parity
-      ∙ ap (λ o. flip (turned_twice x.first o) (bond_geometry drawing a b ks ls)) x.far.parity
-      ∙ ap (λ o. flip o (bond_geometry drawing a b ks ls)) (sym x.sum)
+  -- of two ends, by a geometry that exchanges at an end turn, and that an exchange of the ends keeps
+  module _ (of : Drawing → ℕ → ℕ → List Ligand → List Ligand → Geometry)
+      (turned : (a b : ℕ) (second : List Ligand) → 1 ≤ length (drawn (length other.atoms) second)
+      → Turns other (λ ls. of other a b ls second))
+      (keep : (a b : ℕ) (first second : List Ligand) → of other b a second first ≡ of other a b first second)
+      (renamed : (a b : ℕ) → a < length drawing.atoms → b < length drawing.atoms → (ks ls : List Ligand)
+      → of other (c a) (c b) (map (ligand_image c) ks) (map (ligand_image c) ls) ≡ of drawing a b ks ls) where
+    forward : (odd : Bool) (a b d e : ℕ) (ks ls us vs : List Ligand)
+        → AreCarriedEnds c odd (end_at a ks) (end_at b ls) (end_at d us) (end_at e vs)
+        → IsEndListed drawing (end_at a ks) → IsEndListed drawing (end_at b ls)
+        → IsListed (length other.atoms) 1 2 us → IsListed (length other.atoms) 1 2 vs
+        → of other d e us vs ≡ flip odd (of drawing a b ks ls)
+    forward odd a b d e ks ls us vs x la lb lu lv =
+        let first = map (ligand_image c) ks in
+        let second = map (ligand_image c) ls in
+        let one = is_odd (length x.near.places) in
+        let two = is_odd (length x.far.places) in
+        ap (λ v. of other v e us vs) x.near.at ∙ ap (λ v. of other (c a) v us vs) x.far.at
+        ∙ turned (c a) (c b) vs lv.some x.near.places first us x.near.exchanged (listed_image 1 2 ks la.ligands) lu.last
+        ∙ ap (flip one)
+        (sym (keep (c a) (c b) first vs)
+        ∙ turned (c b) (c a) first (listed_image 1 2 ks la.ligands).some x.far.places second vs x.far.exchanged
+        (listed_image 1 2 ls lb.ligands) lv.last
+        ∙ ap (flip two) (keep (c a) (c b) first second ∙ renamed a b la.at lb.at ks ls))
+        ∙ flip_both one two (of drawing a b ks ls)
+        ∙ ap (λ o. flip o (of drawing a b ks ls))
+        (ap (λ o. turned_twice o two) x.near.parity ∙ ap (turned_twice x.first) x.far.parity ∙ sym x.sum)
 
-  axis_forward : (odd : Bool) (a b d e : ℕ) (ks ls us vs : List Ligand)
-      → AreCarriedEnds c odd (end_at a ks) (end_at b ls) (end_at d us) (end_at e vs)
-      → IsEndListed drawing (end_at a ks) → IsEndListed drawing (end_at b ls)
-      → IsListed (length other.atoms) 1 2 us → IsListed (length other.atoms) 1 2 vs
-      → axis_geometry other d e us vs ≡ flip odd (axis_geometry drawing a b ks ls)
-  axis_forward odd a b d e ks ls us vs x la lb lu lv =
-      ap (λ v. axis_geometry other v e us vs) x.near.at ∙ ap (λ v. axis_geometry other (c a) v us vs) x.far.at
-      ∙ axis_turned other (c a) (c b) vs lv.some x.near.places (map (ligand_image c) ks) us x.near.exchanged
-      (listed_image 1 2 ks la.ligands) lu.last
-      ∙ ap (flip (is_odd (length x.near.places)))
-      (sym (exchanged_ends_keep_axes other (c a) (c b) (map (ligand_image c) ks) vs)
-      ∙ axis_turned other (c b) (c a) (map (ligand_image c) ks) (listed_image 1 2 ks la.ligands).some x.far.places
-      (map (ligand_image c) ls) vs x.far.exchanged (listed_image 1 2 ls lb.ligands) lv.last
-      ∙ ap (flip (is_odd (length x.far.places)))
-      (exchanged_ends_keep_axes other (c a) (c b) (map (ligand_image c) ks) (map (ligand_image c) ls)
-      ∙ axis_renamed drawing other image r sound their_sound a b la.at lb.at ks ls))
-      ∙ flip_both (is_odd (length x.near.places)) (is_odd (length x.far.places)) (axis_geometry drawing a b ks ls)
-      ∙ ap (λ o. flip (turned_twice o (is_odd (length x.far.places))) (axis_geometry drawing a b ks ls)) x.near.parity
-      ∙ ap (λ o. flip (turned_twice x.first o) (axis_geometry drawing a b ks ls)) x.far.parity
-      ∙ ap (λ o. flip o (axis_geometry drawing a b ks ls)) (sym x.sum)
+    pair_sense : (odd : Bool) (a b d e : ℕ) (ks ls us vs : List Ligand)
+        → AreEndsCarried c odd (end_at a ks ∷ end_at b ls ∷ []) (end_at d us ∷ end_at e vs ∷ [])
+        → IsEndListed drawing (end_at a ks) × IsEndListed drawing (end_at b ls)
+        → IsEndListed other (end_at d us) × IsEndListed other (end_at e vs)
+        → IsCarriedGeometry odd (of drawing a b ks ls) (of other d e us vs)
+    pair_sense odd a b d e ks ls us vs ends l t =
+        flip_geometry odd (of drawing a b ks ls) (of other d e us vs)
+        (elim (pair_of c odd (end_at a ks) (end_at b ls) (end_at d us) (end_at e vs) ends).ends [
+          | inl x ↦ forward odd a b d e ks ls us vs x l.0 l.1 t.0.ligands t.1.ligands
+          | inr x ↦ sym (keep d e us vs) ∙ forward odd a b e d ks ls vs us x l.0 l.1 t.1.ligands t.0.ligands
+        ])
 
   -- the sense of a site that is listed as units are
   pub site_sense : (odd : Bool) (site two : Site) → shape_of two ≡ shape_of site
@@ -231,21 +216,11 @@ module _ (drawing other : Drawing) (image : ℕ → ℕ) (r : IsRenumbering draw
       flip_geometry odd (centre_geometry drawing at ls) (centre_geometry other there ts)
       (centre_sense odd at there ls ts (end_of c odd (end_at at ls) (end_at there ts) ends) l.0 l.1 t.1)
   site_sense odd (Bond a b first second) (Bond d e third fourth) shape ends l t =
-      let pair = pair_of c odd (end_at a first) (end_at b second) (end_at d third) (end_at e fourth) ends in
-      flip_geometry odd (bond_geometry drawing a b first second) (bond_geometry other d e third fourth) (elim pair.ends [
-        | inl x ↦ bond_forward odd a b d e first second third fourth x l.0 l.1 t.0.ligands t.1.ligands
-        | inr x ↦
-            sym (exchanged_ends_keep_bonds other d e third fourth)
-            ∙ bond_forward odd a b e d first second fourth third x l.0 l.1 t.1.ligands t.0.ligands
-      ])
+      pair_sense bond_geometry (bond_turned other) (exchanged_ends_keep_bonds other)
+      (bond_renamed drawing other image r sound their_sound) odd a b d e first second third fourth ends l t
   site_sense odd (Axis a middle b first second) (Axis d inner e third fourth) shape ends l t =
-      let pair = pair_of c odd (end_at a first) (end_at b second) (end_at d third) (end_at e fourth) ends in
-      flip_geometry odd (axis_geometry drawing a b first second) (axis_geometry other d e third fourth) (elim pair.ends [
-        | inl x ↦ axis_forward odd a b d e first second third fourth x l.0 l.1 t.0.ligands t.1.ligands
-        | inr x ↦
-            sym (exchanged_ends_keep_axes other d e third fourth)
-            ∙ axis_forward odd a b e d first second fourth third x l.0 l.1 t.1.ligands t.0.ligands
-      ])
+      pair_sense axis_geometry (axis_turned other) (exchanged_ends_keep_axes other)
+      (axis_renamed drawing other image r sound their_sound) odd a b d e first second third fourth ends l t
   site_sense odd (Centre at ls) (Bond d e third fourth) shape ends l t = cc
   site_sense odd (Centre at ls) (Axis d inner e third fourth) shape ends l t = cc
   site_sense odd (Bond a b first second) (Centre there ts) shape ends l t = cc

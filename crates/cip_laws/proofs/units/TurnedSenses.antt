@@ -1,6 +1,6 @@
 -- The sense of ligands in whichever order, with the ligands that aren't drawn last: each exchange of two neighbours
 -- turns it.
-use Rattle.std.proofs.Common.{◌≡◌, ◌⊎◌, inl, inr, ◌<◌, ◌≤◌, ◌+◌, ℕ, zero, suc, List, [], ◌∷◌, length, get_or, set, swap, refl, sym, ap, subst, ◌∙◌, Bool, true, false, not, cond, nat_lt, arith, if◌then◌else◌}
+use Rattle.std.proofs.Common.{◌≡◌, ◌<◌, ◌≤◌, ◌+◌, ℕ, zero, suc, List, [], ◌∷◌, length, get_or, set, swap, refl, sym, ap, subst, ◌∙◌, Bool, true, false, not, cond, nat_lt, arith, if◌then◌else◌}
 use Rattle.std.specs.Prelude.{None, Some}
 use Rattle.std.specs.List.{AllByRecursion, cons_option}
 use Rattle.cip_mol.specs.declared.descriptor.Sense.TheVariants.{Plus, Minus}
@@ -56,23 +56,20 @@ module _ (atoms : ℕ) where
   behind [] = 0
   behind (l ∷ ls) = cond (is_drawn l) 0 (length (drawn atoms ls)) + behind ls
 
-  drawn_cons : (l : Ligand) (ls : List Ligand)
-      → (is_drawn l ≡ true → (v : ℕ) × (drawn atoms (l ∷ ls) ≡ v ∷ drawn atoms ls))
-      × (is_drawn l ≡ false → drawn atoms (l ∷ ls) ≡ drawn atoms ls)
-  drawn_cons (Vertex v) ls = (
-    λ e. (v, ap (λ b. cons_option (if b then Some v else None) (drawn atoms ls)) e),
-    λ e. ap
-        (λ b. cons_option (if b then Some v else None) (drawn atoms ls)) e,
-  )
-  drawn_cons LonePair ls =
-      (λ e. absurd (let worse : ◌≡◌ {A = ℕ} 0 1 = ap (λ b. cond b 1 0) e in omega (arith, worse)), λ e. refl)
+  drawn_first : (l : Ligand) → is_drawn l ≡ true
+      → (v : ℕ) × ((ls : List Ligand) → drawn atoms (l ∷ ls) ≡ v ∷ drawn atoms ls)
+  drawn_first (Vertex v) e = (v, λ ls. ap (λ b. cons_option (if b then Some v else None) (drawn atoms ls)) e)
+  drawn_first LonePair e = let bad : false ≡ true = e in cc
+
+  left_out : (l : Ligand) → is_drawn l ≡ false → (ls : List Ligand) → drawn atoms (l ∷ ls) ≡ drawn atoms ls
+  left_out (Vertex v) e ls = ap (λ b. cons_option (if b then Some v else None) (drawn atoms ls)) e
+  left_out LonePair e ls = refl
 
   -- what an exchange of two neighbours does
-  pub record Exchanged (ls ms : List Ligand) : Type 0 where
-    pub result : ((drawn atoms ms ≡ drawn atoms ls) × (is_odd (behind ms) ≡ not (is_odd (behind ls))))
-        ⊎
-        ((i : ℕ) × (i + 1 < length (drawn atoms ls)) × (drawn atoms ms ≡ exchange i (drawn atoms ls))
-        × (behind ms ≡ behind ls))
+  data Exchanged (ls ms : List Ligand) : Type 0 where
+    Past : drawn atoms ms ≡ drawn atoms ls → is_odd (behind ms) ≡ not (is_odd (behind ls)) → Exchanged ls ms
+    Moved : (i : ℕ) → i + 1 < length (drawn atoms ls) → drawn atoms ms ≡ exchange i (drawn atoms ls)
+        → behind ms ≡ behind ls → Exchanged ls ms
 
   odd_more : (n : ℕ) → is_odd (n + 1) ≡ not (is_odd n)
   odd_more n = ap is_odd (let e : n + 1 ≡ suc n = omega arith in e)
@@ -91,113 +88,34 @@ module _ (atoms : ℕ) where
   not_back false true e = refl
   not_back false false e = e
 
+  -- two of which the second isn't drawn
+  one_undrawn : (x y : Ligand) (ls : List Ligand) → is_drawn x ≡ true → is_drawn y ≡ false
+      → (drawn atoms (y ∷ x ∷ ls) ≡ drawn atoms (x ∷ y ∷ ls))
+      × (is_odd (behind (y ∷ x ∷ ls)) ≡ not (is_odd (behind (x ∷ y ∷ ls))))
+  one_undrawn x y ls e f =
+      let one = drawn_first x e in
+      let long : length (drawn atoms (x ∷ ls)) ≡ suc (length (drawn atoms ls)) = ap length (one.1 ls) in
+      let here : behind (x ∷ y ∷ ls) ≡ length (drawn atoms ls) + behind ls = rw (e, f) (omega arith) in
+      let there : behind (y ∷ x ∷ ls) ≡ length (drawn atoms ls) + behind ls + 1 = rw (e, f) (omega (arith, long)) in (
+        left_out y f (x ∷ ls) ∙ one.1 ls ∙ sym (one.1 (y ∷ ls) ∙ ap (λ vs. one.0 ∷ vs) (left_out y f ls)),
+        ap is_odd there ∙ odd_more (length (drawn atoms ls) + behind ls) ∙ ap (λ k. not (is_odd k)) (sym here),
+      )
+
   -- two at the front, by whether each is drawn
   fronts : (x y : Ligand) (ls : List Ligand) → undrawn (x ∷ y ∷ ls) ≤ 1 → (a b : Bool) → is_drawn x ≡ a
       → is_drawn y ≡ b → Exchanged (x ∷ y ∷ ls) (y ∷ x ∷ ls)
   fronts x y ls few true true e f =
-      let one = (drawn_cons x (y ∷ ls)).0 e in
-      let two = (drawn_cons y ls).0 f in
-      let three = (drawn_cons y (x ∷ ls)).0 f in
-      let four = (drawn_cons x ls).0 e in
-      let here : drawn atoms (x ∷ y ∷ ls) ≡ one.0 ∷ two.0 ∷ drawn atoms ls = one.1 ∙ ap (λ vs. one.0 ∷ vs) two.1 in
-      let there : drawn atoms (y ∷ x ∷ ls) ≡ three.0 ∷ four.0 ∷ drawn atoms ls =
-      three.1 ∙ ap (λ vs. three.0 ∷ vs) four.1 in
-      record {
-        result = inr (
-          0,
-          (let long : length (drawn atoms (x ∷ y ∷ ls)) ≡ suc (suc (length (drawn atoms ls))) = ap length here in
-              omega (arith, long)),
-          there ∙ ap (λ v. v ∷ four.0 ∷ drawn atoms ls) (same_number y (x ∷ ls) ls three two)
-              ∙ ap (λ v. two.0 ∷ v ∷ drawn atoms ls) (same_number x ls (y ∷ ls) four one) ∙ sym (ap (exchange 0) here),
-          behind_both,
-        );
-      }
-    where
-      same_number : (l : Ligand) (ks ms : List Ligand) (p : (v : ℕ) × (drawn atoms (l ∷ ks) ≡ v ∷ drawn atoms ks))
-          (q : (v : ℕ) × (drawn atoms (l ∷ ms) ≡ v ∷ drawn atoms ms)) → p.0 ≡ q.0
-      same_number (Vertex v) ks ms p q = by (nat_lt v atoms) p.1 q.1
-        where
-          by : (b : Bool) → cons_option (if b then Some v else None) (drawn atoms ks) ≡ p.0 ∷ drawn atoms ks
-              → cons_option (if b then Some v else None) (drawn atoms ms) ≡ q.0 ∷ drawn atoms ms → p.0 ≡ q.0
-          by true g h = heads g h
-            where
-              heads : v ∷ drawn atoms ks ≡ p.0 ∷ drawn atoms ks → v ∷ drawn atoms ms ≡ q.0 ∷ drawn atoms ms → p.0 ≡ q.0
-              heads g h = cc
-          by false g h =
-              absurd
-              (let long : length (drawn atoms ks) ≡ suc (length (drawn atoms ks)) = ap length g in
-              omega (arith, long))
-      same_number LonePair ks ms p q =
-          absurd
-          (let long : length (drawn atoms ks) ≡ suc (length (drawn atoms ks)) = ap length p.1 in
-          omega (arith, long))
-
-      behind_both : behind (y ∷ x ∷ ls) ≡ behind (x ∷ y ∷ ls)
-      behind_both =
-          ap
-          (λ b. cond b 0 (length (drawn atoms (x ∷ ls))) + (cond (is_drawn x) 0 (length (drawn atoms ls)) + behind ls))
-          f
-          ∙ ap (λ b. 0 + (cond b 0 (length (drawn atoms ls)) + behind ls)) e
-          ∙ sym
-          (ap
-          (λ b. cond b 0 (length (drawn atoms (y ∷ ls))) + (cond (is_drawn y) 0 (length (drawn atoms ls)) + behind ls))
-          e
-          ∙ ap (λ b. 0 + (cond b 0 (length (drawn atoms ls)) + behind ls)) f)
-  fronts x y ls few true false e f =
-      let one = (drawn_cons x (y ∷ ls)).0 e in
-      let two = (drawn_cons y ls).1 f in
-      let three = (drawn_cons y (x ∷ ls)).1 f in
-      let four = (drawn_cons x ls).0 e in
-      let long : length (drawn atoms (x ∷ ls)) ≡ suc (length (drawn atoms ls)) = ap length four.1 in
-      let here : behind (x ∷ y ∷ ls) ≡ length (drawn atoms ls) + behind ls =
-      ap (λ b. cond b 0 (length (drawn atoms (y ∷ ls))) + (cond (is_drawn y) 0 (length (drawn atoms ls)) + behind ls)) e
-      ∙ ap (λ b. 0 + (cond b 0 (length (drawn atoms ls)) + behind ls)) f
-      ∙ (let g : 0 + (length (drawn atoms ls) + behind ls) ≡ length (drawn atoms ls) + behind ls = omega arith in g) in
-      let there : behind (y ∷ x ∷ ls) ≡ length (drawn atoms ls) + behind ls + 1 =
-      ap (λ b. cond b 0 (length (drawn atoms (x ∷ ls))) + (cond (is_drawn x) 0 (length (drawn atoms ls)) + behind ls)) f
-      ∙ ap (λ b. length (drawn atoms (x ∷ ls)) + (cond b 0 (length (drawn atoms ls)) + behind ls)) e
-      ∙ (let g : length (drawn atoms (x ∷ ls)) + (0 + behind ls) ≡ length (drawn atoms ls) + behind ls + 1 =
-      omega (arith, long) in g) in
-      record {
-        result =
-            inl (
-              three ∙ sym (both_same x y ls e two),
-              ap is_odd there ∙ odd_more (length (drawn atoms ls) + behind ls)
-                  ∙ ap (λ k. not (is_odd k)) (sym here),
-            );
-      }
-    where
-      both_same : (x y : Ligand) (ls : List Ligand) → is_drawn x ≡ true → drawn atoms (y ∷ ls) ≡ drawn atoms ls
-          → drawn atoms (x ∷ y ∷ ls) ≡ drawn atoms (x ∷ ls)
-      both_same (Vertex v) y ls e same = ap (cons_option (if nat_lt v atoms then Some v else None)) same
-      both_same LonePair y ls e same = same
+      let one = drawn_first x e in
+      let two = drawn_first y f in
+      let here : drawn atoms (x ∷ y ∷ ls) ≡ one.0 ∷ two.0 ∷ drawn atoms ls =
+      one.1 (y ∷ ls) ∙ ap (λ vs. one.0 ∷ vs) (two.1 ls) in
+      let long : length (drawn atoms (x ∷ y ∷ ls)) ≡ suc (suc (length (drawn atoms ls))) = ap length here in
+      Moved 0 (omega (arith, long))
+      (two.1 (x ∷ ls) ∙ ap (λ vs. two.0 ∷ vs) (one.1 ls) ∙ sym (ap (exchange 0) here)) (rw (e, f))
+  fronts x y ls few true false e f = let h = one_undrawn x y ls e f in Past h.0 h.1
   fronts x y ls few false true e f =
-      let three = (drawn_cons y (x ∷ ls)).0 f in
-      let four = (drawn_cons x ls).1 e in
-      let one = (drawn_cons x (y ∷ ls)).1 e in
-      let two = (drawn_cons y ls).0 f in
-      let long : length (drawn atoms (y ∷ ls)) ≡ suc (length (drawn atoms ls)) = ap length two.1 in
-      let there : behind (y ∷ x ∷ ls) ≡ length (drawn atoms ls) + behind ls =
-      ap (λ b. cond b 0 (length (drawn atoms (x ∷ ls))) + (cond (is_drawn x) 0 (length (drawn atoms ls)) + behind ls)) f
-      ∙ ap (λ b. 0 + (cond b 0 (length (drawn atoms ls)) + behind ls)) e
-      ∙ (let g : 0 + (length (drawn atoms ls) + behind ls) ≡ length (drawn atoms ls) + behind ls = omega arith in g) in
-      let here : behind (x ∷ y ∷ ls) ≡ length (drawn atoms ls) + behind ls + 1 =
-      ap (λ b. cond b 0 (length (drawn atoms (y ∷ ls))) + (cond (is_drawn y) 0 (length (drawn atoms ls)) + behind ls)) e
-      ∙ ap (λ b. length (drawn atoms (y ∷ ls)) + (cond b 0 (length (drawn atoms ls)) + behind ls)) f
-      ∙ (let g : length (drawn atoms (y ∷ ls)) + (0 + behind ls) ≡ length (drawn atoms ls) + behind ls + 1 =
-      omega (arith, long) in g) in
-      record {
-        result = inl (
-          both_same y x ls f four ∙ sym one,
-          not_back (is_odd (behind (x ∷ y ∷ ls))) (is_odd (behind (y ∷ x ∷ ls)))
-              (ap is_odd here ∙ odd_more (length (drawn atoms ls) + behind ls) ∙ ap (λ k. not (is_odd k)) (sym there)),
-        );
-      }
-    where
-      both_same : (x y : Ligand) (ls : List Ligand) → is_drawn x ≡ true → drawn atoms (y ∷ ls) ≡ drawn atoms ls
-          → drawn atoms (x ∷ y ∷ ls) ≡ drawn atoms (x ∷ ls)
-      both_same (Vertex v) y ls e same = ap (cons_option (if nat_lt v atoms then Some v else None)) same
-      both_same LonePair y ls e same = same
+      let h = one_undrawn y x ls f e in
+      Past (sym h.0) (not_back (is_odd (behind (x ∷ y ∷ ls))) (is_odd (behind (y ∷ x ∷ ls))) h.1)
   fronts x y ls few false false e f =
       absurd
       (let one : cond (is_drawn x) 0 1 ≡ 1 = ap {A = Bool} {B = ℕ} (λ b. cond b 0 1) e in
@@ -206,79 +124,46 @@ module _ (atoms : ℕ) where
 
   under_front : (l : Ligand) (ls ms : List Ligand) → Exchanged ls ms
       → length (drawn atoms ms) ≡ length (drawn atoms ls) → (a : Bool) → is_drawn l ≡ a → Exchanged (l ∷ ls) (l ∷ ms)
-  under_front l ls ms x long a e = by x.result
+  under_front l ls ms x long a e = by x
     where
-      adds : ℕ → List Ligand → ℕ
-      adds n ks = cond a 0 (length (drawn atoms ks)) + n
-
       is_sum : (ks : List Ligand) → behind (l ∷ ks) ≡ cond a 0 (length (drawn atoms ks)) + behind ks
       is_sum ks = ap (λ b. cond b 0 (length (drawn atoms ks)) + behind ks) e
 
-      same_front : (ks ns : List Ligand) → drawn atoms ns ≡ drawn atoms ks → drawn atoms (l ∷ ns) ≡ drawn atoms (l ∷ ks)
-      same_front ks ns same = front l
-        where
-          front : (l : Ligand) → drawn atoms (l ∷ ns) ≡ drawn atoms (l ∷ ks)
-          front (Vertex v) = ap (cons_option (if nat_lt v atoms then Some v else None)) same
-          front LonePair = same
+      same_front : (l : Ligand) → drawn atoms ms ≡ drawn atoms ls → drawn atoms (l ∷ ms) ≡ drawn atoms (l ∷ ls)
+      same_front (Vertex v) same = ap (cons_option (if nat_lt v atoms then Some v else None)) same
+      same_front LonePair same = same
 
       moved : (a : Bool) → is_drawn l ≡ a → (i : ℕ) → i + 1 < length (drawn atoms ls)
-          → drawn atoms ms ≡ exchange i (drawn atoms ls)
-          → (j : ℕ) × (j + 1 < length (drawn atoms (l ∷ ls)))
-          × (drawn atoms (l ∷ ms) ≡ exchange j (drawn atoms (l ∷ ls)))
-      moved true g i lt same = front l g
-        where
-          front : (l : Ligand) → is_drawn l ≡ true
-              → (j : ℕ) × (j + 1 < length (drawn atoms (l ∷ ls)))
-              × (drawn atoms (l ∷ ms) ≡ exchange j (drawn atoms (l ∷ ls)))
-          front (Vertex v) g =
-              let here : drawn atoms (Vertex v ∷ ls) ≡ v ∷ drawn atoms ls =
-              ap (λ b. cons_option (if b then Some v else None) (drawn atoms ls)) g in
-              let there : drawn atoms (Vertex v ∷ ms) ≡ v ∷ drawn atoms ms =
-              ap (λ b. cons_option (if b then Some v else None) (drawn atoms ms)) g in (
-                suc i,
-                (let long : length (drawn atoms (Vertex v ∷ ls)) ≡ suc (length (drawn atoms ls)) = ap length here in
-                    omega (arith, long, lt)),
-                there ∙ ap (λ vs. v ∷ vs) same ∙ sym (ap (exchange (suc i)) here),
-              )
-          front LonePair g = absurd (let worse : ◌≡◌ {A = ℕ} 0 1 = ap (λ b. cond b 1 0) g in omega (arith, worse))
-      moved false g i lt same =
-          let here = (drawn_cons l ls).1 g in
-          let there = (drawn_cons l ms).1 g in
-          (i, subst (λ vs. i + 1 < length vs) (sym here) lt, there ∙ same ∙ sym (ap (exchange i) here))
+          → drawn atoms ms ≡ exchange i (drawn atoms ls) → behind (l ∷ ms) ≡ behind (l ∷ ls)
+          → Exchanged (l ∷ ls) (l ∷ ms)
+      moved true g i lt same none =
+          let one = drawn_first l g in
+          let long : length (drawn atoms (l ∷ ls)) ≡ suc (length (drawn atoms ls)) = ap length (one.1 ls) in
+          Moved (suc i) (omega (arith, long, lt))
+          (one.1 ms ∙ ap (λ vs. one.0 ∷ vs) same ∙ sym (ap (exchange (suc i)) (one.1 ls))) none
+      moved false g i lt same none =
+          Moved i (subst (λ vs. i + 1 < length vs) (sym (left_out l g ls)) lt)
+          (left_out l g ms ∙ same ∙ sym (ap (exchange i) (left_out l g ls))) none
 
-      by : ((drawn atoms ms ≡ drawn atoms ls) × (is_odd (behind ms) ≡ not (is_odd (behind ls))))
-          ⊎
-          ((i : ℕ) × (i + 1 < length (drawn atoms ls)) × (drawn atoms ms ≡ exchange i (drawn atoms ls))
-          × (behind ms ≡ behind ls)) → Exchanged (l ∷ ls) (l ∷ ms)
-      by (inl h) = record {
-        result = inl (
-          same_front ls ms h.0,
-          ap is_odd (is_sum ms ∙ ap (λ k. cond a 0 k + behind ms) long)
-              ∙ odd_sum (cond a 0 (length (drawn atoms ls))) (behind ms) (behind ls) h.1
-              ∙ ap (λ k. not (is_odd k)) (sym (is_sum ls)),
-        );
-      }
-      by (inr h) =
-          let there = moved a e h.0 h.1 h.2 in
-          record {
-            result =
-                inr (
-                  there.0,
-                  there.1,
-                  there.2,
-                  is_sum ms ∙ ap (λ k. cond a 0 k + behind ms) long
-                      ∙ ap (λ k. cond a 0 (length (drawn atoms ls)) + k) h.3 ∙ sym (is_sum ls),
-                );
-          }
+      by : Exchanged ls ms → Exchanged (l ∷ ls) (l ∷ ms)
+      by (Past same odd) =
+          Past (same_front l same)
+          (ap is_odd (is_sum ms ∙ ap (λ k. cond a 0 k + behind ms) long)
+          ∙ odd_sum (cond a 0 (length (drawn atoms ls))) (behind ms) (behind ls) odd
+          ∙ ap (λ k. not (is_odd k)) (sym (is_sum ls)))
+      by (Moved i lt same none) =
+          moved a e i lt same
+          (is_sum ms ∙ ap (λ k. cond a 0 k + behind ms) long ∙ ap (λ k. cond a 0 (length (drawn atoms ls)) + k) none
+          ∙ sym (is_sum ls))
 
   exchanged_drawn : (ls ms : List Ligand) → Exchanged ls ms → length (drawn atoms ms) ≡ length (drawn atoms ls)
-  exchanged_drawn ls ms x =
-      elim x.result [ inl h ↦ ap length h.0 | inr h ↦ ap length h.2 ∙ exchange_long h.0 (drawn atoms ls) ]
+  exchanged_drawn ls ms (Past same odd) = ap length same
+  exchanged_drawn ls ms (Moved i lt same none) = ap length same ∙ exchange_long i (drawn atoms ls)
 
   few_tail : (l : Ligand) (ls : List Ligand) → undrawn (l ∷ ls) ≤ 1 → undrawn ls ≤ 1
   few_tail l ls few = omega (arith, few)
 
-  pub exchange_does : (place : ℕ) (ls : List Ligand) → place + 1 < length ls → undrawn ls ≤ 1
+  exchange_does : (place : ℕ) (ls : List Ligand) → place + 1 < length ls → undrawn ls ≤ 1
       → Exchanged ls (exchange place ls)
   exchange_does place [] lt few = absurd (omega (arith, lt))
   exchange_does zero (x ∷ []) lt few = absurd (omega (arith, lt))
@@ -307,23 +192,17 @@ module _ (atoms : ℕ) where
 
     one_turn : (place : ℕ) (ls : List Ligand) → place + 1 < length ls → undrawn ls ≤ 1 → Fits (length (drawn atoms ls))
         → with_last (exchange place ls) ≡ other_way (with_last ls)
-    one_turn place ls lt few fits = by (exchange_does place ls lt few).result
+    one_turn place ls lt few fits = by (exchange_does place ls lt few)
       where
-        by : ((drawn atoms (exchange place ls) ≡ drawn atoms ls)
-            × (is_odd (behind (exchange place ls)) ≡ not (is_odd (behind ls))))
-            ⊎
-            ((i : ℕ) × (i + 1 < length (drawn atoms ls))
-            × (drawn atoms (exchange place ls) ≡ exchange i (drawn atoms ls))
-            × (behind (exchange place ls) ≡ behind ls))
-            → with_last (exchange place ls) ≡ other_way (with_last ls)
-        by (inl h) =
-            ap (λ b. flip b (G (exchange place ls))) h.1
-            ∙ ap (flip (not (is_odd (behind ls)))) (same ls (exchange place ls) h.0)
+        by : Exchanged ls (exchange place ls) → with_last (exchange place ls) ≡ other_way (with_last ls)
+        by (Past equal odd) =
+            ap (λ b. flip b (G (exchange place ls))) odd
+            ∙ ap (flip (not (is_odd (behind ls)))) (same ls (exchange place ls) equal)
             ∙ flip_not (is_odd (behind ls)) (G ls)
-        by (inr h) =
-            ap (λ n. flip (is_odd n) (G (exchange place ls))) h.3
+        by (Moved i within moved none) =
+            ap (λ n. flip (is_odd n) (G (exchange place ls))) none
             ∙ ap (flip (is_odd (behind ls)))
-            (turns ls (exchange place ls) h.0 fits h.1 (h.2 ∙ as_swap h.0 (drawn atoms ls) h.1))
+            (turns ls (exchange place ls) i fits within (moved ∙ as_swap i (drawn atoms ls) within))
             ∙ flip_other (is_odd (behind ls)) (G ls)
 
     record Kept (places : List ℕ) (ls : List Ligand) : Type 0 where

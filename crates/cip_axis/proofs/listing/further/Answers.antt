@@ -3,7 +3,7 @@ use Rattle.cip_mol.specs.Bonds as bonds
 use Rattle.cip_mol.specs.Drawing.{Drawing}
 use Rattle.cip_digraph.specs.graph.DrawnGraph.{graph_of}
 use Rattle.cip_digraph.specs.graph.Graph.{Graph}
-use Rattle.cip_digraph.proofs.DrawnSound.{drawn_sound}
+use Rattle.cip_digraph.proofs.bonds.Sound.{drawn_sound}
 use Rattle.cip_unit.proofs.Leads.{drawn_is, drawn_leads}
 use Rattle.cip_axis.specs.Listing.{IsGraphOf}
 use Rattle.cip_axis.proofs.Chained.{units_are}

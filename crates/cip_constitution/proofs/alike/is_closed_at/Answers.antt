@@ -1,5 +1,5 @@
 use Rattle.std.proofs.Common.{sym}
-use Rattle.cip_constitution.proofs.ClosedLigands.{lone_closed, branch_closed}
+use Rattle.cip_constitution.proofs.closed.Ligands.{lone_closed, branch_closed}
 use Rattle.cip_constitution.proofs.alike.is_closed_at.Goals as goal
 
 pub returns-in-None-clause-closed : goal.returns-in-None-clause-closed

@@ -1,5 +1,5 @@
 use Rattle.std.proofs.Common.{rules, ◌<◌, ◌∙◌, sym}
-use Rattle.cip_constitution.proofs.GoingOn.{each_anew}
+use Rattle.cip_constitution.proofs.anew.GoingOn.{each_anew}
 use Rattle.cip_constitution.proofs.candidates.has_candidates.Goals as goal
 
 pub returns-then-unlike_each-clause-anew : goal.returns-then-unlike_each-clause-anew

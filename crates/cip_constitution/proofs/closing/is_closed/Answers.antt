@@ -1,26 +1,6 @@
-use Rattle.std.proofs.Common.{
-  ◌≡◌,
-  ◌<◌,
-  ◌+◌,
-  ℕ,
-  List,
-  Bool,
-  true,
-  false,
-  [],
-  ◌∷◌,
-  ◌++◌,
-  length,
-  refl,
-  sym,
-  ap,
-  ◌∙◌,
-  subst,
-  arith,
-  inl,
-  inr,
-  length-append,
-}
+use Rattle.std.proofs.Common.{◌≡◌, ◌<◌, ◌+◌, ℕ, Bool, true, false, [], ◌∷◌, ◌++◌, length, sym, ap, ◌∙◌}
+use Rattle.std.proofs.Common.{subst, arith, inl, inr, length-append}
+use Rattle.std.proofs.Math.Seq.{get_or-append_seam}
 use Rattle.std.specs.Prelude.{slice_index_or}
 use Rattle.std.proofs.lemmas.Bool.{and_parts, and_cases, cases_lt}
 use Rattle.std.proofs.lemmas.List.{get_or_append_left}
@@ -31,10 +11,6 @@ use Rattle.cip_constitution.proofs.closing.is_closed.Goals as goal
 
 true_false : true ≡ false → ⊥
 true_false e = cc
-
-at_end : (xs : List Bool) (x : Bool) → slice_index_or (xs ++ x ∷ []) (length xs) false ≡ x
-at_end [] x = refl
-at_end (y ∷ ys) x = at_end ys x
 
 -- what holds below a number holds below the next one
 below_next : (P : ℕ → Type 0) (n : ℕ) → ((k : ℕ) → k < n → P k) → P n → (k : ℕ) → k < n + 1 → P k
@@ -78,7 +54,7 @@ loop-node-preserved c =
           false k (omega (arith, lt, inv.len)) ∙ inv.under k lt)
           (ap (λ xs. slice_index_or xs node false) items
           ∙ ap (λ n. slice_index_or (c.loop-node.under.items ++ flag ∷ []) n false) (sym inv.len)
-          ∙ at_end c.loop-node.under.items flag ∙ is);
+          ∙ get_or-append_seam c.loop-node.under.items flag [] false ∙ is);
       none = below_next (λ k. is_under (parents_of a.nodes) c.args.top k ≡ true
           → is_open_in (told c.args.setting.now) a k ≡ false) node
           inv.none

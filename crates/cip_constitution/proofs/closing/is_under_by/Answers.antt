@@ -1,7 +1,7 @@
 use Rattle.std.proofs.Common.{◌≡◌, ◌<◌, ◌||◌, ℕ, true, false, slice_index, sym, ap, ◌∙◌, arith, inl, inr}
 use Rattle.std.proofs.lemmas.Bool.{ne_eqb, cases_order}
 use Rattle.cip_constitution.specs.Closing.{is_under}
-use Rattle.cip_constitution.proofs.Under.{under_step}
+use Rattle.cip_constitution.proofs.closed.Under.{under_step}
 use Rattle.cip_constitution.proofs.closing.is_under_by.Goals as goal
 
 true_false : true ≡ false → ⊥

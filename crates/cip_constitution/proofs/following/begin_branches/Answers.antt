@@ -2,7 +2,7 @@ use Rattle.std.proofs.Common.{◌≡◌, ◌-◌, ℕ, List, length, slice_index
 use Rattle.std.specs.List.{range_with_len}
 use Rattle.std.proofs.lemmas.List.FromFn.{length-range_with_len, get_or-range_with_len}
 use Rattle.cip_rows.specs.Reserved.{Reserved}
-use Rattle.cip_constitution.proofs.FollowedBranches.{begins_now}
+use Rattle.cip_constitution.proofs.followed.Branches.{begins_now}
 use Rattle.cip_constitution.proofs.following.begin_branches.Goals as goal
 
 pub begin-requires-clause-room : goal.begin-requires-clause-room
@@ -12,13 +12,6 @@ begin-requires-clause-room c =
     let len = length-range_with_len 1 (c.len-past.result - 1) in
     let wide = c.requires.room in
     omega (arith, tops, len, wide, fits.fits)
-
-pub begin-requires-clause-few : goal.begin-requires-clause-few
-begin-requires-clause-few c =
-    let tops = ap (λ (ns : List ℕ). length ns) (c.as_slice.ensures ∙ ap (λ (t : Reserved ℕ). t.items) c.fill_tops.ensures) in
-    let len = length-range_with_len 1 (c.len-past.result - 1) in
-    let most = c.len-past.type_inv in
-    omega (arith, tops, len, most)
 
 pub begin-requires-clause-keyed : goal.begin-requires-clause-keyed
 begin-requires-clause-keyed c = λ k lt.
@@ -30,12 +23,11 @@ begin-requires-clause-keyed c = λ k lt.
     omega (arith, at, lt, tops, len, c.len-past.ensures.len)
 
 pub returns-clause-followed : goal.returns-clause-followed
-returns-clause-followed c =
+returns-clause-followed c setting grown one =
     let a = c.args.arena.now in
-    let fits = c.len-past.ensures in
     let tops : c.as_slice.result.now ≡ range_with_len 1 (length a.nodes - 1) = c.as_slice.ensures
-    ∙ ap (λ (t : Reserved ℕ). t.items) c.fill_tops.ensures ∙ ap (λ n. range_with_len 1 (n - 1)) fits.len in
-    begins_now c.args.setting.now.graph.now c.args.setting.now.positions.now a c.requires.grown.holds
-    c.requires.grown.last
-    c.requires.grown.fits c.requires.first c.begin.new.self c.as_slice.result.now tops
-    c.begin.ensures.begun c.begin.ensures.followed c.begin.ensures.first c.begin.ensures.last c.begin.ensures.chosen
+    ∙ ap (λ (t : Reserved ℕ). t.items) c.fill_tops.ensures
+    ∙ ap (λ n. range_with_len 1 (n - 1)) c.len-past.ensures.len in
+    begins_now setting.graph setting.positions a grown.holds grown.last grown.fits one c.begin.new.self
+    c.as_slice.result.now tops c.begin.ensures.begun c.begin.ensures.followed c.begin.ensures.first
+    c.begin.ensures.last c.begin.ensures.chosen

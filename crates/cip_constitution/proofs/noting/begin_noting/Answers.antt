@@ -1,9 +1,7 @@
-use Rattle.cip_constitution.proofs.NotedPairs.{notes_first}
+use Rattle.cip_constitution.proofs.followed.Pairs.{notes_first}
 use Rattle.cip_constitution.proofs.noting.begin_noting.Goals as goal
 
 pub returns-clause-noted : goal.returns-clause-noted
-returns-clause-noted c =
-    let s = c.args.setting.now in
-    let grown = c.requires.grown in
-    notes_first s.graph.now s.positions.now c.args.arena.now grown.holds c.requires.first grown.sound grown.fits
-    grown.last c.args.pairs.now c.ask.new.noted.items c.ask.ensures.asked
+returns-clause-noted c setting grown one =
+    notes_first setting.graph setting.positions c.args.arena.now grown.holds one grown.sound grown.fits grown.last
+    c.args.pairs.now c.ask.new.noted.items c.ask.ensures.asked

@@ -1,6 +1,6 @@
 use Rattle.std.proofs.Common.{arith}
 use Rattle.cip_constitution.specs.Pairs.{pairs_of}
-use Rattle.cip_constitution.proofs.NotedPairs.{pairs_room}
+use Rattle.cip_constitution.proofs.followed.Pairs.{pairs_room}
 use Rattle.cip_constitution.proofs.pairs.pair_up.Goals as goal
 
 pub pair_all-requires : goal.pair_all-requires

@@ -1,7 +1,7 @@
 use Rattle.std.proofs.Common.{◌≡◌, ◌-◌, ◌∙◌, ap, sym, arith}
 use Rattle.std.specs.List.{range_with_len}
 use Rattle.cip_constitution.specs.Standing.{first_standing}
-use Rattle.cip_constitution.proofs.FirstStanding.{found_here, passed_over}
+use Rattle.cip_constitution.proofs.told.FirstStanding.{found_here, passed_over}
 use Rattle.cip_constitution.proofs.standing.child_of.Goals as goal
 
 pub returns-then-is_of-clause-number : goal.returns-then-is_of-clause-number

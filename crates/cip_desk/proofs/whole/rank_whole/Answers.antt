@@ -1,6 +1,7 @@
 use Rattle.std.proofs.Common.{List, sym, ap, ◌∙◌, subst}
 use Rattle.cip_constitution.specs.FollowedOut.{AreConstituted}
 use Rattle.cip_constitution.specs.declared.pairs.Pair.{Pair}
+use Rattle.cip_rank.specs.declared.rules.Rules.{Rules}
 use Rattle.cip_label.specs.Standing.{RankedAs}
 use Rattle.cip_label.specs.declared.digraphs.Ranking.TheVariants.{Known}
 use Rattle.cip_ligands.specs.declared.asked.Asked.{Asked}
@@ -8,7 +9,6 @@ use Rattle.cip_desk.specs.Keeping.{StandsAnyway, kept_of}
 use Rattle.cip_desk.specs.Standing.{Standing, standing_of}
 use Rattle.cip_desk.specs.declared.aside.Aside.{Aside}
 use Rattle.cip_desk.proofs.Anyway.{early_anyway, whole_anyway}
-use Rattle.cip_desk.proofs.KnownRoots.{same_constituted}
 use Rattle.cip_desk.proofs.OpenRoots.{opened}
 use Rattle.cip_desk.proofs.whole.rank_whole.Goals as goal
 
@@ -18,11 +18,13 @@ returns-then-constitute-clause-found c =
     let root = c.args.rooted.now.root in
     let ligands = c.args.rooted.now.ligands.now in
     let arena = c.args.rooted.now.arena.now in
+    let trying = c.constitute.new.self in
+    let constituted = subst (λ (rules : Rules). AreConstituted rules setting.graph setting.positions arena trying.pairs
+    trying.branched trying.noted) c.rules.ensures
+    (c.constitute.ensures.constituted setting.graph setting.positions c.requires.followed) in
     let told = early_anyway setting root ligands arena c.requires.rooted c.graph-graph.ensures.proper c.requires.settled
-    c.constitute.new.self (c.constitute.ensures.pairs ∙ c.requires.pairs)
-    (same_constituted c.rules.result setting.rules c.graph-graph.result.now setting.graph c.positions.result.now
-    setting.positions arena c.constitute.new.self c.rules.ensures c.graph-graph.ensures.value c.positions.ensures
-    c.constitute.ensures.constituted) (sym c.constitute.ensures.all ∙ c.if-constitute.true) in
+    trying (c.constitute.ensures.pairs ∙ c.requires.pairs) constituted
+    (sym c.constitute.ensures.all ∙ c.if-constitute.true) in
     subst (λ (noted : List Asked). StandsAnyway (kept_of setting root ligands) arena.bound noted Known)
     (sym c.in_ok-take_noted.ensures.kept) told
 
@@ -32,11 +34,13 @@ returns-then-constitute-clause-ranking c =
     let root = c.args.rooted.now.root in
     let ligands = c.args.rooted.now.ligands.now in
     let arena = c.args.rooted.now.arena.now in
+    let trying = c.constitute.new.self in
+    let constituted = subst (λ (rules : Rules). AreConstituted rules setting.graph setting.positions arena trying.pairs
+    trying.branched trying.noted) c.rules.ensures
+    (c.constitute.ensures.constituted setting.graph setting.positions c.requires.followed) in
     let told = early_anyway setting root ligands arena c.requires.rooted c.graph-graph.ensures.proper c.requires.settled
-    c.constitute.new.self (c.constitute.ensures.pairs ∙ c.requires.pairs)
-    (same_constituted c.rules.result setting.rules c.graph-graph.result.now setting.graph c.positions.result.now
-    setting.positions arena c.constitute.new.self c.rules.ensures c.graph-graph.ensures.value c.positions.ensures
-    c.constitute.ensures.constituted) (sym c.constitute.ensures.all ∙ c.if-constitute.true) in
+    trying (c.constitute.ensures.pairs ∙ c.requires.pairs) constituted
+    (sym c.constitute.ensures.all ∙ c.if-constitute.true) in
     subst (λ (s : Standing). RankedAs setting arena.bound root ligands (standing_of s) Known)
     (sym c.in_ok-take_noted.ensures.standing) (told.each setting.units c.graph-graph.ensures.proper.sites)
 
@@ -50,9 +54,9 @@ returns-clause-found c =
     let kept = kept_of setting root ligands in
     let are = c.constitute.ensures.pairs ∙ c.requires.pairs in
     let aside = c.rank_open.ensures.aside in
-    let constituted = same_constituted c.rules.result setting.rules c.graph-graph.result.now setting.graph c.positions.result.now
-    setting.positions arena trying c.rules.ensures c.graph-graph.ensures.value c.positions.ensures
-    c.constitute.ensures.constituted in
+    let constituted = subst (λ (rules : Rules). AreConstituted rules setting.graph setting.positions arena trying.pairs
+    trying.branched trying.noted) c.rules.ensures
+    (c.constitute.ensures.constituted setting.graph setting.positions c.requires.followed) in
     opened kept arena c.requires.rooted.holds c.requires.rooted.at c.requires.rooted.fits
     (whole_anyway setting root ligands arena c.requires.rooted c.graph-graph.ensures.proper c.requires.settled)
     trying.branched trying.noted c.rank_open.new.work c.rank_open.new.tables c.args.tables.now.aside.ranks.room

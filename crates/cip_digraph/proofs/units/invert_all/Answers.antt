@@ -1,5 +1,4 @@
-use Rattle.std.proofs.Common.{ap, sym, ◌∙◌, arith}
-use Rattle.std.specs.List.{slice_set}
+use Rattle.std.proofs.Common.{ap, sym, ◌∙◌, arith, slice_set}
 use Rattle.std.proofs.lemmas.List.Edits.{map_over_more}
 use Rattle.cip_digraph.specs.units.Inverted.{inverted_unit}
 use Rattle.cip_digraph.proofs.units.invert_all.Goals as goal

@@ -1,6 +1,6 @@
 use Rattle.std.proofs.Common.{ap, ◌∙◌}
 use Rattle.cip_digraph.specs.units.Inverted.{inverted}
-use Rattle.cip_digraph.proofs.Inversions.{units_turned_back}
+use Rattle.cip_digraph.proofs.reflected.Inversions.{units_turned_back}
 use Rattle.cip_groups.proofs.outcomes.group_lines.Goals as goal
 
 pub returns-clause-back : goal.returns-clause-back

@@ -2,7 +2,7 @@ use Rattle.std.proofs.Common.{ap, sym, ◌∙◌, map}
 use Rattle.cip_mol.specs.declared.site.Unit as units
 use Rattle.cip_digraph.specs.units.Inverted.{inverted}
 use Rattle.cip_digraph.specs.units.Units.{sites_of}
-use Rattle.cip_digraph.proofs.Inversions.{sites_stay}
+use Rattle.cip_digraph.proofs.reflected.Inversions.{sites_stay}
 use Rattle.cip_label.specs.Settings.{Setting}
 use Rattle.cip_groups.proofs.outcomes.turned_lines.Goals as goal
 

@@ -4,7 +4,7 @@ use Rattle.cip_branches.specs.Following.{Begins, Follows}
 use Rattle.cip_branches.specs.Walking.{kids_left}
 use Rattle.cip_mol.specs.declared.outcome.Rule.TheVariants.{R1a}
 use Rattle.cip_digraph.specs.declared.nodes.Told.{Told}
-use Rattle.cip_digraph.proofs.Lists.{by_recursion}
+use Rattle.cip_digraph.proofs.lists.Elements.{by_recursion}
 use Rattle.cip_ligands.specs.Asking.{AreWithin, found_between, with_found}
 use Rattle.cip_ligands.proofs.FoundWithin.{nothing_found}
 use Rattle.cip_digraph.specs.digraph.NodeList.{parents_of}
@@ -23,17 +23,6 @@ begin-requires-clause-room g c =
     let len = told_len sight shows c.args.node c.requires.real c.args.way.now c.requires.way.each in
     let room = c.requires.room in
     omega (arith, few, len, room)
-
-pub begin-requires-clause-few : goal.begin-requires-clause-few
-begin-requires-clause-few g c =
-    let sight = sight_of c.args.whole.now in
-    let shows = whole_shows c.args.whole.now c.nodes-nodes.ensures.whole in
-    let few = tops_few sight shows c.args.node c.requires.real c.args.way.now c.requires.way.each c.args.tops.now
-    c.requires.tops in
-    let len = told_len sight shows c.args.node c.requires.real c.args.way.now c.requires.way.each in
-    let room = c.requires.room in
-    let most = c.requires.few in
-    omega (arith, few, len, room, most)
 
 pub begin-requires-clause-keyed : goal.begin-requires-clause-keyed
 begin-requires-clause-keyed g c =
@@ -91,17 +80,6 @@ follow-requires-clause-sphere_room g c =
     let same = c.loop-keys.invariant.room in
     let room = c.requires.room in
     omega (arith, last, len, same, room)
-
-pub follow-requires-clause-few : goal.follow-requires-clause-few
-follow-requires-clause-few g c =
-    let sight = sight_of c.args.whole.now in
-    let shows = whole_shows c.args.whole.now c.nodes-nodes.ensures.whole in
-    let last = around_last sight shows c.args.node c.requires.real c.args.way.now c.requires.way.each c.args.tops.now
-    c.loop-keys.branches c.loop-keys.invariant.around (c.goes_on.ensures.more c.loop-keys-test.true) in
-    let len = told_len sight shows c.args.node c.requires.real c.args.way.now c.requires.way.each in
-    let room = c.requires.room in
-    let most = c.requires.few in
-    omega (arith, last, len, room, most)
 
 pub loop-keys-smaller : goal.loop-keys-smaller
 loop-keys-smaller g c =

@@ -8,13 +8,12 @@ pub save-requires : goal.save-requires
 save-requires c =
     let long = twice_long c.args.branches.now c.fill_twins.new.self c.args.twins.now.layers.kin.room
     c.fill_twins.ensures.twins in
-    let room = c.requires.saved_room in
-    omega (arith, long, room)
+    omega (arith, long, c.requires.saved_room)
 
 pub returns-clause-aside : goal.returns-clause-aside
 returns-clause-aside c =
-    begun_aside c.args.branches.now c.args.twins.now.layers.kin.room c.args.saved.now.room c.save.new.saved
-    c.fill_twins.new.self c.fill_twins.ensures.twins c.fill_twins.ensures.followed c.save.ensures.count
+    begun_aside c.args.branches.now c.fill_twins.ensures.few c.args.twins.now.layers.kin.room c.args.saved.now.room
+    c.save.new.saved c.fill_twins.new.self c.fill_twins.ensures.twins c.fill_twins.ensures.followed c.save.ensures.count
     c.save.ensures.saved
 
 pub returns-clause-keyed : goal.returns-clause-keyed

@@ -5,45 +5,27 @@ use Rattle.cip_ligands.proofs.readings.take_both.Goals as goal
 pub write_values-requires-clause-few : goal.write_values-requires-clause-few
 write_values-requires-clause-few g c =
     let bound = ap (λ (r : Readied). r.bound) c.readings.view_is in
-    let room = c.requires.room in
-    let few = c.readings.invariant.few in
-    omega (arith, bound, room, few)
+    omega (arith, bound, c.requires.room, c.readings.invariant.few)
 
 pub write_values-requires-clause-room : goal.write_values-requires-clause-room
 write_values-requires-clause-room g c =
     let bound = ap (λ (r : Readied). r.bound) c.readings.view_is in
-    let room = c.requires.room in
-    let values = c.readings.invariant.values_room in
-    omega (arith, bound, room, values)
-
-pub take_with-requires-clause-few : goal.take_with-requires-clause-few
-take_with-requires-clause-few g c =
-    let bound = ap (λ (r : Readied). r.bound) c.readings.view_is in
-    let room = c.requires.room in
-    let few = c.readings.invariant.few in
-    omega (arith, bound, room, few)
+    omega (arith, bound, c.requires.room, c.readings.invariant.values_room)
 
 pub take_with-requires-clause-room : goal.take_with-requires-clause-room
 take_with-requires-clause-room g c =
     let bound = ap (λ (r : Readied). r.bound) c.readings.view_is in
-    let room = c.requires.room in
-    let twins = c.readings.invariant.twins_room in
-    omega (arith, bound, room, twins)
+    omega (arith, bound, c.requires.room, c.readings.invariant.twins_room)
 
 pub take_with-requires-clause-saved_room : goal.take_with-requires-clause-saved_room
 take_with-requires-clause-saved_room g c =
     let bound = ap (λ (r : Readied). r.bound) c.readings.view_is in
-    let room = c.requires.room in
-    let saved = c.readings.invariant.saved_room in
-    omega (arith, bound, room, saved)
+    omega (arith, bound, c.requires.room, c.readings.invariant.saved_room)
 
 pub take_with-requires-clause-sides_room : goal.take_with-requires-clause-sides_room
 take_with-requires-clause-sides_room g c =
     let bound = ap (λ (r : Readied). r.bound) c.readings.view_is in
-    let room = c.requires.room in
-    let sides = c.readings.invariant.sides_room in
-    let tops = c.branch_count-branches.ensures.tops in
-    omega (arith, bound, room, sides, tops)
+    omega (arith, bound, c.requires.room, c.readings.invariant.sides_room, c.branch_count-branches.ensures.tops)
 
 pub invariant_of-readings : goal.invariant_of-readings
 invariant_of-readings g c = record {

@@ -11,7 +11,7 @@ use Rattle.cip_ligands.specs.Taking.{TakesRule}
 use Rattle.cip_ligands.proofs.readings.take_pairs.Goals as goal
 
 pub read_all-requires : goal.read_all-requires
-read_all-requires g c = c.requires.few
+read_all-requires g c = c.requires.aside.few
 
 pub take_again-requires-clause-aside : goal.take_again-requires-clause-aside
 take_again-requires-clause-aside g c = c.requires.aside
@@ -20,7 +20,7 @@ pub take_again-requires-clause-keyed : goal.take_again-requires-clause-keyed
 take_again-requires-clause-keyed g c = c.requires.keyed
 
 pub read_all-requires-2 : goal.read_all-requires-2
-read_all-requires-2 g c = c.requires.few
+read_all-requires-2 g c = c.requires.aside.few
 
 pub take_open-requires-clause-aside : goal.take_open-requires-clause-aside
 take_open-requires-clause-aside g c = c.take_again.ensures.aside

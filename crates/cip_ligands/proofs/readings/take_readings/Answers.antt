@@ -45,8 +45,7 @@ returns-clause-found g c seen named node count begin rules within before marked 
           ∙ ap (λ n. decided R4b (difference_by seen true (node one.first) n R4b)) (before.nodes one.second)) asked all
       | inr none ↦
           let no_place : length from.layers.kin.ups ≡ 0 = omega (arith, none) in
-          let tops = took.tops in
-          let no_branch : length from.wanted ≡ 0 = omega (arith, tops, no_place) in
+          let no_branch : length from.wanted ≡ 0 = omega (arith, took.tops, no_place) in
           took.none no_place
           ∙ none_asked (decided_by seen true R4b node) asked
           (subst (λ n. AllByRecursion (AreWithin n) asked) no_branch all)

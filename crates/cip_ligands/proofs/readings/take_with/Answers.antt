@@ -10,7 +10,7 @@ use Rattle.cip_ligands.specs.Taking.{TakesRule}
 use Rattle.cip_ligands.proofs.readings.take_with.Goals as goal
 
 pub ask_sides-requires-clause-few : goal.ask_sides-requires-clause-few
-ask_sides-requires-clause-few g c = c.requires.few
+ask_sides-requires-clause-few g c = c.set_aside.ensures.aside.few
 
 pub ask_sides-requires-clause-room : goal.ask_sides-requires-clause-room
 ask_sides-requires-clause-room g c = c.requires.sides_room
@@ -29,9 +29,6 @@ take_pairs-requires-clause-keyed g c =
     let from = c.args.keys.now.branches.now in
     subst (λ (k : Kin). AreKeyed (length from.layers.kin.ups + length from.layers.kin.ups) k)
     (sym c.take_sides.ensures.kin) c.set_aside.ensures.keyed
-
-pub take_pairs-requires-clause-few : goal.take_pairs-requires-clause-few
-take_pairs-requires-clause-few g c = c.requires.few
 
 pub returns-clause-room : goal.returns-clause-room
 returns-clause-room g c =

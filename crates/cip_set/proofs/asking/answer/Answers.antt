@@ -13,16 +13,16 @@ use Rattle.cip_set.proofs.asking.answer.Goals as goal
 pub mark_centre-requires-clause-site : goal.mark_centre-requires-clause-site
 mark_centre-requires-clause-site g c =
     let asked = c.args.request in
-    ap (λ (unit : units.Unit). unit.site)
-    (get_or_from_slice_get c.list.result.now c.in-Some.place (centre_unit c.args.drawn.now asked.atom)
+    rw c.molecule.ensures (ap (λ (unit : units.Unit). unit.site)
+    (get_or_from_slice_get c.list-units.result.now c.in-Some.place (centre_unit c.args.drawn.now asked.atom)
     c.index-units-place.result
-    (centre_listed c.args.drawn.now c.list.result.now
-    (c.list.ensures ∙ c.units.ensures.value) asked.atom c.in-Some.place (sym c.in-Some.ensures)))
+    (centre_listed c.args.drawn.now c.list-units.result.now
+    (c.list-units.ensures ∙ c.units.ensures.value) asked.atom c.in-Some.place (sym c.in-Some.ensures))))
 
 pub mark_centre-requires-clause-centre : goal.mark_centre-requires-clause-centre
 mark_centre-requires-clause-centre g c =
-    centre_stands c.args.drawn.now c.list.result.now
-    (c.list.ensures ∙ c.units.ensures.value) c.args.request.atom c.in-Some.place (sym c.in-Some.ensures)
+    rw c.molecule.ensures (centre_stands c.args.drawn.now c.list-units.result.now
+    (c.list-units.ensures ∙ c.units.ensures.value) c.args.request.atom c.in-Some.place (sym c.in-Some.ensures))
 
 pub returns-in-Some-clause-answer : goal.returns-in-Some-clause-answer
 returns-in-Some-clause-answer g c =
@@ -35,14 +35,14 @@ returns-in-Some-clause-answer g c =
     is
     ∙ sym
     (some_centre asked.rules c.args.labeller.now c.args.drawn.now asked.atom asked.letter
-    (centre_stands c.args.drawn.now c.list.result.now
-    (c.list.ensures ∙ c.units.ensures.value) asked.atom c.in-Some.place (sym c.in-Some.ensures))))
-    c.mark_centre.ensures.answer
+    (centre_stands c.args.drawn.now c.list-units.result.now
+    (c.list-units.ensures ∙ c.units.ensures.value) asked.atom c.in-Some.place (sym c.in-Some.ensures))))
+    (rw c.molecule.ensures at c.mark_centre.ensures.answer)
 
 pub returns-in-None-clause-answer : goal.returns-in-None-clause-answer
 returns-in-None-clause-answer g c =
     let asked = c.args.request in
     sym
     (no_centre asked.rules c.args.labeller.now c.args.drawn.now asked.atom asked.letter
-    (none_listed c.args.drawn.now c.list.result.now
-    (c.list.ensures ∙ c.units.ensures.value) asked.atom (sym c.in-None.ensures)))
+    (none_listed c.args.drawn.now c.list-units.result.now
+    (c.list-units.ensures ∙ c.units.ensures.value) asked.atom (sym c.in-None.ensures)))

@@ -16,5 +16,5 @@ returns-clause-given g c =
     (λ answer. IfOk answer (IsGiven asked.rules c.args.labeller.now c.args.drawn.now asked.atom asked.letter))
     (λ answer is.
     answers_given asked.rules c.args.labeller.now c.args.drawn.now asked.atom asked.letter
-    c.bonds-bonds.ensures.sound answer is)
+    (rw c.molecule.ensures at c.bonds-bonds.ensures.sound) answer is)
     c.answer.ensures.answer

@@ -1,6 +1,6 @@
-use Rattle.std.proofs.Common.{◌≡◌, ◌-◌, ◌++◌, ap, sym, ◌∙◌, map, replicate, length, slice_index, subst, arith, append_assoc, OnOk}
-use Rattle.std.specs.List.{flat_map}
-use Rattle.std.proofs.lemmas.List.{take_all, get_or_default}
+use Rattle.std.proofs.Common.{◌≡◌, ◌-◌, ◌++◌, ap, sym, ◌∙◌, map, replicate, length, slice_index, subst, arith}
+use Rattle.std.proofs.Common.{append_assoc, OnOk, flat_map, take_all}
+use Rattle.std.proofs.lemmas.List.{get_or_default}
 use Rattle.cip_digraph.specs.graph.Graph.{edges_at}
 use Rattle.cip_tree.specs.Along.{neighbour_below, edge_below, copies, duplicate_for}
 use Rattle.cip_digraph.specs.digraph.View.{real_at}

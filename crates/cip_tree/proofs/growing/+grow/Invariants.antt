@@ -1,5 +1,4 @@
-use Rattle.std.proofs.Common.{◌≡◌, ◌+◌, ◌-◌, ◌*◌, map, take, slice_index}
-use Rattle.std.specs.List.{flat_map}
+use Rattle.std.proofs.Common.{◌≡◌, ◌+◌, ◌-◌, ◌*◌, map, take, slice_index, flat_map}
 use Rattle.cip_digraph.specs.graph.Graph.{edges_at}
 use Rattle.cip_tree.specs.Along.{edge_below}
 use Rattle.cip_tree.specs.Boxed.{grown}

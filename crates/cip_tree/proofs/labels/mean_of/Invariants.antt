@@ -1,5 +1,4 @@
-use Rattle.std.proofs.Common.{◌≡◌, ◌≤◌, ◌*◌, take}
-use Rattle.std.specs.List.{sum_by}
+use Rattle.std.proofs.Common.{◌≡◌, ◌≤◌, ◌*◌, take, sum_by}
 use Rattle.cip_digraph.specs.graph.Graph.{vertex_at}
 use Rattle.cip_tree.proofs.labels.mean_of.Given as goal
 

@@ -1,5 +1,4 @@
-use Rattle.std.proofs.Common.{◌+◌, ℕ, sym, ◌∙◌, arith}
-use Rattle.std.specs.declared.cmp.Ordering.{Ordering}
+use Rattle.std.proofs.Common.{◌+◌, ℕ, sym, ◌∙◌, arith, Ordering}
 use Rattle.cip_rank.specs.Comparison.{comparison}
 use Rattle.cip_tree.specs.Branches.{children as branches_below}
 use Rattle.cip_tree.specs.BranchKeys.{key_of}

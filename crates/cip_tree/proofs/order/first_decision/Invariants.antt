@@ -1,5 +1,4 @@
-use Rattle.std.proofs.Common.{◌≡◌, ◌+◌, ◌-◌, ℕ}
-use Rattle.std.specs.declared.cmp.Ordering.{Ordering}
+use Rattle.std.proofs.Common.{◌≡◌, ◌+◌, ◌-◌, ℕ, Ordering}
 use Rattle.cip_rank.specs.Comparison.{comparison}
 use Rattle.cip_digraph.specs.rules.Decisions.{first_difference}
 use Rattle.cip_tree.specs.Branches.{children as branches_below}

@@ -1,4 +1,4 @@
-use Rattle.cip_digraph.proofs.NeighbourOrder.{neighbours_ascend}
+use Rattle.cip_digraph.proofs.bonds.Neighbours.{neighbours_ascend}
 use Rattle.cip_unit.proofs.ThirdNeighbours.{third_tells}
 use Rattle.cip_unit.proofs.centres.has_three_drawn.Goals as goal
 

@@ -13,15 +13,6 @@ begin-requires-clause-room g c =
     let room = ap (λ (now : Branched). now.layers.kin.room) c.in_ok-branches.ensures in
     omega (arith, few, c.requires.fits, room)
 
-pub begin-requires-clause-few : goal.begin-requires-clause-few
-begin-requires-clause-few g c =
-    let nodes = c.deref.result.now in
-    let are = ◌∙◌ {c = next_to c.args.around.now.table.now.parents c.args.from} c.deref.ensures.value
-    c.in_ok-tops.ensures in
-    let few = tops_few c.args.around.now.table.now.parents c.len-count.ensures.tree c.args.from c.requires.inside
-    c.args.around.now.way.now c.requires.way nodes are in
-    omega (arith, few, c.requires.fits)
-
 pub begin-requires-clause-keyed : goal.begin-requires-clause-keyed
 begin-requires-clause-keyed g c = λ k lt.
     let nodes = c.deref.result.now in

@@ -1,6 +1,6 @@
 use Rattle.std.proofs.Common.{◌≡◌, sym, ap, ◌∙◌}
 use Rattle.cip_digraph.specs.digraph.Digraph.{Node, is_real}
-use Rattle.cip_digraph.proofs.Numbered.{root_first, some_nodes}
+use Rattle.cip_digraph.proofs.numbered.Kin.{root_first, some_nodes}
 use Rattle.gate_twice.proofs.deciding.decide_whole.Goals as goal
 
 pub constitution-requires-clause-real : goal.constitution-requires-clause-real

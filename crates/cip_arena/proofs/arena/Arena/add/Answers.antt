@@ -1,22 +1,5 @@
-use Rattle.std.proofs.Common.{
-  ◌≡◌,
-  ◌<◌,
-  ◌≤◌,
-  ◌+◌,
-  arith,
-  ap,
-  sym,
-  ◌∙◌,
-  subst,
-  length,
-  length-append,
-  ℕ,
-  Bool,
-  List,
-  [],
-  ◌∷◌,
-  ◌++◌,
-}
+use Rattle.std.proofs.Common.{◌≡◌, ◌<◌, ◌≤◌, ◌+◌, arith, ap, sym, ◌∙◌, subst, length, length-append, ℕ, Bool, List, []}
+use Rattle.std.proofs.Common.{◌∷◌, ◌++◌}
 use Rattle.std.proofs.lemmas.List.{length-map}
 use Rattle.cip_rank.specs.Tree.{last_parent}
 use Rattle.cip_arena.specs.Growth.{Growth}
@@ -57,39 +40,24 @@ invariant_of-self g c =
           (marked_added c.self.inside.present.items ts t inv.marked));
     }
 
-pub push-number-requires-clause-room : goal.push-number-requires-clause-room
-push-number-requires-clause-room g c =
+pub push-number-requires : goal.push-number-requires
+push-number-requires g c =
     let ts = c.self.inside.nodes.items in
+    let parent = c.args.node.parent in
     let len : length c.self.inside.table.parents ≡ length ts = ap (λ (ps : List ℕ). length ps) c.self.invariant.parents
     ∙ length-map ts (λ (n : Told). n.parent) in
     let room : length ts < c.self.inside.bound = subst (λ (a : Growth). length a.nodes < a.bound) (sym c.self.view_is)
     c.requires.room in
+    let below : parent < length ts = subst (λ (a : Growth). parent < length a.nodes) (sym c.self.view_is)
+    c.requires.below in
     let bound = c.self.invariant.table_bound in
-    omega (arith, len, room, bound)
-
-pub push-number-requires-clause-below : goal.push-number-requires-clause-below
-push-number-requires-clause-below g c =
-    let ts = c.self.inside.nodes.items in
-    let len : length c.self.inside.table.parents ≡ length ts = ap (λ (ps : List ℕ). length ps) c.self.invariant.parents
-    ∙ length-map ts (λ (n : Told). n.parent) in
-    let below : c.args.node.parent < length ts = subst (λ (a : Growth). c.args.node.parent < length a.nodes)
-    (sym c.self.view_is) c.requires.below in
-    omega (arith, len, below)
-
-pub push-number-requires-clause-root : goal.push-number-requires-clause-root
-push-number-requires-clause-root g c =
-    let ts = c.self.inside.nodes.items in
-    let len : length c.self.inside.table.parents ≡ length ts = ap (λ (ps : List ℕ). length ps) c.self.invariant.parents
-    ∙ length-map ts (λ (n : Told). n.parent) in
-    let below : c.args.node.parent < length ts = subst (λ (a : Growth). c.args.node.parent < length a.nodes)
-    (sym c.self.view_is) c.requires.below in
-    (tt, omega (arith, len, below))
-
-pub push-number-requires-clause-ordered : goal.push-number-requires-clause-ordered
-push-number-requires-clause-ordered g c =
-    subst (λ (ps : List ℕ). last_parent ps ≤ c.args.node.parent) (sym c.self.invariant.parents)
-    (subst (λ (a : Growth). last_parent (parents_of a.nodes) ≤ c.args.node.parent) (sym c.self.view_is)
-    c.requires.in_order)
+    record {
+      room = omega (arith, len, room, bound);
+      below = omega (arith, len, below);
+      root = (tt, omega (arith, len, below));
+      ordered = subst (λ (ps : List ℕ). last_parent ps ≤ parent) (sym c.self.invariant.parents)
+          (subst (λ (a : Growth). last_parent (parents_of a.nodes) ≤ parent) (sym c.self.view_is) c.requires.in_order);
+    }
 
 pub returns-clause-added : goal.returns-clause-added
 returns-clause-added g c =

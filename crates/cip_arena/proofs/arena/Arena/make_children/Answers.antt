@@ -1,11 +1,12 @@
-use Rattle.std.proofs.Common.{◌≡◌, ◌<◌, ◌≤◌, ◌+◌, ℕ, arith, ap, sym, ◌∙◌, subst, refl, get_or, take, length, false, List, None, Some}
+use Rattle.std.proofs.Common.{◌≡◌, ◌<◌, ◌≤◌, ◌+◌, ℕ, arith, ap, sym, ◌∙◌, subst, refl, get_or, take, length, false}
+use Rattle.std.proofs.Common.{List, None, Some}
 use Rattle.std.specs.declared.option.Option.{Option}
 use Rattle.std.specs.List.{sum_by, fold}
 use Rattle.std.proofs.lemmas.Grind.{common_steps}
 use Rattle.std.proofs.lemmas.List.Sums.{sum_by_more, sum_by_more_le, fold_more}
-use Rattle.cip_digraph.specs.digraph.NodeList.{nothing_told, told_at}
+use Rattle.cip_digraph.specs.digraph.NodeList.{told_at}
 use Rattle.cip_digraph.specs.graph.Graph.{edges_at}
-use Rattle.std.proofs.lemmas.List.{get_or_read_under, take_all}
+use Rattle.std.proofs.lemmas.List.{take_all}
 use Rattle.cip_digraph.specs.declared.nodes.Told.{Told}
 use Rattle.cip_digraph.specs.declared.graph.Edge.{Edge}
 use Rattle.cip_arena.specs.Growth.{Growth}
@@ -13,6 +14,7 @@ use Rattle.cip_arena.specs.Walk.{IsEarlier}
 use Rattle.cip_arena.specs.Making.{children_at, edge_size, node_size, size_at, real_vertex, with_edge}
 use Rattle.cip_arena.proofs.Sized.{edge_kept}
 use Rattle.cip_arena.proofs.Added.{keeps_then}
+use Rattle.cip_arena.proofs.Neighbours.{told_read}
 use Rattle.cip_arena.proofs.arena.Arena.make_children.Goals as goal
 
 abbrev no_edge : Edge
@@ -23,9 +25,7 @@ real_read : (items old : List Told) (node : ℕ) (read : Told) (found vertex : O
     → read ≡ get_or items node read → found ≡ real_vertex read → found ≡ vertex
     → real_vertex (told_at old node) ≡ vertex
 real_read items old node read found vertex same lt is told then =
-    let low : node < length items = subst (λ (ts : List Told). node < length ts) (sym same) lt in
-    let here : read ≡ told_at items node = get_or_read_under items node (length items) read nothing_told is low refl in
-    ap real_vertex (sym (here ∙ ap (λ (ts : List Told). told_at ts node) same)) ∙ sym told ∙ then
+    ap real_vertex (sym (told_read items old node read same lt is)) ∙ sym told ∙ then
 
 pub make_edge-requires-clause-room : goal.make_edge-requires-clause-room
 make_edge-requires-clause-room g c =

@@ -1,4 +1,4 @@
-use Rattle.cip_branches.proofs.DecidedBranches.{decided_first, ties_total}
+use Rattle.cip_branches.proofs.ruled.Decided.{decided_first, ties_total}
 use Rattle.cip_branches.proofs.deciding.Branches.begin_by.Goals as goal
 
 pub returns-clause-decided : goal.returns-clause-decided

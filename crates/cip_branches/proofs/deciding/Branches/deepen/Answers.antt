@@ -1,7 +1,7 @@
 use Rattle.std.proofs.Common.{◌≡◌, false, refl, sym, subst}
-use Rattle.cip_branches.specs.Deciding.{Branched, AreFollowed, FlagsOpen}
-use Rattle.cip_branches.proofs.OpenBranches.{open_still}
-use Rattle.cip_branches.proofs.TakenSpheres.{followed_kept}
+use Rattle.cip_branches.specs.Deciding.{AreFollowed, FlagsOpen}
+use Rattle.cip_branches.proofs.ruled.Open.{open_still}
+use Rattle.cip_branches.proofs.taken.Kept.{followed_kept}
 use Rattle.cip_branches.proofs.deciding.Branches.deepen.Goals as goal
 use Rattle.cip_branches.proofs.deciding.Branches.deepen.Goals.{After-deepen}
 
@@ -17,13 +17,12 @@ open_after g c not =
 pub returns-then-deepen-clause-followed : goal.returns-then-deepen-clause-followed
 returns-then-deepen-clause-followed g c =
     let was = subst AreFollowed (sym c.self.view_is) c.requires.followed in
-    subst AreFollowed (sym c.let_go.ensures.others)
+    rw c.let_go.ensures.others
     (followed_kept _ _ was c.deepen.ensures.deeper.kept c.deepen.ensures.ranked refl refl c.let_go.ensures.chosen)
 
 pub returns-else-deepen-clause-chosen : goal.returns-else-deepen-clause-chosen
 returns-else-deepen-clause-chosen g c =
-    subst (λ (b : Branched). FlagsOpen c.deepen.new.self.ranked.numbers b.wanted c.self.inside.wanted.items)
-    c.self.view_is
+    rw (sym c.self.view_is)
     (open_after g (goal.at.returns-else-deepen-clause-chosen g c).After-deepen c.if-deepen.false)
 
 pub returns-else-deepen-clause-followed : goal.returns-else-deepen-clause-followed

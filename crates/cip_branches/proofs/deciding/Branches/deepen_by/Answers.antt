@@ -1,6 +1,6 @@
 use Rattle.std.proofs.Common.{ap}
 use Rattle.cip_branches.specs.Deciding.{Branched}
-use Rattle.cip_branches.proofs.TakenRules.{deeper_taken}
+use Rattle.cip_branches.proofs.taken.Rules.{deeper_taken}
 use Rattle.cip_branches.proofs.deciding.Branches.deepen_by.Goals as goal
 
 pub returns-clause-taken : goal.returns-clause-taken

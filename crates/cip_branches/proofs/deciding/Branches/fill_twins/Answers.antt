@@ -1,6 +1,6 @@
 use Rattle.std.proofs.Common.{rules, sym, subst}
 use Rattle.cip_branches.specs.Deciding.{AreFollowed}
-use Rattle.cip_branches.proofs.TwinRanks.{twins_followed}
+use Rattle.cip_branches.proofs.doubled.Ranks.{twins_followed}
 use Rattle.cip_branches.proofs.deciding.Branches.fill_twins.Goals as goal
 
 pub returns-clause-twins : goal.returns-clause-twins

@@ -1,12 +1,10 @@
 use Rattle.std.proofs.Common.{◌≡◌, ◌+◌, suc, length, arith, ◌∙◌, sym, ap, subst}
 use Rattle.cip_branches.specs.Around.{kids_around}
 use Rattle.cip_branches.specs.Deciding.{AreFollowed}
-use Rattle.cip_branches.specs.Following.{AreRanked}
 use Rattle.cip_rows.specs.Kin.{Kin}
 use Rattle.cip_branches.specs.Layers.{Layers}
-use Rattle.cip_branches.specs.Walking.{LastPlaces}
-use Rattle.cip_branches.proofs.Followed.{first_stays}
-use Rattle.cip_branches.proofs.OpenBranches.{open_again}
+use Rattle.cip_branches.proofs.walked.Ranked.{first_stays}
+use Rattle.cip_branches.proofs.ruled.Open.{open_again}
 use Rattle.cip_branches.proofs.deciding.Branches.follow.Goals as goal
 
 pub returns-clause-followed : goal.returns-clause-followed
@@ -20,10 +18,9 @@ returns-clause-followed g c =
     let was = subst AreFollowed (sym c.self.view_is) c.requires.followed in
     let chosen = c.let_go.ensures.chosen in
     let last : suc c.self.inside.last ≡ c.self.inside.last + 1 = omega arith in
-    subst AreFollowed (sym c.let_go.ensures.others) (record {
-      ranked = subst (AreRanked now) last c.follow.ensures.ranked;
-      places = λ flags. subst (LastPlaces now flags c.len-known.result) last
-          (subst (λ n. LastPlaces now flags n (suc c.self.inside.last)) (sym count) (c.follow.ensures.places flags));
+    rw c.let_go.ensures.others (record {
+      ranked = rw (sym last) c.follow.ensures.ranked;
+      places = λ flags. rw (sym last, count) (c.follow.ensures.places flags);
       within = let more = grows.more in omega (arith, more, ups, count);
       nodes_len = ap (λ (k : Kin). length k.nodes) kin ∙ grows.entries.nodes ∙ sym ups;
       chosen = record {

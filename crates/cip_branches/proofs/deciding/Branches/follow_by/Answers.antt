@@ -1,6 +1,6 @@
 use Rattle.std.proofs.Common.{length}
 use Rattle.cip_branches.specs.Around.{kids_around}
-use Rattle.cip_branches.proofs.DecidedBranches.{decided_after, ties_total}
+use Rattle.cip_branches.proofs.ruled.Decided.{decided_after, ties_total}
 use Rattle.cip_branches.proofs.deciding.Branches.follow_by.Goals as goal
 
 pub returns-clause-decided : goal.returns-clause-decided

@@ -1,10 +1,8 @@
-use Rattle.std.proofs.Common.{◌≡◌, ◌≤◌, ◌<◌, ◌^◌, Bool, List, length, ◌∙◌, sym, ap, subst, arith}
+use Rattle.std.proofs.Common.{◌≡◌, ◌≤◌, Bool, List, length, ◌∙◌, sym, ap, arith}
 use Rattle.std.specs.Vec.{with_items}
 use Rattle.std.proofs.lemmas.List.{with_items_is}
 use Rattle.cip_rows.specs.Reserved.{Reserved}
-use Rattle.cip_branches.specs.Closing.{FlagOpen}
 use Rattle.cip_branches.specs.Deciding.{Branched, FlagsOpen}
-use Rattle.cip_branches.specs.Ruled.{WantsFewer}
 use Rattle.cip_branches.proofs.deciding.Branches.let_go.Goals as goal
 use Rattle.cip_branches.proofs.deciding.Branches.let_go.Goals.{After-as_slice, After-flag_open}
 
@@ -27,16 +25,7 @@ as_wanted c = flags_long c ∙ ap (λ (column : Reserved Bool). length column.it
 
 pub flag_open-requires-clause-tops : goal.flag_open-requires-clause-tops
 flag_open-requires-clause-tops c =
-    subst (λ (flags : List Bool). length flags ≤ length c.self.inside.spheres.kin.ups) (sym c.as_slice.ensures)
-    c.self.invariant.tops
-
-pub flag_open-requires-clause-few : goal.flag_open-requires-clause-few
-flag_open-requires-clause-few c =
-    let long = opens_long (goal.at.flag_open-requires-clause-few c).After-as_slice in
-    let same = ap (λ (column : Reserved Bool). length column.items) c.opens.view_is in
-    let few : c.opens.inside.room < 2 ^ 32 = c.opens.invariant.0 in
-    let fits : length c.opens.inside.items.items ≤ c.opens.inside.room = c.opens.invariant.1 in
-    omega (arith, long, same, few, fits)
+    rw c.as_slice.ensures c.self.invariant.tops
 
 pub flag_open-requires-clause-len : goal.flag_open-requires-clause-len
 flag_open-requires-clause-len c =
@@ -58,8 +47,7 @@ invariant_of-opens c =
     let fits : length c.opens.inside.items.items ≤ c.opens.inside.room = c.opens.invariant.1 in
     let long = flags_long at in (
       c.opens.invariant.0,
-      subst (λ (flags : List Bool). length flags ≤ c.opens.inside.room) (sym (set_flags at))
-          (omega (arith, fits, long)),
+      rw (set_flags at) (omega (arith, fits, long)),
       c.opens.invariant.2,
     )
 
@@ -81,16 +69,13 @@ pub returns-clause-chosen : goal.returns-clause-chosen
 returns-clause-chosen c =
     let at = (goal.at.returns-clause-chosen c).After-flag_open in
     let flags = c.flag_open.new.flags in
-    let numbers = c.self.inside.spheres.ranked.numbers in
     let items = ap (λ (column : Reserved Bool). column.items) c.copy.ensures ∙ c.as_slice-2.ensures ∙ set_flags at in
-    let open_now : FlagsOpen numbers c.self.inside.wanted.items flags = record {
+    let open_now : FlagsOpen c.self.inside.spheres.ranked.numbers c.self.inside.wanted.items flags = record {
       len = as_wanted at;
-      flagged = subst (λ (wanted : List Bool). FlagOpen numbers wanted (length wanted) flags) c.as_slice.ensures
-          c.flag_open.ensures.flagged;
-      fewer = subst (λ (wanted : List Bool). WantsFewer wanted flags) c.as_slice.ensures c.flag_open.ensures.fewer;
+      flagged = rw (sym c.as_slice.ensures) c.flag_open.ensures.flagged;
+      fewer = rw (sym c.as_slice.ensures) c.flag_open.ensures.fewer;
     } in
-    subst (FlagsOpen c.args.self.now.layers.ranked.numbers c.args.self.now.wanted) (sym items)
-    (subst (λ (b : Branched). FlagsOpen b.layers.ranked.numbers b.wanted flags) c.self.view_is open_now)
+    rw (items, sym c.self.view_is) open_now
 
 pub returns-clause-others : goal.returns-clause-others
 returns-clause-others c = ap (λ (b : Branched). record b { wanted = c.copy.new.self.items }) c.self.view_is

@@ -1,11 +1,14 @@
 use Rattle.std.proofs.Common.{refl, sym, subst}
 use Rattle.cip_branches.specs.Deciding.{AreFollowed}
-use Rattle.cip_branches.proofs.TakenSpheres.{followed_kept}
+use Rattle.cip_branches.proofs.taken.Kept.{followed_kept}
 use Rattle.cip_branches.proofs.deciding.Branches.next_rule.Goals as goal
+
+pub split_first-requires-clause-ranked : goal.split_first-requires-clause-ranked
+split_first-requires-clause-ranked g c = (_, (subst AreFollowed (sym c.self.view_is) c.requires.followed).ranked)
 
 pub returns-clause-followed : goal.returns-clause-followed
 returns-clause-followed g c =
     let was = subst AreFollowed (sym c.self.view_is) c.requires.followed in
-    subst AreFollowed (sym c.let_go.ensures.others)
-    (followed_kept _ _ was c.split_first.ensures.split.kept c.split_first.ensures.ranked refl refl
+    rw c.let_go.ensures.others
+    (followed_kept _ _ was c.split_first.ensures.split.kept (c.split_first.ensures.ranked _ was.ranked) refl refl
     c.let_go.ensures.chosen)

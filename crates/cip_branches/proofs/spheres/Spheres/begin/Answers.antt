@@ -1,14 +1,11 @@
-use Rattle.std.proofs.Common.{◌≡◌, length, refl, ◌∙◌, sym, ap, subst}
+use Rattle.std.proofs.Common.{◌≡◌, length, refl, ◌∙◌, ap, subst}
 use Rattle.std.specs.Ordering.{int_cmp, then_cmp, on}
 use Rattle.cip_rank.specs.Ranking.{by_number}
-use Rattle.cip_branches.specs.Following.{AreRanked, Begins}
 use Rattle.cip_branches.specs.Layers.{Layers, begun_with, cleared, with_sphere}
-use Rattle.cip_branches.specs.Passing.{AreNotedBut}
 use Rattle.cip_rows.specs.Parting.{KeepsSphere}
-use Rattle.cip_rows.specs.Keys.{AreKeyed, key_of}
-use Rattle.cip_rows.specs.Rows.{IsRow, AreClassed, OrdersPlaces}
-use Rattle.cip_branches.specs.Walking.{LastPlaces}
-use Rattle.cip_branches.proofs.Begun.{begun_classed, begun_keyed, first_begins, first_noted, first_ranked, first_places, tops_room}
+use Rattle.cip_rows.specs.Keys.{key_of}
+use Rattle.cip_rows.specs.Rows.{IsRow, OrdersPlaces}
+use Rattle.cip_branches.proofs.walked.First.{begun_classed, begun_keyed, first_begins, first_noted, first_ranked, first_places, tops_room}
 use Rattle.cip_branches.proofs.spheres.Spheres.begin.Goals as goal
 use Rattle.cip_branches.proofs.spheres.Spheres.begin.Goals.{After-split_sphere, After-note_rows}
 
@@ -55,13 +52,11 @@ split_sphere-requires-clause-classed g c =
     let begun = begun_with c.args.tops.now c.args.self.now in
     let count : c.row_count-count.result ≡ length begun.ranked.rows = c.row_count-count.ensures.count
     ∙ ap (λ (s : Layers). length s.ranked.rows) (c.self.view_is ∙ c.start.ensures) in
-    subst (λ (s : Layers). AreClassed s.ranked.rows s.ranked.numbers 0 c.row_count-count.result) (sym c.start.ensures)
-    (subst (AreClassed begun.ranked.rows begun.ranked.numbers 0) (sym count)
-    (begun_classed c.args.self.now c.args.tops.now))
+    rw (c.start.ensures, count) (begun_classed c.args.self.now c.args.tops.now)
 
 pub split_sphere-requires-clause-keyed : goal.split_sphere-requires-clause-keyed
 split_sphere-requires-clause-keyed g c =
-    subst (λ (s : Layers). AreKeyed (g.K.Keyed.nodes c.args.keys.now) s.kin) (sym c.start.ensures)
+    rw c.start.ensures
     (begun_keyed c.args.self.now c.args.tops.now (g.K.Keyed.nodes c.args.keys.now) c.requires.keyed)
 
 pub note_rows-requires-clause-noted : goal.note_rows-requires-clause-noted
@@ -69,11 +64,9 @@ note_rows-requires-clause-noted g c =
     let at = (goal.at.note_rows-requires-clause-noted g c).After-split_sphere in
     let begun = begun_with c.args.tops.now c.args.self.now in
     let ranked = c.split_sphere.new.self.ranked in
-    subst (λ n. AreNotedBut ranked.rows 0 n c.split_sphere.new.self.before ranked.numbers) (sym (count_is g at))
-    (subst (λ ns. AreNotedBut ranked.rows 0 (length begun.ranked.rows) ns ranked.numbers)
-    (sym (ap (λ (s : Layers). s.before) (c.split_sphere.ensures.others
-    ∙ ap (λ (s : Layers). record s { ranked = ranked }) c.start.ensures)))
-    (first_noted c.args.self.now c.args.tops.now ranked (kept g at)))
+    let before = ap (λ (s : Layers). s.before) (c.split_sphere.ensures.others
+    ∙ ap (λ (s : Layers). record s { ranked = ranked }) c.start.ensures) in
+    rw (count_is g at, before) (first_noted c.args.self.now c.args.tops.now ranked (kept g at))
 
 pub returns-clause-begun : goal.returns-clause-begun
 returns-clause-begun g c =
@@ -82,7 +75,7 @@ returns-clause-begun g c =
     let tops = c.args.tops.now in
     let old = c.args.self.now in
     let ranked = c.split_sphere.new.self.ranked in
-    subst (Begins tops (g.K.Keyed.key c.args.keys.now)) (sym (now g noted))
+    rw (now g noted)
     (first_begins old tops (key_of (g.K.Keyed.key c.args.keys.now) (begun_with tops old).kin) ranked ranked.numbers
     (kept g at) (split g at) (g.K.Keyed.key c.args.keys.now) (λ k. refl))
 
@@ -98,7 +91,7 @@ returns-clause-ranked g c =
     let tops = c.args.tops.now in
     let old = c.args.self.now in
     let ranked = c.split_sphere.new.self.ranked in
-    subst (λ (s : Layers). AreRanked s 0) (sym (now g noted))
+    rw (now g noted)
     (first_ranked old tops (key_of (g.K.Keyed.key c.args.keys.now) (begun_with tops old).kin) ranked ranked.numbers
     (kept g at) (split g at) refl)
 
@@ -109,6 +102,6 @@ returns-clause-places g c = λ wanted.
     let tops = c.args.tops.now in
     let old = c.args.self.now in
     let ranked = c.split_sphere.new.self.ranked in
-    subst (λ (s : Layers). LastPlaces s wanted 0 0) (sym (now g noted))
+    rw (now g noted)
     (first_places old tops (key_of (g.K.Keyed.key c.args.keys.now) (begun_with tops old).kin) ranked ranked.numbers
     (kept g at) (split g at) wanted)

@@ -1,18 +1,14 @@
-use Rattle.std.proofs.Common.{◌≡◌, ◌+◌, suc, slice_index, sym, subst, arith}
+use Rattle.std.proofs.Common.{◌≡◌, ◌+◌, suc, slice_index, subst, arith}
 use Rattle.std.specs.Ordering.{int_cmp, on}
 use Rattle.cip_rows.specs.Keys.{key_of}
 use Rattle.cip_rows.specs.Kids.{kids_of}
-use Rattle.cip_rows.specs.Parting.{TieAlike}
-use Rattle.cip_branches.specs.Following.{AreRanked}
-use Rattle.cip_branches.specs.Layers.{Layers}
-use Rattle.cip_branches.specs.Taking.{Deepens}
 use Rattle.cip_branches.specs.Turning.{IsInnermost}
-use Rattle.cip_branches.proofs.EvenSpheres.{deeper_even}
-use Rattle.cip_branches.proofs.StirredSpheres.{first_is}
-use Rattle.cip_branches.proofs.TakenSpheres.{deeper_is, deeper_ranked, deeper_noted, deeper_steady}
-use Rattle.cip_branches.proofs.Turns.{FoundSphere, found_sphere, read_at}
+use Rattle.cip_branches.proofs.taken.Even.{deeper_even}
+use Rattle.cip_branches.proofs.refined.Stirred.{first_is}
+use Rattle.cip_branches.proofs.taken.Kept.{deeper_is, deeper_ranked, deeper_noted, deeper_steady}
+use Rattle.cip_branches.proofs.refined.Turns.{FoundSphere, found_sphere, read_at}
 use Rattle.cip_branches.proofs.spheres.Spheres.deepen.Goals as goal
-use Rattle.cip_branches.proofs.spheres.Spheres.deepen.Goals.{After-first_row-to, After-stands_by}
+use Rattle.cip_branches.proofs.spheres.Spheres.deepen.Goals.{After-first_row-to}
 
 pub pass-requires-clause-noted : goal.pass-requires-clause-noted
 pass-requires-clause-noted g c = deeper_noted c.args.self.now c.args.last c.requires.ranked c.args.far
@@ -21,14 +17,15 @@ pub pass-requires-clause-steady : goal.pass-requires-clause-steady
 pass-requires-clause-steady g c = deeper_steady c.args.self.now c.args.last c.requires.ranked c.args.far c.requires.far
 
 -- what the code reads of the starts
-from_is : (g : _) (c : After-stands_by g) → c.first_row-from.result ≡ slice_index c.args.self.now.starts (suc c.args.far)
-from_is g c = sym (read_at c.args.self.now.starts (c.args.far + 1) (suc c.args.far) c.first_row-from.result
-    c.first_row-from.ensures.value (omega arith))
+from_is : (g : _) (c : After-first_row-to g) → slice_index c.args.self.now.starts (suc c.args.far)
+    ≡ c.first_row-from.result
+from_is g c = read_at c.args.self.now.starts (c.args.far + 1) (suc c.args.far) c.first_row-from.result
+    c.first_row-from.ensures.value (omega arith)
 
-to_is : (g : _) (c : After-stands_by g) → c.first_row-to.result
-    ≡ slice_index c.args.self.now.starts (suc (suc c.args.far))
-to_is g c = sym (read_at c.args.self.now.starts (c.args.far + 2) (suc (suc c.args.far)) c.first_row-to.result
-    c.first_row-to.ensures.value (omega arith))
+to_is : (g : _) (c : After-first_row-to g) → slice_index c.args.self.now.starts (suc (suc c.args.far))
+    ≡ c.first_row-to.result
+to_is g c = read_at c.args.self.now.starts (c.args.far + 2) (suc (suc c.args.far)) c.first_row-to.result
+    c.first_row-to.ensures.value (omega arith)
 
 sphere : (g : _) (c : After-first_row-to g) →
     let first = c.args.self.now in
@@ -37,10 +34,7 @@ sphere g c =
     let first = c.args.self.now in
     found_sphere (kids_of first.kin) first.kin.ups first.ranked.rows first.starts c.args.last first.ranked.numbers
     c.requires.ranked.spheres (suc c.args.far) c.first_row-from.result c.first_row-to.result c.requires.far
-    (read_at first.starts (c.args.far + 1) (suc c.args.far) c.first_row-from.result c.first_row-from.ensures.value
-    (omega arith))
-    (read_at first.starts (c.args.far + 2) (suc (suc c.args.far)) c.first_row-to.result c.first_row-to.ensures.value
-    (omega arith))
+    (from_is g c) (to_is g c)
 
 pub stands_by-requires-clause-ordered : goal.stands_by-requires-clause-ordered
 stands_by-requires-clause-ordered g c = (sphere g c).ordered
@@ -53,21 +47,18 @@ stands_by-requires-clause-classed g c = (sphere g c).classed
 
 pub returns-then-stands_by-clause-deeper : goal.returns-then-stands_by-clause-deeper
 returns-then-stands_by-clause-deeper g c =
-    let at = (goal.at.returns-then-stands_by-clause-deeper g c).After-stands_by in
+    let at = (goal.at.returns-then-stands_by-clause-deeper g c).After-first_row-to in
     let all = c.args.self.now in
     let keys = g.K.Keyed.key c.args.keys.now in
     let compare = on (key_of keys all.kin) int_cmp in
     let alike = c.stands_by.ensures.0 c.if-stands_by.true in
     deeper_even all c.args.last c.requires.ranked c.args.far c.requires.far keys
-    (subst (λ n. TieAlike compare all.ranked.rows all.ranked.numbers (slice_index all.starts (suc c.args.far)) n)
-    (to_is g at)
-    (subst (λ n. TieAlike compare all.ranked.rows all.ranked.numbers n
-    c.first_row-to.result) (from_is g at) alike))
+    (rw (from_is g at, to_is g at) alike)
 
 pub returns-clause-deeper : goal.returns-clause-deeper
 returns-clause-deeper g c =
     let now = c.pass.new.self in
-    subst (Deepens c.args.self.now c.args.far (g.K.Keyed.key c.args.keys.now)) (sym c.pass.ensures.others)
+    rw c.pass.ensures.others
     (deeper_is c.args.self.now c.args.last c.requires.ranked now.ranked now.before c.pass.ensures.before c.args.far
     c.requires.far (g.K.Keyed.key c.args.keys.now) c.pass.ensures.passed c.pass.ensures.places c.pass.ensures.spheres
     c.pass.ensures.room)
@@ -75,7 +66,7 @@ returns-clause-deeper g c =
 pub returns-clause-ranked : goal.returns-clause-ranked
 returns-clause-ranked g c =
     let now = c.pass.new.self in
-    subst (λ (s : Layers). AreRanked s c.args.last) (sym c.pass.ensures.others)
+    rw c.pass.ensures.others
     (deeper_ranked c.args.self.now c.args.last c.requires.ranked now.ranked now.before c.pass.ensures.before c.args.far
     c.requires.far (g.K.Keyed.key c.args.keys.now) c.pass.ensures.passed c.pass.ensures.places c.pass.ensures.spheres)
 

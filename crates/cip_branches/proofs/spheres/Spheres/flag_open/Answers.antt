@@ -1,22 +1,23 @@
 use Rattle.std.proofs.Common.{length, ◌≡◌, arith, ◌∙◌, subst}
 use Rattle.cip_branches.specs.Closing.{FlagOpen}
-use Rattle.cip_branches.proofs.OpenBranches.{open_fewer, flag_next}
+use Rattle.cip_branches.proofs.ruled.Open.{open_fewer, flag_next}
 use Rattle.cip_branches.proofs.spheres.Spheres.flag_open.Goals as goal
 
 pub loop-branch-preserved : goal.loop-branch-preserved
 loop-branch-preserved c =
     let next = c.loop-branch-test.true in
     let high = c.loop-branch.auto.branch-end in
+    let count = c.branch_count-branch-end.ensures in
     let long = c.loop-branch.auto.flags ∙ c.requires.len in
     flag_next c.args.self.now.ranked.numbers c.args.wanted.now c.loop-branch.flags c.loop-branch.branch
-    c.is_open.result (omega (arith, next, high, long)) c.is_open.ensures.told c.is_open.ensures.none
+    c.is_open.result (omega (arith, next, high, count, long)) c.is_open.ensures.told c.is_open.ensures.none
     c.loop-branch.invariant
 
 pub returns-clause-fewer : goal.returns-clause-fewer
 returns-clause-fewer c =
-    let over = c.loop-branch-test.false in
     let high = c.loop-branch.auto.branch-end in
-    let at : c.loop-branch.branch ≡ length c.args.wanted.now = omega (arith, over, high) in
+    let count = c.branch_count-branch-end.ensures in
+    let at : c.loop-branch.branch ≡ length c.args.wanted.now = omega (arith, c.loop-branch-test.false, high, count) in
     open_fewer c.args.self.now.ranked.numbers c.args.wanted.now c.loop-branch.flags
     (c.loop-branch.auto.flags ∙ c.requires.len)
     (subst (λ n. FlagOpen c.args.self.now.ranked.numbers c.args.wanted.now n c.loop-branch.flags) at

@@ -1,12 +1,8 @@
-use Rattle.std.proofs.Common.{◌≡◌, ◌+◌, suc, length, arith, sym, ap, subst}
+use Rattle.std.proofs.Common.{◌≡◌, ◌+◌, suc, length, arith, sym, ap}
 use Rattle.cip_branches.specs.Around.{kids_around}
-use Rattle.cip_branches.specs.Following.{AreRanked}
-use Rattle.cip_rows.specs.Kids.{kids_of}
 use Rattle.cip_branches.specs.Layers.{Layers}
 use Rattle.cip_rows.specs.Keys.{key_of}
-use Rattle.cip_branches.specs.Turning.{AreSpheres}
-use Rattle.cip_branches.specs.Walking.{LastPlaces}
-use Rattle.cip_branches.proofs.Followed.{Ready, ready, ranked_after, last_after}
+use Rattle.cip_branches.proofs.walked.Ranked.{Ready, ready, ranked_after, last_after}
 use Rattle.cip_branches.proofs.spheres.Spheres.follow.Goals as goal
 use Rattle.cip_branches.proofs.spheres.Spheres.follow.Goals.{After-walk_on}
 
@@ -16,6 +12,9 @@ ready_here : (g : _) (c : After-walk_on g) → Ready c.args.self.now c.walk_on.n
 ready_here g c = ready c.args.self.now c.args.first c.args.last (length c.args.around.now.table.now.parents)
     (kids_around c.args.around.now.table.now.parents c.args.around.now.way.now) c.args.wanted.now c.requires.walk
     c.walk_on.new.self c.walk_on.ensures.walked c.requires.ranked
+
+pub walk_on-requires : goal.walk_on-requires
+walk_on-requires g c = (c.args.last, c.requires.walk)
 
 pub pass-requires-clause-last : goal.pass-requires-clause-last
 pass-requires-clause-last g c =
@@ -28,10 +27,8 @@ pass-requires-clause-keyed g c =
 
 pub pass-requires-clause-spheres : goal.pass-requires-clause-spheres
 pass-requires-clause-spheres g c =
-    let mid = c.walk_on.new.self in
     let last : suc c.args.last ≡ c.args.last + 1 = omega arith in
-    subst (λ n. AreSpheres (kids_of mid.kin) mid.kin.ups mid.ranked.rows mid.starts n mid.ranked.numbers) last
-    c.walk_on.ensures.spheres
+    rw (sym last) (c.walk_on.ensures.spheres c.args.last c.requires.walk.count)
 
 pub pass-requires-clause-noted : goal.pass-requires-clause-noted
 pass-requires-clause-noted g c = (ready_here g (goal.at.pass-requires-clause-noted g c).After-walk_on).noted
@@ -55,16 +52,14 @@ returns-clause-ranked g c =
     let mid = c.walk_on.new.self in
     let now = c.pass.new.self in
     let last : c.args.last + 1 ≡ suc c.args.last = omega arith in
-    subst (λ (s : Layers). AreRanked s (suc c.args.last)) (sym c.pass.ensures.others)
+    rw c.pass.ensures.others
     (ranked_after mid now.ranked now.before c.pass.ensures.places c.args.last
     (key_of (g.K.Keyed.key c.args.keys.now) mid.kin) here.count here.ends c.pass.ensures.passed
-    (subst (λ n. AreSpheres (kids_of mid.kin) mid.kin.ups now.ranked.rows mid.starts n now.ranked.numbers) last
-    c.pass.ensures.spheres) c.pass.ensures.before)
+    (rw (sym last) c.pass.ensures.spheres) c.pass.ensures.before)
 
 pub returns-clause-places : goal.returns-clause-places
 returns-clause-places g c =
     λ others.
     let now = c.pass.new.self in
-    subst (λ (s : Layers). LastPlaces s others (length c.args.self.now.kin.ups) (suc c.args.last))
-    (sym c.pass.ensures.others) (last_after c.walk_on.new.self now.ranked now.before c.pass.ensures.places others
-    (length c.args.self.now.kin.ups) (suc c.args.last) (c.walk_on.ensures.places others))
+    rw c.pass.ensures.others (last_after c.walk_on.new.self now.ranked now.before c.pass.ensures.places others
+    (length c.args.self.now.kin.ups) (suc c.args.last) (c.walk_on.ensures.places c.args.last c.requires.walk.count others))

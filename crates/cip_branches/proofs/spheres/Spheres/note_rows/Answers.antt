@@ -39,9 +39,11 @@ invariant_of-self c =
     let set = with_items_is c.noted.inside.items c.note_places.new.before (c.note_places.auto.before
     ∙ c.deref_mut.ensures.len) in
     record {
+      few = was.few;
       fits = was.fits;
       ranked_room = was.ranked_room;
       starts_room = was.starts_room;
+      starts_fit = was.starts_fit;
       before_room = ap (λ (column : Reserved ℕ). column.room) c.noted.view_is ∙ was.before_room;
       flags_room = was.flags_room;
       sets_room = was.sets_room;
@@ -57,13 +59,6 @@ invariant_of-self c =
 
 pub returns : goal.returns
 returns c =
-    let inside = c.self.inside in
     let set = with_items_is c.noted.inside.items c.note_places.new.before (c.note_places.auto.before
     ∙ c.deref_mut.ensures.len) in
-    let seen : List ℕ → Layers = λ ns. record {
-      kin = inside.family;
-      ranked = inside.order;
-      starts = inside.starts.items;
-      before = ns;
-    } in
-    ap seen (set ∙ c.note_places.ensures) ∙ ap (λ (s : Layers). record s { before = s.ranked.numbers }) c.self.view_is
+    rw (set, c.note_places.ensures) (ap (λ (s : Layers). record s { before = s.ranked.numbers }) c.self.view_is)

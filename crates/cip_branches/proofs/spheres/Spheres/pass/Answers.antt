@@ -4,14 +4,13 @@ use Rattle.cip_rank.specs.Ranking.{by_number}
 use Rattle.cip_rows.specs.Kids.{kids_of}
 use Rattle.cip_branches.specs.Layers.{Layers}
 use Rattle.cip_rows.specs.Parting.{KeepsSphere}
-use Rattle.cip_branches.specs.Passing.{AreNotedBut, Passes}
 use Rattle.cip_rows.specs.Keys.{key_of}
 use Rattle.cip_branches.specs.Refining.{Refines}
 use Rattle.cip_rows.specs.Rows.{IsRow, OrdersPlaces}
-use Rattle.cip_branches.specs.Turning.{in_sphere, AreSpheres, AreSteadyBefore, IsInnermost, SamePlaces, Stands, StandBut}
-use Rattle.cip_branches.proofs.KeptSpheres.{same_after}
-use Rattle.cip_branches.proofs.Passed.{innermost, noted_after, places, passed, split_spheres, split_steady, tops_stand}
-use Rattle.cip_branches.proofs.Turns.{FoundSphere, found_sphere, read_at}
+use Rattle.cip_branches.specs.Turning.{in_sphere, AreSpheres, IsInnermost, SamePlaces, StandBut}
+use Rattle.cip_branches.proofs.refined.Kept.{same_after}
+use Rattle.cip_branches.proofs.refined.Passed.{innermost, noted_after, places, passed, split_spheres, split_steady, tops_stand}
+use Rattle.cip_branches.proofs.refined.Turns.{FoundSphere, found_sphere, read_at}
 use Rattle.cip_branches.proofs.spheres.Spheres.pass.Goals as goal
 use Rattle.cip_branches.proofs.spheres.Spheres.pass.Goals.{After-first_row-to, After-split_sphere, After-note_rows}
 
@@ -58,17 +57,12 @@ pub first_row-first-requires : goal.first_row-first-requires
 first_row-first-requires g c =
     let starts = ap (λ (s : Layers). length s.starts) (c.refine_inwards-inner.ensures.others
     ∙ ap (λ (s : Layers). record s { ranked = c.refine_inwards-inner.new.self.ranked }) c.split_sphere.ensures.others) in
-    let high = c.refine_inwards-inner.ensures.inner.high in
-    let far = c.requires.far in
-    let last = c.requires.last in
-    omega (arith, starts, high, far, last)
+    omega (arith, starts, c.refine_inwards-inner.ensures.inner.high, c.requires.far, c.requires.last)
 
 pub note_rows-requires-clause-within : goal.note_rows-requires-clause-within
 note_rows-requires-clause-within g c =
     let within = (sphere g (goal.at.note_rows-requires-clause-within g c).After-first_row-to).within in
-    let split = c.split_sphere.ensures.kept.kept.len in
-    let refined = c.refine_inwards-inner.ensures.places.len in
-    omega (arith, within, split, refined)
+    omega (arith, within, c.split_sphere.ensures.kept.kept.len, c.refine_inwards-inner.ensures.places.len)
 
 -- the sphere as it is split
 kept : (g : _) (c : After-split_sphere g) →
@@ -76,27 +70,14 @@ kept : (g : _) (c : After-split_sphere g) →
     let new = c.split_sphere.new.self.ranked in
     KeepsSphere (slice_index first.starts (suc c.args.far)) (slice_index first.starts (suc (suc c.args.far)))
     first.ranked.rows new.rows first.ranked.numbers new.numbers
-kept g c =
-    let first = c.args.self.now in
-    let new = c.split_sphere.new.self.ranked in
-    subst (λ n. KeepsSphere n (slice_index first.starts (suc (suc c.args.far))) first.ranked.rows new.rows
-    first.ranked.numbers new.numbers) (sym (from_is g c))
-    (subst (λ n. KeepsSphere c.first_row-from.result n first.ranked.rows new.rows
-    first.ranked.numbers new.numbers) (sym (to_is g c)) c.split_sphere.ensures.kept)
+kept g c = rw (from_is g c, to_is g c) c.split_sphere.ensures.kept
 
 split : (g : _) (c : After-split_sphere g) →
     let first = c.args.self.now in
-    OrdersPlaces (in_sphere first.ranked.rows first.starts (suc c.args.far)) (then_cmp (by_number first.ranked.numbers)
+    OrdersPlaces (IsRow first.ranked.rows (slice_index first.starts (suc c.args.far))
+    (slice_index first.starts (suc (suc c.args.far)))) (then_cmp (by_number first.ranked.numbers)
     (on (key_of (g.K.Keyed.key c.args.keys.now) first.kin) int_cmp)) c.split_sphere.new.self.ranked.numbers
-split g c =
-    let first = c.args.self.now in
-    let numbers = c.split_sphere.new.self.ranked.numbers in
-    subst (λ n. OrdersPlaces (IsRow first.ranked.rows n (slice_index first.starts (suc (suc c.args.far))))
-    (then_cmp (by_number first.ranked.numbers) (on (key_of (g.K.Keyed.key c.args.keys.now) first.kin) int_cmp)) numbers)
-    (sym (from_is g c))
-    (subst (λ n. OrdersPlaces (IsRow first.ranked.rows c.first_row-from.result n)
-    (then_cmp (by_number first.ranked.numbers) (on (key_of (g.K.Keyed.key c.args.keys.now) first.kin) int_cmp)) numbers)
-    (sym (to_is g c)) c.split_sphere.ensures.split)
+split g c = rw (from_is g c, to_is g c) c.split_sphere.ensures.split
 
 fits : (g : _) (c : After-split_sphere g) → length c.args.self.now.ranked.rows ≤ c.args.self.now.kin.room
 fits g c = c.first_row-from.ensures.fits
@@ -106,8 +87,7 @@ refine_inwards-inner-requires-clause-spheres g c =
     let at = (goal.at.refine_inwards-inner-requires-clause-spheres g c).After-split_sphere in
     let first = c.args.self.now in
     let new = c.split_sphere.new.self.ranked in
-    subst (λ (s : Layers). AreSpheres (kids_of s.kin) s.kin.ups new.rows s.starts c.args.last new.numbers)
-    (sym c.split_sphere.ensures.others) (split_spheres (kids_of first.kin) first.kin.ups first.ranked.rows first.starts
+    rw c.split_sphere.ensures.others (split_spheres (kids_of first.kin) first.kin.ups first.ranked.rows first.starts
     c.args.last c.args.far first.kin.room c.requires.far first.ranked.numbers first.before c.requires.spheres
     (fits g at) c.requires.noted c.requires.steady new.rows new.numbers (kept g at))
 
@@ -116,8 +96,7 @@ refine_inwards-inner-requires-clause-steady g c =
     let at = (goal.at.refine_inwards-inner-requires-clause-steady g c).After-split_sphere in
     let first = c.args.self.now in
     let new = c.split_sphere.new.self.ranked in
-    subst (λ (s : Layers). AreSteadyBefore (kids_of s.kin) new.rows s.starts c.args.far s.before new.numbers)
-    (sym c.split_sphere.ensures.others) (split_steady (kids_of first.kin) first.kin.ups first.ranked.rows first.starts
+    rw c.split_sphere.ensures.others (split_steady (kids_of first.kin) first.kin.ups first.ranked.rows first.starts
     c.args.last c.args.far first.kin.room c.requires.far first.ranked.numbers first.before c.requires.spheres
     (fits g at) c.requires.noted c.requires.steady new.rows new.numbers (kept g at))
 
@@ -141,13 +120,7 @@ note_rows-requires-clause-noted g c =
     places in
     let inner_is = read_at first.starts inner inner c.first_row-first.result
     (c.first_row-first.ensures.value ∙ ap (λ (s : Layers). slice_index s.starts inner) others) refl in
-    subst (λ ns. AreNotedBut last.ranked.rows c.first_row-first.result
-    c.first_row-to.result ns last.ranked.numbers)
-    (sym (ap (λ (s : Layers). s.before) others))
-    (subst (λ n. AreNotedBut last.ranked.rows n c.first_row-to.result first.before
-    last.ranked.numbers) inner_is
-    (subst (λ n. AreNotedBut last.ranked.rows (slice_index first.starts inner) n first.before last.ranked.numbers)
-    (to_is g at) noted))
+    rw (ap (λ (s : Layers). s.before) others, sym inner_is, sym (to_is g at)) noted
 
 pub returns-clause-tops : goal.returns-clause-tops
 returns-clause-tops g c = λ some.
@@ -158,8 +131,7 @@ returns-clause-tops g c = λ some.
     let inner = c.refine_inwards-inner.result in
     let stand = subst (λ (s : Layers). StandBut new.rows s.starts inner c.args.far new.numbers last.ranked.numbers)
     c.split_sphere.ensures.others c.refine_inwards-inner.ensures.stand in
-    subst (λ (s : Layers). Stands first.ranked.rows first.starts 0 first.ranked.numbers s.ranked.numbers)
-    (sym c.note_rows.ensures) (tops_stand (kids_of first.kin) first.kin.ups first.ranked.rows first.starts c.args.last
+    rw c.note_rows.ensures (tops_stand (kids_of first.kin) first.kin.ups first.ranked.rows first.starts c.args.last
     c.args.far first.kin.room c.requires.far first.ranked.numbers first.before c.requires.spheres (fits g at)
     c.requires.noted c.requires.steady new.rows new.numbers (kept g at) inner
     c.refine_inwards-inner.ensures.inner.high last.ranked.numbers stand some)
@@ -173,8 +145,7 @@ returns-clause-passed g c =
     let refined = subst (λ (s : Layers). Refines (kids_of s.kin) (in_sphere new.rows s.starts) c.args.far 0 new.numbers
     now) c.split_sphere.ensures.others c.refine_inwards-inner.ensures.refined in
     let key = key_of (g.K.Keyed.key c.args.keys.now) first.kin in
-    subst (λ (s : Layers). Passes (kids_of first.kin) (in_sphere first.ranked.rows first.starts) c.args.far key
-    first.ranked.numbers s.ranked.numbers) (sym c.note_rows.ensures)
+    rw c.note_rows.ensures
     (passed (kids_of first.kin) first.kin.ups first.ranked.rows first.starts c.args.last c.args.far first.kin.room
     c.requires.far first.ranked.numbers first.before c.requires.spheres (fits g at) c.requires.noted c.requires.steady
     new.rows new.numbers (kept g at) key now (split g at) refined)
@@ -187,7 +158,7 @@ returns-clause-places g c =
     let last = c.refine_inwards-inner.new.self.ranked in
     let refined = subst (λ (s : Layers). SamePlaces new.rows last.rows s.starts) c.split_sphere.ensures.others
     c.refine_inwards-inner.ensures.places in
-    subst (λ (s : Layers). SamePlaces first.ranked.rows s.ranked.rows first.starts) (sym c.note_rows.ensures)
+    rw c.note_rows.ensures
     (same_after first.ranked.rows new.rows last.rows first.starts
     (places (kids_of first.kin) first.kin.ups first.ranked.rows first.starts c.args.last c.args.far first.kin.room
     c.requires.far first.ranked.numbers first.before c.requires.spheres (fits g at) c.requires.noted c.requires.steady
@@ -202,8 +173,7 @@ returns-clause-inner g c =
     let inner = c.refine_inwards-inner.result in
     let found = subst (λ (s : Layers). IsInnermost s.kin.ups new.rows s.starts inner c.args.far s.before new.numbers
     last.ranked.numbers) c.split_sphere.ensures.others c.refine_inwards-inner.ensures.inner in
-    subst (λ (s : Layers). IsInnermost first.kin.ups first.ranked.rows first.starts inner c.args.far first.before
-    first.ranked.numbers s.ranked.numbers) (sym c.note_rows.ensures)
+    rw c.note_rows.ensures
     (innermost (kids_of first.kin) first.kin.ups first.ranked.rows first.starts c.args.last c.args.far first.kin.room
     c.requires.far first.ranked.numbers first.before c.requires.spheres (fits g at) c.requires.noted c.requires.steady
     new.rows new.numbers (kept g at) inner last.ranked.numbers found)
@@ -222,8 +192,7 @@ pub returns-clause-spheres : goal.returns-clause-spheres
 returns-clause-spheres g c =
     let first = c.args.self.now in
     let last = c.refine_inwards-inner.new.self.ranked in
-    subst (λ (s : Layers). AreSpheres (kids_of first.kin) first.kin.ups s.ranked.rows first.starts c.args.last
-    s.ranked.numbers) (sym c.note_rows.ensures) (subst (λ (s : Layers). AreSpheres (kids_of s.kin) s.kin.ups last.rows
+    rw c.note_rows.ensures (subst (λ (s : Layers). AreSpheres (kids_of s.kin) s.kin.ups last.rows
     s.starts c.args.last last.numbers) c.split_sphere.ensures.others c.refine_inwards-inner.ensures.spheres)
 
 pub returns-clause-before : goal.returns-clause-before

@@ -3,7 +3,7 @@ use Rattle.cip_rank.specs.Tree.{children_of}
 use Rattle.cip_rank.specs.View.{parent_list}
 use Rattle.cip_branches.specs.Around.{kept_off, kids_around}
 use Rattle.cip_branches.specs.Layers.{Layers, with_nodes}
-use Rattle.cip_branches.proofs.PushedNodes.{nodes_both, places_more, room_stays}
+use Rattle.cip_branches.proofs.walked.Pushed.{nodes_both, places_more, room_stays}
 use Rattle.cip_branches.proofs.spheres.Spheres.push_around.Goals as goal
 use Rattle.cip_branches.proofs.spheres.Spheres.push_around.Goals.{After-is_set}
 
@@ -21,9 +21,8 @@ around_is c on =
 
 pub push_parent-requires-clause-room : goal.push_parent-requires-clause-room
 push_parent-requires-clause-room c =
-    let way = c.args.around.now.way.now in
     let parents = c.args.around.now.table.now.parents in
-    let off = kept_off way (children_of parents c.args.node) in
+    let off = kept_off c.args.around.now.way.now (children_of parents c.args.node) in
     let up = parent_list parents c.args.node in
     let kids = around_is (goal.at.push_parent-requires-clause-room c).After-is_set c.if-is_set.true in
     let many = ap (λ (ns : List ℕ). length ns) kids ∙ length-append off up in
@@ -31,14 +30,12 @@ push_parent-requires-clause-room c =
     ∙ places_more off c.args.branch c.args.up c.args.number c.args.self.now in
     let room = ap (λ (s : Layers). s.kin.room) c.push_off.ensures
     ∙ room_stays off c.args.branch c.args.up c.args.number c.args.self.now in
-    let enough = c.requires.room in
-    omega (arith, many, places, room, enough)
+    omega (arith, many, places, room, c.requires.room)
 
 pub returns-then-is_set : goal.returns-then-is_set
 returns-then-is_set c =
-    let way = c.args.around.now.way.now in
     let parents = c.args.around.now.table.now.parents in
-    let off = kept_off way (children_of parents c.args.node) in
+    let off = kept_off c.args.around.now.way.now (children_of parents c.args.node) in
     let up = parent_list parents c.args.node in
     let kids = around_is (goal.at.returns-then-is_set c).After-is_set c.if-is_set.true in
     let push = λ (ns : List ℕ) (s : Layers). with_nodes ns c.args.branch c.args.up c.args.number s in

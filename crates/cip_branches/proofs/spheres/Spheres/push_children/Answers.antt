@@ -2,26 +2,22 @@ use Rattle.std.proofs.Common.{◌≡◌, ◌-◌, List, ℕ, length, arith, ◌�
 use Rattle.std.specs.List.{range_with_len}
 use Rattle.std.proofs.lemmas.List.FromFn.{length-range_with_len}
 use Rattle.cip_branches.specs.Layers.{Layers, with_new_place, with_nodes}
-use Rattle.cip_branches.proofs.PushedNodes.{places_more, room_stays, range_on}
+use Rattle.cip_branches.proofs.walked.Pushed.{places_more, room_stays, range_on}
 use Rattle.cip_branches.proofs.spheres.Spheres.push_children.Goals as goal
 
 pub push_place-requires : goal.push_place-requires
 push_place-requires c =
     let first = c.children-first.result.0 in
-    let past = c.children-first.result.1 in
     let child = c.loop-child.child in
     let before = range_with_len first (child - first) in
     let so_far = length-range_with_len first (child - first) in
     let many = ap (λ (ns : List ℕ). length ns) c.children-first.ensures.children
-    ∙ length-range_with_len first (past - first) in
+    ∙ length-range_with_len first (c.children-first.result.1 - first) in
     let places = ap (λ (s : Layers). length s.kin.ups) c.loop-child.invariant.pushed
     ∙ places_more before c.args.branch c.args.up c.args.number c.args.self.now in
     let room = ap (λ (s : Layers). s.kin.room) c.loop-child.invariant.pushed
     ∙ room_stays before c.args.branch c.args.up c.args.number c.args.self.now in
-    let low = c.loop-child.auto.child in
-    let lt = c.loop-child-test.true in
-    let enough = c.requires.room in
-    omega (arith, so_far, many, places, room, low, lt, enough)
+    omega (arith, so_far, many, places, room, c.loop-child.auto.child, c.loop-child-test.true, c.requires.room)
 
 pub loop-child-preserved : goal.loop-child-preserved
 loop-child-preserved c = record {

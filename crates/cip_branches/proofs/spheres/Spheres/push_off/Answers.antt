@@ -4,7 +4,7 @@ use Rattle.cip_rank.proofs.ChildrenSeen.{kept_one, kept_part}
 use Rattle.cip_branches.specs.Around.{kept_off}
 use Rattle.cip_branches.specs.Layers.{Layers, with_nodes}
 use Rattle.cip_rows.specs.Parting.{has_flag}
-use Rattle.cip_branches.proofs.PushedNodes.{nodes_both, places_more, room_stays}
+use Rattle.cip_branches.proofs.walked.Pushed.{nodes_both, places_more, room_stays}
 use Rattle.cip_branches.proofs.spheres.Spheres.push_off.Goals as goal
 
 pub push_if_off-requires : goal.push_if_off-requires
@@ -15,18 +15,16 @@ push_if_off-requires c =
     let past = c.children-first.result.1 in
     let child = c.loop-child.child in
     let low = c.loop-child.auto.child in
-    let lt = c.loop-child-test.true in
     let before = kept_off way (range_with_len first (child - first)) in
     let one = ap length (kept_one off first child low) in
     let both = length-append before (filter off (child ∷ [])) in
-    let part = kept_part off first (child + 1 - first) (past - first) (omega (arith, low, lt)) in
+    let part = kept_part off first (child + 1 - first) (past - first) (omega (arith, low, c.loop-child-test.true)) in
     let kids = ap (λ (ns : List ℕ). length (kept_off way ns)) c.children-first.ensures.children in
     let places = ap (λ (s : Layers). length s.kin.ups) c.loop-child.invariant.pushed
     ∙ places_more before c.args.branch c.args.up c.args.number c.args.self.now in
     let room = ap (λ (s : Layers). s.kin.room) c.loop-child.invariant.pushed
     ∙ room_stays before c.args.branch c.args.up c.args.number c.args.self.now in
-    let enough = c.requires.room in
-    omega (arith, one, both, part, kids, places, room, enough)
+    omega (arith, one, both, part, kids, places, room, c.requires.room)
 
 pub loop-child-preserved : goal.loop-child-preserved
 loop-child-preserved c =

@@ -3,9 +3,8 @@ use Rattle.cip_rows.specs.Kids.{kids_of, by_kids}
 use Rattle.cip_branches.specs.Layers.{Layers}
 use Rattle.cip_rows.specs.Rows.{IsRow, OrdersPlaces}
 use Rattle.cip_rows.proofs.Cases.{not_both}
-use Rattle.cip_branches.specs.Turning.{in_sphere, AreStirred, IsInnermost, StandBut, Turns}
-use Rattle.cip_branches.specs.Refining.{Refines}
-use Rattle.cip_branches.proofs.Turns.{Given, given, read_at}
+use Rattle.cip_branches.specs.Turning.{Turns}
+use Rattle.cip_branches.proofs.refined.Turns.{Given, given, read_at}
 use Rattle.cip_branches.proofs.spheres.Spheres.refine_inwards.Goals as goal
 use Rattle.cip_branches.proofs.spheres.Spheres.refine_inwards.Goals.{After-first_row-past, After-turn_inwards}
 
@@ -30,29 +29,17 @@ given_here c =
 pub first_row-from-requires : goal.first_row-from-requires
 first_row-from-requires c =
     let starts = ap (λ (s : Layers). length s.starts) c.loop-inner.invariant.others in
-    let high = c.loop-inner.invariant.high in
-    let far = c.requires.far in
-    let last = c.requires.last in
-    let some = c.loop-inner-test.true in
-    omega (arith, starts, high, far, last, some)
+    omega (arith, starts, c.loop-inner.invariant.high, c.requires.far, c.requires.last, c.loop-inner-test.true)
 
 pub first_row-to-requires : goal.first_row-to-requires
 first_row-to-requires c =
     let starts = ap (λ (s : Layers). length s.starts) c.loop-inner.invariant.others in
-    let high = c.loop-inner.invariant.high in
-    let far = c.requires.far in
-    let last = c.requires.last in
-    let some = c.loop-inner-test.true in
-    omega (arith, starts, high, far, last, some)
+    omega (arith, starts, c.loop-inner.invariant.high, c.requires.far, c.requires.last, c.loop-inner-test.true)
 
 pub first_row-past-requires : goal.first_row-past-requires
 first_row-past-requires c =
     let starts = ap (λ (s : Layers). length s.starts) c.loop-inner.invariant.others in
-    let high = c.loop-inner.invariant.high in
-    let far = c.requires.far in
-    let last = c.requires.last in
-    let some = c.loop-inner-test.true in
-    omega (arith, starts, high, far, last, some)
+    omega (arith, starts, c.loop-inner.invariant.high, c.requires.far, c.requires.last, c.loop-inner-test.true)
 
 pub turn_inwards-requires-clause-ordered : goal.turn_inwards-requires-clause-ordered
 turn_inwards-requires-clause-ordered c =
@@ -87,9 +74,7 @@ stopped : (c : After-turn_inwards) → c.turn_inwards.result ≡ false →
 stopped c not =
     let first = c.args.self.now in
     let still = c.turn_inwards.ensures.still not in
-    subst (λ (s : Layers). Turns (kids_of first.kin) first.kin.ups first.ranked.rows first.starts c.args.far c.args.last
-    first.ranked.numbers 0 s.ranked.rows s.ranked.numbers) (sym still)
-    ((given_here c.before.before).stopped
+    rw still ((given_here c.before.before).stopped
     (subst (λ (s : Layers). OrdersPlaces (IsRow c.loop-inner.self.ranked.rows
     c.first_row-from.result c.first_row-to.result)
     (by_kids (kids_of c.loop-inner.self.kin) c.loop-inner.self.ranked.numbers) s.ranked.numbers) still
@@ -113,14 +98,11 @@ returns-then-not-turn_inwards-clause-places c =
 pub returns-then-not-turn_inwards-clause-stand : goal.returns-then-not-turn_inwards-clause-stand
 returns-then-not-turn_inwards-clause-stand c =
     let first = c.args.self.now in
-    subst (λ (s : Layers). StandBut first.ranked.rows first.starts c.loop-inner.inner c.args.far first.ranked.numbers
-    s.ranked.numbers) (sym (c.turn_inwards.ensures.still c.if-not-turn_inwards.true))
-    c.loop-inner.invariant.turns.stand
+    rw (c.turn_inwards.ensures.still c.if-not-turn_inwards.true) c.loop-inner.invariant.turns.stand
 
 pub returns-then-not-turn_inwards-clause-others : goal.returns-then-not-turn_inwards-clause-others
 returns-then-not-turn_inwards-clause-others c =
-    subst (λ (s : Layers). s ≡ record c.args.self.now { ranked = s.ranked })
-    (sym (c.turn_inwards.ensures.still c.if-not-turn_inwards.true)) c.loop-inner.invariant.others
+    rw (c.turn_inwards.ensures.still c.if-not-turn_inwards.true) c.loop-inner.invariant.others
 
 pub returns-then-not-turn_inwards-clause-room : goal.returns-then-not-turn_inwards-clause-room
 returns-then-not-turn_inwards-clause-room c =
@@ -130,9 +112,7 @@ returns-then-not-turn_inwards-clause-room c =
 pub returns-then-not-turn_inwards-clause-inner : goal.returns-then-not-turn_inwards-clause-inner
 returns-then-not-turn_inwards-clause-inner c =
     let first = c.args.self.now in
-    subst (λ (s : Layers). IsInnermost first.kin.ups first.ranked.rows first.starts c.loop-inner.inner c.args.far
-    first.before first.ranked.numbers s.ranked.numbers) (sym (c.turn_inwards.ensures.still c.if-not-turn_inwards.true))
-    (record {
+    rw (c.turn_inwards.ensures.still c.if-not-turn_inwards.true) (record {
       high = let le = c.loop-inner.invariant.high in omega (arith, le);
       stirred = c.loop-inner.invariant.stirred;
       stands = (given_here (goal.at.returns-then-not-turn_inwards-clause-inner c).After-first_row-past).stands
@@ -161,10 +141,8 @@ returns-clause-spheres c = c.loop-inner.invariant.turns.spheres
 pub returns-clause-refined : goal.returns-clause-refined
 returns-clause-refined c =
     let first = c.args.self.now in
-    let over = c.loop-inner-test.false in
-    let done : c.loop-inner.inner ≡ 0 = omega (arith, over) in
-    subst (λ t. Refines (kids_of first.kin) (in_sphere first.ranked.rows first.starts) c.args.far t
-    first.ranked.numbers c.loop-inner.self.ranked.numbers) done c.loop-inner.invariant.turns.refines
+    let done : c.loop-inner.inner ≡ 0 = omega (arith, c.loop-inner-test.false) in
+    rw (sym done) c.loop-inner.invariant.turns.refines
 
 pub returns-clause-places : goal.returns-clause-places
 returns-clause-places c = c.loop-inner.invariant.turns.places
@@ -172,22 +150,18 @@ returns-clause-places c = c.loop-inner.invariant.turns.places
 pub returns-clause-inner : goal.returns-clause-inner
 returns-clause-inner c =
     let first = c.args.self.now in
-    let over = c.loop-inner-test.false in
-    let done : c.loop-inner.inner ≡ 0 = omega (arith, over) in
+    let done : c.loop-inner.inner ≡ 0 = omega (arith, c.loop-inner-test.false) in
     record {
       high = omega arith;
-      stirred = subst (λ t. AreStirred first.kin.ups first.ranked.rows first.starts t c.args.far first.before
-          first.ranked.numbers c.loop-inner.self.ranked.numbers) done c.loop-inner.invariant.stirred;
+      stirred = rw (sym done) c.loop-inner.invariant.stirred;
       stands = λ u at stirred. absurd (let none : 0 ≡ suc u = at in omega (arith, none));
     }
 
 pub returns-clause-stand : goal.returns-clause-stand
 returns-clause-stand c =
     let first = c.args.self.now in
-    let over = c.loop-inner-test.false in
-    let done : c.loop-inner.inner ≡ 0 = omega (arith, over) in
-    subst (λ t. StandBut first.ranked.rows first.starts t c.args.far first.ranked.numbers
-    c.loop-inner.self.ranked.numbers) done c.loop-inner.invariant.turns.stand
+    let done : c.loop-inner.inner ≡ 0 = omega (arith, c.loop-inner-test.false) in
+    rw (sym done) c.loop-inner.invariant.turns.stand
 
 pub returns-clause-others : goal.returns-clause-others
 returns-clause-others c = c.loop-inner.invariant.others

@@ -8,18 +8,10 @@ use Rattle.cip_rows.specs.Parting.{KeepsSphere}
 use Rattle.cip_rows.specs.Keys.{key_of}
 use Rattle.cip_rows.specs.Rows.{IsRow, OrdersPlaces}
 use Rattle.cip_branches.specs.Taking.{SplitsFirst}
-use Rattle.cip_branches.specs.Turning.{in_sphere}
-use Rattle.cip_branches.proofs.TakenSpheres.{first_splits, first_ranked}
-use Rattle.cip_branches.proofs.Turns.{FoundSphere, found_sphere}
+use Rattle.cip_branches.proofs.taken.Kept.{first_splits, first_ranked}
+use Rattle.cip_branches.proofs.refined.Turns.{FoundSphere, found_sphere}
 use Rattle.cip_branches.proofs.spheres.Spheres.split_first.Goals as goal
 use Rattle.cip_branches.proofs.spheres.Spheres.split_first.Goals.{After-first_row-to, After-split_sphere}
-
--- what the code reads of the starts
-from_is : (g : _) (c : After-split_sphere g) → slice_index c.args.self.now.starts 0 ≡ c.first_row-from.result
-from_is g c = sym c.first_row-from.ensures.value
-
-to_is : (g : _) (c : After-split_sphere g) → slice_index c.args.self.now.starts 1 ≡ c.first_row-to.result
-to_is g c = sym c.first_row-to.ensures.value
 
 -- the sphere as it is split
 kept : (g : _) (c : After-split_sphere g) →
@@ -27,35 +19,22 @@ kept : (g : _) (c : After-split_sphere g) →
     let new = c.split_sphere.new.self.ranked in
     KeepsSphere (slice_index first.starts 0) (slice_index first.starts 1) first.ranked.rows new.rows
     first.ranked.numbers new.numbers
-kept g c =
-    let first = c.args.self.now in
-    let new = c.split_sphere.new.self.ranked in
-    subst (λ n. KeepsSphere n (slice_index first.starts 1) first.ranked.rows new.rows first.ranked.numbers new.numbers)
-    (sym (from_is g c))
-    (subst (λ n. KeepsSphere c.first_row-from.result n first.ranked.rows new.rows first.ranked.numbers
-    new.numbers) (sym (to_is g c)) c.split_sphere.ensures.kept)
+kept g c = rw (sym c.first_row-from.ensures.value, sym c.first_row-to.ensures.value) c.split_sphere.ensures.kept
 
 split : (g : _) (c : After-split_sphere g) →
     let first = c.args.self.now in
-    OrdersPlaces (in_sphere first.ranked.rows first.starts 0) (then_cmp (by_number first.ranked.numbers)
-    (on (key_of (g.K.Keyed.key c.args.keys.now) first.kin) int_cmp)) c.split_sphere.new.self.ranked.numbers
-split g c =
-    let first = c.args.self.now in
-    let numbers = c.split_sphere.new.self.ranked.numbers in
-    subst (λ n. OrdersPlaces (IsRow first.ranked.rows n (slice_index first.starts 1))
-    (then_cmp (by_number first.ranked.numbers) (on (key_of (g.K.Keyed.key c.args.keys.now) first.kin) int_cmp)) numbers)
-    (sym (from_is g c))
-    (subst (λ n. OrdersPlaces (IsRow first.ranked.rows c.first_row-from.result n)
-    (then_cmp (by_number first.ranked.numbers) (on (key_of (g.K.Keyed.key c.args.keys.now) first.kin) int_cmp)) numbers)
-    (sym (to_is g c)) c.split_sphere.ensures.split)
+    OrdersPlaces (IsRow first.ranked.rows (slice_index first.starts 0) (slice_index first.starts 1))
+    (then_cmp (by_number first.ranked.numbers) (on (key_of (g.K.Keyed.key c.args.keys.now) first.kin) int_cmp))
+    c.split_sphere.new.self.ranked.numbers
+split g c = rw (sym c.first_row-from.ensures.value, sym c.first_row-to.ensures.value) c.split_sphere.ensures.split
 
 sphere : (g : _) (c : After-first_row-to g) →
     let first = c.args.self.now in
     FoundSphere first.ranked.rows first.ranked.numbers c.first_row-from.result c.first_row-to.result
 sphere g c =
     let first = c.args.self.now in
-    found_sphere (kids_of first.kin) first.kin.ups first.ranked.rows first.starts c.args.last first.ranked.numbers
-    c.requires.ranked.spheres 0 c.first_row-from.result c.first_row-to.result (omega arith) (sym c.first_row-from.ensures.value)
+    found_sphere (kids_of first.kin) first.kin.ups first.ranked.rows first.starts c.requires.ranked.0 first.ranked.numbers
+    c.requires.ranked.1.spheres 0 c.first_row-from.result c.first_row-to.result (omega arith) (sym c.first_row-from.ensures.value)
     (sym c.first_row-to.ensures.value)
 
 pub split_sphere-requires-clause-ordered : goal.split_sphere-requires-clause-ordered
@@ -73,13 +52,12 @@ split_sphere-requires-clause-classed g c =
 pub note_rows-requires-clause-within : goal.note_rows-requires-clause-within
 note_rows-requires-clause-within g c =
     let within = (sphere g (goal.at.note_rows-requires-clause-within g c).After-first_row-to).within in
-    let split = c.split_sphere.ensures.kept.kept.len in
-    omega (arith, within, split)
+    omega (arith, within, c.split_sphere.ensures.kept.kept.len)
 
 pub note_rows-requires-clause-noted : goal.note_rows-requires-clause-noted
 note_rows-requires-clause-noted g c =
     let before : c.split_sphere.new.self.before ≡ c.args.self.now.ranked.numbers =
-    ap (λ (s : Layers). s.before) c.split_sphere.ensures.others ∙ c.requires.ranked.before in
+    ap (λ (s : Layers). s.before) c.split_sphere.ensures.others ∙ c.requires.ranked.1.before in
     let kept = c.split_sphere.ensures.kept in
     record {
       each = λ place none. ap (λ (ns : List ℕ). slice_index ns place) before
@@ -94,15 +72,14 @@ returns-clause-split g c =
     let new = c.split_sphere.new.self.ranked in
     subst (SplitsFirst first keys) (sym (c.note_rows.ensures
     ∙ ap (λ (s : Layers). record s { before = new.numbers }) c.split_sphere.ensures.others))
-    (first_splits first c.args.last c.requires.ranked new new.numbers refl (kept g at) keys (split g at)
+    (first_splits first c.requires.ranked.0 c.requires.ranked.1 new new.numbers refl (kept g at) keys (split g at)
     c.split_sphere.ensures.room)
 
 pub returns-clause-ranked : goal.returns-clause-ranked
-returns-clause-ranked g c =
+returns-clause-ranked g c = λ last ranked.
     let at = (goal.at.returns-clause-ranked g c).After-split_sphere in
-    let first = c.args.self.now in
     let keys = g.K.Keyed.key c.args.keys.now in
     let new = c.split_sphere.new.self.ranked in
-    subst (λ (s : Layers). AreRanked s c.args.last) (sym (c.note_rows.ensures
+    subst (λ (s : Layers). AreRanked s last) (sym (c.note_rows.ensures
     ∙ ap (λ (s : Layers). record s { before = new.numbers }) c.split_sphere.ensures.others))
-    (first_ranked first c.args.last c.requires.ranked new new.numbers refl (kept g at) keys (split g at))
+    (first_ranked c.args.self.now last ranked new new.numbers refl (kept g at) keys (split g at))

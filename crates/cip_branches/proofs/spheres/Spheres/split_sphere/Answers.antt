@@ -1,28 +1,26 @@
 use Rattle.std.proofs.Common.{arith, ◌≡◌, ◌≤◌, ℕ, Bool, List, true, length, ◌∙◌, sym, ap, subst}
-use Rattle.std.specs.Ordering.{int_cmp, then_cmp, on}
+use Rattle.std.specs.Ordering.{int_cmp, on}
 use Rattle.std.specs.Vec.{with_items}
 use Rattle.std.proofs.lemmas.Cmp.{on_total, int_cmp_total}
 use Rattle.std.proofs.lemmas.List.{with_items_is}
-use Rattle.cip_rank.specs.Ranking.{by_number}
 use Rattle.cip_branches.specs.Layers.{Layers}
-use Rattle.cip_rows.specs.Parting.{FlagClasses, FlagHeads, KeepsSphere, has_flag}
+use Rattle.cip_rows.specs.Parting.{FlagClasses, FlagHeads, has_flag}
 use Rattle.cip_rows.specs.Keys.{key_of}
 use Rattle.cip_rows.specs.Reserved.{Reserved}
-use Rattle.cip_rows.specs.Rows.{IsRow, AreClassed, OrdersPlaces}
+use Rattle.cip_rows.specs.Rows.{AreClassed}
 use Rattle.cip_rows.specs.Stirring.{NoFlags}
 use Rattle.cip_rows.proofs.PartedSphere.{have_flags, sphere_split}
-use Rattle.cip_branches.proofs.FlaggedClasses.{class_heads, class_cleared}
+use Rattle.cip_branches.proofs.refined.Flagged.{class_heads, class_cleared}
 use Rattle.cip_branches.proofs.spheres.Spheres.split_sphere.Goals as goal
 use Rattle.cip_branches.proofs.spheres.Spheres.split_sphere.Goals.{After-flag_classes}
 
 -- the rows and numbers that the sphere has inside
 classed : {seen now : Layers} {from to : ℕ} → seen ≡ now
     → AreClassed now.ranked.rows now.ranked.numbers from to → AreClassed seen.ranked.rows seen.ranked.numbers from to
-classed {from = from} {to = to} view was =
-    subst (λ (s : Layers). AreClassed s.ranked.rows s.ranked.numbers from to) (sym view) was
+classed view was = rw view was
 
 within : {seen now : Layers} {to : ℕ} → seen ≡ now → to ≤ length now.ranked.rows → to ≤ length seen.ranked.rows
-within {to = to} view was = subst (λ (s : Layers). to ≤ length s.ranked.rows) (sym view) was
+within view was = rw view was
 
 -- what is read of the flags that were set
 set_flags : (g : _) (c : After-flag_classes g)
@@ -43,11 +41,9 @@ flag_classes-requires-clause-within g c = within c.self.view_is c.requires.withi
 pub flag_classes-requires-clause-flags : goal.flag_classes-requires-clause-flags
 flag_classes-requires-clause-flags g c =
     let rows = within c.self.view_is c.requires.within in
-    let rows_len = c.self.invariant.rows_len in
-    let flags_len = c.self.invariant.flags_len in
     let len = ap (λ (fs : List Bool). length fs) (c.deref_mut.ensures.value ∙ ap (λ (column : Reserved Bool).
     column.items) c.flags.view_is) in
-    omega (arith, rows, rows_len, flags_len, len)
+    omega (arith, rows, c.self.invariant.rows_len, c.self.invariant.flags_len, len)
 
 pub flag_classes-requires-clause-none : goal.flag_classes-requires-clause-none
 flag_classes-requires-clause-none g c =
@@ -64,9 +60,8 @@ pub part_sphere-requires-clause-flags : goal.part_sphere-requires-clause-flags
 part_sphere-requires-clause-flags g c =
     let at = (goal.at.part_sphere-requires-clause-flags g c).After-flag_classes in
     let rows = within c.self.view_is c.requires.within in
-    let rows_len = c.self.invariant.rows_len in
     let len = ap (λ (fs : List Bool). length fs) (c.deref.ensures.value ∙ set_flags g at) ∙ flags_long g at in
-    omega (arith, rows, rows_len, len)
+    omega (arith, rows, c.self.invariant.rows_len, len)
 
 pub part_sphere-requires-clause-classed : goal.part_sphere-requires-clause-classed
 part_sphere-requires-clause-classed g c = classed c.self.view_is c.requires.classed
@@ -87,9 +82,8 @@ pub clear_flags-requires-clause-within : goal.clear_flags-requires-clause-within
 clear_flags-requires-clause-within g c =
     let at = (goal.at.clear_flags-requires-clause-within g c).After-flag_classes in
     let rows = within c.self.view_is c.requires.within in
-    let rows_len = c.self.invariant.rows_len in
     let len = ap (λ (fs : List Bool). length fs) (c.deref_mut-2.ensures.value ∙ set_flags g at) ∙ flags_long g at in
-    omega (arith, rows, rows_len, len)
+    omega (arith, rows, c.self.invariant.rows_len, len)
 
 pub invariant_of-self : goal.invariant_of-self
 invariant_of-self g c =
@@ -101,9 +95,11 @@ invariant_of-self g c =
     ≡ c.clear_flags.new.flags = with_items_is (with_items c.flags.inside.items c.flag_classes.new.flags)
     c.clear_flags.new.flags (c.clear_flags.auto.flags ∙ c.deref_mut-2.ensures.len) in
     record {
+      few = was.few;
       fits = was.fits;
       ranked_room = c.part_sphere.ensures.room ∙ was.ranked_room;
       starts_room = was.starts_room;
+      starts_fit = was.starts_fit;
       before_room = was.before_room;
       flags_room = ap (λ (column : Reserved Bool). column.room) c.flags.view_is ∙ was.flags_room;
       sets_room = was.sets_room;
@@ -124,24 +120,20 @@ returns-clause-split g c =
     let key = key_of (g.K.Keyed.key c.args.keys.now) c.self.inside.family in
     let rows = c.self.inside.order.rows in
     let numbers = c.self.inside.order.numbers in
-    let classed = subst (λ (s : Layers). AreClassed s.ranked.rows s.ranked.numbers c.args.from c.args.to)
-    (sym c.self.view_is) c.requires.classed in
     let read = c.deref.ensures.value ∙ with_items_is c.flags.inside.items c.flag_classes.new.flags
     (c.flag_classes.auto.flags ∙ c.deref_mut.ensures.len) in
     let flagged = subst (λ (fs : List Bool). FlagClasses rows numbers c.args.from c.args.to c.args.to fs) (sym read)
     c.flag_classes.ensures in
-    subst (λ (s : Layers). OrdersPlaces (IsRow s.ranked.rows c.args.from c.args.to) (then_cmp
-    (by_number s.ranked.numbers) (on (key_of (g.K.Keyed.key c.args.keys.now) s.kin) int_cmp))
-    c.part_sphere.new.order.numbers) c.self.view_is
-    (sphere_split (on key int_cmp) c.args.from c.args.to c.deref.result.now rows numbers classed
+    rw (sym c.self.view_is)
+    (sphere_split (on key int_cmp) c.args.from c.args.to c.deref.result.now rows numbers
+    (classed c.self.view_is c.requires.classed)
     (on_total key int_cmp_total) (have_flags rows numbers c.args.from c.args.to c.deref.result.now flagged)
     c.part_sphere.new.order.rows c.part_sphere.new.order.numbers c.part_sphere.ensures.parted)
 
 pub returns-clause-kept : goal.returns-clause-kept
 returns-clause-kept g c =
     let parted = c.part_sphere.ensures.parted in
-    subst (λ (s : Layers). KeepsSphere c.args.from c.args.to s.ranked.rows c.part_sphere.new.order.rows
-    s.ranked.numbers c.part_sphere.new.order.numbers) c.self.view_is (record {
+    rw (sym c.self.view_is) (record {
       classed = parted.classed;
       there = parted.there;
       back = parted.back;

@@ -1,7 +1,7 @@
 use Rattle.std.proofs.Common.{◌≡◌, ◌+◌, ℕ, List, length, take, slice_index, arith, ◌∙◌, sym, ap}
 use Rattle.std.proofs.lemmas.List.{length-take-le, take_more}
 use Rattle.cip_branches.specs.Layers.{Layers, cleared, with_new_place, with_sphere, with_tops}
-use Rattle.cip_branches.proofs.Begun.{tops_more, tops_count, tops_room, tops_starts}
+use Rattle.cip_branches.proofs.walked.First.{tops_more, tops_count, tops_room, tops_starts}
 use Rattle.cip_branches.proofs.spheres.Spheres.start.Goals as goal
 
 pub push_place-requires : goal.push_place-requires
@@ -15,8 +15,7 @@ push_place-requires c =
     c.loop-branch.invariant.begun ∙ tops_count so_far 0 none in
     let room : c.loop-branch.self.kin.room ≡ c.args.self.now.kin.room = ap (λ (s : Layers). s.kin.room)
     c.loop-branch.invariant.begun ∙ tops_room so_far 0 none in
-    let enough = c.requires.room in
-    omega (arith, lt, many, count, room, enough)
+    omega (arith, lt, many, count, room, c.requires.room)
 
 pub loop-branch-preserved : goal.loop-branch-preserved
 loop-branch-preserved c =
@@ -42,5 +41,4 @@ end_sphere-requires-2 c =
     ∙ ap (λ (ns : List ℕ). length ns) (tops_starts so_far 0 none) in
     let room : c.loop-branch.self.kin.room ≡ c.args.self.now.kin.room = ap (λ (s : Layers). s.kin.room)
     c.loop-branch.invariant.begun ∙ tops_room so_far 0 none in
-    let some = c.requires.some in
-    omega (arith, starts, room, some)
+    omega (arith, starts, room, c.requires.some)

@@ -1,27 +1,25 @@
 use Rattle.std.proofs.Common.{arith, ◌≡◌, ◌≤◌, ℕ, Bool, List, true, false, length, slice_index, ◌∙◌, sym, ap, subst}
 use Rattle.std.specs.Vec.{with_items}
 use Rattle.std.proofs.lemmas.List.{with_items_is}
-use Rattle.cip_rows.specs.Kids.{kids_of, by_kids, AreCalm}
+use Rattle.cip_rows.specs.Kids.{kids_of, AreCalm}
 use Rattle.cip_branches.specs.Layers.{Layers}
-use Rattle.cip_rows.specs.Parting.{FlagHeads, KeepsSphere, has_flag}
+use Rattle.cip_rows.specs.Parting.{FlagHeads, has_flag}
 use Rattle.cip_rows.specs.Reserved.{Reserved}
-use Rattle.cip_rows.specs.Rows.{IsRow, AreClassed, OrdersPlaces}
+use Rattle.cip_rows.specs.Rows.{IsRow, AreClassed}
 use Rattle.cip_rows.specs.Stirring.{KnowParents, TieUnlessStirred, NoFlags}
-use Rattle.cip_branches.proofs.Turned.{Flagged, above_within, flagged, wider}
+use Rattle.cip_branches.proofs.refined.Turned.{Flagged, above_within, flagged, wider}
 use Rattle.cip_branches.proofs.spheres.Spheres.turn_inwards.Goals as goal
 use Rattle.cip_branches.proofs.spheres.Spheres.turn_inwards.Goals.{After-stir_above, After-deref}
 
 -- the rows of the sphere and of the next one, as they are seen inside
 classed : {seen now : Layers} {from to : ℕ} → seen ≡ now
     → AreClassed now.ranked.rows now.ranked.numbers from to → AreClassed seen.ranked.rows seen.ranked.numbers from to
-classed {from = from} {to = to} view was =
-    subst (λ (s : Layers). AreClassed s.ranked.rows s.ranked.numbers from to) (sym view) was
+classed view was = rw view was
 
 parents : {seen now : Layers} {from to past : ℕ} → seen ≡ now
     → KnowParents (kids_of now.kin) now.kin.ups now.ranked.rows from to past
     → KnowParents (kids_of seen.kin) seen.kin.ups seen.ranked.rows from to past
-parents {from = from} {to = to} {past = past} view was =
-    subst (λ (s : Layers). KnowParents (kids_of s.kin) s.kin.ups s.ranked.rows from to past) (sym view) was
+parents view was = rw view was
 
 -- the flags that were set, where none stood as it began
 flagged_here : (c : After-stir_above) → Flagged (kids_of c.self.inside.family) c.self.inside.family.ups
@@ -46,7 +44,7 @@ read c = c.deref.ensures.value ∙ with_items_is c.flags.inside.items c.stir_abo
     (c.stir_above.auto.flags ∙ c.deref_mut.ensures.len)
 
 within : {seen now : Layers} {past : ℕ} → seen ≡ now → past ≤ length now.ranked.rows → past ≤ length seen.ranked.rows
-within {past = past} view was = subst (λ (s : Layers). past ≤ length s.ranked.rows) (sym view) was
+within view was = rw view was
 
 flags_long : (c : After-stir_above) → length c.stir_above.new.flags ≡ length c.self.inside.family.ups
 flags_long c = c.stir_above.auto.flags ∙ ap (λ (fs : List Bool). length fs) c.deref_mut.ensures.value
@@ -69,9 +67,9 @@ pub stir_above-requires-clause-parents : goal.stir_above-requires-clause-parents
 stir_above-requires-clause-parents c =
     let ups = c.self.inside.family.ups in
     let rows = c.self.inside.order.rows in
-    let within = subst (λ (s : Layers). c.args.past ≤ length s.ranked.rows) (sym c.self.view_is) c.requires.within in
+    let inside = within c.self.view_is c.requires.within in
     λ k low high. wider rows c.args.from c.args.to (length rows)
-    (let behind = c.requires.behind in omega (arith, behind, within)) (slice_index ups (slice_index rows k))
+    (let behind = c.requires.behind in omega (arith, behind, inside)) (slice_index ups (slice_index rows k))
     ((parents c.self.view_is c.requires.parents).up k low high)
 
 pub stir_above-requires-clause-above : goal.stir_above-requires-clause-above
@@ -82,19 +80,15 @@ stir_above-requires-clause-above c =
 
 pub stir_above-requires-clause-flags : goal.stir_above-requires-clause-flags
 stir_above-requires-clause-flags c =
-    let within = subst (λ (s : Layers). c.args.past ≤ length s.ranked.rows) (sym c.self.view_is) c.requires.within in
-    let behind = c.requires.behind in
-    let rows_len = c.self.invariant.rows_len in
-    let flags_len = c.self.invariant.flags_len in
+    let inside = within c.self.view_is c.requires.within in
     let len = ap (λ (fs : List Bool). length fs) (c.deref_mut.ensures.value ∙ ap (λ (column : Reserved Bool).
     column.items) c.flags.view_is) in
-    omega (arith, within, behind, rows_len, flags_len, len)
+    omega (arith, inside, c.requires.behind, c.self.invariant.rows_len, c.self.invariant.flags_len, len)
 
 pub returns-then-not-stir_above-clause-ordered : goal.returns-then-not-stir_above-clause-ordered
 returns-then-not-stir_above-clause-ordered c =
     let at = (goal.at.returns-then-not-stir_above-clause-ordered c).After-stir_above in
-    subst (λ (s : Layers). OrdersPlaces (IsRow s.ranked.rows c.args.from c.args.to) (by_kids (kids_of s.kin)
-    s.ranked.numbers) c.self.inside.order.numbers) c.self.view_is
+    rw (sym c.self.view_is)
     ((flagged_here at).stands (c.stir_above.ensures.none c.if-not-stir_above.true))
 
 pub refine_sphere-requires-clause-ordered : goal.refine_sphere-requires-clause-ordered
@@ -103,17 +97,14 @@ refine_sphere-requires-clause-ordered c = c.requires.ordered
 pub refine_sphere-requires-clause-within : goal.refine_sphere-requires-clause-within
 refine_sphere-requires-clause-within c =
     let rows = within c.self.view_is c.requires.within in
-    let behind = c.requires.behind in
-    omega (arith, rows, behind)
+    omega (arith, rows, c.requires.behind)
 
 pub refine_sphere-requires-clause-flags : goal.refine_sphere-requires-clause-flags
 refine_sphere-requires-clause-flags c =
     let at = goal.at.refine_sphere-requires-clause-flags c in
     let rows = within c.self.view_is c.requires.within in
-    let behind = c.requires.behind in
-    let rows_len = c.self.invariant.rows_len in
     let len = ap (λ (fs : List Bool). length fs) (read at.After-deref) ∙ flags_long at.After-stir_above in
-    omega (arith, rows, behind, rows_len, len)
+    omega (arith, rows, c.requires.behind, c.self.invariant.rows_len, len)
 
 pub refine_sphere-requires-clause-family : goal.refine_sphere-requires-clause-family
 refine_sphere-requires-clause-family c = sym c.self.invariant.numbers_len
@@ -158,9 +149,11 @@ invariant_of-self-2 c =
     with_items_is c.sets.inside.items c.refine_sphere.new.sets
     (c.refine_sphere.auto.sets ∙ c.deref_mut-2.ensures.len) in
     record {
+      few = was.few;
       fits = was.fits;
       ranked_room = c.refine_sphere.ensures.room ∙ was.ranked_room;
       starts_room = was.starts_room;
+      starts_fit = was.starts_fit;
       before_room = was.before_room;
       flags_room = ap (λ (column : Reserved Bool). column.room) c.flags.view_is ∙ was.flags_room;
       sets_room = ap (λ (column : Reserved ℕ). column.room) c.sets.view_is ∙ was.sets_room;
@@ -181,8 +174,7 @@ invariant_of-self-2 c =
 
 pub returns-clause-ordered : goal.returns-clause-ordered
 returns-clause-ordered c =
-    subst (λ (s : Layers). OrdersPlaces (IsRow s.ranked.rows c.args.from c.args.to) (by_kids (kids_of s.kin)
-    s.ranked.numbers) c.refine_sphere.new.order.numbers) c.self.view_is c.refine_sphere.ensures.ordered
+    rw (sym c.self.view_is) c.refine_sphere.ensures.ordered
 
 pub clear_flags-requires-clause-ordered : goal.clear_flags-requires-clause-ordered
 clear_flags-requires-clause-ordered c = c.requires.ordered
@@ -191,16 +183,13 @@ pub clear_flags-requires-clause-within : goal.clear_flags-requires-clause-within
 clear_flags-requires-clause-within c =
     let at = (goal.at.clear_flags-requires-clause-within c).After-stir_above in
     let rows = within c.self.view_is c.requires.within in
-    let behind = c.requires.behind in
-    let rows_len = c.self.invariant.rows_len in
     let len = ap (λ (fs : List Bool). length fs) (c.deref_mut-3.ensures.value ∙ with_items_is c.flags.inside.items
     c.stir_above.new.flags (c.stir_above.auto.flags ∙ c.deref_mut.ensures.len)) ∙ flags_long at in
-    omega (arith, rows, behind, rows_len, len)
+    omega (arith, rows, c.requires.behind, c.self.invariant.rows_len, len)
 
 pub returns-clause-kept : goal.returns-clause-kept
 returns-clause-kept c =
-    subst (λ (s : Layers). KeepsSphere c.args.from c.args.to s.ranked.rows c.refine_sphere.new.order.rows
-    s.ranked.numbers c.refine_sphere.new.order.numbers) c.self.view_is c.refine_sphere.ensures.kept
+    rw (sym c.self.view_is) c.refine_sphere.ensures.kept
 
 pub returns-clause-others : goal.returns-clause-others
 returns-clause-others c = ap (λ (s : Layers). record s { ranked = c.refine_sphere.new.order }) c.self.view_is

@@ -1,13 +1,11 @@
-use Rattle.std.proofs.Common.{◌≡◌, ◌<◌, ◌≤◌, ◌+◌, ◌-◌, suc, ℕ, List, length, slice_index, arith, ◌∙◌, sym, ap, subst}
+use Rattle.std.proofs.Common.{◌≡◌, ◌<◌, ◌+◌, suc, ℕ, List, length, slice_index, arith, ◌∙◌, sym, ap, subst}
 use Rattle.cip_rank.proofs.ChildrenSeen.{off_below}
 use Rattle.cip_branches.specs.Around.{kids_around}
-use Rattle.cip_rows.specs.Kids.{kids_of}
 use Rattle.cip_branches.specs.Layers.{Layers}
 use Rattle.cip_rows.specs.Parting.{has_flag}
-use Rattle.cip_branches.specs.Turning.{AreSpheres}
-use Rattle.cip_branches.specs.Walking.{Walks, HaveEntries, LastPlaces, kids_left}
-use Rattle.cip_branches.proofs.WalkedPlaces.{none_walked, stepped, few_more, left_at}
-use Rattle.cip_branches.proofs.WalkedSpheres.{spheres_walked, places_walked}
+use Rattle.cip_branches.specs.Walking.{Walks, HaveEntries}
+use Rattle.cip_branches.proofs.walked.Places.{none_walked, stepped, few_more, left_at}
+use Rattle.cip_branches.proofs.walked.Next.{spheres_walked, places_walked}
 use Rattle.cip_branches.proofs.spheres.Spheres.walk_on.Goals as goal
 use Rattle.cip_branches.proofs.spheres.Spheres.walk_on.Goals.{After-len-past, After-end_sphere}
 
@@ -28,17 +26,14 @@ walks c =
     let high = c.loop-place.invariant.high in
     let over = c.loop-place-test.false in
     let ended : c.loop-place.place ≡ length c.args.self.now.kin.ups = omega (arith, high, over, past) in
-    subst (λ n. Walks c.args.self.now c.args.first (length c.args.around.now.table.now.parents)
-    (kids_around c.args.around.now.table.now.parents c.args.around.now.way.now) c.args.wanted.now n c.loop-place.self)
-    ended c.loop-place.invariant.walks
+    rw (sym ended) c.loop-place.invariant.walks
 
 below : (c : After-end_sphere) → (k : ℕ) → k < length c.args.self.now.ranked.rows
     → slice_index c.args.self.now.ranked.rows k < length c.args.self.now.kin.ups
 below c = subst (λ (s : Layers). (k : ℕ) → k < length s.ranked.rows → slice_index s.ranked.rows k < length s.kin.ups)
     c.self.view_is (λ k lt.
     let b = c.row_count-number.ensures.below k lt in
-    let len = c.self.invariant.numbers_len in
-    omega (arith, b, len))
+    omega (arith, b, c.self.invariant.numbers_len))
 
 pub loop-place-init : goal.loop-place-init
 loop-place-init c =
@@ -55,11 +50,10 @@ loop-place-init c =
       before = c.self.invariant.before_len;
     }) in
     record {
-      high = let le = c.requires.within in omega (arith, le, past);
+      high = let le = c.requires.1.within in omega (arith, le, past);
       walks = none_walked c.args.self.now c.args.first size kids_at c.args.wanted.now
-          c.requires.places.bare entries;
-      room = subst (λ n. length c.args.self.now.kin.ups + kids_left kids_at c.args.self.now.kin.nodes
-          c.args.first (n - c.args.first) ≤ c.args.self.now.kin.room) (sym past) c.requires.room;
+          c.requires.1.places.bare entries;
+      room = rw past c.requires.1.room;
     }
 
 pub loop-place-preserved : goal.loop-place-preserved
@@ -72,7 +66,7 @@ loop-place-preserved c =
     let room = c.loop-place.invariant.room in
     let is_row = c.row_count-number.ensures.count ∙ ap (λ (s : Layers). length s.ranked.rows) c.self.view_is in
     let few = few_more c.args.self.now c.args.first size kids_at c.args.wanted.now
-    c.requires.places.bare c.loop-place.place c.loop-place.auto.place high c.loop-place.self
+    c.requires.1.places.bare c.loop-place.place c.loop-place.auto.place high c.loop-place.self
     c.loop-place.invariant.walks c.row_count-number.result c.walk_place_if.new.self c.walk_place_if.ensures.walked
     c.walk_place_if.ensures.skipped in
     record {
@@ -81,12 +75,12 @@ loop-place-preserved c =
           let next : suc c.loop-place.place ≡ c.loop-place.place + 1 = omega arith in
           subst (λ n. Walks c.args.self.now c.args.first size kids_at c.args.wanted.now n
           c.walk_place_if.new.self) next
-          (stepped c.args.self.now c.args.first size kids_at c.args.wanted.now c.requires.places.bare
+          (stepped c.args.self.now c.args.first size kids_at c.args.wanted.now c.requires.1.places.bare
           c.loop-place.place c.loop-place.auto.place high c.loop-place.self c.loop-place.invariant.walks
           c.row_count-number.result c.walk_place_if.new.self is_row c.walk_place_if.ensures.walked
           c.walk_place_if.ensures.skipped (off_below (has_flag c.args.around.now.way.now)
           c.args.around.now.table.now.parents c.len-count.ensures.tree (slice_index c.args.self.now.kin.nodes
-          c.loop-place.place) (c.requires.nodes c.loop-place.place c.loop-place.auto.place high)));
+          c.loop-place.place) (c.requires.1.nodes c.loop-place.place c.loop-place.auto.place high)));
       room = omega (arith, few, left, room);
     }
 
@@ -94,8 +88,7 @@ pub walk_place_if-requires-clause-place : goal.walk_place_if-requires-clause-pla
 walk_place_if-requires-clause-place c =
     let high = is_known (goal.at.walk_place_if-requires-clause-place c).After-len-past c.loop-place.place
     c.loop-place-test.true in
-    let more = c.loop-place.invariant.walks.grows.more in
-    omega (arith, high, more)
+    omega (arith, high, c.loop-place.invariant.walks.grows.more)
 
 pub walk_place_if-requires-clause-node : goal.walk_place_if-requires-clause-node
 walk_place_if-requires-clause-node c =
@@ -103,7 +96,7 @@ walk_place_if-requires-clause-node c =
     let high = is_known (goal.at.walk_place_if-requires-clause-node c).After-len-past c.loop-place.place
     c.loop-place-test.true in
     subst (λ n. n < size) (sym (c.loop-place.invariant.walks.grows.node c.loop-place.place high))
-    (c.requires.nodes c.loop-place.place c.loop-place.auto.place high)
+    (c.requires.1.nodes c.loop-place.place c.loop-place.auto.place high)
 
 pub walk_place_if-requires-clause-room : goal.walk_place_if-requires-clause-room
 walk_place_if-requires-clause-room c =
@@ -112,41 +105,39 @@ walk_place_if-requires-clause-room c =
     c.loop-place-test.true in
     let left = left_at kids_at c.args.self.now.kin.nodes c.loop-place.place c.len-past.result
     c.loop-place-test.true in
-    let room = c.loop-place.invariant.room in
     let grows = c.loop-place.invariant.walks.grows in
     let same = ap (λ n. length (kids_at n)) (grows.node c.loop-place.place high) in
-    let kin_room = grows.kin_room in
-    omega (arith, left, room, same, kin_room)
+    omega (arith, left, c.loop-place.invariant.room, same, grows.kin_room)
 
 pub end_sphere-requires : goal.end_sphere-requires
 end_sphere-requires c =
     let grows = c.loop-place.invariant.walks.grows in
     let starts = ap (λ (ns : List ℕ). length ns) grows.starts in
-    let kin_room = grows.kin_room in
-    let count = c.requires.count in
-    let room = c.requires.sphere_room in
-    omega (arith, starts, kin_room, count, room)
+    omega (arith, starts, grows.kin_room, c.requires.1.count, c.requires.1.sphere_room)
 
 pub returns-clause-walked : goal.returns-clause-walked
 returns-clause-walked c =
     let at = (goal.at.returns-clause-walked c).After-end_sphere in
     record { walked = c.loop-place.self; below = below at; walks = walks at; ended = c.end_sphere.ensures }
 
+-- the starts tell which sphere is the last one
+last_is : (c : After-end_sphere) (last : ℕ) → length c.args.self.now.starts ≡ last + 2 → last ≡ c.requires.0
+last_is c last count = omega (arith, count, c.requires.1.count)
+
 pub returns-clause-spheres : goal.returns-clause-spheres
 returns-clause-spheres c =
     let size = length c.args.around.now.table.now.parents in
     let kids_at = kids_around c.args.around.now.table.now.parents c.args.around.now.way.now in
+    λ last count.
     let at = (goal.at.returns-clause-spheres c).After-end_sphere in
-    subst (λ (s : Layers). AreSpheres (kids_of s.kin) s.kin.ups s.ranked.rows s.starts (suc c.args.last)
-    s.ranked.numbers) (sym c.end_sphere.ensures) (spheres_walked c.args.self.now c.args.first c.args.last
-    size kids_at c.args.wanted.now c.requires (below at) c.loop-place.self (walks at))
+    rw (last_is at last count, c.end_sphere.ensures) (spheres_walked c.args.self.now c.args.first c.requires.0 size
+    kids_at c.args.wanted.now c.requires.1 (below at) c.loop-place.self (walks at))
 
 pub returns-clause-places : goal.returns-clause-places
 returns-clause-places c =
     let size = length c.args.around.now.table.now.parents in
     let kids_at = kids_around c.args.around.now.table.now.parents c.args.around.now.way.now in
-    λ others.
+    λ last count others.
     let at = (goal.at.returns-clause-places c).After-end_sphere in
-    subst (λ (s : Layers). LastPlaces s others (length c.args.self.now.kin.ups) (suc c.args.last))
-    (sym c.end_sphere.ensures) (places_walked c.args.self.now c.args.first c.args.last size kids_at
-    c.args.wanted.now c.requires (below at) c.loop-place.self (walks at) others)
+    rw (last_is at last count, c.end_sphere.ensures) (places_walked c.args.self.now c.args.first c.requires.0 size
+    kids_at c.args.wanted.now c.requires.1 (below at) c.loop-place.self (walks at) others)

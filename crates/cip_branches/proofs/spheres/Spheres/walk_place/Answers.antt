@@ -1,39 +1,34 @@
 use Rattle.std.proofs.Common.{◌≡◌, ◌-◌, length, slice_index, arith, ◌∙◌, ap}
 use Rattle.cip_branches.specs.Around.{kids_around}
-use Rattle.cip_rows.specs.Kin.{Kin}
 use Rattle.cip_branches.specs.Layers.{Layers}
-use Rattle.cip_branches.proofs.PushedNodes.{places_more, kids_walked}
+use Rattle.cip_branches.proofs.walked.Pushed.{places_more, kids_walked}
 use Rattle.cip_branches.proofs.spheres.Spheres.walk_place.Goals as goal
 
 pub overflow_sub-count : goal.overflow_sub-count
 overflow_sub-count c =
-    let first = c.args.self.now in
     let kids = kids_around c.args.around.now.table.now.parents c.args.around.now.way.now c.node-node.result in
     let count = c.len-first.ensures.count ∙ ap (λ (s : Layers). length s.kin.ups) c.self.view_is in
     let past = c.len.ensures.count ∙ ap (λ (s : Layers). length s.kin.ups) c.self-2.view_is in
     let places = ap (λ (s : Layers). length s.kin.ups) c.push_around.ensures
-    ∙ places_more kids c.branch-branch.result c.args.place c.args.number first in
+    ∙ places_more kids c.branch-branch.result c.args.place c.args.number c.args.self.now in
     omega (arith, count, past, places)
 
 pub set_children-requires-clause-place : goal.set_children-requires-clause-place
 set_children-requires-clause-place c =
-    let first = c.args.self.now in
     let kids = kids_around c.args.around.now.table.now.parents c.args.around.now.way.now c.node-node.result in
     let now = ap (λ (s : Layers). length s.kin.ups) c.self-2.view_is in
     let places = ap (λ (s : Layers). length s.kin.ups) c.push_around.ensures
-    ∙ places_more kids c.branch-branch.result c.args.place c.args.number first in
-    let place = c.requires.place in
-    omega (arith, now, places, place)
+    ∙ places_more kids c.branch-branch.result c.args.place c.args.number c.args.self.now in
+    omega (arith, now, places, c.requires.place)
 
 pub set_children-requires-clause-within : goal.set_children-requires-clause-within
 set_children-requires-clause-within c =
-    let first = c.args.self.now in
     let kids = kids_around c.args.around.now.table.now.parents c.args.around.now.way.now c.node-node.result in
     let count = c.len-first.ensures.count ∙ ap (λ (s : Layers). length s.kin.ups) c.self.view_is in
     let past = c.len.ensures.count ∙ ap (λ (s : Layers). length s.kin.ups) c.self-2.view_is in
     let now = ap (λ (s : Layers). length s.kin.ups) c.self-2.view_is in
     let places = ap (λ (s : Layers). length s.kin.ups) c.push_around.ensures
-    ∙ places_more kids c.branch-branch.result c.args.place c.args.number first in
+    ∙ places_more kids c.branch-branch.result c.args.place c.args.number c.args.self.now in
     omega (arith, count, past, now, places)
 
 pub returns : goal.returns
@@ -51,18 +46,7 @@ returns c =
     ∙ places_more kids c.branch-branch.result c.args.place c.args.number first in
     let many : c.len.result - c.len-first.result ≡ length (kids_at (slice_index first.kin.nodes c.args.place)) =
     let same = ap (λ n. length (kids_at n)) node in omega (arith, count, past, places, same) in
-    let view = c.self-2.inside in
-    ap (λ (kin : Kin). record {
-      kin = kin;
-      ranked = view.order;
-      starts = view.starts.items;
-      before = view.before.items;
-    }) c.set_children.ensures
-    ∙ kids_walked first (record {
-      kin = view.family;
-      ranked = view.order;
-      starts = view.starts.items;
-      before = view.before.items;
-    }) (kids_at (slice_index first.kin.nodes c.args.place)) kids c.branch-branch.result c.len-first.result
+    rw c.set_children.ensures
+    (kids_walked first _ (kids_at (slice_index first.kin.nodes c.args.place)) kids c.branch-branch.result c.len-first.result
     (c.len.result - c.len-first.result) c.args.place c.args.number (c.self-2.view_is ∙ c.push_around.ensures)
-    (ap kids_at node) branch count many
+    (ap kids_at node) branch count many)

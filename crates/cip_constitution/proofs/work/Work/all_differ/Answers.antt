@@ -2,8 +2,8 @@ use Rattle.std.proofs.Common.{◌∙◌, ℕ, List, ap}
 use Rattle.cip_digraph.specs.units.Ranked.{every_pair}
 use Rattle.cip_constitution.specs.Following.{Trying, numbers_of}
 use Rattle.cip_constitution.specs.Standing.{differ_told}
-use Rattle.cip_constitution.proofs.Anew.{order_first}
-use Rattle.cip_constitution.proofs.DifferTold.{differ_is}
+use Rattle.cip_constitution.proofs.anew.LastSphere.{order_first}
+use Rattle.cip_constitution.proofs.told.Differ.{differ_is}
 use Rattle.cip_constitution.proofs.work.Work.all_differ.Goals as goal
 
 pub returns : goal.returns

@@ -2,7 +2,7 @@ use Rattle.std.proofs.Common.{◌∙◌, List, length, ap, arith}
 use Rattle.cip_mol.specs.declared.site.Ligand.{Ligand}
 use Rattle.cip_constitution.specs.Pairs.{pairs_of}
 use Rattle.cip_constitution.specs.declared.pairs.Pair.{Pair}
-use Rattle.cip_constitution.proofs.NotedPairs.{few_pairs}
+use Rattle.cip_constitution.proofs.followed.Pairs.{few_pairs}
 use Rattle.cip_constitution.proofs.work.Work.ask.Goals as goal
 
 pub pair_up-requires : goal.pair_up-requires

@@ -1,9 +1,9 @@
-use Rattle.std.proofs.Common.{rules, ◌≡◌, ◌++◌, ◌∷◌, [], true, List, take, drop, length, sym, ap, ◌∙◌, subst}
+use Rattle.std.proofs.Common.{rules, ◌≡◌, ◌++◌, ◌∷◌, [], true, List, take, drop, length, sym, subst}
 use Rattle.std.proofs.Math.Seq.{take-append_seam}
 use Rattle.cip_branches.specs.Standing.{node_in}
 use Rattle.cip_constitution.specs.FollowedOut.{AreConstituted, AreFollowedOut, seen_with}
 use Rattle.cip_constitution.specs.Following.{Trying, named}
-use Rattle.cip_constitution.proofs.FollowedEnds.{begin, begin_within, constituted, count}
+use Rattle.cip_constitution.proofs.followed.Ends.{begin, begin_within, constituted, count}
 use Rattle.cip_digraph.specs.rules.Orders.{rule_1a}
 use Rattle.cip_ligands.specs.Deciding.{AreDecidedBy}
 use Rattle.cip_mol.specs.declared.outcome.Rule.TheVariants.{R1a}
@@ -11,9 +11,7 @@ use Rattle.cip_ligands.specs.declared.asked.Asked.{Asked}
 use Rattle.cip_constitution.proofs.work.Work.constitute.Goals as goal
 
 pub returns-clause-constituted : goal.returns-clause-constituted
-returns-clause-constituted c =
-    let g = c.args.graph.now in
-    let positions = c.args.positions.now in
+returns-clause-constituted c g positions followed =
     let arena = c.args.arena.now in
     let trying : Trying = record {
       bound = c.self.inside.bound;
@@ -22,20 +20,20 @@ returns-clause-constituted c =
       noted = c.self.inside.noted.items;
     } in
     let out : AreFollowedOut g positions arena trying =
-    subst (AreFollowedOut g positions arena) (sym c.self.view_is) c.requires.followed in
+    subst (AreFollowedOut g positions arena) (sym c.self.view_is) followed in
     let new = c.decide_constitution.new.asked in
     let len : c.self.inside.noted.len ≡ length new = search rules in
     let whole : take c.self.inside.noted.len (new ++ drop (length new) c.self.inside.noted.items) ≡ new =
-    ap (λ n. take n (new ++ drop (length new) c.self.inside.noted.items)) len
-    ∙ take-append_seam new (drop (length new) c.self.inside.noted.items) in
+    rw len (take-append_seam new (drop (length new) c.self.inside.noted.items)) in
     let name = named g positions arena.root arena.bound in
     subst (AreConstituted c.args.rules g positions arena trying.pairs c.decide_constitution.new.branches) (sym whole)
     (constituted g positions arena trying out c.args.rules c.decide_constitution.new.branches new
     c.decide_constitution.ensures.followed c.decide_constitution.ensures.kin
-    (λ mark first distances masses. c.decide_constitution.ensures.decided (seen_with c.args.rules g positions arena mark)
-    name (node_in name trying.branched) (count g positions arena trying out) (begin g positions arena trying out)
+    (λ mark first distances masses.
+    let seen = seen_with c.args.rules g positions arena mark in
+    let node = node_in name trying.branched in
+    let all = begin g positions arena trying out in
+    c.decide_constitution.ensures.decided seen name node (count g positions arena trying out) all
     (begin_within g positions arena trying out)
-    (subst (λ (asked : List Asked). AreDecidedBy (seen_with c.args.rules g positions arena mark) true name
-    (node_in name trying.branched) (count g positions arena trying out) (begin g positions arena trying out) (R1a ∷ [])
-    (rule_1a (seen_with c.args.rules g positions arena mark) (seen_with c.args.rules g positions arena mark).height)
-    trying.branched asked) (sym c.as_mut_slice-noted.ensures.value) first) distances masses))
+    (subst (λ (asked : List Asked). AreDecidedBy seen true name node (count g positions arena trying out) all (R1a ∷ [])
+    (rule_1a seen seen.height) trying.branched asked) (sym c.as_mut_slice-noted.ensures.value) first) distances masses))

@@ -7,10 +7,10 @@ use Rattle.cip_ligands.proofs.TakenSteps.{stands_back}
 use Rattle.cip_constitution.specs.Alike.{TakesBoth}
 use Rattle.cip_constitution.specs.Ending.{NotAnew, EachPair}
 use Rattle.cip_constitution.specs.Following.{Trying, numbers_of}
-use Rattle.cip_constitution.proofs.AlikeTold.{alike_is}
-use Rattle.cip_constitution.proofs.Anew.{none_anew}
-use Rattle.cip_constitution.proofs.CutRules.{over_within}
-use Rattle.cip_constitution.proofs.TakenBoth.{same_both}
+use Rattle.cip_constitution.proofs.told.Alike.{alike_is}
+use Rattle.cip_constitution.proofs.anew.LastSphere.{none_anew}
+use Rattle.cip_constitution.proofs.cut.Rules.{over_within}
+use Rattle.cip_constitution.proofs.cut.Taken.{same_both}
 use Rattle.cip_constitution.proofs.work.Work.some_alike.Goals as goal
 
 pub returns-then-not-found-clause-result : goal.returns-then-not-found-clause-result
@@ -24,24 +24,17 @@ returns-then-not-found-clause-result c =
     sym (none_anew s.graph.now s.positions.now a grown.holds grown.some grown.sound grown.fits grown.last branched
     c.requires.followed s.rules s.units.now grown.root s.ligands.now anew c.requires.before)
 
-pub restore-requires-clause-rows : goal.restore-requires-clause-rows
-restore-requires-clause-rows c =
+pub restore-requires : goal.restore-requires
+restore-requires c =
     let same = same_both c.self.inside.branches c.args.setting.now.rules c.args.arena.now.nodes c.take_both.new.branches
     c.take_both.ensures.taken in
-    ap (λ (s : Saved). length s.rows) c.take_both.ensures.saved ∙ sym same.kept.places.len
-
-pub restore-requires-clause-numbers : goal.restore-requires-clause-numbers
-restore-requires-clause-numbers c =
-    let same = same_both c.self.inside.branches c.args.setting.now.rules c.args.arena.now.nodes c.take_both.new.branches
-    c.take_both.ensures.taken in
-    ap (λ (s : Saved). length s.numbers) c.take_both.ensures.saved ∙ c.take_both.ensures.count
-    ∙ sym (ap (λ (k : Kin). length k.ups) same.kept.kin)
-
-pub restore-requires-clause-wanted : goal.restore-requires-clause-wanted
-restore-requires-clause-wanted c =
-    let same = same_both c.self.inside.branches c.args.setting.now.rules c.args.arena.now.nodes c.take_both.new.branches
-    c.take_both.ensures.taken in
-    ap (λ (s : Saved). length s.wanted) c.take_both.ensures.saved ∙ sym same.count
+    let saved = c.take_both.ensures.saved in
+    record {
+      rows = ap (λ (s : Saved). length s.rows) saved ∙ sym same.kept.places.len;
+      numbers = ap (λ (s : Saved). length s.numbers) saved ∙ c.take_both.ensures.count
+          ∙ sym (ap (λ (k : Kin). length k.ups) same.kept.kin);
+      wanted = ap (λ (s : Saved). length s.wanted) saved ∙ sym same.count;
+    }
 
 pub invariant_of-self-2 : goal.invariant_of-self-2
 invariant_of-self-2 c =

@@ -1,6 +1,6 @@
 use Rattle.std.proofs.Common.{◌∙◌, ap, map}
 use Rattle.cip_digraph.specs.rings.PositionLists.{listed}
-use Rattle.cip_digraph.proofs.Listed.{copies_listed}
+use Rattle.cip_digraph.proofs.lists.Positions.{copies_listed}
 use Rattle.cip_digraph.proofs.positions.Positions.none.Goals as goal
 
 pub returns : goal.returns

@@ -9,8 +9,6 @@ returns g c =
     let self = c.args.self.now in
     let keys = reading_keys (g.M.Marked.marks self.marks.now) self.branches.now in
     let len = self.len in
-    let first = c.requires.first in
-    let second = c.requires.second in
-    let one = value_here self.values.now keys self.told c.args.a (omega (arith, first, len)) in
-    let other = value_here self.values.now keys self.told c.args.b (omega (arith, second, len)) in
+    let one = value_here self.values.now keys self.told c.args.a (omega (arith, c.requires.first, len)) in
+    let other = value_here self.values.now keys self.told c.args.b (omega (arith, c.requires.second, len)) in
     c.compare_values.ensures ∙ (λ i. int_cmp (one i) (other i))

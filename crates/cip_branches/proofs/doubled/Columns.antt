@@ -1,0 +1,59 @@
+-- The columns of doubled branches belong together.
+use Rattle.std.proofs.Common.{◌≡◌, ◌<◌, ◌≤◌, ◌+◌, ◌^◌, ◌++◌, ◌∷◌, ℕ, Bool, false, List, [], length, map, take, replicate, sym, ap, ◌∙◌, arith}
+use Rattle.std.proofs.lemmas.List.{length-append, length-map, length-replicate, length-take}
+use Rattle.cip_branches.specs.Layers.{KeepLayers}
+use Rattle.cip_rows.specs.Kin.{Kin}
+use Rattle.cip_rows.specs.Parting.{has_flag}
+use Rattle.cip_rows.specs.Ranked.{Ranked}
+use Rattle.cip_rows.specs.Reserved.{Reserved}
+use Rattle.cip_rows.specs.Twins.{twice, twin_kin, twin_ranked}
+use Rattle.cip_rows.proofs.TwinLists.{halves_length, pairs_length}
+use Rattle.cip_rows.proofs.TwinPlaces.{no_flags}
+
+module _ (kin : Kin) (ranked : Ranked) (starts before : Reserved ℕ) (flags : Reserved Bool) (sets : Reserved ℕ)
+    (room count : ℕ) (was : Kin) (was_ranked : Ranked) (kin_is : kin ≡ twin_kin room was)
+    (ranked_is : ranked ≡ twin_ranked room (length was_ranked.numbers) was_ranked) (fits : count + count ≤ room)
+    (ups_len : length was.ups ≡ count) (numbers_len : length was_ranked.numbers ≡ count)
+    (rows_len : length was_ranked.rows ≤ count) (few : room + 1 < 2 ^ 32) (starts_room : starts.room ≡ room + 1)
+    (kept past : ℕ) (held : List ℕ) (kept_in : kept < room)
+    (starts_are : starts.items ≡ map (twice count) (take (kept + 1) held) ++ (past + past) ∷ [])
+    (before_room : before.room ≡ room) (flags_room : flags.room ≡ room) (sets_room : sets.room ≡ room)
+    (before_are : before.items ≡ ranked.numbers) (flags_are : flags.items ≡ replicate (count + count) false)
+    (sets_are : sets.items ≡ replicate (count + count) 0) where
+  pub keep_columns : KeepLayers kin ranked starts before flags sets
+  keep_columns =
+      let kin_room = ap (λ (k : Kin). k.room) kin_is in
+      let ranked_room = ap (λ (r : Ranked). r.room) ranked_is in
+      let ups = ap (λ (k : Kin). length k.ups) kin_is ∙ halves_length (length was.ups) was.ups in
+      let rows = ap (λ (r : Ranked). length r.rows) ranked_is ∙ pairs_length (length was_ranked.numbers)
+      was_ranked.rows in
+      let half : length (map (twice (length was_ranked.numbers)) was_ranked.numbers) ≡ length was_ranked.numbers =
+      simp length-map in
+      let numbers = ap (λ (r : Ranked). length r.numbers) ranked_is
+      ∙ length-append (map (twice (length was_ranked.numbers)) was_ranked.numbers)
+      (map (twice (length was_ranked.numbers)) was_ranked.numbers) in
+      let held_len = length-take (kept + 1) held in
+      let at_most : length (take (kept + 1) held) ≤ kept + 1 = grind (arith, held_len) in
+      let starts_half : length (map (twice count) (take (kept + 1) held)) ≡ length (take (kept + 1) held) =
+      simp length-map in
+      let starts_len = ap (λ (ns : List ℕ). length ns) starts_are
+      ∙ length-append (map (twice count) (take (kept + 1) held)) ((past + past) ∷ []) in
+      let before_len = ap (λ (ns : List ℕ). length ns) before_are in
+      let flags_len = ap (λ (bs : List Bool). length bs) flags_are ∙ length-replicate (count + count) false in
+      let sets_len = ap (λ (ns : List ℕ). length ns) sets_are ∙ length-replicate (count + count) 0 in
+      record {
+        few = omega (arith, few, kin_room);
+        fits = omega (arith, kin_room, ups, fits, ups_len);
+        ranked_room = ranked_room ∙ sym kin_room;
+        starts_room = starts_room ∙ ap (λ n. n + 1) (sym kin_room);
+        starts_fit = omega (arith, starts_len, starts_half, at_most, kept_in, kin_room);
+        before_room = before_room ∙ sym kin_room;
+        flags_room = flags_room ∙ sym kin_room;
+        sets_room = sets_room ∙ sym kin_room;
+        rows_len = omega (arith, rows, ups, rows_len, ups_len);
+        numbers_len = omega (arith, numbers, half, numbers_len, ups, ups_len);
+        before_len = omega (arith, before_len, numbers, half, numbers_len, ups, ups_len);
+        flags_len = omega (arith, flags_len, ups, ups_len);
+        sets_len = omega (arith, sets_len, ups, ups_len);
+        none = record { none = λ row. ap (λ bs. has_flag bs row) flags_are ∙ no_flags (count + count) row };
+      }

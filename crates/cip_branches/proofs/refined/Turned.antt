@@ -1,0 +1,99 @@
+-- One turn inwards: flags by what changed in the sphere behind, and then the sphere itself.
+use Rattle.std.proofs.Common.{◌≡◌, ◌<◌, ◌≤◌, ℕ, Bool, false, List, true, slice_index, sym, ap, ◌∙◌, subst, arith, inl, inr}
+use Rattle.cip_rank.proofs.Descending.{all_by}
+use Rattle.cip_rows.specs.Kids.{AreCalm, by_kids, kid_set, KnowTheirKids}
+use Rattle.cip_rows.specs.Parting.{has_flag, is_shared, FlagHeads}
+use Rattle.cip_rows.specs.Rows.{IsRow, number_in, AreClassed, OrdersPlaces}
+use Rattle.cip_rows.specs.Stirring.{number_above, StirsAbove, KnowParents, TieUnlessStirred, NoFlags}
+use Rattle.cip_rows.proofs.ClassInSphere.{place_low, place_high, place_head, one_place}
+use Rattle.cip_rows.proofs.Cases.{cases_flag, not_both}
+use Rattle.cip_branches.proofs.refined.KidSets.{still_ordered}
+use Rattle.cip_rows.proofs.Stirred.{as_before}
+
+-- a place in some rows is one in more of them
+pub wider : (rows : List ℕ) (from to past : ℕ) → to ≤ past → (place : ℕ) → IsRow rows from to place
+    → IsRow rows 0 past place
+wider rows from to past le place p = record {
+  row = p.row;
+  low = omega arith;
+  high = let lt = p.high in omega (arith, le, lt);
+  here = p.here;
+}
+
+-- what flags tell of the rows of a sphere, once they are set above the places behind it that changed
+pub record Flagged (kids : ℕ → List ℕ) (ups rows numbers : List ℕ) (from to : ℕ) (old new : List Bool) : Type 0 where
+  pub known : KnowTheirKids kids ups rows from to
+  pub heads : FlagHeads rows numbers from to new
+  pub calm : AreCalm kids (IsRow rows from to) (λ number. has_flag new number ≡ false) numbers
+  pub cleared : (cleared : List Bool) → ((row : ℕ) → from ≤ row → row < to → has_flag cleared row ≡ false)
+      → ((row : ℕ) → has_flag cleared row ≡ true → has_flag new row ≡ true) → NoFlags cleared
+  pub stands : new ≡ old → OrdersPlaces (IsRow rows from to) (by_kids kids numbers) numbers
+
+module _ (kids : ℕ → List ℕ) (ups rows before numbers : List ℕ) (from to past : ℕ)
+    (classed : AreClassed rows numbers from to) (parents : KnowParents kids ups rows from to past) where
+  pub above_within : (k : ℕ) → to ≤ k → k < past → number_above ups rows numbers k < to
+  above_within k low high = place_high rows numbers from to classed (slice_index ups (slice_index rows k)) (parents.up k
+      low high)
+
+  module _ (old new : List Bool) (stirs : StirsAbove ups rows before numbers to past old new) where
+    heads_after : NoFlags old → FlagHeads rows numbers from to new
+    heads_after none = record {
+      each = λ row low high has. elim (stirs.only row has) [
+        | inl was ↦ absurd (not_both (has_flag old row) was (none.none row))
+        | inr above ↦ subst (λ n. number_in rows numbers n ≡ n) above.here (place_head rows numbers from to classed
+            (slice_index ups (slice_index rows above.row)) (parents.up above.row above.low above.high))
+      ];
+    }
+
+    -- each flag stands in these rows
+    flag_here : NoFlags old → (row : ℕ) → has_flag new row ≡ true → (from ≤ row) × (row < to)
+    flag_here none row has = elim (stirs.only row has) [
+      | inl was ↦ absurd (not_both (has_flag old row) was (none.none row))
+      | inr above ↦ subst (λ n. (from ≤ n) × (n < to)) above.here (
+        place_low rows numbers from to classed (slice_index ups (slice_index rows above.row)) (parents.up above.row
+            above.low above.high),
+        above_within above.row above.low above.high,
+      )
+    ]
+
+    none_after : NoFlags old → (cleared : List Bool)
+        → ((row : ℕ) → from ≤ row → row < to → has_flag cleared row ≡ false)
+        → ((row : ℕ) → has_flag cleared row ≡ true → has_flag new row ≡ true) → NoFlags cleared
+    none_after none cleared unset fewer = record {
+      none = λ row. elim (cases_flag (has_flag cleared row)) [
+        | inl has ↦ let at = flag_here none row (fewer row has) in unset row at.0 at.1
+        | inr not ↦ not
+      ];
+    }
+
+    calm_after : TieUnlessStirred kids before rows numbers from to
+        → AreCalm kids (IsRow rows from to) (λ number. has_flag new number ≡ false) numbers
+    calm_after ties = record {
+      same = λ a b p q tie calm. elim (cases_flag (is_shared rows numbers (slice_index numbers a) to)) [
+        | inl shared ↦ ties.same a b p q tie
+            (as_before kids ups rows before numbers to past old new a (parents.told a p) stirs calm shared)
+            (as_before kids ups rows before numbers to past old new b (parents.told b q) stirs
+            (ap (has_flag new) (sym tie) ∙ calm) (ap (λ n. is_shared rows numbers n to) (sym tie) ∙ shared))
+        | inr single ↦ ap (kid_set kids numbers) (one_place rows numbers from to classed a b p q tie single)
+      ];
+    }
+
+  -- where no class has a flag, the sphere stands
+  stands : (flags : List Bool) → StirsAbove ups rows before numbers to past flags flags → NoFlags flags
+      → TieUnlessStirred kids before rows numbers from to
+      → OrdersPlaces (IsRow rows from to) (by_kids kids numbers) numbers
+  stands flags stirs none ties = still_ordered kids (IsRow rows from to) (λ number. has_flag flags number ≡ false)
+      numbers (calm_after flags flags stirs ties) (λ place p. none.none (slice_index numbers place))
+
+  knows : KnowTheirKids kids ups rows from to
+  knows = record { each = λ place p. all_by (λ kid is. is.1) (kids place) (parents.told place p) }
+
+  pub flagged : (old new : List Bool) → StirsAbove ups rows before numbers to past old new → NoFlags old
+      → TieUnlessStirred kids before rows numbers from to → Flagged kids ups rows numbers from to old new
+  flagged old new stirs none ties = record {
+    known = knows;
+    heads = heads_after old new stirs none;
+    calm = calm_after old new stirs ties;
+    cleared = none_after old new stirs none;
+    stands = λ same. stands old (subst (StirsAbove ups rows before numbers to past old) same stirs) none ties;
+  }

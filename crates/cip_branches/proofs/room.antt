@@ -1,0 +1,4 @@
+pub mod Kids
+pub mod Rising
+pub mod Seen
+pub mod Whole

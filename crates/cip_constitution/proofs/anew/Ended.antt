@@ -1,0 +1,77 @@
+-- Where the places of the last sphere tell how far branches go.
+use Rattle.std.proofs.Common.{◌≡◌, ◌≢◌, ◌<◌, ◌+◌, ℕ, ℤ, zero, suc, Bool, List, [], ◌∷◌, map, slice_index, refl}
+use Rattle.std.proofs.Common.{sym, ◌∙◌, subst, arith}
+use Rattle.std.proofs.lemmas.List.{nil_from_length}
+use Rattle.std.specs.declared.cmp.Ordering.{Ordering}
+use Rattle.std.specs.List.{AllByRecursion}
+use Rattle.std.specs.List.Sorted.{IsPermutation}
+use Rattle.std.proofs.lemmas.List.Elements.{All-from_recursion}
+use Rattle.std.proofs.lemmas.List.Sorted.{length_permutation, IsPermutation-sym, All-permutation}
+use Rattle.cip_rows.specs.Kids.{kids_of}
+use Rattle.cip_branches.specs.Layers.{Layers}
+use Rattle.cip_branches.specs.Ruled.{IsWanted, IsRuled}
+use Rattle.cip_rows.proofs.Cases.{both, holds_among}
+use Rattle.cip_digraph.specs.digraph.SameBranch.{EndsWithin}
+use Rattle.cip_digraph.proofs.lists.Elements.{all_by, all_mapped, by_recursion}
+use Rattle.cip_constitution.proofs.told.Differ.{from_mapped}
+
+permuted : {X : Type 0} (P : X → Type 0) (xs ys : List X) → IsPermutation xs ys → AllByRecursion P xs
+    → AllByRecursion P ys
+permuted P xs ys is all = by_recursion P ys (All-permutation P xs ys is (All-from_recursion P xs all))
+
+none_of : (ns : List ℕ) → AllByRecursion (λ n. ⊥) ns → ns ≡ []
+none_of [] all = refl
+none_of (n ∷ ns) all = absurd all.0
+
+module _ {N : Type 0} (children : N → List N) (earlier : N → N → Ordering) (key : N → ℤ) (named : ℕ → N) (now : Layers)
+    (wanted : List Bool) (last : ℕ) (ruled : IsRuled children earlier key named now wanted last) (branch : ℕ) where
+  abbrev node : ℕ → N
+  node place = named (slice_index now.kin.nodes place)
+
+  abbrev branch_at : ℕ → ℕ
+  branch_at = slice_index now.kin.branches
+
+  -- where no place of the last sphere stands in a branch, it ends before
+  pub ends_before : ((place : ℕ) → IsWanted now wanted last place → branch_at place ≢ branch) → (k t place : ℕ)
+      → suc t + k ≡ last → IsWanted now wanted t place → branch_at place ≡ branch → EndsWithin children k (node place)
+  ends_before none zero t place e p here =
+      let lt : t < last = omega (arith, e) in
+      let next : suc t ≡ last = omega (arith, e) in
+      let kids = kids_of now.kin place in
+      let all = both (IsWanted now wanted (suc t)) (λ kid. branch_at kid ≡ branch_at place) kids
+      (ruled.view.next t place lt p) (ruled.inherits t place lt p) in
+      let empty : kids ≡ [] = none_of kids (all_by (λ kid. IsWanted now wanted (suc t) kid
+      × (branch_at kid ≡ branch_at place)) (λ kid. ⊥) (λ kid h. none kid (subst (λ u. IsWanted now wanted u kid) next h.0)
+      (h.1 ∙ here)) kids all) in
+      let told = subst (λ (ns : List ℕ). IsPermutation (map node ns) (children (node place))) empty
+      (ruled.view.told t place lt p) in
+      nil_from_length (children (node place)) (length_permutation [] (children (node place)) told)
+  ends_before none (suc k) t place e p here =
+      let lt : t < last = omega (arith, e) in
+      let kids = kids_of now.kin place in
+      permuted (EndsWithin children k) (map node kids) (children (node place)) (ruled.view.told t place lt p)
+      (all_mapped (EndsWithin children k) node kids (all_by (λ kid. IsWanted now wanted (suc t) kid
+      × (branch_at kid ≡ branch_at place)) (λ kid. EndsWithin children k (node kid)) (λ kid h.
+      ends_before none k (suc t) kid (omega (arith, e)) h.0 (h.1 ∙ here)) kids
+      (both (IsWanted now wanted (suc t)) (λ kid. branch_at kid ≡ branch_at place) kids (ruled.view.next t place lt p)
+      (ruled.inherits t place lt p))))
+
+  -- where the branch of a top ends, so do those of all places in it
+  pub ends_below : (top : ℕ) → ((place : ℕ) → IsWanted now wanted 0 place → branch_at place ≡ branch → place ≡ top)
+      → EndsWithin children last (node top) → (t k place : ℕ) → t + k ≡ last → IsWanted now wanted t place
+      → branch_at place ≡ branch → EndsWithin children k (node place)
+  ends_below top only ends zero k place e p here =
+      let all : last ≡ k = omega (arith, e) in
+      subst (λ q. EndsWithin children k (node q)) (sym (only place p here))
+      (subst (λ d. EndsWithin children d (node top)) all ends)
+  ends_below top only ends (suc t) k place e p here =
+      let lt : t < last = omega (arith, e) in
+      let is = ruled.above t place lt p in
+      let up = slice_index now.kin.ups place in
+      let kids = kids_of now.kin up in
+      let same = holds_among (λ kid. branch_at kid ≡ branch_at up) kids place (ruled.inherits t up lt is.up) is.kid in
+      let above = ends_below top only ends t (suc k) up (omega (arith, e)) is.up (sym same ∙ here) in
+      holds_among (λ kid. EndsWithin children k (node kid)) kids place
+      (from_mapped (EndsWithin children k) node kids
+      (permuted (EndsWithin children k) (children (node up)) (map node kids)
+      (IsPermutation-sym (map node kids) (children (node up)) (ruled.view.told t up lt is.up)) above)) is.kid

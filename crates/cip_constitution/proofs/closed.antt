@@ -1,0 +1,3 @@
+pub mod Branches
+pub mod Ligands
+pub mod Under

@@ -1,0 +1,4 @@
+pub mod Branches
+pub mod Ends
+pub mod Names
+pub mod Pairs

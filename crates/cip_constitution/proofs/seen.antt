@@ -1,0 +1,4 @@
+pub mod AllTie
+pub mod Distances
+pub mod Finished
+pub mod Rules

@@ -1,0 +1,2 @@
+pub mod DecidingSphere
+pub mod Rounds

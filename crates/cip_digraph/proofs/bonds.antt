@@ -1,0 +1,4 @@
+pub mod Centres
+pub mod Neighbours
+pub mod Sound
+pub mod Tests

@@ -1,0 +1,3 @@
+pub mod Inversions
+pub mod Letters
+pub mod Units

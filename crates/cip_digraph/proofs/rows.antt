@@ -1,0 +1,4 @@
+pub mod Joined
+pub mod Laid
+pub mod Rooms
+pub mod Sinking
