@@ -9,7 +9,7 @@ use Rattle.cip_digraph.specs.digraph.Digraph.{Node, children, sphere, digraph}
 use Rattle.cip_digraph.specs.graph.Graph.{Graph}
 use Rattle.cip_digraph.specs.digraph.NodeList.{nothing_told, told_at, parents_of}
 use Rattle.cip_digraph.specs.digraph.Telling.{node_at, TellsOf, Tells, first_of}
-use Rattle.cip_digraph.proofs.numbered.Hanging.{others, low_parents}
+use Rattle.cip_digraph.proofs.numbered.Hanging.{others, low_parents, at_behind}
 use Rattle.cip_digraph.proofs.numbered.Linked.{no_placed, placed_at, at_left, digraph_linked}
 use Rattle.cip_digraph.proofs.numbered.Kin.{at_number, digraph_length}
 use Rattle.cip_digraph.proofs.numbered.Placing.{Placed, nodes_of, parents, next_sphere, spheres, placed, placed_nodes}
@@ -106,12 +106,6 @@ module _ (g : Graph) (positions : List (List ℕ)) where
       ∙ sym (append_assoc (map (below i) (children g positions y.node)) (next_sphere g positions (i + 1) xs)
       (map (below (i + suc (length xs))) (children g positions x.node)))
 
-  at_behind : (done last : List Placed) (k : ℕ) → placed_at (done ++ last) (length done + k) ≡ placed_at last k
-  at_behind [] last k = ap (placed_at last) (omega arith)
-  at_behind (d ∷ done) last k =
-      let next : length (d ∷ done) + k ≡ suc (length done + k) = omega arith in
-      ap (placed_at (d ∷ done ++ last)) next ∙ at_behind done last k
-
   -- the next sphere's first nodes, made one node's children after the other's
   sphere_tells : (root : ℕ) (done last : List Placed) (ts : List Told) → TellsPlaced g positions root (done ++ last) ts
       → (k : ℕ) → k ≤ length last
@@ -128,7 +122,7 @@ module _ (g : Graph) (positions : List (List ℕ)) where
       let more_lt : length done + k < length (ns ++ so_far) = omega (arith, lt, length-append ns so_far) in
       let x = placed_at last k in
       let at : placed_at (ns ++ so_far) (length done + k) ≡ x = at_left ns so_far (length done + k) lt
-      ∙ at_behind done last k in
+      ∙ at_behind g positions done last k in
       let more = node_tells g positions root (length done + k) (ns ++ so_far) (with_sphere g positions ts (length done)
       k) rest more_lt in
       let taken : length (take k last) ≡ k = length-take-le k last (omega arith) in

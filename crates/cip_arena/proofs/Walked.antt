@@ -1,18 +1,12 @@
 -- A walk up to the root, step by step.
 use Rattle.std.proofs.Common.{◌≡◌, ◌<◌, ◌==◌, ℕ, zero, suc, Bool, true, false, cond, List, length, None, Some, refl}
 use Rattle.std.proofs.Common.{sym, ap, ◌∙◌, subst, arith, inl, inr}
-use Rattle.std.proofs.lemmas.Bool.{cases_Bool, cases_order, eqb-false, ne_eqb}
+use Rattle.std.proofs.lemmas.Bool.{cases_Bool, ne_eqb}
 use Rattle.cip_digraph.specs.declared.nodes.Told.{Told}
 use Rattle.cip_digraph.specs.digraph.NodeList.{told_at}
 use Rattle.std.specs.declared.option.Option.{Option}
 use Rattle.cip_arena.specs.Walk.{walk_on, walk, is_above, vertex_above, comes_from, IsEarlier}
-
-some_node : (i : ℕ) → (i == 0) ≡ false → 0 < i
-some_node i z = elim (cases_order i 0) [
-  | inl e ↦ absurd (eqb-false i 0 z e)
-  | inr (inl below) ↦ absurd (omega arith)
-  | inr (inr more) ↦ more
-]
+use Rattle.cip_arena.proofs.Ups.{not_zero}
 
 module _ (all : List Told) (e : IsEarlier all) (vertex : ℕ) where
   enough_by : (i k m : ℕ) (b : Bool) → (i == 0) ≡ b → (0 < i → walk_on all k (told_at all i).parent vertex ≡ walk_on all
@@ -53,7 +47,7 @@ module _ (all : List Told) (e : IsEarlier all) (vertex : ℕ) where
   above_by i true c z h lt none = refl
   above_by i false false z h lt none = refl
   above_by i false true z h lt none =
-      let some = some_node i z in
+      let some = not_zero i z in
       elim (cases_Bool ((told_at all i).vertex == vertex)) [
         | inl here ↦ let bad : Some i ≡ None = sym (found_here i here) ∙ none in cc
         | inr other ↦
@@ -79,7 +73,7 @@ module _ (all : List Told) (e : IsEarlier all) (vertex : ℕ) where
       apart true same h = let bad : false ≡ true = h in cc
       apart false other h = (
         h,
-        step_up i (some_node i z) lt (ap (λ v. v == vertex) at ∙ other)
+        step_up i (not_zero i z) lt (ap (λ v. v == vertex) at ∙ other)
             ∙ found_here (told_at all i).parent h,
       )
 

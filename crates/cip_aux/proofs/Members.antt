@@ -1,13 +1,8 @@
 -- What all children of a node have, each of them has.
-use Rattle.std.proofs.Common.{◌≡◌, ℕ, zero, suc, ◌+◌, ◌<◌, ◌==◌, Bool, true, false, cond, List, [], ◌∷◌, map, length, slice_index, arith, subst, eq-eqb}
+use Rattle.std.proofs.Common.{◌≡◌, ℕ, zero, suc, ◌+◌, ◌<◌, ◌==◌, Bool, true, false, cond, List, [], ◌∷◌, length, slice_index, arith, subst, eq-eqb}
 use Rattle.std.specs.List.{AllByRecursion}
 use Rattle.cip_rank.specs.Tree.{children_from, children_of}
 use Rattle.cip_digraph.proofs.lists.Elements.{Pairwise}
-
-pub all_images : {X Y : Type 0} (P : Y → Type 0) (f : X → Y) (xs : List X) → AllByRecursion P (map f xs)
-    → AllByRecursion (λ x. P (f x)) xs
-all_images P f [] all = tt
-all_images P f (x ∷ xs) all = (all.0, all_images P f xs all.1)
 
 pub all_with : {X : Type 0} (P Q R : X → Type 0) → ((x : X) → P x → Q x → R x) → (xs : List X) → AllByRecursion P xs
     → AllByRecursion Q xs → AllByRecursion R xs

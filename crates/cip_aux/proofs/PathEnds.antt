@@ -3,6 +3,7 @@ use Rattle.std.proofs.Common.{◌≡◌, ℕ, suc, ◌+◌, ◌-◌, ◌<◌, �
 use Rattle.std.specs.Prelude.{drop}
 use Rattle.std.proofs.lemmas.Bool.{le-leb, lt-leb, and_parts, cases_order, cases_Bool, both_ways}
 use Rattle.cip_digraph.specs.digraph.View.{same_numbers, is_end_of, common, apart}
+use Rattle.cip_digraph.proofs.tree.Apart.{tail_of}
 
 pub same_itself : (ns : List ℕ) → same_numbers ns ns ≡ true
 same_itself [] = refl
@@ -48,9 +49,6 @@ end_even up path h =
 
 pub end_itself : (path : List ℕ) → is_end_of path path ≡ true
 end_itself path = end_even path path refl ∙ same_itself path
-
-pub tail_of : {x y : ℕ} {xs ys : List ℕ} → x ∷ xs ≡ y ∷ ys → xs ≡ ys
-tail_of h = cc
 
 -- an end of an end
 pub end_up : (vertex : ℕ) (up path : List ℕ) → is_end_of (vertex ∷ up) path ≡ true → is_end_of up path ≡ true

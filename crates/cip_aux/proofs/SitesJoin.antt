@@ -13,7 +13,7 @@ use Rattle.cip_digraph.specs.graph.Graph.{Graph, touches, other_end, insert_up, 
 use Rattle.cip_digraph.specs.graph.SoundGraphs.{JoinsBelow, IsSound}
 use Rattle.cip_digraph.specs.units.Units.{centre_site, sites_of}
 use Rattle.cip_digraph.specs.units.Centres.{is_centre}
-use Rattle.cip_digraph.proofs.lists.Elements.{all_by, all_append, all_flat, all_filtered, all_mapped, by_recursion}
+use Rattle.cip_digraph.proofs.lists.Elements.{all_by, all_append, all_flat, all_filtered, all_mapped, by_recursion, all_both}
 use Rattle.cip_digraph.proofs.bonds.Neighbours.{sorted_all}
 use Rattle.cip_aux.specs.Marking.{UnitsJoin}
 use Rattle.cip_aux.specs.Sights.{Sight}
@@ -160,11 +160,6 @@ module _ (graph : Graph) (sound : IsSound graph) where
       by true p rest = (p refl, rest)
       by false p rest = rest
 
-  both_all : {X : Type 0} (P Q : X → Type 0) (xs : List X) → AllByRecursion P xs → AllByRecursion Q xs
-      → AllByRecursion (λ x. P x × Q x) xs
-  both_all P Q [] p q = tt
-  both_all P Q (x ∷ xs) p q = ((p.0, q.0), both_all P Q xs p.1 q.1)
-
   near_all : (vertex : ℕ) → AllByRecursion (λ edge. IsNear graph vertex (other_end vertex edge)) (edges_at graph vertex)
   near_all vertex =
       let J = JoinsBelow (length graph.vertices) in
@@ -174,7 +169,7 @@ module _ (graph : Graph) (sound : IsSound graph) where
       (all_by (λ edge. J edge × S edge)
       (λ edge. touches vertex edge ≡ true → IsNear graph vertex (other_end vertex edge))
       (λ edge h. near_edge vertex edge h.0 h.1) graph.edges
-      (both_all J S graph.edges (by_recursion J graph.edges sound.edges) (all_show graph.edges))))
+      (all_both J S graph.edges (by_recursion J graph.edges sound.edges) (all_show graph.edges))))
 
   doubles_near : (vertex : ℕ) → AllByRecursion (IsNear graph vertex) (doubles graph vertex)
   doubles_near vertex =

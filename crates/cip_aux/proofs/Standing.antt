@@ -12,13 +12,12 @@ use Rattle.cip_digraph.specs.graph.Graph.{Graph}
 use Rattle.cip_digraph.specs.Laws.{real_paths}
 use Rattle.cip_digraph.specs.graph.SoundGraphs.{IsSound}
 use Rattle.cip_digraph.specs.digraph.Telling.{node_at}
-use Rattle.cip_digraph.proofs.tree.Apart.{Different, children_differ}
+use Rattle.cip_digraph.proofs.tree.Apart.{Different, children_differ, tail_of}
 use Rattle.cip_digraph.proofs.tree.Children.{Passes, children_have}
 use Rattle.cip_digraph.proofs.tree.Ended.{IsPath, Anywhere, leads_anywhere, leads_below, paths_pass, member_below}
-use Rattle.cip_digraph.proofs.lists.Elements.{all_by, Pairwise}
+use Rattle.cip_digraph.proofs.lists.Elements.{all_by, Pairwise, all_unmapped}
 use Rattle.cip_aux.specs.Whole.{IsWhole}
-use Rattle.cip_aux.proofs.PathEnds.{tail_of}
-use Rattle.cip_aux.proofs.Members.{all_images, child_has, pair_has}
+use Rattle.cip_aux.proofs.Members.{child_has, pair_has}
 
 -- how a node hangs below the real node of a path
 pub record Hangs (up : List ℕ) (node : Node) : Type 0 where
@@ -113,7 +112,7 @@ module _ (graph : Graph) (positions : List (List ℕ)) (root : ℕ) (nodes : Lis
       let m = slice_index parents n in
       let less : m < n = whole.tree.behind n some h in
       child_has (λ c. P (node_at nodes c)) parents m n some h refl
-      (all_images P (node_at nodes) (children_of parents m)
+      (all_unmapped P (node_at nodes) (children_of parents m)
       (subst (AllByRecursion P) (sym (whole.children m (omega arith))) all))
 
   pub hangs : (n : ℕ) → 0 < n → n < length parents → IsBelow (node_at nodes (slice_index parents n)) (node_at nodes n)

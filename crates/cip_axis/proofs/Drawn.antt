@@ -20,6 +20,10 @@ first_below : (n d : ℕ) (ns : List ℕ) → d < n → AllByRecursion (λ m. m 
 first_below n d [] lt all = lt
 first_below n d (m ∷ ns) lt all = all.0
 
+pub if_short : (b : Bool) (ns : List ℕ) (n : ℕ) → length ns ≤ n → length (cond b ns []) ≤ n
+if_short true ns n le = le
+if_short false ns n le = omega arith
+
 module _ (graph : Graph) (leads : LeadsToAtoms graph) where
   abbrev AtVertex : ℕ → Edge → Type 0
   AtVertex vertex edge = (touches vertex edge ≡ true) × LeadsToAtom graph.drawn edge
@@ -62,10 +66,6 @@ module _ (graph : Graph) (leads : LeadsToAtoms graph) where
   pub chain_below : (a next : ℕ) → a < graph.drawn → next < graph.drawn
       → AllByRecursion (λ m. m < graph.drawn) (chain_over graph a next)
   chain_below a next lt on = (lt, from_below (length graph.vertices) a next on)
-
-  if_short : (b : Bool) (ns : List ℕ) (n : ℕ) → length ns ≤ n → length (cond b ns []) ≤ n
-  if_short true ns n le = le
-  if_short false ns n le = omega arith
 
   from_short : (more before at : ℕ) → length (chain_from graph more before at) ≤ more
   from_short zero before at = omega arith

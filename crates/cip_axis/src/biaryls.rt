@@ -54,13 +54,13 @@ fn push_biaryl(
         ++ one_biaryl source.now.molecule.now source.now.graph.now source.now.positions.now a edge.now) }
 {
     if is_biaryl(alloc, source.graph, source.positions, a, edge, reached)? {
-        let unit = biaryl_unit(alloc, source.molecule, source.graph, a, edge.other_end(a));
+        let unit = biaryl_unit(source.molecule, source.graph, a, edge.other_end(a));
         units.push(unit)?;
     }
     Ok(())
 }
 
-fn biaryl_unit(alloc: Global, molecule: &Molecule, graph: &Graph, a: u32, b: u32) -> FurtherUnit
+fn biaryl_unit(molecule: &Molecule, graph: &Graph, a: u32, b: u32) -> FurtherUnit
     requires shown { IsSite (length molecule.now.atoms) (like (biaryl_site graph.now a b)) }
     requires first { length (edges_at graph.now a) ≤ 3 }
     requires second { length (edges_at graph.now b) ≤ 3 }
@@ -70,10 +70,10 @@ fn biaryl_unit(alloc: Global, molecule: &Molecule, graph: &Graph, a: u32, b: u32
     let site = FurtherSite::Biaryl {
         a,
         b,
-        first: end_ligands(alloc, graph, &unit, a),
-        second: end_ligands(alloc, graph, &unit, b),
+        first: end_ligands(graph, &unit, a),
+        second: end_ligands(graph, &unit, b),
     };
-    let geometry = orient_ends(alloc, molecule, &site.ends());
+    let geometry = orient_ends(molecule, &site.ends());
     FurtherUnit { site, geometry }
 }
 

@@ -83,7 +83,7 @@ fn push_over(
     let _count = source.graph.vertices().len();
     let chain = chain_over(alloc, source.graph, a, next)?;
     if is_cumulene(source.graph, &chain, reached)? {
-        let unit = cumulene_unit(alloc, source.molecule, source.graph, &chain);
+        let unit = cumulene_unit(source.molecule, source.graph, &chain);
         units.push(unit)?;
     }
     Ok(())
@@ -120,7 +120,7 @@ fn can_be_cumulene(graph: &Graph, chain: &[u32]) -> bool
     a < b && is_axis_end(graph, chain, a) && is_axis_end(graph, chain, b)
 }
 
-fn cumulene_unit(alloc: Global, molecule: &Molecule, graph: &Graph, chain: &[u32]) -> FurtherUnit
+fn cumulene_unit(molecule: &Molecule, graph: &Graph, chain: &[u32]) -> FurtherUnit
     requires some { 1 ≤ length chain.now }
     requires shown { IsSite (length molecule.now.atoms) (like (cumulene_site graph.now chain.now)) }
     requires within { All (λ atom. atom < length molecule.now.atoms) chain.now }
@@ -135,19 +135,14 @@ fn cumulene_unit(alloc: Global, molecule: &Molecule, graph: &Graph, chain: &[u32
         a,
         b,
         bonds: (chain.len() - 1) as u32,
-        first: end_ligands(alloc, graph, chain, a),
-        second: end_ligands(alloc, graph, chain, b),
+        first: end_ligands(graph, chain, a),
+        second: end_ligands(graph, chain, b),
     };
-    let geometry = cumulene_geometry(alloc, molecule, chain, &site);
+    let geometry = cumulene_geometry(molecule, chain, &site);
     FurtherUnit { site, geometry }
 }
 
-fn cumulene_geometry(
-    alloc: Global,
-    molecule: &Molecule,
-    chain: &[u32],
-    site: &FurtherSite,
-) -> Geometry
+fn cumulene_geometry(molecule: &Molecule, chain: &[u32], site: &FurtherSite) -> Geometry
     requires shown { IsSite (length molecule.now.atoms) (like site.now) }
     requires within { All (λ atom. atom < length molecule.now.atoms) chain.now }
     ensures { result ≡ cumulene_geometry molecule.now chain.now site.now }
@@ -155,7 +150,7 @@ fn cumulene_geometry(
     if has_crossed(molecule, chain) {
         return Geometry::Unknown(Cause::Either);
     }
-    orient_ends(alloc, molecule, &site.ends())
+    orient_ends(molecule, &site.ends())
 }
 
 // Whether a double bond of a chain is itself marked as undecided.

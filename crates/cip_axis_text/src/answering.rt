@@ -131,7 +131,7 @@ fn label_each<D: Digraphs, L: Ledger>(
         let outcome = label_further(alloc, labeller, setting, unit, steps)?;
         answers.push(UnitAnswer {
             name: further_name(&unit.site),
-            site: like(alloc, &unit.site),
+            site: like(&unit.site),
             drawn: setting.graph().drawn(),
             outcome,
         })?;

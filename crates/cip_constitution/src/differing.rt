@@ -30,14 +30,9 @@ fn part_from(arena: &Arena, branches: &Branches, ligand: &Ligand, others: &[Liga
     requires { 0 < length arena.now.nodes }
     ensures { result ≡ list_all (differ_told (numbers_of branches.now) arena.now.nodes ligand.now) others.now }
 {
-    let mut rest = others;
-    while let [other, more @ ..] = rest {
-        if !part(arena, branches, ligand, other) {
-            return false;
-        }
-        rest = more;
-    }
-    true
+    others
+        .iter()
+        .all(|other| part(arena, branches, ligand, other))
 }
 
 /// Whether the branches of two have parted. A lone pair's is its own.

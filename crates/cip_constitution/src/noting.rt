@@ -41,14 +41,12 @@ fn ask(arena: &Arena, pairs: &[Pair], noted: &mut Vec<Asked>)
     ensures room { vec_capacity noted.old ≤ vec_capacity noted.new }
 {
     noted.clear();
-    let mut rest = pairs;
-    while let [pair, others @ ..] = rest {
+    for pair in pairs {
         noted.push_reserved(Asked {
             first: branch_at(arena, pair.a),
             second: branch_at(arena, pair.b),
             decision: None,
         });
-        rest = others;
     }
 }
 

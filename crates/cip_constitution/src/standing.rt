@@ -32,7 +32,6 @@ pub fn number_of<N: Nodes>(nodes: &N, ligand: &Ligand) -> Option<u32>
     }
 }
 
-#[tactic(auto, using(crate::proofs::told::FirstStanding::none_left))]
 fn child_of<N: Nodes>(nodes: &N, vertex: u32) -> Option<u32>
     requires { 0 < length (N.nodes nodes.now) }
     ensures number { result ≡ ligand_number (N.nodes nodes.now) (Vertex vertex) }

@@ -37,6 +37,7 @@ use Rattle.cip_ligands.specs.declared.asked.Asked.{Asked}
 use Rattle.cip_desk.specs.ToldEarly.{found_early, noted_early}
 use Rattle.cip_desk.proofs.NeighbourNodes.{neighbour_further}
 use Rattle.cip_desk.proofs.ToldBranches.{first_of_two, sets_compared}
+use Rattle.cip_rank.proofs.ExtendedOrder.{then_equal}
 
 all_flat : {X Y : Type 0} (test : Y → Bool) (f : X → List Y) (xs : List X)
     → list_all test (flat_map f xs) ≡ list_all (λ x. list_all test (f x)) xs
@@ -75,11 +76,6 @@ some_decided Greater sets = refl
 some_decided Equal Less = refl
 some_decided Equal Equal = refl
 some_decided Equal Greater = refl
-
-then_equal : (side : Ordering) → ordering_then side Equal ≡ side
-then_equal Less = refl
-then_equal Equal = refl
-then_equal Greater = refl
 
 and_true : (b : Bool) → (b && true) ≡ b
 and_true true = refl

@@ -63,8 +63,8 @@ module _ (setting : records.Setting) (ligands : List Ligand) (a : Growth)
     record {
       each = stands_early setting.rules setting.graph setting.positions setting.units a h settled.0 sound ligands
           (beside setting.graph a.root ligands sound fit)
-          (let low = settled_low setting.rules setting.graph setting.positions setting.units (end_at a.root ligands) sound
-          (root_low setting.graph a.root ligands sound fit) in
+          (let low = settled_low setting.rules setting.graph setting.positions setting.units (end_at a.root ligands)
+          sound (root_low setting.graph a.root ligands sound fit) in
           let is = settled.1 in omega (arith, low, is))
           settled.2 noted
           (subst (λ (ps : List Pair). Notes setting.graph setting.positions a.root a.bound a.sphere ps noted) are notes)
@@ -125,8 +125,8 @@ module _ (setting : records.Setting) (ligands : List Ligand) (a : Growth)
         let node = node_of setting.rules setting.graph setting.positions a trying.branched in (
           cost_within setting ligands a.root a h refl settled.0 fits,
           record {
-            each = stands_whole setting.rules setting.graph setting.positions setting.units a sound ligands by trying are
-                standing (both_ways standing.natural standing.turned
+            each = stands_whole setting.rules setting.graph setting.positions setting.units a sound ligands by trying
+                are standing (both_ways standing.natural standing.turned
                 (λ r_first. by_vertices (pairs_of ligands)
                 (map (with_found (λ m n. order seen r_first (node m) (node n)))
                 (map (asked_by are.branch) (pairs_of ligands))))

@@ -1,9 +1,8 @@
 -- What the keys of two branches decide is what Rule 1a finds between their nodes within two spheres.
-use Rattle.std.proofs.Common.{◌≡◌, ◌∙◌, ℕ, pos, List, [], ◌∷◌, map, Some, refl, sym, ap, arith}
-use Rattle.std.proofs.lemmas.Bool.Decides.{nat_tests}
+use Rattle.std.proofs.Common.{◌≡◌, ◌∙◌, ℕ, List, [], ◌∷◌, map, Some, refl, sym, ap}
 use Rattle.std.specs.Cmp.Lexicographic.{slice_cmp}
 use Rattle.std.specs.List.{AllByRecursion}
-use Rattle.std.specs.Ordering.{int_cmp, nat_cmp, ordering_then}
+use Rattle.std.specs.Ordering.{nat_cmp, ordering_then}
 use Rattle.std.specs.declared.cmp.Ordering.{Ordering}
 use Rattle.std.specs.declared.cmp.Ordering.TheVariants.{Less, Equal, Greater}
 use Rattle.std.specs.declared.option.Option.{Option}
@@ -17,6 +16,7 @@ use Rattle.cip_digraph.specs.rules.Keys.{atomic_key}
 use Rattle.cip_constitution.specs.Noting.{by_atoms}
 use Rattle.cip_ligands.specs.Asking.{decided, differing}
 use Rattle.cip_ligands.specs.Orders.{found_below}
+use Rattle.cip_ligands.proofs.NodeKeys.{pos_cmp}
 use Rattle.cip_desk.specs.Branches.{branch_at, told_between}
 
 -- the first of two depths at which there is a difference
@@ -40,9 +40,6 @@ first_of_two compare sets is = by (compare 0) (compare 1) is
     by Equal second e = last second ∙ ap (differing 1) e
     by Greater second e = refl
 
-int_by_nat : (m n : ℕ) → int_cmp (pos m) (pos n) ≡ nat_cmp m n
-int_by_nat m n = grind (arith, nat_tests)
-
 all_any : {X : Type 0} (xs : List X) → AllByRecursion (λ x. Unit {0}) xs
 all_any [] = tt
 all_any (x ∷ xs) = (tt, all_any xs)
@@ -63,7 +60,7 @@ module _ (graph : Graph) (positions : List (List ℕ)) where
   pub nodes_compared : (a b : Node) → by_atoms graph positions 0 0 0 a b
       ≡ nat_cmp (atomic_key graph positions a) (atomic_key graph positions b)
   unfolding comparison
-  nodes_compared a b = int_by_nat (key a) (key b)
+  nodes_compared a b = pos_cmp (key a) (key b)
 
   pub sets_compared : (a b : Node) → by_key 1 a b
       ≡ ordering_then (by_key 0 a b) (slice_cmp nat_cmp (keys_below a) (keys_below b))

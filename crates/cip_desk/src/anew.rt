@@ -78,7 +78,6 @@ fn rank_settled(
     branches: &mut Branches,
 ) -> Result<Found, AllocError>
     requires rooted { IsRooted rooted.now.setting.now rooted.now.root rooted.now.ligands.now rooted.now.arena.now }
-    requires proper { IsProper rooted.now.setting.now }
     requires settled { SettledAs (settled_by rooted.now.setting.now rooted.now.ligands.now) rooted.now.arena.now settled }
     requires pairs { work.old.pairs ≡ pairs_of rooted.now.ligands.now }
     requires noted { settled ≡ Settled.Ordered → Notes rooted.now.setting.now.graph rooted.now.setting.now.positions
@@ -123,7 +122,6 @@ fn rank_ordered(
     ensures standing { OnOk result (branches.new ≡ both_as tables.new.aside.noted.items) }
     ensures room { HasRoom rooted.now.arena.now.bound tables.new }
 {
-    let _graph = rooted.setting.graph();
     take_noted(work, branches, &mut tables.aside.noted)
 }
 
@@ -136,7 +134,6 @@ pub fn rank_anew<L: Ledger>(
     steps: &mut Steps<L>,
 ) -> Result<Found, AllocError>
     requires fit { IsFit told.now.setting.now.graph told.now.root told.now.ligands.now }
-    requires some { 1 ≤ told.now.bound }
     requires room { HaveRoom told.now.bound bench.old }
     ensures room { HaveRoom told.now.bound bench.new }
     ensures memo { bench.new.memo ≡ bench.old.memo }

@@ -76,7 +76,6 @@ fn rank_other<L: Ledger>(
     steps: &mut Steps<L>,
 ) -> Result<Ranking, AllocError>
     requires fit { IsFit told.now.setting.now.graph told.now.root told.now.ligands.now }
-    requires some { 1 ≤ told.now.bound }
     requires room { HaveRoom told.now.bound bench.old }
     ensures ready { IsReady told.now.bound bench.new }
     ensures ranking { IfOk result (RankedAs told.now.setting.now told.now.bound told.now.root told.now.ligands.now
@@ -99,7 +98,6 @@ pub fn rank_late<L: Ledger>(
     steps: &mut Steps<L>,
 ) -> Result<Ranking, AllocError>
     requires fit { IsFit told.now.setting.now.graph told.now.root told.now.ligands.now }
-    requires some { 1 ≤ told.now.bound }
     requires ready { IsReady told.now.bound bench.old }
     ensures ready { IsReady told.now.bound bench.new }
     ensures ranking { IfOk result (RankedAs told.now.setting.now told.now.bound told.now.root told.now.ligands.now

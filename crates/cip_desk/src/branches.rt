@@ -117,15 +117,13 @@ impl Branches {
 fn found_of(asked: &[Asked], a: u32, b: u32) -> Option<Decision>
     ensures { result ≡ found_of a b asked.now }
 {
-    let mut rest = asked;
-    while let [one, others @ ..] = rest {
+    for one in asked {
         if one.first == a && one.second == b {
             return one.decision;
         }
         if one.first == b && one.second == a {
             return reversed(one.decision);
         }
-        rest = others;
     }
     None
 }

@@ -51,13 +51,11 @@ pub fn are_few(root: &Root<'_>, bound: u32) -> bool
     ensures { result ≡ nat_le (length (digraph root.now.graph.now root.now.positions.now root.now.at 2)) bound }
 {
     let mut count = 1 + count_below(root, root.at, None);
-    let mut rest = root.graph.edges_at(root.at);
-    while let [edge, others @ ..] = rest {
+    for edge in root.graph.edges_at(root.at) {
         if count > bound as u64 {
             return false;
         }
         count += count_beyond(root, edge);
-        rest = others;
     }
     count <= bound as u64
 }

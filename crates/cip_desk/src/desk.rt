@@ -63,6 +63,7 @@ impl Digraphs for Desk {
         ligands: &Ligands,
         steps: &mut Steps<L>,
     ) -> Result<Ranking, AllocError> {
+        let _graph = setting.graph();
         let told = RootedLigands {
             setting,
             root,

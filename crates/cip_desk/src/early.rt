@@ -1,6 +1,7 @@
 // Roots whose ligands two spheres tell apart.
-ghost use Rattle.std.specs.Prelude.{◌≡◌, [], IfOk, OnOk, Ok, true};
+ghost use Rattle.std.specs.Prelude.{◌≡◌, ◌≤◌, [], IfOk, OnOk, Ok, true};
 ghost use Rattle.cip_label.specs.Fitting.{IsFit};
+ghost use Rattle.cip_label.specs.Settings.{IsProper};
 ghost use Rattle.cip_desk.specs.Branches.{answers_of, branches_of};
 ghost use Rattle.cip_desk.specs.ToldEarly.{is_told_early, noted_early};
 
@@ -26,6 +27,8 @@ pub struct RootedLigands<'a, 's> {
     pub root: u32,
     pub ligands: &'a Ligands,
     pub bound: u32,
+    ghost some: { 1 ≤ bound },
+    ghost proper: { IsProper setting.now },
 }
 
 /// What two spheres decide between the ligands of a root, in memory used for one root after the other.

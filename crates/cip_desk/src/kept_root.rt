@@ -32,7 +32,7 @@ impl KeptRoot {
             graph,
             positions,
             root: told.root,
-            ligands: copy_ligands(alloc, told.ligands),
+            ligands: copy_ligands(told.ligands),
         })
     }
 

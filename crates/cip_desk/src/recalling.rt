@@ -33,7 +33,6 @@ fn reopen(
         bench.new.arena bench.new.work bench.new.tables) }
     ensures memo { bench.new.memo ≡ bench.old.memo }
 {
-    let _graph = told.setting.graph();
     let aside = &bench.tables.aside;
     bench.work.restore(&aside.ranks, aside.noted.as_slice());
     let rooted = Rooted {
@@ -61,7 +60,6 @@ pub fn recall(
     ensures ranking { IfOk result (RankedAs told.now.setting.now told.now.bound told.now.root told.now.ligands.now
         (standing_of branches.new)) }
 {
-    let _graph = told.setting.graph();
     match found {
         Found::Told(ranking) => {
             branches.take_named(bench.tables.aside.noted.as_slice())?;

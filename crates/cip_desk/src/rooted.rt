@@ -1,6 +1,7 @@
 // A root whose digraph was grown.
 ghost use Rattle.std.specs.Prelude.{◌≡◌};
 ghost use Rattle.cip_constitution.specs.Settling.{SettledAs};
+ghost use Rattle.cip_label.specs.Settings.{IsProper};
 ghost use Rattle.cip_desk.specs.Desks.{settled_by};
 ghost use Rattle.cip_desk.specs.Rooting.{IsRooted, whole_at};
 
@@ -17,6 +18,7 @@ pub struct Rooted<'a, 's> {
     pub setting: &'a Setting<'s>,
     pub root: u32,
     pub ligands: &'a Ligands,
+    ghost proper: { IsProper setting.now },
 }
 
 /// Its digraph, which is whole.

@@ -23,7 +23,6 @@ pub fn rank_early(
     ensures ranked { result ≡ Ok true → RankedAs rooted.now.setting.now rooted.now.bound rooted.now.root
         rooted.now.ligands.now (standing_of branches.new) Known }
 {
-    let _graph = rooted.setting.graph();
     let told = early.tell(alloc, rooted)?;
     if told {
         branches.take_named(early.noted())?;

@@ -146,7 +146,6 @@ fn find_marks(
     ensures aside { tables.new.aside ≡ tables.old.aside }
 {
     let setting = rooted.setting;
-    let _graph = setting.graph();
     let whole = whole_of(rooted);
     let mut flags = vec![in alloc; false; rooted.arena.len() as usize]?;
     flag_nodes(work, whole.nodes().table(), flags.as_mut_slice());
@@ -192,7 +191,6 @@ pub fn rank_open(
     ensures turns { HaveTurns rooted.now.setting.now rooted.now.arena.now tables.new }
     ensures aside { tables.new.aside ≡ tables.old.aside }
 {
-    let _graph = rooted.setting.graph();
     find_marks(alloc, rooted, work, tables)?;
     branches.configure(work, &mut tables.readings, &tables.marks)
 }
@@ -258,7 +256,6 @@ pub fn rank_whole(
     ensures work { work.new.bound ≡ work.old.bound }
     ensures room { HasRoom rooted.now.arena.now.bound tables.new }
 {
-    let _graph = rooted.setting.graph();
     if work.constitute(rooted.arena, rooted.setting.rules()) {
         take_noted(work, branches, &mut tables.aside.noted)?;
         return Ok(Found::Told(Ranking::Known));

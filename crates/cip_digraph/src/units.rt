@@ -80,7 +80,7 @@ fn copied(alloc: Global, all: &[Unit]) -> Result<Vec<Unit>, AllocError>
     let mut units = Vec::new(alloc);
     for unit in all {
         units.push(Unit {
-            site: unit.site.copy(alloc),
+            site: unit.site.copy(),
             geometry: unit.geometry,
         })?;
     }

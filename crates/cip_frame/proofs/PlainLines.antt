@@ -1,9 +1,10 @@
 -- Whole lines without a dollar sign end no record.
-use Rattle.std.proofs.Common.{◌≡◌, ◌<◌, ◌+◌, ◌-◌, nat_lt, ℕ, zero, suc, List, [], ◌∷◌, ◌++◌, Bool, true, false, ◌||◌, ◌==◌, refl, sym, ◌∙◌, ap, arith, append_assoc, append-nil, length, slice_index, take}
+use Rattle.std.proofs.Common.{◌≡◌, ◌<◌, ◌+◌, ◌-◌, nat_lt, ℕ, zero, suc, List, [], ◌∷◌, ◌++◌, Bool, true, false, ◌==◌, refl, sym, ◌∙◌, ap, arith, append_assoc, append-nil, length, slice_index, take}
 use Rattle.std.specs.List.{list_any}
 use Rattle.std.proofs.lemmas.Bool.{or_parts}
 use Rattle.std.proofs.lemmas.List.Folds.{list_any-append}
 use Rattle.std.proofs.lemmas.List.{take_more, take-take}
+use Rattle.std.proofs.Math.Bool.{and-false}
 use Rattle.bstr.specs.Find.{Nowhere, Passes, is_byte}
 use Rattle.cip_text.specs.Lines.{begins_with, has_last, without_return}
 use Rattle.cip_text.specs.Kinds.{is_terminator}
@@ -12,7 +13,6 @@ use Rattle.cip_frame.specs.Following.{closes, cut_behind}
 use Rattle.cip_frame.specs.Records.{open_line}
 use Rattle.cip_frame.specs.Taking.{ArePlain}
 use Rattle.cip_frame.proofs.Cutting.{cut_open, last_is, open_line_end, open_line_more}
-use Rattle.cip_frame.proofs.Parts.{not_both}
 
 -- no dollar sign stands before this place
 abbrev NoneTo : List ℕ → ℕ → Type 0
@@ -56,7 +56,7 @@ plain_to text before place front lacks few feed =
 begins_otherwise : (text : List ℕ) → LacksDollar text → begins_with 36 text ≡ false
 begins_otherwise [] lacks = refl
 begins_otherwise (b ∷ bs) lacks =
-    rw (or_parts (b == 36) (list_any (λ c. c == 36) bs) lacks).0 (not_both (nat_lt 0 (length (b ∷ bs))))
+    rw (or_parts (b == 36) (list_any (λ c. c == 36) bs) lacks).0 (and-false (nat_lt 0 (length (b ∷ bs))))
 
 no_terminator : (text : List ℕ) → LacksDollar text → is_terminator text ≡ false
 no_terminator text lacks = rw (begins_otherwise text lacks) refl
@@ -69,7 +69,7 @@ without_return_by text false e lacks = rw e (no_terminator text lacks)
 
 ends_none : (front : List ℕ) (b : ℕ) → LacksDollar (open_line front) → closes front b ≡ false
 ends_none front b lacks =
-    rw (without_return_by (open_line front) (has_last 13 (open_line front)) refl lacks) (not_both (b == 10))
+    rw (without_return_by (open_line front) (has_last 13 (open_line front)) refl lacks) (and-false (b == 10))
 
 open_line_lacks : (front : List ℕ) (b : ℕ) (k : Bool) → (b == 10) ≡ k → (b == 36) ≡ false
     → LacksDollar (open_line front) → LacksDollar (open_line (front ++ b ∷ []))

@@ -1,10 +1,11 @@
 -- Places that are noted one after the other, the first of each atom alone.
-use Rattle.std.proofs.Common.{◌≡◌, ◌≤◌, ◌<◌, ◌+◌, ℕ, List, [], ◌∷◌, ◌++◌, ◌||◌, Option, Some, None, Bool, true, false, not, cond, refl, sym, ap, ◌∙◌, length, take, get_or, nat_eq, nat_lt, is_some, arith, true≢false, ⊎_elim}
+use Rattle.std.proofs.Common.{◌≡◌, ◌≤◌, ◌<◌, ◌+◌, ℕ, List, [], ◌∷◌, ◌++◌, Option, Some, None, Bool, true, false, not, cond, refl, sym, ap, ◌∙◌, length, take, get_or, nat_eq, nat_lt, is_some, arith, true≢false, ⊎_elim}
 use Rattle.std.specs.List.{position, position_or_len}
 use Rattle.std.proofs.lemmas.Bool.{cases_eq, eq-eqb, eqb-true, lt-ltb, le-ltb, ltb-true, ltb-false, ne_eqb}
 use Rattle.std.proofs.lemmas.List.{take_more, length-append, length-take}
 use Rattle.std.proofs.lemmas.List.Folds.{position_or_len_push}
 use Rattle.std.proofs.lemmas.List.Sums.{prefix_len-le-length}
+use Rattle.std.proofs.Math.Bool.{or-false}
 use Rattle.cip_digraph.specs.rings.Alternating.{is_in}
 use Rattle.cip_groups.specs.Places.{or_here}
 
@@ -12,17 +13,13 @@ pub not_here : (found : Option ℕ) (place : ℕ) → found ≡ or_here found fa
 not_here (Some x) place = refl
 not_here None place = refl
 
-or_false : (b : Bool) → (b || false) ≡ b
-or_false true = refl
-or_false false = refl
-
 swapped : (a b : ℕ) → nat_eq b a ≡ nat_eq a b
 swapped a b =
     ⊎_elim (λ e. eq-eqb b a (sym e) ∙ sym (eq-eqb a b e))
     (λ ne. ne_eqb b a (λ e. ne (sym e)) ∙ sym (ne_eqb a b ne)) (cases_eq a b)
 
 in_one : (at atom : ℕ) → nat_eq at atom ≡ is_in at (atom ∷ [])
-in_one at atom = sym (or_false (nat_eq atom at) ∙ swapped at atom)
+in_one at atom = sym (or-false (nat_eq atom at) ∙ swapped at atom)
 
 module _ (f : ℕ → Option ℕ) (at place : ℕ) where
   same_found : (atom : ℕ) (v : Option ℕ) → nat_eq at atom ≡ true → f atom ≡ v → f at ≡ v

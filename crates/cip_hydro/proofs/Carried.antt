@@ -9,7 +9,7 @@ use Rattle.cip_hydro.specs.declared.surroundings.Surroundings.{Surroundings}
 abbrev carried : ℕ → ℕ → Edge
 carried carrier number = record { a = carrier; b = number; order = 1; counted = false }
 
-edges_split : (first : ℕ) (xs ys : List ℕ)
+pub edges_split : (first : ℕ) (xs ys : List ℕ)
     → hydrogen_edges first (xs ++ ys) ≡ hydrogen_edges first xs ++ hydrogen_edges (first + length xs) ys
 edges_split first [] ys =
     let none : first ≡ first + 0 = omega arith in

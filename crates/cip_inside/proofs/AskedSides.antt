@@ -165,7 +165,8 @@ module _ (tops : List ℕ) where
 parent_lists : (parents : List ℕ) (node : ℕ) → parent_of parents node ≡ parent_list parents node
 parent_lists parents zero = refl
 parent_lists parents (suc before) =
-    sym (ap (λ b. cond b [] (slice_index parents (suc before) ∷ [])) (ne_eqb (suc before) 0 (λ e. absurd (omega (arith, e)))))
+    sym (ap (λ b. cond b [] (slice_index parents (suc before) ∷ []))
+    (ne_eqb (suc before) 0 (λ e. absurd (omega (arith, e)))))
 
 one_more : (x : ℕ) (xs : List ℕ) (n : ℕ) → Contains xs n → Contains (x ∷ xs) n
 one_more x xs n is = let lt = is.1 in (suc (is.0), omega (arith, lt), is.2)

@@ -9,10 +9,10 @@ use Rattle.cip_digraph.specs.digraph.View.{apart, real_at, view_children, height
 use Rattle.cip_digraph.specs.graph.Graph.{Graph}
 use Rattle.cip_digraph.specs.graph.SoundGraphs.{IsSound}
 use Rattle.cip_digraph.specs.outcome.Deciding.{nodes_below}
+use Rattle.cip_digraph.proofs.lists.Elements.{all_unmapped}
 use Rattle.cip_rank.specs.View.{children_seen}
 use Rattle.cip_rank.proofs.ChildrenSeen.{view_below}
 use Rattle.cip_aux.specs.Whole.{IsWhole}
-use Rattle.cip_aux.proofs.Members.{all_images}
 use Rattle.cip_aux.proofs.PathEnds.{apart_itself}
 use Rattle.cip_aux.proofs.Reaching.{all_each, at_least}
 use Rattle.cip_aux.proofs.SeenChildren.{seen_are}
@@ -49,7 +49,7 @@ module _ (graph : Graph) (positions : List (List ℕ)) (root : ℕ) (nodes : Lis
   one_next : (P : Node → Type 0) (before node : ℕ) → before < length parents → IsAmong (kids_at before) node
       → AllByRecursion P (seen (node_at nodes before)) → P (node_at nodes node)
   one_next P before node lt is all = holds_among (λ n. P (node_at nodes n)) (kids_at before) node
-      (all_images P (node_at nodes) (kids_at before) (subst (AllByRecursion P)
+      (all_unmapped P (node_at nodes) (kids_at before) (subst (AllByRecursion P)
       (sym (seen_are graph positions root nodes parents whole sound from inside real before lt)) all)) is
 
   next_is : (before node : ℕ) → before < length parents → IsAmong (kids_at before) node

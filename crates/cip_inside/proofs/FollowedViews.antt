@@ -27,6 +27,7 @@ use Rattle.cip_branches.specs.Walking.{MayWalk, kids_left, wanted_kids}
 use Rattle.cip_branches.proofs.ruled.Decided.{decided_first, decided_after}
 use Rattle.cip_branches.proofs.room.Seen.{AreSeen, times_filter, around_is, seen_first, few_seen, seen_next}
 use Rattle.cip_branches.proofs.room.Kids.{all_walked}
+use Rattle.cip_branches.proofs.ruled.Open.{flag_within}
 use Rattle.cip_digraph.specs.declared.nodes.Told.{Told}
 use Rattle.cip_digraph.specs.digraph.Digraph.{Node}
 use Rattle.cip_digraph.specs.digraph.NodeList.{parents_of}
@@ -81,11 +82,6 @@ IsNoted sight from tops depths begin asked =
 map_same : (ns : List ℕ) → map (λ n. n) ns ≡ ns
 map_same [] = refl
 map_same (n ∷ ns) = ap (λ ms. n ∷ ms) (map_same ns)
-
-flag_low : (flags : List Bool) (k : ℕ) → has_flag flags k ≡ true → k < length flags
-flag_low [] k e = let bad : false ≡ true = e in cc
-flag_low (flag ∷ flags) zero e = omega arith
-flag_low (flag ∷ flags) (suc k) e = let lt = flag_low flags k e in omega (arith, lt)
 
 any_flag : (flags : List Bool) (k : ℕ) → has_flag flags k ≡ true → list_any (λ flag. flag) flags ≡ true
 any_flag [] k e = let bad : false ≡ true = e in cc
@@ -144,7 +140,8 @@ module _ (sight : Sight) (shows : Shows sight) (from : ℕ) (real : IsReal sight
   named_key : (n : ℕ) → n < length parents → key_at keys n ≡ key (named n)
   named_key n lt =
       let len = shows.told.len in
-      keys_at (λ (told : Told). pos told.atomic) sight.told n (omega (arith, lt, told_len)) ∙ ap pos (shows.told.each n (omega (arith, lt, len))).atomic
+      keys_at (λ (told : Told). pos told.atomic) sight.told n (omega (arith, lt, told_len))
+      ∙ ap pos (shows.told.each n (omega (arith, lt, len))).atomic
 
   named_kids : (n : ℕ) → n < length parents → map named (around n) ≡ next (named n)
   named_kids n lt =
@@ -212,8 +209,8 @@ module _ (sight : Sight) (shows : Shows sight) (from : ℕ) (real : IsReal sight
             let here = all_at (IsAmong (around from)) tops p of (omega (arith, lt, nodes_count)) in
             let is = subst (λ (ns : List ℕ). IsAmong ns (slice_index tops p))
             (around_is parents tree from inside way on from inside) here in
-            subst (λ s. IsAway (children_seen parents from) from (suc s) (slice_index new.layers.kin.nodes p)) (sym last)
-            (subst (λ (ns : List ℕ). IsAway (children_seen parents from) from (suc 0) (slice_index ns p))
+            subst (λ s. IsAway (children_seen parents from) from (suc s) (slice_index new.layers.kin.nodes p))
+            (sym last) (subst (λ (ns : List ℕ). IsAway (children_seen parents from) from (suc 0) (slice_index ns p))
             (sym begins.nodes) (from, refl, is));
         low = omega (arith, first, last);
         high = omega (arith, last);
@@ -317,8 +314,8 @@ module _ (sight : Sight) (shows : Shows sight) (from : ℕ) (real : IsReal sight
           ∙ get_or-append_right kin.nodes walked (length kin.nodes) p 0 refl le
 
       further : AllByRecursion (IsAway (children_seen parents from) from (suc (suc old.last))) walked
-      further = all_walked (IsAway (children_seen parents from) from (suc (suc old.last))) around old.wanted kin old.first
-          (length kin.nodes - old.first) (λ p low high. all_away (suc old.last) (slice_index kin.nodes p)
+      further = all_walked (IsAway (children_seen parents from) from (suc (suc old.last))) around old.wanted kin
+          old.first (length kin.nodes - old.first) (λ p low high. all_away (suc old.last) (slice_index kin.nodes p)
           (was.away p low (omega (arith, high, within))))
 
       pub around_next : AreAround sight way from tops new
@@ -335,14 +332,14 @@ module _ (sight : Sight) (shows : Shows sight) (from : ℕ) (real : IsReal sight
             new.layers.kin.nodes listed);
         away = λ p low lt.
             let behind : length kin.nodes ≤ p = omega (arith, low, first, nodes_len) in
-            subst (λ s. IsAway (children_seen parents from) from (suc s) (slice_index new.layers.kin.nodes p)) (sym last)
-            (subst (IsAway (children_seen parents from) from (suc (suc old.last))) (sym (new_node p behind))
+            subst (λ s. IsAway (children_seen parents from) from (suc s) (slice_index new.layers.kin.nodes p))
+            (sym last) (subst (IsAway (children_seen parents from) from (suc (suc old.last))) (sym (new_node p behind))
             (All-from_recursion (IsAway (children_seen parents from) from (suc (suc old.last))) walked further
             (p - length kin.nodes) 0 (omega (arith, lt, sum, behind))));
         low = let before = was.low in omega (arith, first, last, before, some);
         high =
-            let far = height_away sight.graph sight.positions sight.root sight.nodes parents shows.told.whole shows.sound
-            shows.low from inside real.real (suc old.last) (slice_index kin.nodes old.first)
+            let far = height_away sight.graph sight.positions sight.root sight.nodes parents shows.told.whole
+            shows.sound shows.low from inside real.real (suc old.last) (slice_index kin.nodes old.first)
             (was.away old.first (omega arith) (omega (arith, some, nodes_len))) in
             omega (arith, far, last);
         count = chosen.len ∙ was.count;
@@ -389,8 +386,8 @@ module _ (sight : Sight) (shows : Shows sight) (from : ℕ) (real : IsReal sight
           noted ∙ same_found (found_below R1a (comparison next all_tie key) (top_node sight tops) (old.last + 1))
           (found_below R1a (comparison next all_tie key) (node_in named old) (old.last + 1)) (AreWithin (length tops))
           (λ one w. ap (λ n. found n (slice_index tops one.second) one.first one.second) (sym (was.top one.first w.0))
-          ∙ ap (λ n. found (slice_index kin.nodes one.first) n one.first one.second) (sym (was.top one.second w.1))) begin
-          within_all
+          ∙ ap (λ n. found (slice_index kin.nodes one.first) n one.first one.second) (sym (was.top one.second w.1)))
+          begin within_all
 
       -- where none of them goes on, pairs are decided by Rule 1a
       pub around_followed : (list_any (λ flag. flag) old.wanted ≡ true → known ≤ old.first)
@@ -402,7 +399,7 @@ module _ (sight : Sight) (shows : Shows sight) (from : ℕ) (real : IsReal sight
           few = let room = around_room in omega (arith, room, told_len);
           top = was.top;
           low = λ t place p.
-              let few = flag_low old.wanted (slice_index kin.branches place) p.chosen in
+              let few = flag_within old.wanted (slice_index kin.branches place) p.chosen in
               let count = was.count in
               omega (arith, few, count);
           hang = hanging parents tree from inside way on tops (key_at keys) old was.numbered was.count was.top

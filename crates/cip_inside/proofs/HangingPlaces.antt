@@ -92,7 +92,8 @@ module _ (ps : List ℕ) (tree : IsTree ps) where
         let kids_are = All-permutation (IsChild ps n) (kids_around ps way n) list
         (IsPermutation-sym list (kids_around ps way n) same)
         (All-from_recursion (IsChild ps n) (kids_around ps way n)
-        (subst (AllByRecursion (IsChild ps n)) (sym (kids_below n x (low t up at) above behind)) (children_are ps n))) in
+        (subst (AllByRecursion (IsChild ps n)) (sym (kids_below n x (low t up at) above behind))
+        (children_are ps n))) in
         let within : kid.at < length list = let few = kid.within in omega (arith, few, length-map kids node) in
         let here : slice_index list kid.at ≡ node place =
         get_or-map node kids kid.at 0 0 kid.within ∙ ap node kid.here in
@@ -103,7 +104,8 @@ module _ (ps : List ℕ) (tree : IsTree ps) where
     hang_by zero place p some is =
         let lt = are.only place p.at in
         let branch = are.branch place lt in
-        let at : node place ≡ top_of place = top place (omega (arith, lt, count)) ∙ ap (slice_index tops) (sym branch) in
+        let at : node place ≡ top_of place = top place (omega (arith, lt, count))
+        ∙ ap (slice_index tops) (sym branch) in
         ap (λ n. on_way ps n (top_of place)) at ∙ way_itself (top_of place)
     hang_by (suc t) place p some is =
         let most = are.ruled.view.within (suc t) place p in
@@ -114,11 +116,13 @@ module _ (ps : List ℕ) (tree : IsTree ps) where
         ≡ slice_index now.layers.kin.branches up) (kids_of now.layers.kin up) place
         (are.ruled.inherits t up lt above.up) above.kid in
         let tops_same : top_of place ≡ top_of up = ap (slice_index tops) same in
-        let before = hang_by t up above.up (omega (arith, some, tops_same)) (ap (slice_index ps) (sym tops_same) ∙ is) in
+        let before = hang_by t up above.up (omega (arith, some, tops_same)) (ap (slice_index ps) (sym tops_same)
+        ∙ is) in
         let before_is : on_way ps (node up) (top_of place) ≡ true = ap (on_way ps (node up)) tops_same ∙ before in
         let high = way_low (node up) (top_of place) (low t up above.up) before_is in
         let top_low : top_of place < length ps = let up_low = low t up above.up in omega (arith, high, up_low) in
-        let behind : from < top_of place = let less = tree.behind (top_of place) some top_low in omega (arith, less, is) in
+        let behind : from < top_of place = let less = tree.behind (top_of place) some top_low in omega
+        (arith, less, is) in
         let child = kid_is t up place lt above.up above.kid (top_of place) before_is behind in
         way_up (node place) (top_of place) child.behind child.below
         (ap (λ n. on_way ps n (top_of place)) child.parent ∙ before_is)

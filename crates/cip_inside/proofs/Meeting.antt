@@ -3,7 +3,8 @@ use Rattle.std.proofs.Common.{◌≡◌, ◌<◌, ◌≤◌, ◌+◌, ◌-◌, �
 use Rattle.std.proofs.lemmas.Bool.{cases_order}
 use Rattle.cip_rank.specs.Tree.{IsTree, spheres_of}
 use Rattle.cip_rank.specs.View.{on_way}
-use Rattle.cip_rank.proofs.Way.{Above, from_above}
+use Rattle.cip_rank.proofs.Way.{from_above}
+use Rattle.cip_rank.proofs.Walked.{root_above}
 use Rattle.cip_rows.specs.Parting.{has_flag}
 use Rattle.cip_digraph.specs.digraph.Digraph.{is_real}
 use Rattle.cip_digraph.specs.digraph.NodeList.{parents_of}
@@ -15,17 +16,6 @@ use Rattle.cip_aux.proofs.Spheres.{sphere_root, sphere_next}
 use Rattle.cip_aux.proofs.Standing.{hangs, long, path_below, root_path}
 use Rattle.cip_aux.specs.Sights.{Sight, Shows, IsReal, path_at}
 use Rattle.cip_inside.specs.Keys.{IsFlagged, IsMeet}
-
--- the root is above all nodes
-root_above : (ps : List ℕ) → IsTree ps → (k n : ℕ) → n ≤ k → n < length ps → Above ps k n 0
-root_above ps tree zero n le h = omega arith
-root_above ps tree (suc k) n le h = elim (cases_order 0 n) [
-  | inl first ↦ inl (sym first)
-  | inr (inl some) ↦
-      let earlier : slice_index ps n < n = tree.behind n some h in
-      inr (some, root_above ps tree k (slice_index ps n) (omega arith) (omega arith))
-  | inr (inr less) ↦ absurd (omega arith)
-]
 
 root_way : (ps : List ℕ) → IsTree ps → (n : ℕ) → n < length ps → on_way ps n 0 ≡ true
 unfolding on_way
@@ -122,7 +112,8 @@ module _ (sight : Sight) (shows : Shows sight) where
       }
 
   module _ (from : ℕ) (real : IsReal sight.nodes from) (node : ℕ) (node_real : IsReal sight.nodes node) where
-    module _ (way : List Bool) (flagged : IsFlagged parents from way) (at : ℕ) (comes : ComesUp sight from node at) where
+    module _ (way : List Bool) (flagged : IsFlagged parents from way) (at : ℕ)
+        (comes : ComesUp sight from node at) where
       on_end : (b : Bool) → has_flag way at ≡ b → is_end_of (path at) (path from) ≡ b
       on_end b e =
           let r = comes.is_real in

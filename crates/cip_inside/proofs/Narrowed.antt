@@ -1,8 +1,7 @@
 -- Pairs that are asked about by the branches of open pairs alone tell the same.
-use Rattle.std.proofs.Common.{◌≡◌, ◌<◌, ◌==◌, ◌&&◌, ◌||◌, ◌+◌, ℕ, zero, suc, Bool, true, false, not, cond, List, [], ◌∷◌, ◌++◌, filter, map, length, take, get_or, slice_index, slice_index_or, refl, sym, ap, ◌∙◌, subst, arith, None, Some, All, Contains, IfSome, eq-eqb}
+use Rattle.std.proofs.Common.{◌≡◌, ◌<◌, ◌==◌, ◌&&◌, ◌||◌, ◌+◌, ℕ, zero, suc, Bool, true, false, not, List, [], ◌∷◌, ◌++◌, filter, map, length, take, get_or, slice_index, slice_index_or, refl, sym, ap, ◌∙◌, subst, arith, None, Some, All, Contains, IfSome, eq-eqb}
 use Rattle.std.specs.List.{AllByRecursion, list_all, list_any}
 use Rattle.std.specs.declared.option.Option.{Option}
-use Rattle.std.specs.declared.cmp.Ordering.{Ordering}
 use Rattle.std.proofs.lemmas.Bool.{or_left, or_right}
 use Rattle.std.proofs.lemmas.List.{get_or_default, map-append, take_more}
 use Rattle.std.proofs.lemmas.List.Elements.{All-contains, All-contains_itself, All-filter, All-from_recursion, Contains-get_or, filter-append}
@@ -16,16 +15,17 @@ use Rattle.cip_digraph.specs.digraph.Digraph.{Node}
 use Rattle.cip_digraph.specs.digraph.NodeList.{parents_of}
 use Rattle.cip_digraph.specs.digraph.Telling.{node_at}
 use Rattle.cip_digraph.specs.rules.Decisions.{difference_by, first_decision, order}
-use Rattle.cip_letters.specs.Sides.{found_side, pair_sides}
+use Rattle.cip_letters.specs.Sides.{found_side}
 use Rattle.cip_ligands.specs.declared.asked.Asked.{Asked}
 use Rattle.cip_ligands.specs.Asking.{AreWithin, is_decided, kept_or, with_found}
 use Rattle.cip_ligands.specs.Orders.{decided_in_turn}
 use Rattle.cip_ligands.proofs.FoundWithin.{all_within}
 use Rattle.cip_ligands.proofs.RulesGoOn.{order_told}
+use Rattle.cip_ligands.proofs.UnmarkedBranches.{kept_both}
 use Rattle.cip_aux.specs.Neighbours.{neighbours_of}
-use Rattle.cip_aux.specs.Sights.{Sight, seen_sides}
-use Rattle.cip_inside.specs.Asking.{asked_between, asked_of, asked_pairs, branch_at, side_at}
-use Rattle.cip_inside.specs.Narrowing.{LeavesOpen, SidesAreTold, is_open_top, is_top_of, moved, open_tops}
+use Rattle.cip_aux.specs.Sights.{Sight}
+use Rattle.cip_inside.specs.Asking.{asked_between, asked_pairs, branch_at, side_at}
+use Rattle.cip_inside.specs.Narrowing.{LeavesOpen, is_open_top, is_top_of, moved, open_tops}
 use Rattle.cip_inside.specs.Near.{AreConstituted, asked_tops, is_ligand, seen_at, top_node}
 use Rattle.cip_inside.proofs.AskedSides.{branch_low, branch_top, kept_in, pairs_found, pairs_within, tops_of}
 
@@ -94,7 +94,8 @@ any_some (x ∷ xs) top is = by is.0 is.1 is.2 (any_some xs top)
     by zero lt e rest = or_left _ _ (eq-eqb x top e)
     by (suc k) lt e rest = or_right _ _ (rest (k, omega (arith, lt), e))
 
-weaker : (P Q : Asked → Type 0) (xs : List Asked) → ((x : Asked) → P x → Q x) → AllByRecursion P xs → AllByRecursion Q xs
+weaker : (P Q : Asked → Type 0) (xs : List Asked) → ((x : Asked) → P x → Q x) → AllByRecursion P xs
+    → AllByRecursion Q xs
 weaker P Q [] f all = tt
 weaker P Q (x ∷ xs) f all = (f x all.0, weaker P Q xs f all.1)
 
@@ -167,10 +168,6 @@ module _ (parents : List ℕ) (node : ℕ) (tops : List ℕ) (ligands : List (Op
 
 -- pairs
 
-is_none : (first later : Option Decision) → kept_or first later ≡ None → (first ≡ None) × (later ≡ None)
-is_none None later e = (refl, e)
-is_none (Some found) later e = let bad : Some found ≡ None = e in cc
-
 module _ (sight : Sight) (node : ℕ) (tops others : List ℕ) (mark : List ℕ → Option Descriptor) where
   abbrev named : ℕ → Node
   named = node_at sight.nodes
@@ -223,7 +220,7 @@ module _ (sight : Sight) (node : ℕ) (tops others : List ℕ) (mark : List ℕ 
           ≡ side_at (with_found (ordered r_first tops) asked)
       by (Some found) e = sym (ap found_side (told r_first asked within found e))
       by None e =
-          let none = is_none asked.decision (decide tops asked.first asked.second) e in
+          let none = kept_both asked.decision (decide tops asked.first asked.second) e in
           ap found_side (ordered_stays r_first asked
           (has (ap (λ (d : Option Decision). is_decided (asked_between asked.first asked.second d)) e)))
           ∙ ap (λ (d : Option Decision). found_side (kept_or d (ordered r_first tops asked.first asked.second)))
@@ -239,10 +236,10 @@ module _ (sight : Sight) (node : ℕ) (tops others : List ℕ) (mark : List ℕ 
           ≡ is_decided (asked_between asked.first asked.second d)
       by (Some found) e = refl
       by None e =
-          let none = is_none asked.decision (decide tops asked.first asked.second) e in
+          let none = kept_both asked.decision (decide tops asked.first asked.second) e in
           ap (λ (d : Option Decision). is_decided (asked_between 0 0 d))
-          (decide_stays asked (has (ap (λ (d : Option Decision). is_decided (asked_between asked.first asked.second d)) e))
-          ∙ none.1)
+          (decide_stays asked (has (ap (λ (d : Option Decision). is_decided (asked_between asked.first asked.second d))
+          e)) ∙ none.1)
 
   abbrev Has : Asked → Type 0
   Has asked = is_decided (with_found (decide tops) asked) ≡ false → HasBoth asked
@@ -269,7 +266,11 @@ module _ (sight : Sight) (node : ℕ) (tops others : List ℕ) (mark : List ℕ 
       by : (d : Option Decision)
           → AreWithin (length others) (moved tops others (asked_between asked.first asked.second d))
       by (Some found) = (some, some)
-      by None = (branch_low others some (slice_index tops asked.first), branch_low others some (slice_index tops asked.second))
+      by None = (
+        branch_low others some (slice_index tops asked.first),
+        branch_low others some
+            (slice_index tops asked.second),
+      )
 
   moved_within : 0 < length others → (pairs : List Asked)
       → AllByRecursion (AreWithin (length others)) (map (moved tops others) pairs)

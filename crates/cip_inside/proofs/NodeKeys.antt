@@ -1,22 +1,12 @@
 -- Keys of nodes by number.
-use Rattle.std.proofs.Common.{◌≡◌, ◌<◌, ℕ, ℤ, zero, suc, pos, List, length, ap, ◌∙◌, arith}
+use Rattle.std.proofs.Common.{◌≡◌, ◌<◌, ℕ, ℤ, pos, length, ap, ◌∙◌, arith}
 use Rattle.std.specs.List.{range_with_len}
-use Rattle.std.specs.Ordering.{int_cmp, nat_cmp}
-use Rattle.std.proofs.lemmas.Bool.Decides.{nat_tests}
 use Rattle.std.proofs.lemmas.List.{get_or-map}
 use Rattle.std.proofs.lemmas.List.FromFn.{length-range_with_len, get_or-range_with_len}
 use Rattle.cip_rank.specs.Ranking.{key_at}
-use Rattle.cip_digraph.specs.declared.nodes.Told.{Told}
-use Rattle.cip_digraph.specs.digraph.NodeList.{nothing_told, told_at}
 use Rattle.cip_digraph.specs.rules.Keys.{lower_precedes}
 use Rattle.cip_aux.specs.Sights.{Sight}
 use Rattle.cip_inside.specs.Keys.{distance_at, distance_keys}
-
-pub lower_compare : (m n : ℕ) → int_cmp (lower_precedes m) (lower_precedes n) ≡ nat_cmp n m
-lower_compare zero zero = grind (arith, nat_tests)
-lower_compare zero (suc n) = grind (arith, nat_tests)
-lower_compare (suc m) zero = grind (arith, nat_tests)
-lower_compare (suc m) (suc n) = grind (arith, nat_tests)
 
 pub distance_key_is : (sight : Sight) (from node : ℕ) → node < length sight.told
     → key_at (distance_keys sight from) node ≡ lower_precedes (distance_at sight from node)

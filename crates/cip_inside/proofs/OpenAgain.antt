@@ -1,13 +1,14 @@
 -- Looks that are kept: they stand again as constitution left them, and each is one of this digraph.
-use Rattle.std.proofs.Common.{◌≡◌, ◌∙◌, ◌<◌, ◌==◌, ◌&&◌, ◌++◌, ℕ, Bool, true, false, List, [], ◌∷◌, None, Some, Ok, Err, OnOk, OnErr, Result, All, length, map, get_or, slice_get, refl, sym, ap, subst, arith, eqb-true}
-use Rattle.std.specs.Option.{option_map}
+use Rattle.std.proofs.Common.{◌≡◌, ◌∙◌, ◌<◌, ◌==◌, ◌++◌, ◌+◌, ℕ, true, false, List, [], ◌∷◌, None, Some, Ok, Err, OnOk, OnErr, Result, All, length, length-append, map, get_or, slice_get, refl, sym, ap, subst, arith}
+use Rattle.std.specs.Bool.{Decides}
+use Rattle.std.specs.Cmp.{unsigned_Decides}
+use Rattle.std.specs.Option.{option_eq, option_map}
 use Rattle.std.specs.declared.alloc.AllocError.{AllocError}
 use Rattle.std.proofs.Math.Seq.{get_or-append_seam}
 use Rattle.std.proofs.lemmas.List.Elements.{All-push}
-use Rattle.std.specs.Prelude.{unwrap_or}
 use Rattle.std.specs.declared.option.Option.{Option}
 use Rattle.std.proofs.lemmas.List.{length-map}
-use Rattle.std.proofs.lemmas.Option.{get_or_from_slice_get, slice_get-get_or, slice_get-map, slice_get_within}
+use Rattle.std.proofs.lemmas.Option.{get_or_from_slice_get, slice_get-get_or, same_Some, slice_get-map, slice_get_within}
 use Rattle.cip_aux.specs.Sights.{Sight}
 use Rattle.cip_branches.specs.Deciding.{Branched}
 use Rattle.cip_branches.specs.Saving.{Saved, restored, saved_of}
@@ -17,7 +18,7 @@ use Rattle.cip_ligands.specs.Taking.{AreSame}
 use Rattle.cip_ligands.proofs.TakenSteps.{same_still, stands_back}
 use Rattle.cip_inside.specs.Narrowing.{LeavesOpen}
 use Rattle.cip_inside.specs.Near.{Nearing, asked_tops}
-use Rattle.cip_inside.specs.OpenLooks.{AreOpen, IsOpen, Look, asks, looked_at, same_ligand, same_ligands}
+use Rattle.cip_inside.specs.OpenLooks.{AreOpen, Asks, IsOpen, Look, looked_at}
 use Rattle.cip_inside.proofs.Narrowed.{left_again}
 
 pub stood : (bound : ℕ) (sight : Sight) (look : Look) (is : IsOpen bound sight look)
@@ -27,12 +28,14 @@ stood bound sight look is =
     ∙ stands_back is.begin look.branched look.ranks.room is.left.constituted.placed.followed is.same
 
 -- the branches of a look that stand so again leave the same pairs open
-pub stands_open : (bound : ℕ) (sight : Sight) (look : Look) (is : IsOpen bound sight look) (near : Nearing) (room : ℕ)
-    → near ≡ record { bound = room; tops = looked_at sight look; now = restored look.ranks look.branched }
-    → (pairs : List Asked) → pairs ≡ look.pairs → LeavesOpen sight look.node near.tops near.now pairs look.ligands
-stands_open bound sight look is near room e pairs same =
+pub stands_open : (bound : ℕ) (sight other : Sight) (look : Look) (is : IsOpen bound sight look) (near : Nearing)
+    (room : ℕ) → near ≡ record { bound = room; tops = looked_at other look; now = restored look.ranks look.branched }
+    → other ≡ sight → (pairs : List Asked) → pairs ≡ look.pairs
+    → LeavesOpen sight look.node near.tops near.now pairs look.ligands
+stands_open bound sight other look is near room e same pairs are =
     left_again sight look.node (looked_at sight look) near.tops is.begin near.now look.pairs pairs look.ligands is.left
-    (ap (λ (n : Nearing). n.tops) e) (ap (λ (n : Nearing). n.now) e ∙ stood bound sight look is) same
+    (ap (λ (n : Nearing). n.tops) e ∙ ap (λ (s : Sight). looked_at s look) same)
+    (ap (λ (n : Nearing). n.now) e ∙ stood bound sight look is) are
 
 -- and a look whose branches have other ranks since is open still
 pub open_still : (bound : ℕ) (sight : Sight) (look later : Look) → IsOpen bound sight look → (now then : Branched)
@@ -58,9 +61,15 @@ pushed_open bound sight (Ok done) before now look added refused are is = record 
 pushed_open bound sight (Err cause) before now look added refused are is =
     subst (AreOpen bound sight) (sym refused) are
 
+pub one_longer : (result : Result Unit AllocError) (before now : List Look) (look : Look)
+    → OnOk result (now ≡ before ++ look ∷ []) → OnOk result (length now ≡ length before + 1)
+one_longer (Ok done) before now look added =
+    ap (λ (ls : List Look). length ls) added ∙ length-append before (look ∷ [])
+one_longer (Err cause) before now look added = tt
+
 pub last_is : (result : Result Unit AllocError) (before now : List Look) (look : Look) (node : ℕ)
     (ligands : List (Option ℕ)) → OnOk result (now ≡ before ++ look ∷ []) → look.node ≡ node → look.ligands ≡ ligands
-    → OnOk result ((l : Look) → slice_get now (length before) ≡ Some l → (l.node ≡ node) × (l.ligands ≡ ligands))
+    → OnOk result ((l : Look) → slice_get now (length before) ≡ Some l → Asks l node ligands)
 last_is (Ok done) before now look node ligands added e f = λ l at.
     let same : l ≡ look =
     sym (get_or_from_slice_get now (length before) l look at)
@@ -69,7 +78,8 @@ last_is (Ok done) before now look node ligands added e f = λ l at.
 last_is (Err cause) before now look node ligands added e f = tt
 
 -- one of them
-pub at_place : {X : Type 0} (P : X → Type 0) (xs : List X) (place : ℕ) (x : X) → All P xs → slice_get xs place ≡ Some x → P x
+pub at_place : {X : Type 0} (P : X → Type 0) (xs : List X) (place : ℕ) (x : X) → All P xs → slice_get xs place ≡ Some x
+    → P x
 at_place P xs place x all at =
     subst P (get_or_from_slice_get xs place x x at) (all place x (slice_get_within xs place x at))
 
@@ -77,9 +87,6 @@ at_place P xs place x all at =
 pub some_at : {X : Type 0} (xs : List X) (place : ℕ) → place < length xs → (x : X) × (slice_get xs place ≡ Some x)
 some_at [] place within = absurd (omega (arith, within))
 some_at (x ∷ xs) place within = (get_or (x ∷ xs) place x, slice_get-get_or (x ∷ xs) place x within)
-
-some_is : {X : Type 0} (x y : X) → Some x ≡ Some y → x ≡ y
-some_is x y e = ap (λ o. unwrap_or o y) e
 
 -- what it is made of
 pub made_of : {X Y : Type 0} (f : X → Y) (xs : List X) (place : ℕ) (y : Y) → slice_get (map f xs) place ≡ Some y
@@ -90,7 +97,7 @@ made_of f xs place y at =
     (subst (λ n. place < n) (length-map xs f) (slice_get_within (map f xs) place y at)) in (
       found.0,
       found.1,
-      some_is (f found.0) y (sym (ap (option_map f) found.1) ∙ sym (slice_get-map f xs place) ∙ at),
+      same_Some (f found.0) y (sym (ap (option_map f) found.1) ∙ sym (slice_get-map f xs place) ∙ at),
     )
 
 -- as constitution has just left it
@@ -112,32 +119,16 @@ opened bound sight look node ligands asked tops begin pairs e f g h k ranks numb
   room = room;
 }
 
-both_true : (a b : Bool) → (a && b) ≡ true → (a ≡ true) × (b ≡ true)
-both_true true b e = (refl, e)
-both_true false b e = let bad : true ≡ false = sym e in absurd (true_not_false bad)
-  where
-    true_not_false : true ≡ false → ⊥
-    true_not_false e = cc
-
-same_one : (one other : Option ℕ) → same_ligand one other ≡ true → one ≡ other
-same_one None None e = refl
-same_one None (Some b) e = let bad : true ≡ false = sym e in cc
-same_one (Some a) None e = let bad : true ≡ false = sym e in cc
-same_one (Some a) (Some b) e = ap Some (eqb-true a b e)
-
-same_all : (ones others : List (Option ℕ)) → same_ligands ones others ≡ true → ones ≡ others
-same_all [] [] e = refl
-same_all [] (b ∷ others) e = let bad : true ≡ false = sym e in cc
-same_all (a ∷ ones) [] e = let bad : true ≡ false = sym e in cc
-same_all (a ∷ ones) (b ∷ others) e =
-    let both = both_true (same_ligand a b) (same_ligands ones others) e in
-    (λ i. same_one a b both.0 i ∷ same_all ones others both.1 i)
-
-pub asked_node : (look : Look) (node : ℕ) (ligands : List (Option ℕ)) → asks look node ligands ≡ true → look.node ≡ node
-asked_node look node ligands e =
-    eqb-true look.node node (both_true (look.node == node) (same_ligands look.ligands ligands) e).0
-
-pub asked_ligands : (look : Look) (node : ℕ) (ligands : List (Option ℕ)) → asks look node ligands ≡ true
-    → look.ligands ≡ ligands
-asked_ligands look node ligands e =
-    same_all look.ligands ligands (both_true (look.node == node) (same_ligands look.ligands ligands) e).1
+-- ligands that compare as the same are the same
+pub same_ligand : (a b : Option ℕ) → Decides (option_eq (λ x y. x == y) a b) (a ≡ b)
+same_ligand None None = (λ e. refl, λ e. refl)
+same_ligand None (Some b) = (
+  λ e. let bad : true ≡ false = sym e in cc,
+  λ e. let bad : None ≡ Some b = e in cc,
+)
+same_ligand (Some a) None = (
+  λ e. let bad : true ≡ false = sym e in cc,
+  λ e. let bad : Some a ≡ None = e in cc,
+)
+same_ligand (Some a) (Some b) =
+    (λ e. ap Some ((unsigned_Decides a b).0 e), λ e. (unsigned_Decides a b).1 (same_Some a b e))

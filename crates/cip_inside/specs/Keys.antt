@@ -1,9 +1,8 @@
 -- The keys of Rules 1b and 2 by the numbers of nodes, seen from one of them. Own.
-use Rattle.std.specs.Prelude.{◌≡◌, ◌<◌, ◌≤◌, ◌+◌, ℕ, ℤ, pos, Bool, List, length, map, slice_index}
+use Rattle.std.specs.Prelude.{◌≡◌, ◌<◌, ◌≤◌, ◌+◌, ℕ, ℤ, Bool, List, length, map, slice_index}
 use Rattle.std.specs.List.{range_with_len}
 use Rattle.cip_aux.specs.Sights.{IsReal, Sight, path_at}
 use Rattle.cip_rows.specs.Parting.{has_flag}
-use Rattle.cip_digraph.specs.declared.nodes.Told.{Told}
 use Rattle.cip_digraph.specs.digraph.Telling.{node_at}
 use Rattle.cip_digraph.specs.digraph.NodeList.{parents_of}
 use Rattle.cip_digraph.specs.digraph.View.{apart, common}

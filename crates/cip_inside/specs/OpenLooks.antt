@@ -1,5 +1,5 @@
 -- Looks that constitution leaves open, as they are kept. Own.
-use Rattle.std.specs.Prelude.{◌≡◌, ◌≤◌, ◌==◌, ◌&&◌, ℕ, Bool, true, false, List, [], ◌∷◌, None, Some, All, length}
+use Rattle.std.specs.Prelude.{◌≡◌, ◌≤◌, ℕ, List, All, length}
 use Rattle.std.specs.declared.option.Option.{Option}
 use Rattle.cip_aux.specs.Sights.{Sight}
 use Rattle.cip_branches.specs.Deciding.{Branched}
@@ -31,21 +31,9 @@ look_of look = record {
   ranks = look.ranks;
 }
 
-abbrev pub same_ligand : Option ℕ → Option ℕ → Bool
-same_ligand None None = true
-same_ligand None (Some other) = false
-same_ligand (Some one) None = false
-same_ligand (Some one) (Some other) = one == other
-
-abbrev pub same_ligands : List (Option ℕ) → List (Option ℕ) → Bool
-same_ligands [] [] = true
-same_ligands [] (other ∷ others) = false
-same_ligands (one ∷ ones) [] = false
-same_ligands (one ∷ ones) (other ∷ others) = same_ligand one other && same_ligands ones others
-
--- whether it is a look from this node at these ligands
-abbrev pub asks : Look → ℕ → List (Option ℕ) → Bool
-asks look node ligands = (look.node == node) && same_ligands look.ligands ligands
+-- it is a look from this node at these ligands
+abbrev pub Asks : Look → ℕ → List (Option ℕ) → Type 0
+Asks look node ligands = (look.node ≡ node) × (look.ligands ≡ ligands)
 
 -- the nodes at the tops of its branches
 abbrev pub looked_at : Sight → Look → List ℕ

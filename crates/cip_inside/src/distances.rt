@@ -41,7 +41,7 @@ pub fn is_off(way: &[bool], node: u32) -> bool
 }
 
 // Lower keys precede.
-#[tactic(auto, using(crate::proofs::NodeKeys::lower_compare))]
+#[tactic(auto, using(cip_ligands::proofs::NodeKeys::lower_cmp))]
 fn compare_down(a: u64, b: u64) -> Ordering
     ensures { result ≡ int_cmp (lower_precedes a) (lower_precedes b) }
 {

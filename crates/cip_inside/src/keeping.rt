@@ -11,7 +11,7 @@ ghost use Rattle.cip_ligands.specs.Taking.{AreSame};
 ghost use Rattle.cip_inside.specs.Asking.{asked_pairs, side_at};
 ghost use Rattle.cip_inside.specs.Narrowing.{LeavesOpen, open_tops};
 ghost use Rattle.cip_inside.specs.Near.{ArePlaced, AreTops, asked_tops};
-ghost use Rattle.cip_inside.specs.OpenLooks.{Look as AnyLook, AreOpen, IsOpen, look_of, looked_at};
+ghost use Rattle.cip_inside.specs.OpenLooks.{Look as AnyLook, AreOpen, Asks, IsOpen, look_of, looked_at};
 ghost use Rattle.cip_inside.specs.declared.open_looks.OpenLook.{OpenLook as OpenedLook};
 
 use crate::asking::{ask_all, both_sides};
@@ -202,10 +202,17 @@ fn taken(
     ensures bound { near.new.bound ≡ near.old.bound }
     ensures kept { kept.new ≡ kept.old }
 {
-    let ligands = SmallVec::<Option<u32>, MOST_LIGANDS>::from_slice(alloc, asked.ligands)?;
-    let pairs = SmallVec::<Asked, MOST_PAIRS>::from_slice(alloc, pairs)?;
-    let (mut ranks, mut branches) = both(
-        SavedRanks::reserve(alloc, near.len())?,
+    let looked = both(
+        tops,
+        SmallVec::<Option<u32>, MOST_LIGANDS>::from_slice(alloc, asked.ligands),
+    )?;
+    let looked = both(
+        looked,
+        SmallVec::<Asked, MOST_PAIRS>::from_slice(alloc, pairs),
+    )?;
+    let looked = both(looked, SavedRanks::reserve(alloc, near.len()))?;
+    let ((((tops, ligands), pairs), mut ranks), mut branches) = both(
+        looked,
         kept.blank(alloc, near.room()),
     )?;
     near.save(&mut ranks);
@@ -237,7 +244,7 @@ fn keep<N: Nodes>(
     requires open { AreOpen near.old.bound (sight_of whole.now) kept.old }
     ensures more { OnOk result (length kept.new ≡ length kept.old + 1) }
     ensures last { OnOk result ((look : AnyLook) → slice_get kept.new (length kept.old) ≡ Some look
-        → (look.node ≡ asked.now.node) × (look.ligands ≡ asked.now.ligands.now)) }
+        → Asks look asked.now.node asked.now.ligands.now) }
     ensures open { AreOpen near.old.bound (sight_of whole.now) kept.new }
     ensures near { near.new.bound ≡ near.old.bound }
 {

@@ -69,11 +69,11 @@ impl Near {
         let way = Vec::with_capacity(alloc, bound as usize)?;
         let columns = both(way, Column::reserve(alloc, bound + 1))?;
         let columns = both(columns, Column::reserve(alloc, bound))?;
-        let ranked = both(
-            Branches::reserve(alloc, bound)?,
+        let columns = both(columns, Branches::reserve(alloc, bound))?;
+        let ((((way, tops), steps), branches), readings) = both(
+            columns,
             Readings::reserve(alloc, bound),
-        );
-        let (((way, tops), steps), (branches, readings)) = both(columns, ranked)?;
+        )?;
         Ok(Near {
             bound,
             branches,

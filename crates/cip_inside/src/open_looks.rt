@@ -3,7 +3,7 @@
 ghost use Rattle.std.specs.Prelude.{◌≡◌, ◌<◌, ◌≤◌, ◌+◌, ◌^◌, ◌++◌, ◌∷◌, [], true, false, IfOk, IfSome, OnErr, OnOk, Some, length, slice_get};
 ghost use Rattle.cip_aux.specs.Early.{AreEarly};
 ghost use Rattle.cip_aux.specs.Inner.{Ready};
-ghost use Rattle.cip_inside.specs.OpenLooks.{Look as AnyLook, AreOpen, asks, look_of, same_ligand, same_ligands};
+ghost use Rattle.cip_inside.specs.OpenLooks.{Look as AnyLook, AreOpen, Asks, look_of};
 
 use crate::keeping::look_again;
 use crate::narrowing::{MOST_LIGANDS, Tops};
@@ -36,9 +36,9 @@ pub struct OpenLook {
 
 impl OpenLook {
     fn asks(&self, node: u32, ligands: &[Option<u32>]) -> bool
-        ensures { result ≡ asks (look_of self.now) node ligands.now }
+        ensures { result ≡ true → Asks (look_of self.now) node ligands.now }
     {
-        self.node == node && are_same(self.ligands.as_slice(), ligands)
+        self.node == node && self.ligands.as_slice() == ligands
     }
 }
 
@@ -87,8 +87,7 @@ impl OpenLooks {
     {
         match self.looks.pop() {
             Some(look) => {
-                // what finds no place here is let go
-                let _ = self.spare.push(branches_of(look));
+                put_by(&mut self.spare, branches_of(look));
                 true
             }
             None => false,
@@ -123,14 +122,9 @@ impl OpenLooks {
     pub fn find(&self, node: u32, ligands: &[Option<u32>]) -> Option<usize>
         ensures within { IfSome result (λ place. place < length self.now) }
         ensures asks { IfSome result (λ place. (look : AnyLook) → slice_get self.now place ≡ Some look
-            → asks look node ligands.now ≡ true) }
+            → Asks look node ligands.now) }
     {
-        for place in 0..self.looks.len() {
-            if self.looks[place].asks(node, ligands) {
-                return Some(place);
-            }
-        }
-        None
+        self.looks.iter().position(|look| look.asks(node, ligands))
     }
 
     /// Goes on with the look at a place.
@@ -168,6 +162,11 @@ fn branches_of(look: OpenLook) -> Branches {
     look.branches
 }
 
+// What finds no place is let go.
+fn put_by(spare: &mut Vec<Branches>, branches: Branches) {
+    let _ = spare.push(branches);
+}
+
 // These branches, or others where they have another room.
 fn fitting(alloc: Global, branches: Branches, room: u32) -> Result<Branches, AllocError>
     requires { room + 1 < 2 ^ 32 }
@@ -178,32 +177,4 @@ fn fitting(alloc: Global, branches: Branches, room: u32) -> Result<Branches, All
     }
     drop(branches);
     Branches::reserve(alloc, room)
-}
-
-fn is_same(one: Option<u32>, other: Option<u32>) -> bool
-    ensures { result ≡ same_ligand one other }
-{
-    match (one, other) {
-        (None, None) => true,
-        (Some(one), Some(other)) => one == other,
-        (None, Some(_)) | (Some(_), None) => false,
-    }
-}
-
-fn are_same(one: &[Option<u32>], other: &[Option<u32>]) -> bool
-    ensures { result ≡ same_ligands one.now other.now }
-{
-    let mut ones = one;
-    let mut others = other;
-    while let [first, ones_left @ ..] = ones {
-        let [second, others_left @ ..] = others else {
-            return false;
-        };
-        if !is_same(*first, *second) {
-            return false;
-        }
-        ones = ones_left;
-        others = others_left;
-    }
-    others.is_empty()
 }

@@ -37,8 +37,8 @@ impl Joined {
         })
     }
 
-    /// Takes a piece, which waits behind the others. Where it doesn't fit they are written first, and one that is longer
-    /// than the room is written at once.
+    /// Takes a piece, which waits behind the others. Where it doesn't fit they are written first, and one that is
+    /// longer than the room is written at once.
     pub fn push<K: Sink>(&mut self, piece: &[u8], sink: &mut K) -> Result<(), Failed>
         ensures taken { OnOk result (TakesFront (K.taken sink.old) (K.taken sink.new) (self.old ++ piece.now) self.new) }
         ensures prefix { OnErr result (AppendsPrefix (K.taken sink.old) (K.taken sink.new) (self.old ++ piece.now)) }

@@ -35,5 +35,9 @@ items_from before number (content ∷ contents) =
     } ∷ items_from (part_of before content) (number + 1) contents
     else items_from (next_part before content) (number + 1) contents
 
+-- those of a record whose lines have these contents
+abbrev pub items_among : List (List ℕ) → List Item
+items_among contents = items_from (first_part contents) 0 contents
+
 abbrev pub items_of : List ℕ → List Item
-items_of bytes = items_from (first_part (body_contents bytes)) 0 (body_contents bytes)
+items_of bytes = items_among (body_contents bytes)

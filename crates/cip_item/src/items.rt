@@ -1,6 +1,7 @@
 // Where the items of a record stand.
 ghost use Rattle.std.specs.Prelude.{◌≡◌, ◌≤◌, ◌<◌, ◌+◌, ◌-◌, ◌^◌, ◌++◌, ◌∷◌, List, ℕ, length, IfOk, OnOk};
-ghost use Rattle.cip_item.specs.Items.{items_of};
+ghost use Rattle.cip_text.specs.Slices.{texts};
+ghost use Rattle.cip_item.specs.Items.{items_among, items_of};
 ghost use Rattle.cip_item.specs.Splitting.{items_with, closed_before, begun};
 
 use crate::part::Part;
@@ -33,18 +34,37 @@ pub fn split_items(alloc: Global, bytes: &[u8]) -> Result<Items, AllocError>
     ensures { IfOk result (λ items. items ≡ items_of bytes.now) }
 {
     let lines = RecordLines::new(alloc, bytes)?;
-    let contents = lines.contents();
+    let items = items_among(alloc, lines.contents());
+    // given back by a call of its own, which is quicker to prove than this function's end
+    drop(lines);
+    items
+}
+
+// The items of a record whose lines have these contents.
+fn items_among(alloc: Global, contents: &[&[u8]]) -> Result<Items, AllocError>
+    requires { length contents.now < 2 ^ 32 }
+    ensures { IfOk result (λ items. items ≡ items_among (texts contents.now)) }
+{
     let mut splitter = Splitter {
         items: Listing::new(alloc),
         part: Part::before(contents),
         first: 0,
         number: 0,
     };
-    for content in contents {
-        take_line(&mut splitter, content)?;
-    }
-    close_before(&mut splitter, Part::Between)?;
+    take_lines(&mut splitter, contents)?;
     Ok(splitter.items)
+}
+
+// Takes the lines to come, behind which nothing is open.
+fn take_lines(splitter: &mut Splitter, contents: &[&[u8]]) -> Result<(), AllocError>
+    requires room { splitter.old.number + length contents.now < 2 ^ 32 }
+    requires begun { begun splitter.old ≤ splitter.old.number }
+    ensures { OnOk result (splitter.new.items ≡ items_with splitter.old (texts contents.now)) }
+{
+    for content in contents {
+        take_line(splitter, content)?;
+    }
+    close_before(splitter, Part::Between)
 }
 
 fn take_line(splitter: &mut Splitter, content: &[u8]) -> Result<(), AllocError>

@@ -13,6 +13,7 @@ use Rattle.cip_mol.specs.declared.site.Ligand.{Ligand}
 use Rattle.cip_mol.specs.declared.site.Ligand.TheVariants.{Vertex, LonePair}
 use Rattle.cip_mol.specs.declared.site.Unit as units
 use Rattle.cip_mol.specs.declared.site.Site.TheVariants.{Centre, Bond, Axis}
+use Rattle.cip_mol.proofs.ReflectedDrawing.{list_any-map}
 use Rattle.cip_digraph.specs.units.Allenes.{axis_site, axis_sites, is_axis_end, is_axis_unit, doubles}
 use Rattle.cip_digraph.specs.rings.Alternating.{is_in}
 use Rattle.cip_digraph.specs.units.Centres.{centre_ligands, drawn_neighbours, is_centre, is_quadriligant}
@@ -27,7 +28,7 @@ use Rattle.cip_digraph.proofs.lists.Elements.{Pairwise, all_append, all_by, all_
 use Rattle.cip_digraph.proofs.lists.Elements.{pairs_from_pairwise, pairwise_append, pairwise_by, pairwise_filtered}
 use Rattle.cip_digraph.proofs.lists.Elements.{pairwise_mapped, all_passed, all_unmapped, all_told, all_flat_each}
 use Rattle.cip_digraph.proofs.bonds.Neighbours.{neighbours_differ, sorted_all}
-use Rattle.cip_digraph.proofs.bonds.Tests.{any_filtered, any_sorted, any_mapped}
+use Rattle.cip_digraph.proofs.bonds.Tests.{any_filtered, any_sorted}
 use Rattle.cip_label.specs.Settings.{IsProper, Setting, StandAtSites}
 use Rattle.cip_label.specs.Fitting.{AreFit, IsFit, IsFitSite, IsNeighbour}
 use Rattle.cip_label.proofs.LigandNodes.{edges_away, ne_eqb}
@@ -116,7 +117,7 @@ module _ (graph : Graph) (sound : IsSound graph) where
   in_by_edges : (v n : ℕ) → is_in n (neighbours graph v) ≡ list_any (λ e. touches v e && (other_end v e == n))
       graph.edges
   in_by_edges v n =
-      any_mapped (λ o. o == n) (other_end v) (edges_at graph v)
+      list_any-map (λ o. o == n) (other_end v) (edges_at graph v)
       ∙ any_sorted (λ e. other_end v e == n) v (filter (touches v) graph.edges)
       ∙ any_filtered (λ e. other_end v e == n) (touches v) graph.edges
 

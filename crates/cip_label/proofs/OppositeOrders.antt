@@ -1,5 +1,5 @@
--- The order by all rules decides the same between two branches whichever of them is asked about first, and where the last
--- rule doesn't decide, turning it changes nothing.
+-- The order by all rules decides the same between two branches whichever of them is asked about first, and where the
+-- last rule doesn't decide, turning it changes nothing.
 use Rattle.std.proofs.Common.{◌≡◌, ◌≢◌, ℕ, zero, suc, ◌+◌, Bool, true, false, List, [], ◌∷◌, ◌++◌, None, Some, refl}
 use Rattle.std.proofs.Common.{sym, ap, ◌∙◌, Option, Ordering, Less, Equal, Greater}
 use Rattle.std.specs.List.{AllByRecursion}

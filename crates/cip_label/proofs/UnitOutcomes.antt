@@ -16,7 +16,8 @@ same_entry : (all : List Unit) (place : ℕ) (one other : Unit) → slice_get al
     slice_get all place ≡ Some other → one ≡ other
 same_entry all place one other e f = ap (λ found. unwrap_or found one) (sym e ∙ f)
 
-pub if_ok : {X E : Type 0} (P Q : X → Type 0) (result : Result X E) → ((x : X) → P x → Q x) → IfOk result P → IfOk result Q
+pub if_ok : {X E : Type 0} (P Q : X → Type 0) (result : Result X E) → ((x : X) → P x → Q x) → IfOk result P
+    → IfOk result Q
 if_ok P Q (Ok x) f p = f x p
 if_ok P Q (Err e) f p = p
 

@@ -58,7 +58,7 @@ pub trait Digraphs {
     fn decide(&self, a: u32, b: u32, r_first: bool) -> Option<Decision>
         ensures { result ≡ standing self.now r_first a b };
 
-    /// Whether what was found of the root ranked last is kept, so that it costs little to ask again. A hint: nothing rests
-    /// on it.
+    /// Whether what was found of the root ranked last is kept, so that it costs little to ask again. A hint: nothing
+    /// rests on it.
     fn is_kept(&self) -> bool;
 }

@@ -94,7 +94,7 @@ fn ranked_turned<D: Digraphs>(
         ≡ ranked_in (length ligands.now) (turned_each (D.standing digraphs.now) ligands.now)) }
 {
     if !has_rule_5(decided) {
-        return Ok(copied(alloc, places));
+        return Ok(copied(places));
     }
     let turned = decide_each(alloc, digraphs, ligands.as_slice(), false)?;
     Ok(ranked(alloc, turned.as_slice(), ligands.len()))

@@ -5,16 +5,16 @@ use Rattle.std.specs.Prelude.{count_by, nat_lt, slice_index_or}
 use Rattle.std.specs.List.{AllByRecursion, range_with_len}
 use Rattle.std.specs.declared.option.Option.{Option}
 use Rattle.std.specs.declared.cmp.Ordering.{Ordering}
-use Rattle.std.specs.declared.cmp.Ordering.TheVariants.{Less, Equal, Greater}
 use Rattle.std.specs.Cmp.{IsTotalOrder}
 use Rattle.std.specs.Cmp.Lexicographic.{slice_cmp}
-use Rattle.std.specs.Ordering.{is_lt, ordering_then}
+use Rattle.std.specs.Ordering.{is_lt}
 use Rattle.std.proofs.lemmas.Cmp.{on_total, lists_total}
 use Rattle.std.proofs.lemmas.Bool.{lt-ltb}
 use Rattle.cip_mol.specs.FlatCentres.{inversions}
 use Rattle.cip_num.proofs.Counting.{count_cons}
 use Rattle.cip_rank.specs.Comparison.{insert_down, sorted_down}
 use Rattle.cip_rank.proofs.Descending.{IsDown, all_by, weak, sorted_is_down, insert_all}
+use Rattle.cip_rank.proofs.ExtendedOrder.{then_equal}
 use Rattle.cip_digraph.specs.declared.decision.Decision.{Decision}
 use Rattle.cip_digraph.specs.units.Ranked.{ligand_order, place_order, side_of, ranked_places}
 use Rattle.cip_letters.specs.Falls.{falls}
@@ -85,7 +85,7 @@ module _ (compare : ℕ → ℕ → Ordering) (total : IsTotalOrder compare) whe
       ∙ ap (λ k. k + inversions (sorted_down compare ns)) (sorted_count compare (λ m. is_lt (compare n m)) ns)
       ∙ ap (λ k. count_by (λ m. is_lt (compare n m)) ns + k) (sorted_turns ns up.1)
 
-range_above : (low start count : ℕ) → low < start → AllByRecursion (λ m. low < m) (range_with_len start count)
+pub range_above : (low start count : ℕ) → low < start → AllByRecursion (λ m. low < m) (range_with_len start count)
 range_above low start zero h = tt
 range_above low start (suc count) h = (h, range_above low (start + 1) count (omega arith))
 
@@ -123,11 +123,6 @@ module _ {N : Type 0} (order : N → N → Option Decision) (total : IsTotalOrde
   abbrev front : List N → List N
   front [] = []
   front (n ∷ ns) = n ∷ []
-
-  then_equal : (r : Ordering) → ordering_then r Equal ≡ r
-  then_equal Less = refl
-  then_equal Equal = refl
-  then_equal Greater = refl
 
   sides : (a b : List N) → slice_cmp (λ a b. side_of (order a b)) (front a) (front b) ≡ side_of (ligand_order order a b)
   sides [] [] = refl

@@ -1,27 +1,7 @@
 -- Atoms of units, one unit after the other.
-use Rattle.std.proofs.Common.{
-  ◌≡◌,
-  ◌<◌,
-  ◌||◌,
-  ◌==◌,
-  ℕ,
-  Bool,
-  true,
-  false,
-  List,
-  [],
-  ◌∷◌,
-  length,
-  replicate,
-  ap,
-  sym,
-  refl,
-  ◌∙◌,
-  subst,
-  inl,
-  inr,
-}
+use Rattle.std.proofs.Common.{◌≡◌, ◌<◌, ◌||◌, ◌==◌, ◌++◌, ℕ, Bool, true, false, List, [], ◌∷◌, length, replicate, ap, sym, refl, ◌∙◌, append-nil, append_assoc, subst, inl, inr}
 use Rattle.std.specs.Prelude.{flat_map, slice_index_or}
+use Rattle.std.specs.List.{list_any}
 use Rattle.std.proofs.lemmas.Bool.{or_left, eqb-true, eq-eqb, eqb-false, cases_Bool}
 use Rattle.std.proofs.lemmas.List.{length-set, get_or-set_same, get_or-set_other, get_or-replicate, length-replicate}
 use Rattle.std.proofs.lemmas.List.Folds.{list_any-append}
@@ -34,23 +14,26 @@ use Rattle.cip_letters.specs.Marking.{with_mark, with_marks, Marks}
 abbrev pub atoms_in : List units.Unit → List ℕ
 atoms_in all = flat_map (λ (unit : units.Unit). atoms_of unit.site) all
 
-pub first_unit : (unit : units.Unit) (others : List units.Unit) (vertex : ℕ) → is_in vertex (atoms_of unit.site) ≡ true
-    → is_in vertex (atoms_in (unit ∷ others)) ≡ true
-first_unit unit others vertex e =
-    list_any-append (λ other. other == vertex) (atoms_of unit.site) (atoms_in others)
-    ∙ or_left (is_in vertex (atoms_of unit.site)) (is_in vertex (atoms_in others)) e
+pub any_unit : (all : List units.Unit) (vertex : ℕ)
+    → list_any (λ (unit : units.Unit). is_in vertex (atoms_of unit.site)) all ≡ is_in vertex (atoms_in all)
+any_unit [] vertex = refl
+any_unit (unit ∷ others) vertex =
+    ap (λ b. is_in vertex (atoms_of unit.site) || b) (any_unit others vertex)
+    ∙ sym (list_any-append (λ other. other == vertex) (atoms_of unit.site) (atoms_in others))
 
-pub next_unit : (unit : units.Unit) (others : List units.Unit) (vertex : ℕ) → is_in vertex (atoms_of unit.site) ≡ false
-    → is_in vertex (atoms_in (unit ∷ others)) ≡ is_in vertex (atoms_in others)
-next_unit unit others vertex e =
-    list_any-append (λ other. other == vertex) (atoms_of unit.site) (atoms_in others)
-    ∙ ap (λ b. b || is_in vertex (atoms_in others)) e
-
--- the atoms of a unit are marked, and then those of the others
-pub marks_next : (unit : units.Unit) (others : List units.Unit) (flags : List Bool)
-    → with_marks (atoms_in (unit ∷ others)) flags ≡ with_marks (atoms_in others) (with_marks (atoms_of unit.site) flags)
-marks_next unit others flags =
-    fold-append (λ before vertex. with_mark vertex before) flags (atoms_of unit.site) (atoms_in others)
+-- the atoms of a unit are marked behind those of the units before it
+pub marks_more : (before : List units.Unit) (unit : units.Unit) (flags : List Bool)
+    → with_marks (atoms_of unit.site) (with_marks (atoms_in before) flags) ≡ with_marks
+    (atoms_in (before ++ unit ∷ [])) flags
+marks_more before unit flags =
+    sym (fold-append (λ flags vertex. with_mark vertex flags) flags (atoms_in before) (atoms_of unit.site))
+    ∙ ap (λ vertices. with_marks vertices flags) (sym (more before))
+  where
+    more : (units : List units.Unit) → atoms_in (units ++ unit ∷ []) ≡ atoms_in units ++ atoms_of unit.site
+    more [] = append-nil (atoms_of unit.site)
+    more (first ∷ others) =
+        ap (λ vertices. atoms_of first.site ++ vertices) (more others)
+        ∙ sym (append_assoc (atoms_of first.site) (atoms_in others) (atoms_of unit.site))
 
 abbrev flag_at : List Bool → ℕ → Bool
 flag_at flags vertex = slice_index_or flags vertex false

@@ -1,6 +1,7 @@
 // The atoms of units, marked by vertex.
 ghost use Rattle.std.specs.Prelude.{◌≡◌, ◌<◌, ◌≤◌, ◌==◌, ◌++◌, ◌∷◌, [], ℕ, false, IfOk, length, replicate, flat_map};
 ghost use Rattle.std.specs.Prelude.{vec_capacity};
+ghost use Rattle.std.specs.List.{list_any};
 ghost use Rattle.cip_digraph.specs.rings.Alternating.{is_in};
 ghost use Rattle.cip_digraph.specs.units.Ends.{atoms_of};
 ghost use Rattle.cip_letters.specs.Marking.{with_mark, with_marks};
@@ -96,14 +97,11 @@ fn mark_site(site: &Site, flags: &mut Vec<bool>)
 }
 
 // Marks the atoms of one unit after the other.
-#[tactic(auto, using(crate::proofs::UnitAtoms::marks_next))]
 fn mark_units(units: &[Unit], flags: &mut Vec<bool>)
     ensures { flags.new.items ≡ with_marks (flat_map (λ unit. atoms_of unit.site) units.now) flags.old.items }
 {
-    let mut rest = units;
-    while let [unit, others @ ..] = rest {
+    for unit in units {
         mark_site(&unit.site, flags);
-        rest = others;
     }
 }
 
@@ -118,16 +116,14 @@ fn is_atom_of(site: &Site, vertex: u32) -> bool
 }
 
 // Whether a vertex is an atom of some unit.
-#[tactic(auto, using(crate::proofs::UnitAtoms::next_unit, crate::proofs::UnitAtoms::first_unit))]
 fn is_in_units(units: &[Unit], vertex: u32) -> bool
     ensures { result ≡ is_in vertex (flat_map (λ unit. atoms_of unit.site) units.now) }
 {
-    let mut rest = units;
-    while let [unit, others @ ..] = rest {
-        if is_atom_of(&unit.site, vertex) {
-            return true;
-        }
-        rest = others;
-    }
-    false
+    is_of_any(units, vertex)
+}
+
+fn is_of_any(units: &[Unit], vertex: u32) -> bool
+    ensures { result ≡ list_any (λ unit. is_in vertex (atoms_of unit.site)) units.now }
+{
+    units.iter().any(|unit| is_atom_of(&unit.site, vertex))
 }

@@ -4,7 +4,7 @@ ghost use Rattle.cip_mol.specs.FlatCentres.{inversions};
 ghost use Rattle.cip_digraph.specs.units.Descriptors.{is_odd};
 ghost use Rattle.cip_letters.specs.TurnsOf.{places_turns};
 
-use crate::turns::Turns;
+use crate::turns::{Turns, is_odd};
 use cip_mol::Places;
 
 /// How the places of an end's ligands in rank order turn the sense, with R and with S first in the last rule.
@@ -15,13 +15,6 @@ pub fn turns_in(places: &Places, turned: &Places) -> Turns
         natural: is_odd(inversions(places.as_slice())),
         turned: is_odd(inversions(turned.as_slice())),
     }
-}
-
-#[tactic(auto, using(crate::proofs::Odd::odd_is))]
-fn is_odd(number: usize) -> bool
-    ensures { result ≡ is_odd number }
-{
-    number % 2 == 1
 }
 
 // How many pairs of places stand in descending order.

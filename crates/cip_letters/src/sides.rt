@@ -5,7 +5,7 @@ ghost use Rattle.cip_digraph.specs.units.Descriptors.{is_odd};
 ghost use Rattle.cip_letters.specs.Sides.{is_tied, is_below};
 ghost use Rattle.cip_letters.specs.TurnsOf.{turns_of};
 
-use crate::turns::Turns;
+use crate::turns::{Turns, is_odd};
 use smallvec::SmallVec;
 use std::cmp::Ordering;
 
@@ -36,23 +36,14 @@ pub fn has_tie(sides: &[Option<Ordering>]) -> bool
 fn is_below(side: Option<Ordering>) -> bool
     ensures { result ≡ is_below side }
 {
-    match side {
-        Some(Ordering::Less) => true,
-        _ => false,
-    }
+    matches!(side, Some(Ordering::Less))
 }
 
 // Whether an odd number of pairs stands against its order in the list.
 fn is_turned(sides: &[Option<Ordering>]) -> bool
     ensures { result ≡ is_odd (count_by is_below sides.now) }
 {
-    let mut odd = false;
-    let mut rest = sides;
-    while let [side, more @ ..] = rest {
-        odd ^= is_below(*side);
-        rest = more;
-    }
-    odd
+    is_odd(sides.iter().filter(|side| is_below(**side)).count())
 }
 
 /// How the sides of each two of an end's ligands turn the sense; none where two of them tie.

@@ -1,5 +1,6 @@
 // How the ranks of a unit's ligands turn its sense.
 ghost use Rattle.std.specs.Prelude.{◌≡◌};
+ghost use Rattle.cip_digraph.specs.units.Descriptors.{is_odd};
 ghost use Rattle.cip_letters.specs.TurnsOf.{together};
 
 /// Whether a sense is turned, with R and with S first in the last rule.
@@ -17,4 +18,11 @@ pub fn both(one: Turns, other: Turns) -> Turns
         natural: one.natural != other.natural,
         turned: one.turned != other.turned,
     }
+}
+
+#[tactic(auto, using(crate::proofs::Odd::odd_is))]
+pub(crate) fn is_odd(number: usize) -> bool
+    ensures { result ≡ is_odd number }
+{
+    number % 2 == 1
 }

@@ -1,12 +1,11 @@
 -- What a rule finds between branches is what its definition finds between their nodes.
-use Rattle.std.proofs.Common.{◌≡◌, ◌<◌, ◌≤◌, ◌+◌, ◌-◌, ℕ, ℤ, List, length, map, ap, ◌∙◌}
+use Rattle.std.proofs.Common.{◌≡◌, ◌<◌, ◌≤◌, ◌+◌, ℕ, ℤ, List, length, map, ap, ◌∙◌}
 use Rattle.std.specs.declared.cmp.Ordering.{Ordering}
 use Rattle.std.specs.Cmp.{IsTotalOrder}
 use Rattle.std.specs.List.{AllByRecursion}
 use Rattle.cip_rank.specs.Comparison.{comparison}
 use Rattle.cip_rank.specs.Ranking.{by_number}
 use Rattle.cip_mol.specs.declared.outcome.Rule.{Rule}
-use Rattle.cip_digraph.specs.rules.Decisions.{first_difference}
 use Rattle.cip_branches.specs.Among.{StandsAmong}
 use Rattle.cip_branches.specs.Deciding.{Branched}
 use Rattle.cip_branches.specs.Standing.{node_in, WantedIn, AreKeysOf, StandsBy}
@@ -18,12 +17,6 @@ use Rattle.cip_ligands.specs.Orders.{found_below}
 use Rattle.cip_ligands.specs.Taking.{TakesRule}
 use Rattle.cip_ligands.proofs.FoundAmong as among
 use Rattle.cip_ligands.proofs.FoundWithin.{with_both}
-
--- where nothing changes from a depth on, no more is found
-pub found_rest : (rule : Rule) (f : ℕ → Ordering) (far height : ℕ) → far ≤ height
-    → ((m : ℕ) → far + 1 ≤ m → f m ≡ f (far + 1 - 1))
-    → decided rule (first_difference f 0 (far + 1)) ≡ decided rule (first_difference f 0 (height + 1))
-found_rest rule f far height le steady = among.found_rest rule f far height le steady
 
 -- what was noted below a depth, and what the numbers tell there
 pub noted_next : {N : Type 0} (rule : Rule) (compare : ℕ → N → N → Ordering) (node : ℕ → N) (numbers : List ℕ)

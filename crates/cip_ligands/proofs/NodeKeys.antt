@@ -13,7 +13,7 @@ use Rattle.cip_ligands.specs.NodeKeys.{atomic_keys, mass_keys}
 pub keys_at : (f : Told → ℤ) (all : List Told) (a : ℕ) → a < length all → key_at (map f all) a ≡ f (told_at all a)
 keys_at f all a lt = get_or-map f all a nothing_told (pos 0) lt
 
-pos_cmp : (m n : ℕ) → int_cmp (pos m) (pos n) ≡ nat_cmp m n
+pub pos_cmp : (m n : ℕ) → int_cmp (pos m) (pos n) ≡ nat_cmp m n
 pos_cmp m n = grind (arith, nat_tests)
 
 by_number : (f : Told → ℕ) (all : List Told) (a b : ℕ) → a < length all → b < length all
@@ -34,7 +34,7 @@ pub masses_compare : (all : List Told) (a b : ℕ) → a < length all → b < le
     → nat_cmp (told_at all a).mass (told_at all b).mass ≡ int_cmp (key_at (mass_keys all) a) (key_at (mass_keys all) b)
 masses_compare all a b la lb = by_number (λ (told : Told). told.mass) all a b la lb
 
-lower_cmp : (m n : ℕ) → int_cmp (lower_precedes m) (lower_precedes n) ≡ nat_cmp n m
+pub lower_cmp : (m n : ℕ) → int_cmp (lower_precedes m) (lower_precedes n) ≡ nat_cmp n m
 lower_cmp zero zero = refl
 lower_cmp zero (suc n) = grind (arith, nat_tests)
 lower_cmp (suc m) zero = grind (arith, nat_tests)

@@ -14,7 +14,7 @@ use Rattle.std.proofs.lemmas.List.FromFn.{get_or-map-range_with_len, length-map-
 use Rattle.cip_rank.specs.Comparison.{comparison}
 use Rattle.cip_rank.specs.Ranking.{key_at}
 use Rattle.cip_rank.proofs.NumberedNodes.{equal_is}
-use Rattle.cip_rank.proofs.Refining.{depths_refine}
+use Rattle.cip_rank.proofs.Refining.{depths_refine, first_decides}
 use Rattle.cip_rank.proofs.TotalOrder.{comparison_total}
 use Rattle.cip_mol.specs.declared.descriptor.Descriptor.{Descriptor}
 use Rattle.cip_mol.specs.declared.descriptor.Descriptor.TheVariants as letters
@@ -33,7 +33,6 @@ use Rattle.cip_branches.specs.Standing.{node_in, WantedIn, AreKeysOf, StandsBy}
 use Rattle.cip_branches.specs.Twins.{twins_of, kept_spheres, MayDouble}
 use Rattle.cip_branches.specs.Views.{IsView, IsEnded}
 use Rattle.cip_rows.proofs.Cases.{cases_same, cases_flag, not_both}
-use Rattle.cip_branches.proofs.ruled.Decided.{first_stays}
 use Rattle.cip_branches.proofs.taken.Ended.{deep}
 use Rattle.cip_branches.proofs.doubled.Ranks.{double_order, twins_followed}
 use Rattle.cip_branches.proofs.doubled.Starts.{kept_at_most, number_first, number_second}
@@ -189,7 +188,7 @@ module _ {N : Type 0} (seen : Seen N) (named : ℕ → N) (from : Branched) (fol
   -- readings of nodes that were told apart compare as these do
   at_none : (x y : N × Kind) → earlier x y ≢ Equal → compare 0 x y ≡ earlier x y
   unfolding comparison
-  at_none x y n = first_stays (earlier x y) (int_cmp (key x) (key y)) n
+  at_none x y n = first_decides (earlier x y) (int_cmp (key x) (key y)) n
 
   const : (x y : N × Kind) → earlier x y ≢ Equal → (depth : ℕ) → compare depth x y ≡ earlier x y
   const x y n depth =

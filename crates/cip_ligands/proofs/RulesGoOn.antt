@@ -22,7 +22,7 @@ use Rattle.cip_ligands.proofs.RulesInTurn.{turn_both, turn_one}
 use Rattle.cip_ligands.specs.Deciding.{AreDecidedBy}
 use Rattle.cip_ligands.specs.Orders.{key_by, order_before, order_by, decided_by, decided_in_turn, found_below}
 use Rattle.cip_ligands.specs.Taking.{TakesRule}
-use Rattle.cip_ligands.proofs.FoundRules.{found_rest}
+use Rattle.cip_ligands.proofs.FoundAmong.{found_rest}
 use Rattle.cip_ligands.proofs.RulesFound.{compare_is, rule_decided, rule_left, nodes_left, tops_left, end_left, ends_left, keys_left}
 
 -- a rule that didn't decide all pairs was taken to the last sphere

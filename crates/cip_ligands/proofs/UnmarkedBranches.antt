@@ -56,7 +56,7 @@ decided_none rule None e = refl
 decided_none rule (Some found) e =
     let bad : Some (record { side = found.side; rule = rule; sphere = found.depth + 1 }) ≡ None = e in cc
 
-kept_both : (one other : Option Decision) → kept_or one other ≡ None → (one ≡ None) × (other ≡ None)
+pub kept_both : (one other : Option Decision) → kept_or one other ≡ None → (one ≡ None) × (other ≡ None)
 kept_both None other e = (refl, e)
 kept_both (Some found) other e = let bad : Some found ≡ None = e in cc
 

@@ -18,9 +18,10 @@ use Rattle.cip_digraph.specs.rings.AlternatingRings.{Alternates, met, ring_of}
 use Rattle.cip_digraph.specs.rings.Positions.{listed_positions, positions_at}
 use Rattle.cip_digraph.proofs.ways.Alternating.{ring_found, ring_finds}
 use Rattle.cip_digraph.proofs.lists.Elements.{Pairwise, all_by, by_recursion, pairs_from_pairwise, pairwise_from_pairs}
-use Rattle.cip_digraph.proofs.bonds.Tests.{any_filtered, any_sorted, any_mapped}
+use Rattle.cip_digraph.proofs.bonds.Tests.{any_filtered, any_sorted}
 use Rattle.cip_mancude.specs.Partners.{alternating_partner, AreListedBelow}
 use Rattle.cip_mancude.proofs.Searched.{partner_of}
+use Rattle.cip_mol.proofs.ReflectedDrawing.{list_any-map}
 
 -- whether some edge at a vertex leads to another is told by the edges of the graph
 
@@ -86,11 +87,11 @@ module _ (graph : Graph) (sound : IsSound graph) where
       (by_recursion (JoinsBelow (length graph.vertices)) graph.edges sound.edges))
       ∙ sym (leads_by kept other vertex)
 
-  single_back : (vertex other : ℕ) → is_in other (singles graph vertex) ≡ true → is_in vertex (singles graph other) ≡ true
+  pub single_back : (vertex other : ℕ) → is_in other (singles graph vertex) ≡ true → is_in vertex (singles graph other) ≡ true
   single_back vertex other e =
-      any_mapped (λ o. o == vertex) (other_end other) (filter (λ edge. edge.order == 1) (edges_at graph other))
+      list_any-map (λ o. o == vertex) (other_end other) (filter (λ edge. edge.order == 1) (edges_at graph other))
       ∙ leads_either (λ edge. edge.order == 1) other vertex
-      ∙ sym (any_mapped (λ o. o == other) (other_end vertex) (filter (λ edge. edge.order == 1) (edges_at graph vertex)))
+      ∙ sym (list_any-map (λ o. o == other) (other_end vertex) (filter (λ edge. edge.order == 1) (edges_at graph vertex)))
       ∙ e
 
   partner_leads : (vertex n : ℕ) → is_alternating graph vertex ≡ true
@@ -229,18 +230,18 @@ pub leads_there : (vertex : ℕ) (items edges : List Edge) (k : ℕ) (d : Edge) 
 leads_there vertex items edges k d other same lt at =
     let within : k < length edges = rw (← same) lt in
     let there : other ≡ other_end vertex (get_or edges k d) = at ∙ ap (λ es. other_end vertex (get_or es k d)) same in
-    any_mapped (λ o. o == other) (other_end vertex) edges
+    list_any-map (λ o. o == other) (other_end vertex) edges
     ∙ list_any_at (λ edge. other_end vertex edge == other) edges k d within
     (eq-eqb (other_end vertex (get_or edges k d)) other (sym there))
 
 module _ (graph : Graph) (sound : IsSound graph) (vertex other : ℕ) where
   near_back : is_in other (neighbours graph vertex) ≡ true → is_in vertex (neighbours graph other) ≡ true
   near_back e =
-      any_mapped (λ o. o == vertex) (other_end other) (edges_at graph other)
+      list_any-map (λ o. o == vertex) (other_end other) (edges_at graph other)
       ∙ ap (list_any (λ edge. other_end other edge == vertex)) (sym (all_kept (edges_at graph other)))
       ∙ leads_either graph sound (λ edge. true) other vertex
       ∙ ap (list_any (λ edge. other_end vertex edge == other)) (all_kept (edges_at graph vertex))
-      ∙ sym (any_mapped (λ o. o == other) (other_end vertex) (edges_at graph vertex))
+      ∙ sym (list_any-map (λ o. o == other) (other_end vertex) (edges_at graph vertex))
       ∙ e
 
   abbrev position : ℕ → Bool

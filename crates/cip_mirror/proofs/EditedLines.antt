@@ -11,7 +11,7 @@ use Rattle.cip_text.specs.Laws.{has_line_feed, is_ended, are_ended}
 use Rattle.cip_text.specs.Kinds.{is_terminator}
 use Rattle.cip_text.specs.Bodies.{body_lines, closing_lines, body_contents, closing}
 use Rattle.cip_text.proofs.Ends as texts
-use Rattle.cip_text.proofs.Ended.{end_as, own_lines}
+use Rattle.cip_text.proofs.Ended.{end_as, own_lines, others}
 use Rattle.cip_text.proofs.LastBytes.{content_of_open}
 use Rattle.cip_item.proofs.ItemLines.{no_terminators}
 use Rattle.cip_item.proofs.Made.{body_before, body_no_terminators, closing_behind}
@@ -112,10 +112,6 @@ alone line [] h = h
 alone line (next ∷ lines) h =
     or_left (is_ended line) (nat_lt 0 (length line) && not (has_line_feed line))
     (and_parts (is_ended line) (are_ended (next ∷ lines)) h).0
-
-others : (line : List ℕ) (lines : List (List ℕ)) → are_ended (line ∷ lines) ≡ true → are_ended lines ≡ true
-others line [] h = refl
-others line (next ∷ lines) h = (and_parts (is_ended line) (are_ended (next ∷ lines)) h).1
 
 pub contents_edited : (edit : Edit) (number : ℕ) (lines more : List (List ℕ)) → are_ended (lines ++ more) ≡ true
     → KeepsAll edit number (map content_of lines)

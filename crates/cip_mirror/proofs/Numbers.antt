@@ -2,7 +2,7 @@
 use Rattle.std.proofs.Common.{◌≡◌, ◌≤◌, ◌<◌, ◌+◌, ◌-◌, ◌*◌, ◌/◌, ◌%◌, ◌^◌, ◌++◌, ℕ, zero, suc, ℤ, pos, negsuc, List, [], ◌∷◌, Bool, true, false, ◌==◌, nat_lt, nat_le, Ok, Option, Some, None, subst, codes, fold, rules, refl, sym, ◌∙◌, ap, arith, length, drop, append_assoc}
 use Rattle.std.specs.List.{list_all, position_or_len}
 use Rattle.std.specs.Prelude.{decimal, position, unsigned_abs}
-use Rattle.std.proofs.lemmas.Bool.{and_parts, and_from, and_right, lt-ltb, le-ltb, le-leb, leb-true}
+use Rattle.std.proofs.lemmas.Bool.{and_parts, and_from, lt-ltb, le-ltb, le-leb, leb-true}
 use Rattle.std.proofs.lemmas.Bool.Decides.{nat_tests}
 use Rattle.std.proofs.lemmas.Fmt.{digits_decimal, digits_value-decimal, decimal_nonempty, decimal_digit, length-decimal-le}
 use Rattle.std.proofs.lemmas.List.{length-append, length_push, take_at, drop_at}
@@ -12,7 +12,7 @@ use Rattle.cip_text.specs.Numbers.{is_digit, is_point, value, whole, parts, cut_
 use Rattle.cip_text.specs.Numbers as numbers
 use Rattle.cip_mirror.specs.Columns.{is_printed}
 use Rattle.cip_text.specs.Writing.{four_digits, coordinate}
-use Rattle.cip_reading.proofs.UsualNumbers.{some_length}
+use Rattle.cip_reading.proofs.UsualNumbers.{some_length, not_negative, no_sign, positive}
 
 -- what `decimal` writes
 
@@ -49,20 +49,6 @@ digits_printed (b ∷ bs) h =
     and_from (nat_lt 32 b) (is_printed bs) (digit_printed b each.0) (digits_printed bs each.1)
 
 -- a text that begins with a digit
-
-not_negative : (b : ℕ) (bs : List ℕ) → is_digit b ≡ true → is_negative (b ∷ bs) ≡ false
-not_negative b bs h = and_right (nat_lt 0 (suc (length bs))) (b == 45) (grind (arith, nat_tests))
-
-no_sign : (b : ℕ) (bs : List ℕ) → is_digit b ≡ true → without_sign (b ∷ bs) ≡ b ∷ bs
-no_sign b bs h =
-    rw (
-      not_negative b bs h,
-      and_right (nat_lt 0 (suc (length bs))) (b == 43)
-          (let e : (b == 43) ≡ false = grind (arith, nat_tests) in e),
-    ) refl
-
-positive : (most n : ℕ) → n ≤ most → signed most false (Some n) ≡ Ok (pos n)
-positive most n few = rw (le-leb n most few) refl
 
 negative : (most n : ℕ) → suc n ≤ most → signed most true (Some (suc n)) ≡ Ok (negsuc n)
 negative most n few = rw (le-leb (suc n) most few) refl

@@ -18,7 +18,7 @@ module _ (atoms : ℕ) (places : List ℕ) (p : ArePlaces atoms places) where
   abbrev image : ℕ → ℕ
   image = place_of places
 
-  same_image : (j k : ℕ) → j < atoms → k < atoms → (image j == image k) ≡ (j == k)
+  pub same_image : (j k : ℕ) → j < atoms → k < atoms → (image j == image k) ≡ (j == k)
   same_image j k in_j in_k = elim (cases_eq j k) [
     | inl same ↦ eq-eqb (image j) (image k) (ap image same) ∙ sym (eq-eqb j k same)
     | inr differ ↦

@@ -1,7 +1,7 @@
 -- Bonds without a fault, whatever their order: each joins two different atoms, no two join the same ones, and no atom
 -- has more than eight. So bonds at other places, and bonds with other ends that keep all this, have no fault either.
 use Rattle.std.proofs.Common.{◌≡◌, ◌≢◌, ◌<◌, ◌≤◌, ◌+◌, ◌==◌, ◌||◌, ℕ, zero, suc, Bool, true, false, cond, List, [], ◌∷◌, map, length, take, get_or, All, AllPairs, refl, sym, ap, subst, ◌∙◌, true≢false, eq-eqb, inl, inr, arith}
-use Rattle.std.specs.Prelude.{None, Some, nat_le, if◌then◌else◌}
+use Rattle.std.specs.Prelude.{None, nat_le}
 use Rattle.std.specs.List.{list_any}
 use Rattle.std.proofs.lemmas.Bool.{cases_Bool, cases_order, lt-leb, ne_eqb}
 use Rattle.std.proofs.lemmas.Bool.Decides.{nat_tests}
@@ -13,7 +13,6 @@ use Rattle.std.proofs.lemmas.List.Sums.{sum_by-cons}
 use Rattle.cip_mol.specs.Bonds.{cause_of, degree, joins_same, touches, IsSound}
 use Rattle.cip_mol.specs.Permutations.{ArePlaces}
 use Rattle.cip_mol.specs.RenumberedDrawing.{index_of, placed}
-use Rattle.cip_mol.specs.declared.faults.BondCause.TheVariants.{EndOutOfRange, Loop, Doubled, Degree}
 use Rattle.cip_mol.specs.declared.molecule.Bond.{Bond}
 use Rattle.cip_mol.proofs.OtherEnds.{length-neighbours}
 use Rattle.cip_mol.proofs.Permutations.{index_below, place_of_index}
@@ -62,10 +61,11 @@ simple_from_sound atoms bonds sound = record {
       omega (arith, most, long);
 }
 
-none_by : (outside loop doubled crowded : Bool) → outside ≡ false → loop ≡ false → doubled ≡ false → crowded ≡ false
-    → (if outside then Some EndOutOfRange else if loop then Some Loop else if doubled then Some Doubled
-    else if crowded then Some Degree else None) ≡ None
-none_by outside loop doubled crowded e f g h = rw (e, f, g, h) refl
+none_by : (atoms : ℕ) (before : List Bond) (bond : Bond) → (nat_le atoms bond.a || nat_le atoms bond.b) ≡ false
+    → (bond.a == bond.b) ≡ false → list_any (λ other. joins_same other bond) before ≡ false
+    → (nat_le 8 (degree bond.a before) || nat_le 8 (degree bond.b before)) ≡ false → cause_of atoms before bond ≡ None
+unfolding cause_of
+none_by atoms before bond within apart once few = rw (within, apart, once, few) refl
 
 neither : (a b : Bool) → a ≡ false → b ≡ false → (a || b) ≡ false
 neither a b e f = ap (λ x. x || b) e ∙ f
@@ -89,7 +89,6 @@ one_more atom (bond ∷ some) (suc k) d lt e =
     omega (arith, all, front, rest)
 
 pub sound_from_simple : (atoms : ℕ) (bonds : List Bond) → AreSimple atoms bonds → IsSound atoms bonds
-unfolding cause_of
 sound_from_simple atoms bonds simple = record {
   each = λ k lt d.
       let bond = get_or bonds k d in
@@ -98,9 +97,7 @@ sound_from_simple atoms bonds simple = record {
       let room : (atom : ℕ) → atom < atoms → touches atom bond ≡ true → degree atom (take k bonds) < 8 =
       λ atom below e. let more = one_more atom bonds k d lt e in let most = simple.few atom below in
       omega (arith, more, most) in
-      none_by (nat_le atoms bond.a || nat_le atoms bond.b) (bond.a == bond.b)
-      (list_any (λ other. joins_same other bond) (take k bonds))
-      (nat_le 8 (degree bond.a (take k bonds)) || nat_le 8 (degree bond.b (take k bonds)))
+      none_by atoms (take k bonds) bond
       (neither (nat_le atoms bond.a) (nat_le atoms bond.b) (lt-leb atoms bond.a j.a) (lt-leb atoms bond.b j.b))
       (ne_eqb bond.a bond.b j.differ)
       (list_any_none (λ other. joins_same other bond) (take k bonds)

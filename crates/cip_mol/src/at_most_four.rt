@@ -1,8 +1,6 @@
 // Lists of at most four.
 ghost use Rattle.std.specs.Prelude.{◌≡◌, ◌<◌, ◌≤◌, ◌++◌, ◌∷◌, [], length, slice_get, Some};
 
-use smallvec::SmallVec;
-use std::alloc::Global;
 use std::marker::Model;
 
 /// As many ligands as a unit has at most.
@@ -11,27 +9,28 @@ const MOST: usize = 4;
 /// A list of at most four items, which takes no memory. Contracts see the list of them.
 #[derive(Drop)]
 pub struct AtMostFour<T> {
-    items: SmallVec<T, MOST>,
+    count: usize,
+    items: [T; MOST],
 }
 
 impl<T> Model for AtMostFour<T> {
-    ghost use Rattle.std.specs.Prelude.{◌≡◌, ◌≤◌, List, length};
+    ghost use Rattle.std.specs.Prelude.{◌≤◌, List, take};
 
     ghost Value = { List T };
 
-    ghost view = { λ list. list.items.items };
+    ghost view = { λ list. take list.count list.items };
 
-    // They lie in the list itself, so that no push takes memory.
-    ghost invariant = { λ list. (list.items.capacity ≡ 4) × (length list.items.items ≤ 4) };
+    ghost invariant = { λ list. list.count ≤ 4 };
 }
 
-impl<T: Default + Drop> AtMostFour<T> {
+impl<T: Copy + Default> AtMostFour<T> {
     /// The empty list.
-    pub fn new(alloc: Global) -> AtMostFour<T>
+    pub fn new() -> AtMostFour<T>
         ensures { result ≡ [] }
     {
         AtMostFour {
-            items: SmallVec::new(alloc),
+            count: 0,
+            items: [T::default(); MOST],
         }
     }
 
@@ -40,7 +39,8 @@ impl<T: Default + Drop> AtMostFour<T> {
         requires { length self.old < 4 }
         ensures { self.new ≡ self.old ++ item ∷ [] }
     {
-        self.items.push_reserved(item);
+        self.items[self.count] = item;
+        self.count += 1;
     }
 
     /// How many items there are.
@@ -48,7 +48,7 @@ impl<T: Default + Drop> AtMostFour<T> {
         ensures counted { result ≡ length self.now }
         ensures few { length self.now ≤ 4 }
     {
-        self.items.len() as u32
+        self.as_slice().len() as u32
     }
 
     /// The item at a place, counted from 0.
@@ -56,7 +56,7 @@ impl<T: Default + Drop> AtMostFour<T> {
         requires { place < length self.now }
         ensures { slice_get self.now place ≡ Some result.now }
     {
-        &self.items.as_slice()[place as usize]
+        &self.as_slice()[place as usize]
     }
 
     /// The items in their order.
@@ -64,6 +64,6 @@ impl<T: Default + Drop> AtMostFour<T> {
         ensures value { result.now ≡ self.now }
         ensures few { length self.now ≤ 4 }
     {
-        self.items.as_slice()
+        &self.items[..self.count]
     }
 }

@@ -2,13 +2,12 @@
 ghost use Rattle.std.specs.Prelude.{◌≡◌};
 
 use crate::site::Ligands;
-use std::alloc::Global;
 
 /// The same ligands once more. It takes no memory.
-pub fn copy_ligands(alloc: Global, ligands: &Ligands) -> Ligands
+pub fn copy_ligands(ligands: &Ligands) -> Ligands
     ensures { result ≡ ligands.now }
 {
-    let mut copy = Ligands::new(alloc);
+    let mut copy = Ligands::new();
     for ligand in ligands.as_slice() {
         copy.push(*ligand);
     }

@@ -4,7 +4,6 @@ ghost use Rattle.cip_mol.specs.Ends.{as_site, between_in, between_of};
 
 use crate::copying::copy_ligands;
 use crate::site::{Ligands, Site};
-use std::alloc::Global;
 
 /// An end of a unit: a centre, or an atom at an end of a bond or an axis, with the ligands that are ranked there.
 #[derive(Clone, Copy)]
@@ -75,26 +74,26 @@ impl<'a> TwoEnds<'a> {
 
 impl<'a> Ends<'a> {
     /// A site with these ends. It takes no memory.
-    pub fn site(&self, alloc: Global) -> Site
+    pub fn site(&self) -> Site
         ensures { result ≡ as_site self.now }
     {
         match self {
             Ends::One(end) => Site::Centre {
                 at: end.at,
-                ligands: copy_ligands(alloc, end.ligands),
+                ligands: copy_ligands(end.ligands),
             },
             Ends::Two(Shape::Flat, two) => Site::Bond {
                 a: two.near.at,
                 b: two.far.at,
-                first: copy_ligands(alloc, two.near.ligands),
-                second: copy_ligands(alloc, two.far.ligands),
+                first: copy_ligands(two.near.ligands),
+                second: copy_ligands(two.far.ligands),
             },
             Ends::Two(Shape::Crossed, two) => Site::Axis {
                 a: two.near.at,
                 middle: two.between.unwrap_or(two.near.at),
                 b: two.far.at,
-                first: copy_ligands(alloc, two.near.ligands),
-                second: copy_ligands(alloc, two.far.ligands),
+                first: copy_ligands(two.near.ligands),
+                second: copy_ligands(two.far.ligands),
             },
         }
     }
@@ -128,9 +127,9 @@ impl Site {
     }
 
     /// The same site once more. It takes no memory.
-    pub fn copy(&self, alloc: Global) -> Site
+    pub fn copy(&self) -> Site
         ensures { result ≡ self.now }
     {
-        self.ends().site(alloc)
+        self.ends().site()
     }
 }

@@ -2,11 +2,10 @@
 // among all the bonds before it.
 ghost use Rattle.std.specs.Prelude.{◌≡◌, ◌<◌, [], IfOk, length, replicate};
 ghost use Rattle.cip_mol.specs.Neighbours.{HasRoom};
-ghost use Rattle.cip_mol.specs.Tables.{cause_in, row, with_bond, with_entry, IsFree};
+ghost use Rattle.cip_mol.specs.Tables.{row, with_bond, with_entry, IsFree};
 
-use crate::faults::BondCause;
 use crate::molecule::Bond;
-use crate::row::{MOST_BONDS, Row};
+use crate::row::Row;
 use std::alloc::{AllocError, Global};
 use std::marker::Model;
 
@@ -37,26 +36,11 @@ impl Table {
         Ok(Table { rows })
     }
 
-    /// The first cause that holds at a bond that follows those of the table.
-    #[tactic(auto, unfolding(crate::specs::Tables::cause_in))]
-    pub fn cause_at(&self, bond: &Bond) -> Option<BondCause>
-        ensures { result ≡ cause_in self.now bond.now }
+    /// How many atoms have a row.
+    pub fn atoms(&self) -> usize
+        ensures { result ≡ length self.now }
     {
-        let atoms = self.rows.len();
-        if bond.a as usize >= atoms || bond.b as usize >= atoms {
-            return Some(BondCause::EndOutOfRange);
-        }
-        if bond.a == bond.b {
-            return Some(BondCause::Loop);
-        }
-        let (at_a, at_b) = (self.row(bond.a), self.row(bond.b));
-        if at_a.neighbours().contains(&bond.b) {
-            return Some(BondCause::Doubled);
-        }
-        if at_a.neighbours().len() >= MOST_BONDS || at_b.neighbours().len() >= MOST_BONDS {
-            return Some(BondCause::Degree);
-        }
-        None
+        self.rows.len()
     }
 
     /// Adds a bond, which stands at both of its ends.

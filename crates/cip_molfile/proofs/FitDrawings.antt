@@ -8,7 +8,7 @@ use Rattle.cip_digraph.specs.graph.Graph.{Graph}
 use Rattle.cip_digraph.specs.rings.Positions.{positions_of}
 use Rattle.cip_digraph.specs.units.DrawnUnits.{units_in}
 use Rattle.cip_digraph.specs.units.Units.{sites_of, units_of}
-use Rattle.cip_molfile.specs.Drawings.{AreDrawn, Fit}
+use Rattle.cip_molfile.specs.Drawings.{AreDrawnFrom, Fit}
 use Rattle.cip_unit.proofs.FewUnits.{few_units}
 use Rattle.cip_unit.proofs.Kept.{sites_kept}
 
@@ -23,7 +23,7 @@ module _ (drawing : Drawing) (few : length drawing.atoms ≤ 16384) where
   -- as it is made, one after the other
   pub made_fits : (graph : Graph) (positions : List (List ℕ)) (all : List units.Unit) → graph ≡ graph_of drawing
       → positions ≡ positions_of graph → all ≡ units_of (geometry_of drawing) graph positions
-      → AreDrawn drawing graph positions all
+      → AreDrawnFrom drawing graph positions all
   made_fits graph positions all g p u = record {
     is_graph = g;
     are_positions = p ∙ ap positions_of g;

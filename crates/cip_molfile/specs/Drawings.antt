@@ -14,7 +14,7 @@ pub record Fit (drawing : Drawing) : Type 0 where
   pub few : length (units_in drawing) < 2 ^ 32 - 1
 
 -- a graph, positions and units are those of a molecule
-pub record AreDrawn (drawing : Drawing) (graph : Graph) (positions : List (List ℕ)) (all : List units.Unit) : Type 0 where
+pub record AreDrawnFrom (drawing : Drawing) (graph : Graph) (positions : List (List ℕ)) (all : List units.Unit) : Type 0 where
   pub is_graph : graph ≡ graph_of drawing
   pub are_positions : positions ≡ positions_of (graph_of drawing)
   pub are_units : all ≡ units_in drawing

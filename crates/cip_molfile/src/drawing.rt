@@ -28,13 +28,13 @@ pub struct Drawn {
 
 impl Model for Drawn {
     ghost use Rattle.cip_mol.specs.Drawing.{Drawing};
-    ghost use Rattle.cip_molfile.specs.Drawings.{AreDrawn};
+    ghost use Rattle.cip_molfile.specs.Drawings.{AreDrawnFrom};
 
     ghost Value = { Drawing };
 
     ghost view = { λ d. d.molecule };
 
-    ghost invariant = { λ d. AreDrawn d.molecule d.graph d.positions d.units };
+    ghost invariant = { λ d. AreDrawnFrom d.molecule d.graph d.positions d.units };
 }
 
 impl Drawn {

@@ -26,7 +26,9 @@ module _ (atom neighbour : ℕ) where
   abbrev is_there : Bond → Bool
   is_there bond = is_narrow_at atom bond && (bond.b == neighbour)
 
-  one_kept : (kept : Bool) (bond : Bond) (few all : List Bond) → (is_there bond ≡ true → kept ≡ true) → mark_to atom few neighbour ≡ mark_to atom all neighbour → mark_to atom (cond kept (bond ∷ few) few) neighbour ≡ mark_to atom (bond ∷ all) neighbour
+  one_kept : (kept : Bool) (bond : Bond) (few all : List Bond) → (is_there bond ≡ true → kept ≡ true)
+      → mark_to atom few neighbour ≡ mark_to atom all neighbour
+      → mark_to atom (cond kept (bond ∷ few) few) neighbour ≡ mark_to atom (bond ∷ all) neighbour
   one_kept true bond few all within same = ap (λ rest. cond (is_there bond) (mark_sign bond.mark) rest) same
   one_kept false bond few all within same =
       same ∙ never (is_there bond) (mark_sign bond.mark) (mark_to atom all neighbour) within
@@ -34,4 +36,5 @@ module _ (atom neighbour : ℕ) where
   pub mark_to-at : (bonds : List Bond) → mark_to atom (bonds_at atom bonds) neighbour ≡ mark_to atom bonds neighbour
   mark_to-at [] = refl
   mark_to-at (bond ∷ bonds) =
-      one_kept (touches atom bond) bond (bonds_at atom bonds) bonds (λ there. grind (arith, nat_tests)) (mark_to-at bonds)
+      one_kept (touches atom bond) bond (bonds_at atom bonds) bonds (λ there. grind (arith, nat_tests))
+      (mark_to-at bonds)

@@ -1,3 +1,4 @@
 pub mod BondsAtAtoms
 mod FirstPlaces
 mod NoMarks
+mod Undecided

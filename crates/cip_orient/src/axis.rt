@@ -1,76 +1,88 @@
 // What a drawing shows of an axis.
 ghost use Rattle.std.specs.Prelude.{◌≡◌, length};
-ghost use Rattle.cip_mol.specs.Geometry.{axis_geometry, axis_in_plane, axis_in_space};
+ghost use Rattle.cip_mol.specs.Geometry.{axis_geometry, axis_in_plane};
+ghost use Rattle.cip_mol.specs.FlatAxes.{by_marks};
+ghost use Rattle.cip_mol.specs.Points.{point, step, steps};
 ghost use Rattle.cip_mol.specs.Sites.{IsEnd};
-ghost use Rattle.cip_orient.specs.DrawnEnds.{IsDrawnEnd};
+ghost use Rattle.cip_orient.specs.DrawnEnds.{IsDrawn, of_drawn_axis};
 
 use crate::drawing::{step_between, steps};
-use crate::drawn::drawn_of;
+use crate::drawn::{DrawnEnd, drawn_end};
 use crate::flat_axis::show_by_marks;
 use crate::marks::{has_either, marks_to};
-use crate::pairs::{PairSign, show_pairs};
-use cip_mol::{AtMostFour, Cause, Geometry, Molecule, TwoEnds};
-use std::alloc::Global;
+use crate::pairs::{PairSign, show_drawn_pairs};
+use cip_mol::{Cause, Geometry, Molecule, TwoEnds};
+use cip_num::Sign;
 
 /// What is shown of an axis between two ends.
-pub(crate) fn show_axis(alloc: Global, molecule: &Molecule, ends: &TwoEnds<'_>) -> Geometry
+pub(crate) fn show_axis(molecule: &Molecule, ends: &TwoEnds<'_>) -> Geometry
     requires near { IsEnd (length molecule.now.atoms) ends.now.near.at ends.now.near.ligands.now }
     requires far { IsEnd (length molecule.now.atoms) ends.now.far.at ends.now.far.ligands.now }
     ensures { result ≡ axis_geometry molecule.now ends.now.near.at ends.now.far.at ends.now.near.ligands.now
         ends.now.far.ligands.now }
 {
-    let (a, b) = (ends.near.at, ends.far.at);
-    if has_either(molecule, a) || has_either(molecule, b) {
+    if has_either(molecule, ends.near.at) || has_either(molecule, ends.far.at) {
         return Geometry::Unknown(Cause::Either);
     }
-    let first = drawn_of(alloc, molecule, ends.near.ligands);
-    let second = drawn_of(alloc, molecule, ends.far.ligands);
-    if molecule.is_spatial() {
-        return show_in_space(alloc, molecule, a, b, &first, &second);
-    }
-    show_in_plane(alloc, molecule, a, b, &first, &second)
+    let near = drawn_end(molecule, &ends.near);
+    let far = drawn_end(molecule, &ends.far);
+    show_drawn_axis(molecule, &near, &far)
 }
 
-// By the twists of the drawn ligands.
-fn show_in_space(
-    alloc: Global,
-    molecule: &Molecule,
-    a: u32,
-    b: u32,
-    first: &AtMostFour<u32>,
-    second: &AtMostFour<u32>,
-) -> Geometry
-    requires a { IsDrawnEnd (length molecule.now.atoms) a first.now }
-    requires b { IsDrawnEnd (length molecule.now.atoms) b second.now }
-    ensures { result ≡ axis_in_space molecule.now.atoms a b first.now second.now }
+// By the twists of the drawn ligands, or in the plane by their marks.
+fn show_drawn_axis(molecule: &Molecule, near: &DrawnEnd, far: &DrawnEnd) -> Geometry
+    requires near { IsDrawn (length molecule.now.atoms) near.now }
+    requires far { IsDrawn (length molecule.now.atoms) far.now }
+    ensures { result ≡ of_drawn_axis molecule.now near.now far.now }
 {
-    let firsts = steps(alloc, molecule, a, first);
-    let seconds = steps(alloc, molecule, b, second);
-    let axis = step_between(molecule, a, b);
-    show_pairs(PairSign::Twist, axis, firsts.as_slice(), seconds.as_slice())
+    if molecule.is_spatial() {
+        show_drawn_pairs(molecule, PairSign::Twist, near, far)
+    } else {
+        show_in_plane(molecule, near, far)
+    }
 }
 
 // By the marks of the drawn ligands, and by their sides.
-fn show_in_plane(
-    alloc: Global,
-    molecule: &Molecule,
-    a: u32,
-    b: u32,
-    first: &AtMostFour<u32>,
-    second: &AtMostFour<u32>,
-) -> Geometry
-    requires a { IsDrawnEnd (length molecule.now.atoms) a first.now }
-    requires b { IsDrawnEnd (length molecule.now.atoms) b second.now }
-    ensures { result ≡ axis_in_plane molecule.now.atoms molecule.now.bonds a b first.now second.now }
+fn show_in_plane(molecule: &Molecule, near: &DrawnEnd, far: &DrawnEnd) -> Geometry
+    requires near { IsDrawn (length molecule.now.atoms) near.now }
+    requires far { IsDrawn (length molecule.now.atoms) far.now }
+    ensures { result ≡ axis_in_plane molecule.now.atoms molecule.now.bonds near.now.at far.now.at near.now.ligands
+        far.now.ligands }
 {
-    let marks = marks_to(alloc, molecule, a, first);
-    let other_marks = marks_to(alloc, molecule, b, second);
-    let firsts = steps(alloc, molecule, a, first);
-    let seconds = steps(alloc, molecule, b, second);
-    show_by_marks(
-        step_between(molecule, a, b),
+    let marks = marks_to(molecule, near.at, &near.ligands);
+    let other_marks = marks_to(molecule, far.at, &far.ligands);
+    show_marked(
+        molecule,
+        near,
+        far,
         marks.as_slice(),
         other_marks.as_slice(),
+    )
+}
+
+// The same by marks that are known.
+fn show_marked(
+    molecule: &Molecule,
+    near: &DrawnEnd,
+    far: &DrawnEnd,
+    marks: &[Sign],
+    other_marks: &[Sign],
+) -> Geometry
+    requires near { IsDrawn (length molecule.now.atoms) near.now }
+    requires far { IsDrawn (length molecule.now.atoms) far.now }
+    requires marks { length marks.now ≡ length near.now.ligands }
+    requires other_marks { length other_marks.now ≡ length far.now.ligands }
+    ensures { result ≡ by_marks (step (point molecule.now.atoms near.now.at) (point molecule.now.atoms far.now.at))
+        marks.now other_marks.now (steps molecule.now.atoms near.now.at near.now.ligands)
+        (steps molecule.now.atoms far.now.at far.now.ligands) }
+{
+    let axis = step_between(molecule, near.at, far.at);
+    let firsts = steps(molecule, near.at, &near.ligands);
+    let seconds = steps(molecule, far.at, &far.ligands);
+    show_by_marks(
+        axis,
+        marks,
+        other_marks,
         firsts.as_slice(),
         seconds.as_slice(),
     )

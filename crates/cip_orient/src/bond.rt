@@ -3,15 +3,13 @@ ghost use Rattle.std.specs.Prelude.{◌≡◌, length};
 ghost use Rattle.cip_mol.specs.Geometry.{bond_geometry};
 ghost use Rattle.cip_mol.specs.Sites.{IsEnd};
 
-use crate::drawing::{step_between, steps};
-use crate::drawn::drawn_of;
+use crate::drawn::drawn_end;
 use crate::marks::{has_either, is_crossed};
-use crate::pairs::{PairSign, show_pairs};
+use crate::pairs::{PairSign, show_drawn_pairs};
 use cip_mol::{Cause, Geometry, Molecule, TwoEnds};
-use std::alloc::Global;
 
 /// What is shown of a bond between two ends.
-pub(crate) fn show_bond(alloc: Global, molecule: &Molecule, ends: &TwoEnds<'_>) -> Geometry
+pub(crate) fn show_bond(molecule: &Molecule, ends: &TwoEnds<'_>) -> Geometry
     requires near { IsEnd (length molecule.now.atoms) ends.now.near.at ends.now.near.ligands.now }
     requires far { IsEnd (length molecule.now.atoms) ends.now.far.at ends.now.far.ligands.now }
     ensures { result ≡ bond_geometry molecule.now ends.now.near.at ends.now.far.at ends.now.near.ligands.now
@@ -21,10 +19,7 @@ pub(crate) fn show_bond(alloc: Global, molecule: &Molecule, ends: &TwoEnds<'_>) 
     if has_either(molecule, a) || has_either(molecule, b) || is_crossed(molecule, a, b) {
         return Geometry::Unknown(Cause::Either);
     }
-    let first = drawn_of(alloc, molecule, ends.near.ligands);
-    let second = drawn_of(alloc, molecule, ends.far.ligands);
-    let bond = step_between(molecule, a, b);
-    let firsts = steps(alloc, molecule, a, &first);
-    let seconds = steps(alloc, molecule, b, &second);
-    show_pairs(PairSign::Sides, bond, firsts.as_slice(), seconds.as_slice())
+    let near = drawn_end(molecule, &ends.near);
+    let far = drawn_end(molecule, &ends.far);
+    show_drawn_pairs(molecule, PairSign::Sides, &near, &far)
 }

@@ -1,21 +1,24 @@
 // What a drawing shows of a centre.
-ghost use Rattle.std.specs.Prelude.{◌≡◌, ◌≤◌, All, length};
+ghost use Rattle.std.specs.Prelude.{◌≡◌, ◌≤◌, All, length, map, if◌then◌else◌};
+ghost use Rattle.cip_mol.specs.FlatCentres.{in_plane};
 ghost use Rattle.cip_mol.specs.Geometry.{centre_geometry};
+ghost use Rattle.cip_mol.specs.Marks.{mark_to};
+ghost use Rattle.cip_mol.specs.Points.{flat_steps, is_spatial, point};
 ghost use Rattle.cip_mol.specs.Ranges.{IsPlace};
 ghost use Rattle.cip_mol.specs.Sites.{IsCentre};
 ghost use Rattle.cip_mol.specs.SpatialCentres.{in_space};
+ghost use Rattle.cip_orient.specs.DrawnEnds.{IsDrawnCentre};
 
 use crate::drawing::{flat_steps, point, points, step};
 use crate::drawn::drawn_of;
 use crate::flat_centre::show_in_plane;
 use crate::marks::{has_either, marks_to};
 use crate::pairs::shown_by;
-use cip_mol::{Cause, End, Geometry, Molecule};
+use cip_mol::{AtMostFour, Cause, End, Geometry, Molecule};
 use cip_num::{Vec3, volume};
-use std::alloc::Global;
 
 /// What is shown of a centre.
-pub(crate) fn show_centre(alloc: Global, molecule: &Molecule, centre: &End<'_>) -> Geometry
+pub(crate) fn show_centre(molecule: &Molecule, centre: &End<'_>) -> Geometry
     requires { IsCentre (length molecule.now.atoms) centre.now.at centre.now.ligands.now }
     ensures { result ≡ centre_geometry molecule.now centre.now.at centre.now.ligands.now }
 {
@@ -23,14 +26,40 @@ pub(crate) fn show_centre(alloc: Global, molecule: &Molecule, centre: &End<'_>) 
     if has_either(molecule, at) {
         return Geometry::Unknown(Cause::Either);
     }
-    let drawn = drawn_of(alloc, molecule, centre.ligands);
+    let drawn = drawn_of(molecule, centre.ligands);
+    show_drawn(molecule, at, &drawn)
+}
+
+// By the numbers of its drawn ligands.
+fn show_drawn(molecule: &Molecule, at: u32, drawn: &AtMostFour<u32>) -> Geometry
+    requires { IsDrawnCentre (length molecule.now.atoms) at drawn.now }
+    ensures { result ≡ (if is_spatial molecule.now.atoms
+        then in_space (point molecule.now.atoms at) (map (point molecule.now.atoms) drawn.now)
+        else in_plane (flat_steps molecule.now.atoms at drawn.now) (map (mark_to at molecule.now.bonds) drawn.now)) }
+{
     if molecule.is_spatial() {
-        let points = points(alloc, molecule, &drawn);
-        return show_in_space(point(molecule, at), points.as_slice());
+        show_by_points(molecule, at, drawn)
+    } else {
+        show_by_directions(molecule, at, drawn)
     }
-    let directions = flat_steps(alloc, molecule, at, &drawn);
-    let marks = marks_to(alloc, molecule, at, &drawn);
-    show_in_plane(alloc, directions.as_slice(), marks.as_slice())
+}
+
+fn show_by_points(molecule: &Molecule, at: u32, drawn: &AtMostFour<u32>) -> Geometry
+    requires { IsDrawnCentre (length molecule.now.atoms) at drawn.now }
+    ensures { result ≡ in_space (point molecule.now.atoms at) (map (point molecule.now.atoms) drawn.now) }
+{
+    let points = points(molecule, drawn);
+    show_in_space(point(molecule, at), points.as_slice())
+}
+
+fn show_by_directions(molecule: &Molecule, at: u32, drawn: &AtMostFour<u32>) -> Geometry
+    requires { IsDrawnCentre (length molecule.now.atoms) at drawn.now }
+    ensures { result
+        ≡ in_plane (flat_steps molecule.now.atoms at drawn.now) (map (mark_to at molecule.now.bonds) drawn.now) }
+{
+    let directions = flat_steps(molecule, at, drawn);
+    let marks = marks_to(molecule, at, drawn);
+    show_in_plane(directions.as_slice(), marks.as_slice())
 }
 
 fn show_in_space(centre: Vec3, points: &[Vec3]) -> Geometry

@@ -7,7 +7,6 @@ ghost use Rattle.cip_mol.specs.Ranges.{IsPlace};
 
 use cip_mol::{AtMostFour, Molecule};
 use cip_num::{Vec2, Vec3};
-use std::alloc::Global;
 
 /// Where an atom is drawn.
 pub(crate) fn point(molecule: &Molecule, atom: u32) -> Vec3
@@ -19,16 +18,12 @@ pub(crate) fn point(molecule: &Molecule, atom: u32) -> Vec3
 }
 
 /// Where atoms are drawn.
-pub(crate) fn points(
-    alloc: Global,
-    molecule: &Molecule,
-    numbers: &AtMostFour<u32>,
-) -> AtMostFour<Vec3>
+pub(crate) fn points(molecule: &Molecule, numbers: &AtMostFour<u32>) -> AtMostFour<Vec3>
     requires { All (λ number. number < length molecule.now.atoms) numbers.now }
     ensures value { result ≡ map (point molecule.now.atoms) numbers.now }
     ensures places { All IsPlace result }
 {
-    let mut points = AtMostFour::new(alloc);
+    let mut points = AtMostFour::new();
     for number in numbers.as_slice() {
         points.push(point(molecule, *number));
     }
@@ -60,18 +55,13 @@ pub(crate) fn step_between(molecule: &Molecule, from: u32, to: u32) -> Vec3
 }
 
 /// The steps from an atom to others.
-pub(crate) fn steps(
-    alloc: Global,
-    molecule: &Molecule,
-    from: u32,
-    numbers: &AtMostFour<u32>,
-) -> AtMostFour<Vec3>
+pub(crate) fn steps(molecule: &Molecule, from: u32, numbers: &AtMostFour<u32>) -> AtMostFour<Vec3>
     requires from { from < length molecule.now.atoms }
     requires within { All (λ number. number < length molecule.now.atoms) numbers.now }
     ensures value { result ≡ steps molecule.now.atoms from numbers.now }
     ensures small { All IsSmall3 result }
 {
-    let mut steps = AtMostFour::new(alloc);
+    let mut steps = AtMostFour::new();
     for number in numbers.as_slice() {
         steps.push(step_between(molecule, from, *number));
     }
@@ -80,7 +70,6 @@ pub(crate) fn steps(
 
 /// The steps from an atom to others in the plane.
 pub(crate) fn flat_steps(
-    alloc: Global,
     molecule: &Molecule,
     from: u32,
     numbers: &AtMostFour<u32>,
@@ -90,7 +79,7 @@ pub(crate) fn flat_steps(
     ensures value { result ≡ flat_steps molecule.now.atoms from numbers.now }
     ensures small { All IsSmall result }
 {
-    let mut steps = AtMostFour::new(alloc);
+    let mut steps = AtMostFour::new();
     for number in numbers.as_slice() {
         steps.push(flat_step_between(molecule, from, *number));
     }

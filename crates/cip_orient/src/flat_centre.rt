@@ -9,10 +9,9 @@ ghost use Rattle.cip_orient.specs.OrderedMarks.{by_order};
 use crate::marks::{has_mark, opposite};
 use cip_mol::{AtMostFour, Cause, Geometry, Sense};
 use cip_num::{Sign, Vec2, has_clash, place_of, side};
-use std::alloc::Global;
 
 /// What three or four ligands show, by their directions and marks.
-pub(crate) fn show_in_plane(alloc: Global, directions: &[Vec2], marks: &[Sign]) -> Geometry
+pub(crate) fn show_in_plane(directions: &[Vec2], marks: &[Sign]) -> Geometry
     requires small { All IsSmall directions.now }
     requires few { length directions.now ≤ 4 }
     requires some { 0 < length directions.now }
@@ -26,34 +25,42 @@ pub(crate) fn show_in_plane(alloc: Global, directions: &[Vec2], marks: &[Sign]) 
     if !has_mark(marks) {
         return Geometry::Unknown(Cause::NoMark);
     }
-    show_by_order(alloc, directions, marks)
+    show_by_order(directions, marks)
 }
 
 // By the marks in the counterclockwise order of the directions.
-fn show_by_order(alloc: Global, directions: &[Vec2], marks: &[Sign]) -> Geometry
+fn show_by_order(directions: &[Vec2], marks: &[Sign]) -> Geometry
     requires small { All IsSmall directions.now }
     requires few { length directions.now ≤ 4 }
     requires some { 0 < length directions.now }
     requires marks { length marks.now ≡ length directions.now }
     ensures { result ≡ by_order directions.now marks.now }
 {
-    let places = places(alloc, directions);
-    let reentrant = is_reentrant(directions, marks);
-    if directions.len() == 4 {
-        let votes = turned_by_place(alloc, places.as_slice(), marks);
-        return show_by_votes(reentrant, places.as_slice(), votes.as_slice());
+    let places = places(directions);
+    show_by_places(is_reentrant(directions, marks), places.as_slice(), marks)
+}
+
+// By the places of the directions in that order.
+fn show_by_places(reentrant: bool, places: &[usize], marks: &[Sign]) -> Geometry
+    requires few { length places.now ≤ 4 }
+    requires marks { length marks.now ≡ length places.now }
+    ensures { result ≡ by_votes reentrant places.now (votes places.now marks.now) }
+{
+    if places.len() != 4 {
+        return show_by_votes(reentrant, places, marks);
     }
-    show_by_votes(reentrant, places.as_slice(), marks)
+    let votes = turned_by_place(places, marks);
+    show_by_votes(reentrant, places, votes.as_slice())
 }
 
 // The places of directions in their counterclockwise order.
-fn places(alloc: Global, directions: &[Vec2]) -> AtMostFour<usize>
+fn places(directions: &[Vec2]) -> AtMostFour<usize>
     requires some { 0 < length directions.now }
     requires few { length directions.now ≤ 4 }
     requires small { All IsSmall directions.now }
     ensures { result ≡ places directions.now }
 {
-    let mut places = AtMostFour::new(alloc);
+    let mut places = AtMostFour::new();
     // The first is met first.
     places.push(0);
     for number in 1..directions.len() {
@@ -63,12 +70,12 @@ fn places(alloc: Global, directions: &[Vec2]) -> AtMostFour<usize>
 }
 
 // Each sign turned as often as its place says.
-fn turned_by_place(alloc: Global, places: &[usize], marks: &[Sign]) -> AtMostFour<Sign>
+fn turned_by_place(places: &[usize], marks: &[Sign]) -> AtMostFour<Sign>
     requires few { length places.now ≤ 4 }
     requires marks { length marks.now ≡ length places.now }
     ensures { result ≡ turned_by_place places.now marks.now }
 {
-    let mut votes = AtMostFour::new(alloc);
+    let mut votes = AtMostFour::new();
     for (number, place) in places.iter().enumerate() {
         votes.push(turned(*place, marks[number]));
     }

@@ -5,9 +5,12 @@ ghost use Rattle.cip_num.specs.Signs.{is_zero};
 ghost use Rattle.cip_num.specs.Space.{IsSmall3};
 ghost use Rattle.cip_mol.specs.Pairs.{are_two_alike, by_pairs, has_flat_pair, keeps_sign};
 ghost use Rattle.cip_mol.specs.Senses.{shown_by};
-ghost use Rattle.cip_orient.specs.PairSigns.{pair_sign};
+ghost use Rattle.cip_orient.specs.DrawnEnds.{IsDrawn};
+ghost use Rattle.cip_orient.specs.PairSigns.{by_drawn_pairs, pair_sign};
 
-use cip_mol::{Cause, Geometry, Sense};
+use crate::drawing::{step_between, steps};
+use crate::drawn::DrawnEnd;
+use cip_mol::{Cause, Geometry, Molecule, Sense};
 use cip_num::{Sign, Vec3, same_side, volume};
 
 /// The sign that is asked of a pair: at a bond on which sides its ligands lie, at an axis how they are twisted.
@@ -17,13 +20,25 @@ pub(crate) enum PairSign {
     Twist,
 }
 
-/// What the pairs show, by the step between the two ends.
-pub(crate) fn show_pairs(
+/// What the pairs of drawn ligands show.
+pub(crate) fn show_drawn_pairs(
+    molecule: &Molecule,
     sign: PairSign,
-    between: Vec3,
-    firsts: &[Vec3],
-    seconds: &[Vec3],
+    near: &DrawnEnd,
+    far: &DrawnEnd,
 ) -> Geometry
+    requires near { IsDrawn (length molecule.now.atoms) near.now }
+    requires far { IsDrawn (length molecule.now.atoms) far.now }
+    ensures { result ≡ by_drawn_pairs sign molecule.now.atoms near.now far.now }
+{
+    let between = step_between(molecule, near.at, far.at);
+    let firsts = steps(molecule, near.at, &near.ligands);
+    let seconds = steps(molecule, far.at, &far.ligands);
+    show_pairs(sign, between, firsts.as_slice(), seconds.as_slice())
+}
+
+// What the pairs show, by the step between the two ends.
+fn show_pairs(sign: PairSign, between: Vec3, firsts: &[Vec3], seconds: &[Vec3]) -> Geometry
     requires between { IsSmall3 between }
     requires firsts { All IsSmall3 firsts.now }
     requires seconds { All IsSmall3 seconds.now }

@@ -4,8 +4,8 @@ use crate::naming::UnitName;
 use cip_mol::{Outcome, ReadFault, Site};
 use cip_text::Listing;
 
-/// A stereogenic unit of a record by its name, with what is found of it. Ligands from the number `drawn` on are implicit
-/// hydrogens.
+/// A stereogenic unit of a record by its name, with what is found of it. Ligands from the number `drawn` on are
+/// implicit hydrogens.
 #[derive(Drop)]
 pub struct UnitAnswer {
     pub name: UnitName,

@@ -8,7 +8,7 @@ use Rattle.cip_rank.specs.View.{on_way, parent_list, children_seen}
 use Rattle.cip_rank.proofs.Way.{Above, to_above, from_above, start, above_le, closed, once}
 use Rattle.cip_rank.proofs.Times.{one_if, times, off, on, times_append, times_flat, times_flat_none, times_children, times_children_zero, times_kept, times_gone, times_root, times_parent, times_parent_none}
 
-root_above : (ps : List ℕ) → IsTree ps → (k n : ℕ) → n ≤ k → n < length ps → Above ps k n 0
+pub root_above : (ps : List ℕ) → IsTree ps → (k n : ℕ) → n ≤ k → n < length ps → Above ps k n 0
 root_above ps tree zero n le h = omega arith
 root_above ps tree (suc k) n le h = elim (cases_order 0 n) [
   | inl z ↦ inl (sym z)

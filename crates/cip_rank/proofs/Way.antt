@@ -1,6 +1,7 @@
 -- The nodes on the way from a node to the root.
 use Rattle.std.proofs.Common.{◌≡◌, ℕ, zero, suc, ◌<◌, ◌≤◌, ◌==◌, ◌&&◌, ◌||◌, not, Bool, true, false, List, length, slice_index, get_or, set, replicate, refl, sym, ap, ◌∙◌, arith, ◌⊎◌, inl, inr, eq-eqb, get_or-set_same, get_or-set_other}
 use Rattle.std.proofs.lemmas.Bool.{eqb-true, eqb-false, ne_eqb, or_cases, and_parts, and_from, and_left, or_left, or_right, not-true, not_from_false, not_from_true, cases_Bool, cases_order, cases_eq}
+use Rattle.std.proofs.Math.Bool.{or-false}
 use Rattle.cip_rank.specs.Tree.{IsTree}
 use Rattle.cip_rank.specs.View.{is_above}
 
@@ -9,7 +10,7 @@ abbrev pub Above : List ℕ → ℕ → ℕ → ℕ → Type 0
 Above ps zero n x = n ≡ x
 Above ps (suc k) n x = (n ≡ x) ⊎ ((0 < n) × Above ps k (slice_index ps n) x)
 
-positive : (n : ℕ) → (n ≡ 0 → ⊥) → 0 < n
+pub positive : (n : ℕ) → (n ≡ 0 → ⊥) → 0 < n
 positive zero h = absurd (h refl)
 positive (suc n) h = omega arith
 
@@ -32,10 +33,6 @@ from_above ps (suc k) n x (inr up) =
 pub start : (ps : List ℕ) (k n x : ℕ) → n ≡ x → Above ps k n x
 start ps zero n x e = e
 start ps (suc k) n x e = inl e
-
-or_none : (b : Bool) → (b || false) ≡ b
-or_none true = refl
-or_none false = refl
 
 module _ (ps : List ℕ) (tree : IsTree ps) where
   pub above_le : (k n x : ℕ) → n < length ps → Above ps k n x → x ≤ n
@@ -81,8 +78,8 @@ module _ (ps : List ℕ) (tree : IsTree ps) where
     where
       at_root : (j n x : ℕ) → n ≡ 0 → (n == x) ≡ is_above ps j n x
       at_root zero n x e = refl
-      at_root (suc j) n x e = sym (ap (λ b. (n == x) || b) (and_left _ _ (not_from_true (n == 0) (eq-eqb n 0 e))) ∙ or_none (n == x))
-  fuel_free (suc k) zero n x a b h = ap (λ b. (n == x) || b) (and_left _ _ (not_from_true (n == 0) (eq-eqb n 0 (omega arith)))) ∙ or_none (n == x)
+      at_root (suc j) n x e = sym (ap (λ b. (n == x) || b) (and_left _ _ (not_from_true (n == 0) (eq-eqb n 0 e))) ∙ or-false (n == x))
+  fuel_free (suc k) zero n x a b h = ap (λ b. (n == x) || b) (and_left _ _ (not_from_true (n == 0) (eq-eqb n 0 (omega arith)))) ∙ or-false (n == x)
   fuel_free (suc k) (suc j) n x a b h = elim (cases_order 0 n) [
     | inl z ↦
         let none : not (n == 0) ≡ false = not_from_true (n == 0) (eq-eqb n 0 (sym z)) in
@@ -126,7 +123,7 @@ mark_last ps marks zero x e h = elim (cases_eq x 0) [
       ∙ sym (ap (λ b. get_or marks x false || b) (eq-eqb 0 x (sym z)) ∙ any_true (get_or marks x false))
   | inr ne ↦
       get_or-set_other marks 0 x true false ne
-      ∙ sym (ap (λ b. get_or marks x false || b) (ne_eqb 0 x (λ e. ne (sym e))) ∙ or_none (get_or marks x false))
+      ∙ sym (ap (λ b. get_or marks x false || b) (ne_eqb 0 x (λ e. ne (sym e))) ∙ or-false (get_or marks x false))
 ]
   where
     any_true : (m : Bool) → (m || true) ≡ true

@@ -1,12 +1,12 @@
 -- No line is refused as Short: that is told of lines that are missing alone.
-use Rattle.std.proofs.Common.{◌≡◌, ◌≢◌, ℤ, Result, Ok, Err, Option, Some, None, Bool, true, false, ap}
+use Rattle.std.proofs.Common.{◌≡◌, ◌≢◌, ℤ, Result, Ok, Err, Option, Some, None, Bool, true, false, ap, arith}
 use Rattle.std.specs.Option.{ok_or}
 use Rattle.cip_text.specs.declared.numbers.NumberFault.{NumberFault}
 use Rattle.cip_mol.specs.declared.faults.BondCause.{BondCause}
-use Rattle.cip_mol.specs.declared.faults.BondCause.TheVariants as faults
 use Rattle.cip_mol.specs.declared.molecule.Bond.{Bond}
 use Rattle.cip_mol.specs.declared.refusal.ReadCause.{ReadCause}
 use Rattle.cip_mol.specs.declared.refusal.ReadCause.TheVariants.{Short}
+use Rattle.cip_mol.specs.Causes.{read_cause}
 use Rattle.cip_reading.specs.Causes.{coordinate, guard, unless_refused}
 use Rattle.cip_reading.specs.Reading.{◌>>=◌}
 
@@ -37,9 +37,10 @@ pub guard_is : (cause : ReadCause) → cause ≢ Short → (test : Bool) → IsO
 guard_is cause other true = given_is tt
 guard_is cause other false = cause_is cause other
 
+-- a bond is refused by a cause of its own
+bond_cause : (cause : BondCause) → read_cause cause ≢ Short
+bond_cause cause e = grind (arith, e)
+
 pub unless_refused_is : (bond : Bond) (cause : Option BondCause) → IsOfLine (unless_refused bond cause)
 unless_refused_is bond None = given_is bond
-unless_refused_is bond (Some faults.EndOutOfRange) = record { never = λ e. absurd cc }
-unless_refused_is bond (Some faults.Loop) = record { never = λ e. absurd cc }
-unless_refused_is bond (Some faults.Doubled) = record { never = λ e. absurd cc }
-unless_refused_is bond (Some faults.Degree) = record { never = λ e. absurd cc }
+unless_refused_is bond (Some cause) = cause_is (read_cause cause) (bond_cause cause)

@@ -32,10 +32,10 @@ digits_behind front (b ∷ c ∷ cs) h some =
 pub some_length : (bs : List ℕ) → (suc (length bs) == 0) ≡ false
 some_length bs = grind (arith, nat_tests)
 
-not_negative : (b : ℕ) (bs : List ℕ) → is_digit b ≡ true → is_negative (b ∷ bs) ≡ false
+pub not_negative : (b : ℕ) (bs : List ℕ) → is_digit b ≡ true → is_negative (b ∷ bs) ≡ false
 not_negative b bs h = and_right (nat_lt 0 (suc (length bs))) (b == 45) (grind (arith, nat_tests))
 
-no_sign : (b : ℕ) (bs : List ℕ) → is_digit b ≡ true → without_sign (b ∷ bs) ≡ b ∷ bs
+pub no_sign : (b : ℕ) (bs : List ℕ) → is_digit b ≡ true → without_sign (b ∷ bs) ≡ b ∷ bs
 no_sign b bs h =
     rw (
       not_negative b bs h,
@@ -43,7 +43,7 @@ no_sign b bs h =
           (let e : (b == 43) ≡ false = grind (arith, nat_tests) in e),
     ) refl
 
-positive : (most n : ℕ) → n ≤ most → signed most false (Some n) ≡ Ok (pos n)
+pub positive : (most n : ℕ) → n ≤ most → signed most false (Some n) ≡ Ok (pos n)
 positive most n few = rw (le-leb n most few) refl
 
 whole_is : (text : List ℕ) (n : ℕ) → Spells text n → whole text ≡ Some n

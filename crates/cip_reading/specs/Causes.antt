@@ -3,12 +3,12 @@ use Rattle.std.specs.Prelude.{◌≡◌, ℕ, ℤ, ◌==◌, Bool, Some, None, R
 use Rattle.std.specs.declared.option.Option.{Option}
 use Rattle.cip_text.specs.declared.numbers.NumberFault.{NumberFault}
 use Rattle.cip_mol.specs.Bonds.{cause_of}
+use Rattle.cip_mol.specs.Causes.{read_cause}
 use Rattle.cip_mol.specs.Connections.{Connections}
 use Rattle.cip_mol.specs.declared.molecule.Bond.{Bond}
 use Rattle.cip_mol.specs.declared.faults.BondCause.{BondCause}
-use Rattle.cip_mol.specs.declared.faults.BondCause.TheVariants as faults
 use Rattle.cip_mol.specs.declared.refusal.ReadCause.{ReadCause}
-use Rattle.cip_mol.specs.declared.refusal.ReadCause.TheVariants.{Coordinate, BondEnd, BondLoop, BondDoubled, Degree}
+use Rattle.cip_mol.specs.declared.refusal.ReadCause.TheVariants.{Coordinate}
 
 abbrev pub guard : ReadCause → Bool → Result (Unit {0}) ReadCause
 guard cause test = if test then Ok tt else Err cause
@@ -21,12 +21,6 @@ coordinate (Err _) = Err Coordinate
 abbrev pub order_of : Option ℕ → Option ℕ
 order_of None = None
 order_of (Some code) = if code == 0 then None else Some code
-
-abbrev pub read_cause : BondCause → ReadCause
-read_cause faults.EndOutOfRange = BondEnd
-read_cause faults.Loop = BondLoop
-read_cause faults.Doubled = BondDoubled
-read_cause faults.Degree = Degree
 
 abbrev pub unless_refused : Bond → Option BondCause → Result Bond ReadCause
 unless_refused bond None = Ok bond

@@ -3,9 +3,9 @@ ghost use Rattle.std.specs.Prelude.{◌≡◌, ◌≤◌, unsigned_abs, IfOk, If
 ghost use Rattle.cip_text.specs.Numbers.{decimal4_of};
 ghost use Rattle.cip_mol.specs.Bonds.{cause_of};
 ghost use Rattle.cip_mol.specs.Ranges.{IsBond};
-ghost use Rattle.cip_reading.specs.Causes.{coordinate, order_of, read_cause, unless_refused, IsFree};
+ghost use Rattle.cip_reading.specs.Causes.{coordinate, order_of, unless_refused, IsFree};
 
-use cip_mol::{Bond, BondCause, BondList, ReadCause};
+use cip_mol::{Bond, BondList, ReadCause};
 use cip_text::decimal4;
 
 /// The coordinate in a field or word, in ten-thousandths of an ångström.
@@ -41,17 +41,6 @@ pub fn checked(before: &BondList, bond: Bond) -> Result<Bond, ReadCause>
 {
     match before.cause_at(&bond) {
         None => Ok(bond),
-        Some(cause) => Err(read_cause(cause)),
-    }
-}
-
-fn read_cause(cause: BondCause) -> ReadCause
-    ensures { result ≡ read_cause cause }
-{
-    match cause {
-        BondCause::EndOutOfRange => ReadCause::BondEnd,
-        BondCause::Loop => ReadCause::BondLoop,
-        BondCause::Doubled => ReadCause::BondDoubled,
-        BondCause::Degree => ReadCause::Degree,
+        Some(cause) => Err(ReadCause::of_bond(cause)),
     }
 }

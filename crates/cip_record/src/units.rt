@@ -75,7 +75,7 @@ fn label_each<D: Digraphs, L: Ledger>(
         let outcome = outcome_of(alloc, labeller, setting, place as u32, images, steps)?;
         answers.push(UnitAnswer {
             name: name_of(&unit.site),
-            site: unit.site.copy(alloc),
+            site: unit.site.copy(),
             drawn: setting.graph().drawn(),
             outcome,
         })?;

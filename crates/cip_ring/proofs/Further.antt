@@ -7,6 +7,7 @@ use Rattle.std.proofs.lemmas.List.{append-nil, flat_map_more, get_or_append_left
 use Rattle.cip_digraph.specs.rings.Alternating.{is_in}
 use Rattle.cip_digraph.specs.graph.Graph.{Graph}
 use Rattle.cip_digraph.specs.rings.SmallRings.{neighbours_aside, with_new, within_steps}
+use Rattle.cip_digraph.proofs.ways.Reached.{new_keeps}
 use Rattle.cip_ring.specs.Steps.{next_within, NothingNew, within}
 
 pub in_parts : (vertices xs ys : List ℕ) → with_new vertices (xs ++ ys) ≡ with_new (with_new vertices xs) ys
@@ -55,9 +56,6 @@ in_end : (x : ℕ) (xs : List ℕ) → is_in x (xs ++ x ∷ []) ≡ true
 in_end x [] = or_left (x == x) false (eq-eqb x x refl)
 in_end x (z ∷ xs) = or_right (z == x) _ (in_end x xs)
 
-keeps : (x : ℕ) (vertices xs : List ℕ) → is_in x vertices ≡ true → is_in x (with_new vertices xs) ≡ true
-keeps x vertices xs e = let more = extends vertices xs in ap (is_in x) more.is ∙ in_left x vertices more.added e
-
 added_in : (x : ℕ) (vertices : List ℕ) (b : Bool) → is_in x vertices ≡ b
     → is_in x (cond b vertices (vertices ++ x ∷ [])) ≡ true
 added_in x vertices true e = e
@@ -67,7 +65,7 @@ all_in : (vertices xs : List ℕ) → AllByRecursion (λ x. is_in x (with_new ve
 all_in vertices [] = tt
 all_in vertices (x ∷ xs) =
     let more = cond (is_in x vertices) vertices (vertices ++ x ∷ []) in
-    (keeps x more xs (added_in x vertices (is_in x vertices) refl), all_in more xs)
+    (new_keeps x more xs (added_in x vertices (is_in x vertices) refl), all_in more xs)
 
 none_new : (vertices xs : List ℕ) → AllByRecursion (λ x. is_in x vertices ≡ true) xs → with_new vertices xs ≡ vertices
 none_new vertices [] all = refl

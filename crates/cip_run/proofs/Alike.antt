@@ -33,8 +33,8 @@ pub record Ended (due_status : ℕ) (text : List ℕ) (status : ℕ) (old new : 
   pub told : status ≡ due_status
   pub written : Appends old.bytes new.bytes text
 
-alike : (due_status : ℕ) (text : List ℕ) (one other : ℕ) (old new before now : Stream) → Ended due_status text one old new
-    → Ended due_status text other before now → EndAlike one other old new before now
+alike : (due_status : ℕ) (text : List ℕ) (one other : ℕ) (old new before now : Stream)
+    → Ended due_status text one old new → Ended due_status text other before now → EndAlike one other old new before now
 alike due_status text one other old new before now first second =
     record { text = text; same = first.told ∙ sym second.told; first = first.written; second = second.written }
 
@@ -46,8 +46,8 @@ grown fact flagged text status old new is grew =
 -- by command
 
 -- where a run is done over these bytes, what is due was written, and this holds of what the records add
-pub all_added : (manner : Manner Note) (limits : Limits) (P : Verdict Note → Type 0) (bytes : List ℕ) (old new : Streams)
-    → old.source.bytes ≡ Some bytes → IsDone manner limits P old new
+pub all_added : (manner : Manner Note) (limits : Limits) (P : Verdict Note → Type 0) (bytes : List ℕ)
+    (old new : Streams) → old.source.bytes ≡ Some bytes → IsDone manner limits P old new
     → Grew (AllAdd manner limits P bytes) (due manner limits bytes) old.sink.bytes new.sink.bytes
 all_added manner limits P bytes old new over done =
     subst (λ left. IfSome left (λ bytes. Grew (AllAdd manner limits P bytes) (due manner limits bytes)
@@ -89,7 +89,8 @@ ends task manner limits bytes ending status old new over is done =
     let grew = all_added manner limits (EndsSo task ending) bytes old new over done in
     record { told = is ∙ ap status_of (sym grew.holds.holds); written = grew.written }
 
-missed_status : (found : Option Missed) (flagged : Bool) → IsSome found → status_of (ending_by found flagged) ≡ NOT_CHANGED
+missed_status : (found : Option Missed) (flagged : Bool) → IsSome found
+    → status_of (ending_by found flagged) ≡ NOT_CHANGED
 missed_status None flagged some = absurd (cc)
 missed_status (Some what) flagged some = refl
 
@@ -117,7 +118,8 @@ changes task manner limits bytes status old new meant over end =
     (λ is. misses task manner limits bytes status old new over is (meant.not_changed is)) end refl
 
 trying : (answers : List Answer) (status : ℕ) (old new : Stream) → MeansOfTrying answers status old new
-    → Contains (DONE ∷ FLAGGED ∷ NOT_CHANGED ∷ []) status → Ended (status_by (some_flagged answers)) (summary answers) status old new
+    → Contains (DONE ∷ FLAGGED ∷ NOT_CHANGED ∷ []) status → Ended (status_by (some_flagged answers))
+    (summary answers) status old new
 trying answers status old new meant end =
     by_end (λ s. status ≡ s → Ended (status_by (some_flagged answers)) (summary answers) status old new) status
     (λ is. grown (some_flagged answers) false (summary answers) status old new is (meant.done is))
@@ -135,14 +137,15 @@ making start records status old new meant end =
     (λ is. absurd (by_making (λ s. s ≡ NOT_CHANGED → ⊥) status (λ e. omega (arith, e)) (λ e. omega (arith, e))
     (λ e. omega (arith, e)) meant.comes is)) end refl
 
-helping : (status : ℕ) (old new : Stream) → MeansOfHelp status old new → Contains (DONE ∷ FLAGGED ∷ NOT_CHANGED ∷ []) status
-    → Ended DONE help status old new
+helping : (status : ℕ) (old new : Stream) → MeansOfHelp status old new
+    → Contains (DONE ∷ FLAGGED ∷ NOT_CHANGED ∷ []) status → Ended DONE help status old new
 helping status old new meant end =
     by_end (λ s. status ≡ s → Ended DONE help status old new) status
     (λ is. record { told = is; written = meant.done is })
     (λ is. absurd (by_helping (λ s. s ≡ FLAGGED → ⊥) status (λ e. omega (arith, e)) (λ e. omega (arith, e)) meant.comes
     is))
-    (λ is. absurd (by_helping (λ s. s ≡ NOT_CHANGED → ⊥) status (λ e. omega (arith, e)) (λ e. omega (arith, e)) meant.comes
+    (λ is. absurd (by_helping (λ s. s ≡ NOT_CHANGED → ⊥) status (λ e. omega (arith, e))
+    (λ e. omega (arith, e)) meant.comes
     is)) end refl
 
 pub workers_alike : WorkersChangeNothing

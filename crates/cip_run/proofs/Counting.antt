@@ -1,6 +1,5 @@
 -- Answers to made records, counted batch by batch.
-use Rattle.std.proofs.Common.{◌≡◌, ℕ, List, [], ◌∷◌, ◌++◌, Bool, ◌||◌, sym, ap, ◌∙◌, append_assoc, append-nil, arith, drop, fold, length, map, take}
-use Rattle.std.proofs.lemmas.List.{length-append, length-take-le}
+use Rattle.std.proofs.Common.{◌≡◌, ℕ, List, [], ◌∷◌, ◌++◌, Bool, ◌||◌, sym, ap, ◌∙◌, append_assoc, append-nil, fold, map}
 use Rattle.std.proofs.Math.Bool.{or-false}
 use Rattle.std.proofs.lemmas.List.Folds.{list_any-append}
 use Rattle.std.proofs.lemmas.List.Sums.{fold-append}
@@ -36,10 +35,3 @@ pub batch_counted : (before answers all : List Answer) (jobs : List Numbered) (c
 batch_counted before answers all jobs count now so_far added found whole =
     added ∙ ap (λ c. fold with_one c answers) so_far ∙ with_more before answers
     ∙ ap (λ more. counted (before ++ more)) found ∙ ap counted whole
-
--- a list that is handed down as a slice is as long as before
-pub as_many : {A : Type 0} (len count : ℕ) (now before : List A) → len ≡ count → length before ≡ count
-    → length now ≡ length before → length (take len (now ++ drop (length now) before)) ≡ count
-as_many len count now before is many same =
-    length-take-le len (now ++ drop (length now) before)
-    (omega (arith, length-append now (drop (length now) before), is, many, same)) ∙ is

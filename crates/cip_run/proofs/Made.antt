@@ -46,7 +46,8 @@ stopped_by A B start before records stops.ReadFault old middle new within writte
 stopped_by A B start before records stops.Limit old middle new within written writes = absurd writes
 
 pub stopped : {A B : Type 0} (start before records : ℕ) (first : Result A Stop) (result : Result B Stop)
-    (one stop : Stop) (old middle new : Option (List ℕ)) → before < records → Appends old middle (made_text start before)
+    (one stop : Stop) (old middle new : Option (List ℕ)) → before < records
+    → Appends old middle (made_text start before)
     → Writes (made start (before + 1)) first middle new → first ≡ Err one → result ≡ Err stop → stop ≡ one
     → Makes start records result old new
 stopped {A} {B} start before records first result one stop old middle new within written writes is was same =

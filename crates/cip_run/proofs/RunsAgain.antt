@@ -19,8 +19,8 @@ grown_to : (old new : Option (List ℕ)) (text more : List ℕ) → old ≡ Some
     → text ≡ more
 grown_to old new text more e f h = rw (e, f) at h
 
-again_alike : (manner : Manner Note) (limits : Limits) (bytes text : List ℕ) (one other : ℕ) (old new before now : Stream)
-    → text ≡ due manner limits bytes → due manner limits text ≡ text
+again_alike : (manner : Manner Note) (limits : Limits) (bytes text : List ℕ) (one other : ℕ)
+    (old new before now : Stream) → text ≡ due manner limits bytes → due manner limits text ≡ text
     → are_flagged manner (answered limits text) ≡ are_flagged manner (answered limits bytes)
     → Ended (status_by (are_flagged manner (answered limits bytes))) (due manner limits bytes) one old new
     → Ended (status_by (are_flagged manner (answered limits text))) (due manner limits text) other before now

@@ -3,6 +3,7 @@ use Rattle.std.proofs.Common.{◌≡◌, ◌+◌, ◌++◌, ◌&&◌, ◌||◌, 
 use Rattle.std.specs.List.{AllByRecursion, concat, list_all}
 use Rattle.std.proofs.lemmas.List.{map-append}
 use Rattle.std.proofs.lemmas.List.Folds.{list_all-append, concat-append}
+use Rattle.std.proofs.Math.Bool.{and-false}
 use Rattle.cip_text.specs.Bodies.{body_lines, body_contents, closing, closing_lines}
 use Rattle.cip_text.specs.Kinds.{is_blank}
 use Rattle.cip_text.specs.Lines.{lines_of, content_of}
@@ -37,7 +38,8 @@ module _ (rules : Rules) (nodes : ℕ) where
   bare bytes = without_label_items bytes
 
   made_again : (bytes : List ℕ) → IsMade (all_lines (bare bytes) (values bytes)) (bare bytes) (again bytes)
-  made_again bytes = subst (IsMade (all_lines (bare bytes) (values bytes)) (bare bytes)) (sym (text_is rules nodes bytes))
+  made_again bytes = subst (IsMade (all_lines (bare bytes) (values bytes)) (bare bytes))
+      (sym (text_is rules nodes bytes))
       (made_with_item (bare bytes) (values bytes) (values_are_fit nodes rules (answer_by rules nodes bytes)))
 
   -- a record keeps its closing
@@ -55,14 +57,10 @@ module _ (rules : Rules) (nodes : ℕ) where
   unfolding heading
   heading_stands = refl
 
-  and_none : (a : Bool) → (a && false) ≡ false
-  and_none true = refl
-  and_none false = refl
-
   filled_behind : (before behind : List (List ℕ)) → list_all is_blank behind ≡ false
       → list_all is_blank (before ++ behind) ≡ false
   filled_behind before behind h = list_all-append is_blank before behind
-      ∙ ap (λ b. list_all is_blank before && b) h ∙ and_none (list_all is_blank before)
+      ∙ ap (λ b. list_all is_blank before && b) h ∙ and-false (list_all is_blank before)
 
   none_and : (before behind : List (List ℕ)) → list_all is_blank before ≡ false
       → list_all is_blank (before ++ behind) ≡ false
@@ -195,7 +193,8 @@ module _ (rules : Rules) (nodes : ℕ) where
 
 pub streams_repeat : StreamsRepeat
 streams_repeat rules nodes limits bytes within text_within says =
-    let is : due (annotating rules nodes) limits bytes ≡ text_of rules nodes bytes = due_is rules nodes limits bytes within in
+    let is : due (annotating rules nodes) limits bytes ≡ text_of rules nodes bytes =
+    due_is rules nodes limits bytes within in
     let repeats = stream_repeats rules nodes limits bytes within
     (sym (ap (limit_place limits) is) ∙ text_within) says in
     record {

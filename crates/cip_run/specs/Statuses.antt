@@ -59,7 +59,8 @@ pub record AllAdd (manner : Manner Note) (limits : Limits) (P : Verdict Note →
 
 -- the whole source was taken, no limit is passed, and the sink grew by the text that is due; this holds of what the
 -- records add
-pub record IsDone (manner : Manner Note) (limits : Limits) (P : Verdict Note → Type 0) (old new : Streams) : Type 0 where
+pub record IsDone (manner : Manner Note) (limits : Limits) (P : Verdict Note → Type 0)
+    (old new : Streams) : Type 0 where
   pub end : IsAtEnd new.source.bytes
   pub written : IfSome old.source.bytes
       (λ bytes. Grew (AllAdd manner limits P bytes) (due manner limits bytes) old.sink.bytes new.sink.bytes)

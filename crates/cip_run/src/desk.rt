@@ -19,8 +19,8 @@ use std::alloc::{AllocError, Global};
 use std::marker::Model;
 use std::mem;
 
-/// Memory in which records are labelled, one after the other. It changes no answer. Contracts see the bound on the nodes
-/// of a digraph.
+/// Memory in which records are labelled, one after the other. It changes no answer. Contracts see the bound on the
+/// nodes of a digraph.
 #[derive(Drop)]
 pub struct Desk {
     nodes: u32,
@@ -137,7 +137,26 @@ impl Desk {
         ensures kept { self.new ≡ self.old }
     {
         let bare = without_label_items(alloc, bytes)?;
-        let lines = RecordLines::new(alloc, &bare)?;
-        self.label(alloc, &lines, rules)
+        let answer = self.answer_bare(alloc, &bare, rules);
+        // given back by a call of its own, which is quicker to prove than an end that owns it
+        drop(bare);
+        answer
+    }
+
+    // The answer to a record without label items.
+    fn answer_bare(
+        &mut self,
+        alloc: Global,
+        bytes: &[u8],
+        rules: Rules,
+    ) -> Result<Answer, AllocError>
+        requires few { length bytes.now < 2 ^ 32 - 1 }
+        ensures answer { IfOk result (λ answer. answer ≡ answer_without_items rules self.old bytes.now) }
+        ensures kept { self.new ≡ self.old }
+    {
+        let lines = RecordLines::new(alloc, bytes)?;
+        let answer = self.label(alloc, &lines, rules);
+        drop(lines);
+        answer
     }
 }

@@ -32,10 +32,13 @@ impl Job for Numbered {
 
     #[tactic(auto, unfolding(crate::specs::Trying::made_answer))]
     fn work(&self, desk: &mut Desk) -> Result<Answer, AllocError> {
-        let bytes = record(self.alloc, self.trial.series.start, self.number)?;
         // A desk of `new_clerks` fits already, and nothing is taken; but the contract allows any desk.
         desk.fit(self.alloc, self.trial.labelling.nodes)?;
-        desk.answer(self.alloc, &bytes, self.trial.labelling.rules)
+        let bytes = record(self.alloc, self.trial.series.start, self.number)?;
+        let answer = desk.answer(self.alloc, &bytes, self.trial.labelling.rules);
+        // given back by a call of its own, which is quicker to prove than an end that owns them
+        drop(bytes);
+        answer
     }
 }
 
@@ -92,6 +95,7 @@ impl Count {
     }
 }
 
+// Counts the outcomes of all records.
 fn count_made<R: Threads + Sync, G: Gate + Sync>(
     crew: &Crew<'_, R, G>,
     trial: &Trial,
@@ -100,19 +104,56 @@ fn count_made<R: Threads + Sync, G: Gate + Sync>(
         ≡ counted (answers_to trial.now.series trial.now.labelling trial.now.series.records)) }
 {
     let mut clerks = new_clerks(crew.alloc, trial.labelling.nodes, crew.workers)?;
+    let count = count_batches(crew, trial, &mut clerks);
+    // given back by a call of its own, which is quicker to prove than this function's end
+    drop(clerks);
+    count
+}
+
+// The same by clerks that are there.
+fn count_batches<R: Threads + Sync, G: Gate + Sync>(
+    crew: &Crew<'_, R, G>,
+    trial: &Trial,
+    clerks: &mut [Worker<Desk, Answer>],
+) -> Result<Count, AllocError>
+    requires { length clerks.old ≡ crew.now.workers }
+    ensures { IfOk result (λ count. count
+        ≡ counted (answers_to trial.now.series trial.now.labelling trial.now.series.records)) }
+{
     let mut count = Count {
         tally: Tally::new(),
         flagged: false,
     };
-    let records = trial.series.records;
     let mut done = 0;
-    while done < records {
-        let jobs = next_jobs(crew.alloc, trial, done, crew.workers)?;
-        let answers = map_batch(crew.rt, crew.alloc, &jobs, &mut clerks, crew.gate)?;
-        count.add_all(&answers);
-        done += jobs.len() as u32;
+    while done < trial.series.records {
+        done += count_batch(crew, trial, done, clerks, &mut count)?;
     }
     Ok(count)
+}
+
+// Counts the outcomes of a batch behind the first so many records. Says how many records it has.
+fn count_batch<R: Threads + Sync, G: Gate + Sync>(
+    crew: &Crew<'_, R, G>,
+    trial: &Trial,
+    done: u32,
+    clerks: &mut [Worker<Desk, Answer>],
+    count: &mut Count,
+) -> Result<u32, AllocError>
+    requires within { done < trial.now.series.records }
+    requires clerks { length clerks.old ≡ crew.now.workers }
+    requires so_far { count.old ≡ counted (answers_to trial.now.series trial.now.labelling done) }
+    requires records { count.old.counts.records ≡ done }
+    ensures counted { IfOk result (λ more. count.new
+        ≡ counted (answers_to trial.now.series trial.now.labelling (done + more))) }
+    ensures records { IfOk result (λ more. count.new.counts.records ≡ done + more) }
+    ensures some { IfOk result (λ more. 0 < more) }
+    ensures within { IfOk result (λ more. done + more ≤ trial.now.series.records) }
+    ensures clerks { length clerks.new ≡ length clerks.old }
+{
+    let jobs = next_jobs(crew.alloc, trial, done, crew.workers)?;
+    let answers = map_batch(crew.rt, crew.alloc, &jobs, clerks, crew.gate)?;
+    count.add_all(&answers);
+    Ok(jobs.len() as u32)
 }
 
 // So many workers, each with a desk of its own.
@@ -146,6 +187,7 @@ fn next_jobs(
         ≡ answers_to trial.now.series trial.now.labelling (done + length jobs.items)) }
     ensures some { IfOk result (λ jobs. 0 < length jobs.items) }
     ensures within { IfOk result (λ jobs. done + length jobs.items ≤ trial.now.series.records) }
+    ensures few { IfOk result (λ jobs. done + length jobs.items ≤ 100000) }
 {
     let end = trial
         .series

@@ -14,6 +14,7 @@ use Rattle.cip_mol.specs.Geometry.{geometry_of}
 use Rattle.cip_mol.specs.declared.outcome.Outcome.{Outcome}
 use Rattle.cip_mol.specs.declared.site.Site.{Site}
 use Rattle.cip_mol.specs.declared.site.Unit as units
+use Rattle.cip_mol.proofs.ReflectedDrawing.{list_any-map}
 use Rattle.cip_digraph.specs.graph.DrawnGraph.{graph_of}
 use Rattle.cip_digraph.specs.graph.Graph.{Graph}
 use Rattle.cip_digraph.specs.rings.Positions.{positions_of}
@@ -25,7 +26,7 @@ use Rattle.cip_digraph.specs.units.DoubleBonds.{bond_site, bond_sites, is_bond_u
 use Rattle.cip_digraph.specs.units.Units.{centre_site, sites_of}
 use Rattle.cip_label.specs.Settings.{outcome_in, setting_in}
 use Rattle.cip_rank.specs.declared.rules.Rules.{Rules}
-use Rattle.cip_digraph.proofs.lists.Elements.{all_append, all_mapped}
+use Rattle.cip_digraph.proofs.lists.Elements.{all_append, all_mapped, all_flat_each}
 use Rattle.cip_digraph.specs.units.DrawnUnits.{units_in}
 use Rattle.cip_set.specs.FoundCentres.{shown_at, found_at, is_centre_at, is_centre_site}
 use Rattle.cip_set.specs.Marking.{has_centre}
@@ -52,11 +53,6 @@ any_within : {X : Type 0} (test : X → Bool) (xs : List X) → list_any test xs
 any_within test xs some =
     subst (λ n. n < length xs)
     (is_position_or_len (first_place test) test refl (λ x rest. refl) xs) (place_within test xs some)
-
-any_mapped : {X Y : Type 0} (test : Y → Bool) (f : X → Y) (xs : List X)
-    → list_any test (map f xs) ≡ list_any (λ x. test (f x)) xs
-any_mapped test f [] = refl
-any_mapped test f (x ∷ xs) = ap (λ b. test (f x) || b) (any_mapped test f xs)
 
 in_kept : (atom : ℕ) (test : ℕ → Bool) → test atom ≡ true → (numbers : List ℕ)
     → list_any (λ n. n == atom) numbers ≡ true → list_any (λ n. n == atom) (filter test numbers) ≡ true
@@ -101,11 +97,6 @@ kept_all {X} test Q P f (x ∷ xs) all = by (test x) refl (kept_all test Q P f x
     by true e rest = (f x all.0 e, rest)
     by false e rest = rest
 
-all_none : {X Y : Type 0} (P : Y → Type 0) (f : X → List Y) → ((x : X) → AllByRecursion P (f x)) → (xs : List X)
-    → AllByRecursion P (flat_map f xs)
-all_none P f h [] = tt
-all_none P f h (x ∷ xs) = all_append P (f x) (flat_map f xs) (h x) (all_none P f h xs)
-
 module _ (graph : Graph) (positions : List (List ℕ)) (atom : ℕ) where
   abbrev stands : Bool
   stands = nat_lt atom graph.drawn && is_centre graph atom
@@ -133,7 +124,7 @@ module _ (graph : Graph) (positions : List (List ℕ)) (atom : ℕ) where
 
   axes_told : (a : ℕ) → AllByRecursion IsTold (axis_sites graph a)
   axes_told a =
-      all_none IsTold
+      all_flat_each IsTold
       (λ middle. map (axis_site graph a middle) (filter (is_axis_unit graph a middle) (doubles graph middle)))
       (λ middle. by middle (filter (is_axis_unit graph a middle) (doubles graph middle))) (doubles graph a)
     where
@@ -152,8 +143,8 @@ module _ (graph : Graph) (positions : List (List ℕ)) (atom : ℕ) where
       (all_mapped IsTold (centre_site graph) (filter (is_centre graph) atoms)
       (kept_all (is_centre graph) (λ n. nat_lt n graph.drawn ≡ true) (λ v. IsTold (centre_site graph v)) centre_told
       atoms (range_below graph.drawn 0 graph.drawn (omega arith))))
-      (all_none IsTold (bond_sites graph positions) bonds_told atoms))
-      (all_none IsTold (axis_sites graph) axes_told atoms)
+      (all_flat_each IsTold (bond_sites graph positions) bonds_told atoms))
+      (all_flat_each IsTold (axis_sites graph) axes_told atoms)
 
   or_left : (a b : Bool) → a ≡ true → (a || b) ≡ true
   or_left a b e = ap (λ c. c || b) e
@@ -171,7 +162,7 @@ module _ (graph : Graph) (positions : List (List ℕ)) (atom : ℕ) where
       ∙ or_left (list_any (is_centre_site atom) (centres ++ bonds)) (list_any (is_centre_site atom) axes)
       (list_any-append (is_centre_site atom) centres bonds
       ∙ or_left (list_any (is_centre_site atom) centres) (list_any (is_centre_site atom) bonds)
-      (any_mapped (is_centre_site atom) (centre_site graph) (filter (is_centre graph) atoms)
+      (list_any-map (is_centre_site atom) (centre_site graph) (filter (is_centre graph) atoms)
       ∙ in_kept atom (is_centre graph) both.1 atoms (in_range atom 0 graph.drawn (omega arith) (omega (arith, low)))))
 
 module _ (drawing : Drawing) (atom : ℕ) where
@@ -222,7 +213,7 @@ module _ (drawing : Drawing) (atom : ℕ) where
       by true f =
           let sites = sites_of (graph_of drawing) (positions_of (graph_of drawing)) in
           let some : list_any (is_centre_at atom) (units_in drawing) ≡ true =
-          any_mapped (is_centre_at atom) shown sites
+          list_any-map (is_centre_at atom) shown sites
           ∙ site_found (graph_of drawing) (positions_of (graph_of drawing)) atom f in
           let lt = any_within (is_centre_at atom) (units_in drawing) some in
           let is : nat_lt (position_or_len (is_centre_at atom) (units_in drawing)) (length (units_in drawing)) ≡ true =
@@ -237,7 +228,7 @@ module _ (drawing : Drawing) (atom : ℕ) where
   has_place there =
       let sites = sites_of (graph_of drawing) (positions_of (graph_of drawing)) in
       let some : list_any (is_centre_at atom) (units_in drawing) ≡ true =
-      any_mapped (is_centre_at atom) shown sites
+      list_any-map (is_centre_at atom) shown sites
       ∙ site_found (graph_of drawing) (positions_of (graph_of drawing)) atom there in
       let lt = any_within (is_centre_at atom) (units_in drawing) some in
       let place = position_or_len (is_centre_at atom) (units_in drawing) in

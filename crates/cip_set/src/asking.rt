@@ -121,7 +121,26 @@ fn mark_ligand<D: Digraphs>(
 {
     let up = marked(alloc, bare, request.atom, neighbour, Mark::Up)?;
     let drawn = Drawn::of(alloc, up)?;
-    let outcome = find(alloc, labeller, &drawn, request.atom, request.rules)?;
+    let answer = mark_drawn(alloc, labeller, &drawn, neighbour, request);
+    // given back by a call of its own, which is quicker to prove than an end that owns it
+    drop(drawn);
+    answer
+}
+
+// What is drawn stays with the caller, so that no end of this function gives it back.
+fn mark_drawn<D: Digraphs>(
+    alloc: Global,
+    labeller: &mut Labeller<D>,
+    drawn: &Drawn,
+    neighbour: u32,
+    request: Request,
+) -> Result<Result<Marked, CentreRefusal>, AllocError>
+    requires { has_centre drawn.now request.atom ≡ true }
+    ensures answer { IfOk result (λ answer. answer
+        ≡ by_outcome request.letter neighbour (found_at request.rules labeller.old drawn.now request.atom)) }
+    ensures kept { labeller.new ≡ labeller.old }
+{
+    let outcome = find(alloc, labeller, drawn, request.atom, request.rules)?;
     Ok(by_outcome(request.letter, neighbour, &outcome))
 }
 

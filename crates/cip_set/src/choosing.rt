@@ -21,7 +21,7 @@ pub fn chosen(
     ensures { IfOk result (λ found. found
         ≡ first_where (is_eligible bare.now atom site.now) (drawn (length bare.now.atoms) (ligands_of site.now))) }
 {
-    let drawn = drawn_ligands(alloc, bare, site);
+    let drawn = drawn_ligands(bare, site);
     first_eligible(alloc, bare, atom, site, drawn.as_slice())
 }
 
@@ -79,11 +79,11 @@ pub fn shows_coincident(geometry: Geometry) -> bool
     matches!(geometry, Geometry::Unknown(Cause::Coincident))
 }
 
-fn drawn_ligands(alloc: Global, molecule: &Molecule, site: &Site) -> AtMostFour<u32>
+fn drawn_ligands(molecule: &Molecule, site: &Site) -> AtMostFour<u32>
     ensures { result ≡ drawn (length molecule.now.atoms) (ligands_of site.now) }
 {
     match site {
-        Site::Centre { ligands, .. } => drawn_of(alloc, molecule, ligands),
-        _ => AtMostFour::new(alloc),
+        Site::Centre { ligands, .. } => drawn_of(molecule, ligands),
+        _ => AtMostFour::new(),
     }
 }

@@ -67,9 +67,8 @@ fn set_once(
     requires few { length lines.now < 2 ^ 32 - 1 }
     requires some { 1 ≤ nodes }
     requires bounded { nodes ≤ 1000000 }
-    ensures answer { IfOk result (λ answer. answer
+    ensures { IfOk result (λ answer. answer
         ≡ set_without_items asked.rules nodes asked.atom asked.letter lines.now) }
-    ensures few { IfOk result (λ answer. IsFew lines.now answer) }
 {
     run_once(alloc, nodes, &SetErrand { lines, asked })
 }
@@ -87,8 +86,7 @@ impl Errand for SetErrand<'_, '_> {
     ghost may = { λ errand. length errand.lines.now < 2 ^ 32 - 1 };
 
     ghost answers = { λ errand bound answer.
-        (answer ≡ set_without_items errand.asked.rules bound errand.asked.atom errand.asked.letter errand.lines.now)
-        × IsFew errand.lines.now answer };
+        answer ≡ set_without_items errand.asked.rules bound errand.asked.atom errand.asked.letter errand.lines.now };
 
     fn run<D: Digraphs>(
         &self,
@@ -123,23 +121,8 @@ pub fn set_within(
 }
 
 // Whoever grows and ranks the digraphs: a desk is large, so only the calls above name one.
-fn set_lines<D: Digraphs>(
-    alloc: Global,
-    labeller: &mut Labeller<D>,
-    lines: &RecordLines,
-    asked: Asked,
-) -> Result<SetAnswer, AllocError>
-    requires few { length lines.now < 2 ^ 32 - 1 }
-    ensures answer { IfOk result (λ answer. answer
-        ≡ set_without_items asked.rules labeller.old asked.atom asked.letter lines.now) }
-    ensures few { IfOk result (λ answer. IsFew lines.now answer) }
-    ensures kept { labeller.new ≡ labeller.old }
-{
-    answer_lines(alloc, labeller, lines, asked)
-}
-
 #[tactic(auto, unfolding(crate::specs::SetAnswers::set_without_items))]
-fn answer_lines<D: Digraphs>(
+fn set_lines<D: Digraphs>(
     alloc: Global,
     labeller: &mut Labeller<D>,
     lines: &RecordLines,

@@ -7,13 +7,13 @@ use Rattle.std.specs.Io.KnownBytes.{Appends}
 use Rattle.cip_stream.specs.declared.stop.Stop.{Stop}
 use Rattle.cip_stream.specs.declared.verdict.Verdict.{Verdict}
 use Rattle.cip_stream.specs.Manner.{Manner}
-use Rattle.cip_stream.specs.Verdicts.{clear, first_note, joined}
+use Rattle.cip_stream.specs.Verdicts.{clear, first_note, joined, joined_result}
 use Rattle.cip_stream.specs.Due.{verdict_from, texts_from}
 use Rattle.cip_stream.specs.Endings.{GrewFrom}
 use Rattle.cip_stream.specs.Batches.{Advances, Answers, AnswersFirst, Gathered, Telling, telling, told_from}
 use Rattle.cip_io.specs.Growth.{AppendsPrefix, TakesFront}
 use Rattle.cip_io.proofs.Growth.{appends_none, appends_both, prefix_behind, prefix_longer}
-use Rattle.cip_stream.proofs.Growing.{told_both, verdict_both, texts_both, joined_result, answers_longer, answers_behind}
+use Rattle.cip_stream.proofs.Growing.{told_both, verdict_both, texts_both, answers_longer, answers_behind}
 
 told_long : {N : Type 0} (manner : Manner N) (number : ℕ) (records : List (List ℕ))
     → length (told_from manner number records) ≡ length records
@@ -52,18 +52,18 @@ all_answered {T = T} tells before now (Ok verdict) old new emptied answers = rec
 }
 all_answered tells before now (Err stop) old new emptied answers = answers
 
-pub batch_answered : {N T : Type 0} (tells : T → Manner N) (batch before now : Gathered T) (result : Result (Verdict N) Stop)
-    (old new : Option (List ℕ)) → before ≡ batch
+pub batch_answered : {N T : Type 0} (tells : T → Manner N) (batch before now : Gathered T)
+    (result : Result (Verdict N) Stop) (old new : Option (List ℕ)) → before ≡ batch
     → OnOk result (now ≡ record before { first = before.first + length before.records; records = [] })
     → Answers (tells before.teller) before.first before.records result old new
     → AnswersFirst (tells batch.teller) batch.first batch.records now.first now.records result old new
 batch_answered {T = T} tells batch before now result old new same emptied answers =
-    subst (λ (b : Gathered T). AnswersFirst (tells b.teller) b.first b.records now.first now.records result old new) same
-    (all_answered tells before now result old new emptied answers)
+    subst (λ (b : Gathered T). AnswersFirst (tells b.teller) b.first b.records now.first now.records result old new)
+    same (all_answered tells before now result old new emptied answers)
 
 -- one more record came into a batch, whose jobs tell what is due for them
-pub told_pushed : {N : Type 0} {W : Type 0} (manner : Manner N) (first : ℕ) (tells : W → Telling N) (bytes_of : W → List ℕ)
-    (jobs : List W) (job : W) → map tells jobs ≡ told_from manner first (map bytes_of jobs)
+pub told_pushed : {N : Type 0} {W : Type 0} (manner : Manner N) (first : ℕ) (tells : W → Telling N)
+    (bytes_of : W → List ℕ) (jobs : List W) (job : W) → map tells jobs ≡ told_from manner first (map bytes_of jobs)
     → tells job ≡ telling manner (first + length jobs) (bytes_of job)
     → map tells (jobs ++ job ∷ []) ≡ told_from manner first (map bytes_of (jobs ++ job ∷ []))
 told_pushed manner first tells bytes_of jobs job all one =
@@ -77,8 +77,8 @@ told_pushed manner first tells bytes_of jobs job all one =
     ∙ ap (told_from manner first) (sym (map-append bytes_of jobs (job ∷ [])))
 
 -- records came behind those that are gathered
-pub gathers : {N : Type 0} (manner : Manner N) (number first : ℕ) (records waiting more : List (List ℕ)) (verdict : Verdict N)
-    (old new : Option (List ℕ)) → Advances manner number records first waiting verdict old new
+pub gathers : {N : Type 0} (manner : Manner N) (number first : ℕ) (records waiting more : List (List ℕ))
+    (verdict : Verdict N) (old new : Option (List ℕ)) → Advances manner number records first waiting verdict old new
     → Advances manner number (records ++ more) first (waiting ++ more) verdict old new
 gathers manner number first records waiting more verdict old new came = record {
   answered = came.answered;
@@ -89,8 +89,8 @@ gathers manner number first records waiting more verdict old new came = record {
 }
 
 -- those that are gathered were answered
-pub answers_both : {N : Type 0} (manner : Manner N) (number first : ℕ) (records waiting : List (List ℕ)) (verdict : Verdict N)
-    (result : Result (Verdict N) Stop) (old middle new : Option (List ℕ))
+pub answers_both : {N : Type 0} (manner : Manner N) (number first : ℕ) (records waiting : List (List ℕ))
+    (verdict : Verdict N) (result : Result (Verdict N) Stop) (old middle new : Option (List ℕ))
     → Advances manner number records first waiting verdict old middle
     → Answers manner first waiting result middle new
     → Answers manner number records (joined_result verdict result) old new
@@ -122,8 +122,8 @@ advances_both manner number first next records batch rest later verdict one old 
     }
 
 -- the first of those that are gathered stopped it
-pub stopped_both : {N : Type 0} (manner : Manner N) (number first : ℕ) (records batch rest : List (List ℕ)) (verdict : Verdict N)
-    (stop : Stop) (old middle new : Option (List ℕ))
+pub stopped_both : {N : Type 0} (manner : Manner N) (number first : ℕ) (records batch rest : List (List ℕ))
+    (verdict : Verdict N) (stop : Stop) (old middle new : Option (List ℕ))
     → Advances manner number records first (batch ++ rest) verdict old middle
     → Answers manner first batch (Err stop) middle new → Answers manner number records (Err stop) old new
 stopped_both manner number first records batch rest verdict stop old middle new before answers =
@@ -131,8 +131,8 @@ stopped_both manner number first records batch rest verdict stop old middle new 
     (answers_longer manner first batch rest stop middle new answers)
 
 -- the number of a record that comes next stays what it is
-pub same_next : {N : Type 0} (manner : Manner N) (number first : ℕ) (records waiting : List (List ℕ)) (verdict : Verdict N)
-    (old new : Option (List ℕ)) → Advances manner number records first waiting verdict old new
+pub same_next : {N : Type 0} (manner : Manner N) (number first : ℕ) (records waiting : List (List ℕ))
+    (verdict : Verdict N) (old new : Option (List ℕ)) → Advances manner number records first waiting verdict old new
     → number + length records ≡ first + length waiting
 same_next manner number first records waiting verdict old new came =
     let parts : length came.answered + length waiting ≡ length records =
@@ -141,7 +141,8 @@ same_next manner number first records waiting verdict old new came =
 
 -- what was found for each record
 
-told_at : {N : Type 0} (manner : Manner N) (number : ℕ) (records : List (List ℕ)) (k : ℕ) (d : Telling N) → k < length records
+told_at : {N : Type 0} (manner : Manner N) (number : ℕ) (records : List (List ℕ)) (k : ℕ) (d : Telling N)
+    → k < length records
     → get_or (told_from manner number records) k d ≡ telling manner (number + k) (get_or records k [])
 told_at manner number [] k d within = absurd (omega (arith, within))
 told_at manner number (bytes ∷ records) zero d within =
@@ -152,8 +153,8 @@ told_at manner number (bytes ∷ records) (suc k) d within =
     ∙ ap (λ n. telling manner n (get_or records k [])) place
 
 -- what was found at a place is what is told of the record there
-pub told_here : {N : Type 0} (manner : Manner N) (number : ℕ) (records : List (List ℕ)) (found : List (Telling N)) (k : ℕ) (d : Telling N)
-    → found ≡ told_from manner number records → k < length found
+pub told_here : {N : Type 0} (manner : Manner N) (number : ℕ) (records : List (List ℕ)) (found : List (Telling N))
+    (k : ℕ) (d : Telling N) → found ≡ told_from manner number records → k < length found
     → get_or found k d ≡ telling manner (number + k) (get_or records k [])
 told_here manner number records found k d all within =
     ap (λ xs. get_or xs k d) all
@@ -197,8 +198,8 @@ texts_more manner number records k within =
     ∙ ap (λ n. manner.text (number + n) bytes) long)
 
 -- a front of the texts of the first records is one of all texts
-front_of_all : {N : Type 0} (manner : Manner N) (number : ℕ) (records : List (List ℕ)) (k : ℕ) (old new : Option (List ℕ))
-    → AppendsPrefix old new (texts_from manner number (take k records))
+front_of_all : {N : Type 0} (manner : Manner N) (number : ℕ) (records : List (List ℕ)) (k : ℕ)
+    (old new : Option (List ℕ)) → AppendsPrefix old new (texts_from manner number (take k records))
     → AppendsPrefix old new (texts_from manner number records)
 front_of_all manner number records k old new prefix =
     let whole : texts_from manner number (take k records)
@@ -210,13 +211,13 @@ front_of_all manner number records k old new prefix =
     (texts_from manner (number + length (take k records)) (drop k records)) prefix)
 
 -- the first of the records were told of, so many of them, and the sink took their texts but for what waits
-pub record IsJoined {N : Type 0} (manner : Manner N) (number : ℕ) (records : List (List ℕ)) (count : ℕ) (verdict : Verdict N)
-    (waiting : List ℕ) (old new : Option (List ℕ)) : Type 0 where
+pub record IsJoined {N : Type 0} (manner : Manner N) (number : ℕ) (records : List (List ℕ)) (count : ℕ)
+    (verdict : Verdict N) (waiting : List ℕ) (old new : Option (List ℕ)) : Type 0 where
   pub told : verdict_from manner number (take count records) ≡ verdict
   pub text : TakesFront old new (texts_from manner number (take count records)) waiting
 
-pub one_joined : {N : Type 0} (manner : Manner N) (number : ℕ) (records : List (List ℕ)) (found : List (Telling N)) (k : ℕ)
-    (one : Telling N) (verdict : Verdict N) (waiting left : List ℕ) (old middle new : Option (List ℕ))
+pub one_joined : {N : Type 0} (manner : Manner N) (number : ℕ) (records : List (List ℕ)) (found : List (Telling N))
+    (k : ℕ) (one : Telling N) (verdict : Verdict N) (waiting left : List ℕ) (old middle new : Option (List ℕ))
     → found ≡ told_from manner number records → k < length found
     → one ≡ telling manner (number + k) (get_or records k [])
     → IsJoined manner number records k verdict waiting old middle → TakesFront middle new (waiting ++ one.text) left
@@ -240,8 +241,8 @@ one_joined {N = N} manner number records found k one verdict waiting left old mi
     }
 
 -- the sink took a front of the next text, behind what waited
-pub stopped_at : {N : Type 0} (manner : Manner N) (number : ℕ) (records : List (List ℕ)) (found : List (Telling N)) (k : ℕ)
-    (one : Telling N) (verdict : Verdict N) (waiting : List ℕ) (old middle new : Option (List ℕ))
+pub stopped_at : {N : Type 0} (manner : Manner N) (number : ℕ) (records : List (List ℕ)) (found : List (Telling N))
+    (k : ℕ) (one : Telling N) (verdict : Verdict N) (waiting : List ℕ) (old middle new : Option (List ℕ))
     → found ≡ told_from manner number records → k < length found
     → one ≡ telling manner (number + k) (get_or records k [])
     → IsJoined manner number records k verdict waiting old middle
@@ -265,21 +266,22 @@ whole_found : {N : Type 0} (manner : Manner N) (number : ℕ) (records : List (L
 whole_found manner number records found all =
     ap (λ n. take n records) (ap length all ∙ told_long manner number records) ∙ take-length records
 
-pub all_told : {N : Type 0} (manner : Manner N) (number : ℕ) (records : List (List ℕ)) (found : List (Telling N)) (verdict : Verdict N)
-    (waiting : List ℕ) (old new : Option (List ℕ)) → found ≡ told_from manner number records
+pub all_told : {N : Type 0} (manner : Manner N) (number : ℕ) (records : List (List ℕ)) (found : List (Telling N))
+    (verdict : Verdict N) (waiting : List ℕ) (old new : Option (List ℕ)) → found ≡ told_from manner number records
     → IsJoined manner number records (length found) verdict waiting old new
     → verdict_from manner number records ≡ verdict
 all_told manner number records found verdict waiting old new all before =
     subst (λ xs. verdict_from manner number xs ≡ verdict) (whole_found manner number records found all) before.told
 
-all_parts : {N : Type 0} (manner : Manner N) (number : ℕ) (records : List (List ℕ)) (found : List (Telling N)) (verdict : Verdict N)
-    (waiting : List ℕ) (old new : Option (List ℕ)) → found ≡ told_from manner number records
+all_parts : {N : Type 0} (manner : Manner N) (number : ℕ) (records : List (List ℕ)) (found : List (Telling N))
+    (verdict : Verdict N) (waiting : List ℕ) (old new : Option (List ℕ)) → found ≡ told_from manner number records
     → (before : IsJoined manner number records (length found) verdict waiting old new)
     → before.text.front ++ waiting ≡ texts_from manner number records
 all_parts manner number records found verdict waiting old new all before =
     before.text.parts ∙ ap (texts_from manner number) (whole_found manner number records found all)
 
-pub all_written : {N : Type 0} (manner : Manner N) (number : ℕ) (records : List (List ℕ)) (found : List (Telling N)) (verdict : Verdict N)
+pub all_written : {N : Type 0} (manner : Manner N) (number : ℕ) (records : List (List ℕ)) (found : List (Telling N))
+    (verdict : Verdict N)
     (waiting : List ℕ) (old middle new : Option (List ℕ)) → found ≡ told_from manner number records
     → IsJoined manner number records (length found) verdict waiting old middle → Appends middle new waiting
     → Appends old new (texts_from manner number records)
@@ -288,7 +290,8 @@ all_written manner number records found verdict waiting old middle new all befor
     (appends_both old middle new before.text.front waiting before.text.written written)
 
 pub stopped_behind : {N : Type 0} (manner : Manner N) (number : ℕ) (records : List (List ℕ)) (found : List (Telling N))
-    (verdict : Verdict N) (waiting : List ℕ) (old middle new : Option (List ℕ)) → found ≡ told_from manner number records
+    (verdict : Verdict N) (waiting : List ℕ) (old middle new : Option (List ℕ))
+    → found ≡ told_from manner number records
     → IsJoined manner number records (length found) verdict waiting old middle → AppendsPrefix middle new waiting
     → AppendsPrefix old new (texts_from manner number records)
 stopped_behind manner number records found verdict waiting old middle new all before prefix =

@@ -12,7 +12,7 @@ use Rattle.cip_stream.specs.declared.stop.Stop.TheVariants as stops
 use Rattle.cip_stream.specs.Limits.{limit_place, answered}
 use Rattle.cip_stream.specs.declared.verdict.Verdict.{Verdict}
 use Rattle.cip_stream.specs.Manner.{Manner}
-use Rattle.cip_stream.specs.Verdicts.{joined}
+use Rattle.cip_stream.specs.Verdicts.{joined, joined_result}
 use Rattle.cip_stream.specs.Due.{verdict_from, verdict_of, texts_from, texts_of, due, tail_due}
 use Rattle.cip_stream.specs.Endings.{AnswersTaken, EndsAs, GrewFrom}
 use Rattle.cip_stream.specs.Batches.{Advances, Answers, AnswersTail, blank_of}
@@ -21,7 +21,7 @@ use Rattle.cip_stream.proofs.Answered.{no_place, all_answered, whole_first, inpu
 use Rattle.cip_stream.proofs.Batches.{no_memory, gathers, answers_both, same_next}
 use Rattle.cip_stream.proofs.Bounds.{consumes_both, takes_more}
 use Rattle.cip_io.proofs.Growth.{appends_both, prefix_behind, prefix_longer}
-use Rattle.cip_stream.proofs.Growing.{verdict_both, texts_both, joined_result, answers_longer}
+use Rattle.cip_stream.proofs.Growing.{verdict_both, texts_both, answers_longer}
 use Rattle.cip_stream.proofs.Counting.{few_closed, fewer}
 use Rattle.cip_stream.proofs.Progressing.{Progress, Fed}
 
@@ -51,7 +51,8 @@ told_whole (Some all) (Some more) bytes P taken end holds =
 
 -- records that stopped it
 
-ends_stopped : {N : Type 0} (manner : Manner N) (limits : Limits) (bytes : List ℕ) (stop : Stop) (old new : Option (List ℕ))
+ends_stopped : {N : Type 0} (manner : Manner N) (limits : Limits) (bytes : List ℕ) (stop : Stop)
+    (old new : Option (List ℕ))
     → Answers manner 1 (answered limits bytes) (Err stop) old new → EndsAs manner limits (Err stop) old new bytes
 ends_stopped manner limits bytes stops.WriteFault old new answers =
     prefix_longer old new (texts_of manner (answered limits bytes)) (tail_due manner limits bytes) answers
@@ -73,8 +74,8 @@ stopped_fed manner limits room verdict stop left rest old half new framer first 
     (answers_both manner 1 first (cut_of fed.fed).whole gathered verdict (Err stop) old half new fed.came answers))))
 
 -- nothing was fed since
-pub still_fed : {N : Type 0} (manner : Manner N) (limits : Limits) (room : ℕ) (verdict : Verdict N) (left rest old new : Option (List ℕ))
-    (framer : Framing) (first : ℕ) (batch : List (List ℕ))
+pub still_fed : {N : Type 0} (manner : Manner N) (limits : Limits) (room : ℕ) (verdict : Verdict N)
+    (left rest old new : Option (List ℕ)) (framer : Framing) (first : ℕ) (batch : List (List ℕ))
     → Progress manner limits room verdict left rest old new framer first batch
     → Fed manner limits room verdict left rest old new framer first batch
 still_fed manner limits room verdict left rest old new framer first batch before = record {
@@ -140,7 +141,8 @@ tail_by manner limits fed true k unlimited = rw (unlimited, k) refl
 tail_by manner limits fed false k unlimited = rw (unlimited, k) refl
 
 -- the text that is due, by those that were answered and those that are gathered
-due_is : {N : Type 0} (manner : Manner N) (limits : Limits) (fed : List ℕ) (first : ℕ) (gathered : List (List ℕ)) (verdict : Verdict N)
+due_is : {N : Type 0} (manner : Manner N) (limits : Limits) (fed : List ℕ) (first : ℕ) (gathered : List (List ℕ))
+    (verdict : Verdict N)
     (old half : Option (List ℕ)) → limit_place limits fed ≡ None → answered limits fed ≡ records_of fed
     → (came : Advances manner 1 (records_of fed) first gathered verdict old half)
     → due manner limits fed ≡ texts_of manner came.answered
@@ -154,7 +156,8 @@ due_is manner limits fed first gathered verdict old half unlimited all came =
     ∙ ap (λ n. texts_of manner came.answered ++ texts_from manner n gathered) (sym came.next))
     ∙ append_assoc (texts_of manner came.answered) (texts_from manner first gathered) blank
 
-tail_answered : {N : Type 0} (manner : Manner N) (limits : Limits) (fed : List ℕ) (first : ℕ) (batch : List (List ℕ)) (verdict : Verdict N)
+tail_answered : {N : Type 0} (manner : Manner N) (limits : Limits) (fed : List ℕ) (first : ℕ) (batch : List (List ℕ))
+    (verdict : Verdict N)
     (result : Result (Verdict N) Stop) (old half new : Option (List ℕ)) → limit_place limits fed ≡ None
     → answered limits fed ≡ records_of fed
     → Advances manner 1 (records_of fed) first (batch ++ last_of (cut_of fed).rest) verdict old half
@@ -188,7 +191,8 @@ tail_answered manner limits fed first batch verdict (Err stops.ReadFault) old ha
 tail_answered manner limits fed first batch verdict (Err stops.Limit) old half new unlimited all came answers =
     absurd answers
 
-pub ended : {N : Type 0} (manner : Manner N) (limits : Limits) (room : ℕ) (verdict : Verdict N) (result : Result (Verdict N) Stop)
+pub ended : {N : Type 0} (manner : Manner N) (limits : Limits) (room : ℕ) (verdict : Verdict N)
+    (result : Result (Verdict N) Stop)
     (left middle rest old half new : Option (List ℕ)) (framer now : Framing) (first : ℕ) (batch : List (List ℕ))
     → (before : Progress manner limits room verdict left middle old half framer first batch)
     → Ends middle rest framer now → AnswersTail manner first batch (cut_of before.fed).rest result half new
@@ -218,8 +222,8 @@ regroup : (fed bytes more rest : List ℕ) → (fed ++ bytes) ++ (more ++ rest) 
 regroup fed bytes more rest = append_assoc fed bytes (more ++ rest)
     ∙ ap (λ xs. fed ++ xs) (sym (append_assoc bytes more rest)) ∙ sym (append_assoc fed (bytes ++ more) rest)
 
-pub over : {N : Type 0} (manner : Manner N) (limits : Limits) (room : ℕ) (verdict : Verdict N) (left middle rest old half : Option (List ℕ))
-    (framer now : Framing) (first : ℕ) (batch : List (List ℕ))
+pub over : {N : Type 0} (manner : Manner N) (limits : Limits) (room : ℕ) (verdict : Verdict N)
+    (left middle rest old half : Option (List ℕ)) (framer now : Framing) (first : ℕ) (batch : List (List ℕ))
     → (before : Progress manner limits room verdict left middle old half framer first batch)
     → Overfeeds room middle rest framer now ⊎ Overflows room middle rest framer now → now.limit ≡ framer.limit
     → IsOver limits left rest ((cut_of before.fed).whole ++ now.waiting)
@@ -257,8 +261,8 @@ over manner limits room verdict left middle rest old half framer now first batch
     }
 
 -- the records before a limit that were answered, and those that are gathered
-pub record Met {N : Type 0} (manner : Manner N) (limits : Limits) (verdict : Verdict N) (left rest old new : Option (List ℕ)) (first : ℕ)
-    (gathered : List (List ℕ)) : Type 0 where
+pub record Met {N : Type 0} (manner : Manner N) (limits : Limits) (verdict : Verdict N)
+    (left rest old new : Option (List ℕ)) (first : ℕ) (gathered : List (List ℕ)) : Type 0 where
   pub records : List (List ℕ)
   pub over : IsOver limits left rest records
   pub came : Advances manner 1 records first gathered verdict old new
@@ -274,7 +278,8 @@ limit_met manner limits room verdict left middle rest old half framer now first 
   came = gathers manner 1 first (cut_of before.fed).whole batch now.waiting verdict old half before.came;
 }
 
-pub room_met : {N : Type 0} (manner : Manner N) (limits : Limits) (verdict : Verdict N) (left rest old new : Option (List ℕ)) (first : ℕ)
+pub room_met : {N : Type 0} (manner : Manner N) (limits : Limits) (verdict : Verdict N)
+    (left rest old new : Option (List ℕ)) (first : ℕ)
     (gathered : List (List ℕ)) → Met manner limits verdict left rest old new first gathered → limits.input < 2 ^ 63
     → first + length gathered ≤ 2 ^ 63
 room_met manner limits verdict left rest old new first gathered met few =
@@ -291,11 +296,12 @@ stopped_at_limit manner limits verdict stop left rest old half new first gathere
     (subst (λ records. Answers manner 1 records (Err stop) old new) (sym ((met.over.passed more).records))
     (answers_both manner 1 first met.records gathered verdict (Err stop) old half new met.came answers)))
 
-due_limited : {N : Type 0} (manner : Manner N) (limits : Limits) (bytes : List ℕ) → is_some (limit_place limits bytes) ≡ true
-    → due manner limits bytes ≡ texts_of manner (answered limits bytes)
+due_limited : {N : Type 0} (manner : Manner N) (limits : Limits) (bytes : List ℕ)
+    → is_some (limit_place limits bytes) ≡ true → due manner limits bytes ≡ texts_of manner (answered limits bytes)
 due_limited manner limits bytes limited = rw limited (append-nil (texts_of manner (answered limits bytes)))
 
-pub limited : {N : Type 0} (manner : Manner N) (limits : Limits) (verdict more : Verdict N) (left rest old half new : Option (List ℕ))
+pub limited : {N : Type 0} (manner : Manner N) (limits : Limits) (verdict more : Verdict N)
+    (left rest old half new : Option (List ℕ))
     (first : ℕ) (gathered : List (List ℕ)) → Met manner limits verdict left rest old half first gathered
     → Answers manner first gathered (Ok more) half new → IfSome left (EndsAs manner limits (Err stops.Limit) old new)
 limited manner limits verdict more left rest old half new first gathered met answers =

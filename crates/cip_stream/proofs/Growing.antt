@@ -7,7 +7,7 @@ use Rattle.cip_stream.specs.declared.stop.Stop.{Stop}
 use Rattle.cip_stream.specs.declared.stop.Stop.TheVariants as stops
 use Rattle.cip_stream.specs.declared.verdict.Verdict.{Verdict}
 use Rattle.cip_stream.specs.Manner.{Manner}
-use Rattle.cip_stream.specs.Verdicts.{first_note, joined}
+use Rattle.cip_stream.specs.Verdicts.{first_note, joined, joined_result}
 use Rattle.cip_stream.specs.Due.{verdict_from, texts_from}
 use Rattle.cip_stream.specs.Batches.{Answers, telling, told_from}
 
@@ -26,8 +26,10 @@ joined_flags : (one more behind : Bool) → (one || more) || behind ≡ one || (
 joined_flags true more behind = refl
 joined_flags false more behind = refl
 
-joined_all : {N : Type 0} (one more behind : Verdict N) → joined (joined one more) behind ≡ joined one (joined more behind)
-joined_all one more behind = rw (joined_flags one.flagged more.flagged behind.flagged, joined_notes one.note more.note behind.note) refl
+joined_all : {N : Type 0} (one more behind : Verdict N) → joined (joined one more) behind ≡ joined one
+    (joined more behind)
+joined_all one more behind =
+    rw (joined_flags one.flagged more.flagged behind.flagged, joined_notes one.note more.note behind.note) refl
 
 pub verdict_both : {N : Type 0} (manner : Manner N) (number : ℕ) (xs ys : List (List ℕ))
     → verdict_from manner number (xs ++ ys)
@@ -61,11 +63,6 @@ told_both manner number (x ∷ xs) ys =
 
 -- how records were answered
 
--- the same result with what came before
-abbrev pub joined_result : {N : Type 0} → Verdict N → Result (Verdict N) Stop → Result (Verdict N) Stop
-joined_result verdict (Ok more) = Ok (joined verdict more)
-joined_result verdict (Err stop) = Err stop
-
 -- records that stopped it did so whatever follows them
 pub answers_longer : {N : Type 0} (manner : Manner N) (number : ℕ) (stopped more : List (List ℕ)) (stop : Stop)
     (old new : Option (List ℕ)) → Answers manner number stopped (Err stop) old new
@@ -87,7 +84,8 @@ answers_longer manner number stopped more stops.ReadFault old new answers = absu
 answers_longer manner number stopped more stops.Limit old new answers = absurd answers
 
 -- records were answered behind others
-pub answers_behind : {N : Type 0} (manner : Manner N) (number : ℕ) (before records : List (List ℕ)) (verdict : Verdict N)
+pub answers_behind : {N : Type 0} (manner : Manner N) (number : ℕ) (before records : List (List ℕ))
+    (verdict : Verdict N)
     (result : Result (Verdict N) Stop) (old middle new : Option (List ℕ)) → verdict_from manner number before ≡ verdict
     → Appends old middle (texts_from manner number before)
     → Answers manner (number + length before) records result middle new

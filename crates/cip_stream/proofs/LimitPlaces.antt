@@ -4,6 +4,7 @@ use Rattle.std.specs.List.{take_while, list_all}
 use Rattle.std.proofs.Math.Seq.{take-append_seam}
 use Rattle.std.proofs.lemmas.List.Sums.{take_while-cons}
 use Rattle.std.proofs.lemmas.Grind.{common_steps}
+use Rattle.std.proofs.lemmas.Bool.{and_parts}
 use Rattle.cip_frame.specs.Records.{Cut, cut_of}
 use Rattle.cip_frame.specs.Framing.{fits, all_fit}
 use Rattle.cip_frame.specs.Following.{closes, cut_behind}
@@ -11,10 +12,6 @@ use Rattle.cip_frame.proofs.Cutting.{cut_closing, cut_open, cuts_follow}
 use Rattle.cip_frame.proofs.Limits.{over_line}
 use Rattle.cip_stream.specs.declared.limits.Limits.{Limits}
 use Rattle.cip_stream.specs.Limits.{passes, first_passing, limit_place}
-
-both : (a b : Bool) → (a && b) ≡ true → (a ≡ true) × (b ≡ true)
-both true b h = (refl, h)
-both false b h = absurd (grind (arith, h))
 
 -- the next byte is one too many, where so many came and these are of the open record
 abbrev pub is_over : Limits → ℕ → List ℕ → Bool
@@ -112,9 +109,9 @@ fitting_by : (limits : Limits) (came : ℕ) (begun : List ℕ) (b : ℕ) (xs ys 
     → Follows limits (came + 1) (begun ++ b ∷ []) xs ys)
     → Follows limits came begun (b ∷ xs) ys
 fitting_by limits came begun b xs ys true k over h closed still =
-    let fit = both (fits limits.record (begun ++ b ∷ []) && list_all (fits limits.record) (cut_behind [] xs).whole)
+    let fit = and_parts (fits limits.record (begun ++ b ∷ []) && list_all (fits limits.record) (cut_behind [] xs).whole)
     (fits limits.record (cut_behind [] xs).rest) (rw (cut_closing begun b xs k) at h) in
-    let whole = both (fits limits.record (begun ++ b ∷ []))
+    let whole = and_parts (fits limits.record (begun ++ b ∷ []))
     (list_all (fits limits.record) (cut_behind [] xs).whole) fit.0 in
     let all : all_fit limits.record (cut_behind [] xs) ≡ true = rw (whole.1, fit.1) refl in
     let count : came + 1 + length xs ≡ came + length (b ∷ xs) = omega arith in

@@ -36,8 +36,8 @@ keeps_is None rest same = tt
 keeps_is (Some bytes) None same = absurd same
 keeps_is (Some bytes) (Some others) same = sym same
 
-pub begun : {N : Type 0} (manner : Manner N) (limits : Limits) (left old : Option (List ℕ)) (framer : Framing) → Holds [] [] framer
-    → framer.waiting ≡ [] → framer.limit ≡ limits.record
+pub begun : {N : Type 0} (manner : Manner N) (limits : Limits) (left old : Option (List ℕ)) (framer : Framing)
+    → Holds [] [] framer → framer.waiting ≡ [] → framer.limit ≡ limits.record
     → Progress manner limits limits.input clear left left old old framer 1 []
 begun manner limits left old framer holds empty limit = record {
   fed = [];
@@ -62,8 +62,8 @@ room_between manner limits room verdict left rest old new framer first batch bef
 -- a turn that brought a piece
 
 -- the records that wait in the framer go on from those that are gathered
-pub record Fed {N : Type 0} (manner : Manner N) (limits : Limits) (room : ℕ) (verdict : Verdict N) (left rest old new : Option (List ℕ))
-    (framer : Framing) (first : ℕ) (gathered : List (List ℕ)) : Type 0 where
+pub record Fed {N : Type 0} (manner : Manner N) (limits : Limits) (room : ℕ) (verdict : Verdict N)
+    (left rest old new : Option (List ℕ)) (framer : Framing) (first : ℕ) (gathered : List (List ℕ)) : Type 0 where
   pub fed : List ℕ
   pub taken : Consumes left rest fed
   pub holds : Holds (cut_of fed).whole fed (record framer { waiting = [] })
@@ -93,8 +93,8 @@ fed_piece manner limits room count verdict left middle rest old new framer now f
           (gathers manner 1 first (cut_of before.fed).whole batch now.waiting verdict old new before.came);
     }
 
-pub room_fed : {N : Type 0} (manner : Manner N) (limits : Limits) (room : ℕ) (verdict : Verdict N) (left rest old new : Option (List ℕ))
-    (framer : Framing) (first : ℕ) (gathered : List (List ℕ))
+pub room_fed : {N : Type 0} (manner : Manner N) (limits : Limits) (room : ℕ) (verdict : Verdict N)
+    (left rest old new : Option (List ℕ)) (framer : Framing) (first : ℕ) (gathered : List (List ℕ))
     → Fed manner limits room verdict left rest old new framer first gathered → limits.input < 2 ^ 63
     → first + length gathered ≤ 2 ^ 63
 room_fed manner limits room verdict left rest old new framer first gathered fed few =

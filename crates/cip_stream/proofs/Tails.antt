@@ -63,8 +63,8 @@ below limit (Last last) small within = grind (arith, small, within)
 
 -- a last record
 
-no_blank_by : {N : Type 0} (manner : Manner N) (rest : List ℕ) (k : Bool) → manner.keeps_blank ≡ k → is_blank_text rest ≡ false
-    → blank_of manner rest ≡ []
+no_blank_by : {N : Type 0} (manner : Manner N) (rest : List ℕ) (k : Bool) → manner.keeps_blank ≡ k
+    → is_blank_text rest ≡ false → blank_of manner rest ≡ []
 no_blank_by manner rest true k none = rw (k, none) refl
 no_blank_by manner rest false k none = rw k refl
 
@@ -77,7 +77,8 @@ stopped_so manner number records rest stops.Memory old new answers = answers
 stopped_so manner number records rest stops.ReadFault old new answers = absurd answers
 stopped_so manner number records rest stops.Limit old new answers = absurd answers
 
-answered_so : {N : Type 0} (manner : Manner N) (number : ℕ) (records : List (List ℕ)) (rest : List ℕ) (result : Result (Verdict N) Stop)
+answered_so : {N : Type 0} (manner : Manner N) (number : ℕ) (records : List (List ℕ)) (rest : List ℕ)
+    (result : Result (Verdict N) Stop)
     (old new : Option (List ℕ)) → Answers manner number (records ++ last_of rest) result old new
     → blank_of manner rest ≡ [] → AnswersTail manner number records rest result old new
 answered_so manner number records rest (Ok verdict) old new grew none = record {
@@ -88,8 +89,8 @@ answered_so manner number records rest (Ok verdict) old new grew none = record {
 answered_so manner number records rest (Err stop) old new answers none =
     stopped_so manner number records rest stop old new answers
 
-pub last_answered : {N : Type 0} (manner : Manner N) (number : ℕ) (records : List (List ℕ)) (rest : List ℕ) (last : Record)
-    (result : Result (Verdict N) Stop) (old new : Option (List ℕ)) → Last last ≡ tail_of rest
+pub last_answered : {N : Type 0} (manner : Manner N) (number : ℕ) (records : List (List ℕ)) (rest : List ℕ)
+    (last : Record) (result : Result (Verdict N) Stop) (old new : Option (List ℕ)) → Last last ≡ tail_of rest
     → Answers manner number (records ++ last.bytes ∷ []) result old new
     → AnswersTail manner number records rest result old new
 last_answered manner number records rest last result old new is answers =
@@ -130,15 +131,16 @@ kept_lines : {N : Type 0} (manner : Manner N) (rest bytes : List ℕ) → Blank 
 kept_lines manner rest bytes is = rw (blank_lines rest bytes is)
     (ap (λ xs. if manner.keeps_blank then xs else []) (ap bytes_of is ∙ bytes_are rest))
 
-pub blank_stopped : {N : Type 0} (manner : Manner N) (number : ℕ) (records : List (List ℕ)) (rest bytes : List ℕ) (stop : Stop)
+pub blank_stopped : {N : Type 0} (manner : Manner N) (number : ℕ) (records : List (List ℕ)) (rest bytes : List ℕ)
+    (stop : Stop)
     (old new : Option (List ℕ)) → Blank bytes ≡ tail_of rest → Answers manner number records (Err stop) old new
     → AnswersTail manner number records rest (Err stop) old new
 blank_stopped manner number records rest bytes stop old new is answers =
     stopped_so manner number records rest stop old new
     (subst (λ xs. Answers manner number xs (Err stop) old new) (no_last records rest bytes is) answers)
 
-pub blank_refused : {N : Type 0} (manner : Manner N) (number : ℕ) (records : List (List ℕ)) (rest bytes : List ℕ) (verdict : Verdict N)
-    (stop : Stop) (old half new : Option (List ℕ)) → Blank bytes ≡ tail_of rest
+pub blank_refused : {N : Type 0} (manner : Manner N) (number : ℕ) (records : List (List ℕ)) (rest bytes : List ℕ)
+    (verdict : Verdict N) (stop : Stop) (old half new : Option (List ℕ)) → Blank bytes ≡ tail_of rest
     → Answers manner number records (Ok verdict) old half → stop ≡ stops.WriteFault
     → AppendsPrefix half new (if manner.keeps_blank then bytes else [])
     → AnswersTail manner number records rest (Err stop) old new
@@ -150,8 +152,8 @@ blank_refused manner number records rest bytes verdict stop old half new is grew
     (prefix_behind old half new text (blank_of manner rest) written
     (subst (AppendsPrefix half new) (kept_lines manner rest bytes is) front))
 
-pub blank_written : {N : Type 0} (manner : Manner N) (number : ℕ) (records : List (List ℕ)) (rest bytes : List ℕ) (verdict : Verdict N)
-    (old half new : Option (List ℕ)) → Blank bytes ≡ tail_of rest
+pub blank_written : {N : Type 0} (manner : Manner N) (number : ℕ) (records : List (List ℕ)) (rest bytes : List ℕ)
+    (verdict : Verdict N) (old half new : Option (List ℕ)) → Blank bytes ≡ tail_of rest
     → Answers manner number records (Ok verdict) old half
     → Appends half new (if manner.keeps_blank then bytes else [])
     → AnswersTail manner number records rest (Ok verdict) old new
@@ -170,8 +172,8 @@ blank_written manner number records rest bytes verdict old half new is grew blan
 abbrev failed : {N : Type 0} → Stop → Result (Verdict N) Stop
 failed stop = Err stop
 
-pub no_read_fault : {N : Type 0} (manner : Manner N) (number : ℕ) (records : List (List ℕ)) (rest : List ℕ) (stop : Stop)
-    (old new : Option (List ℕ)) → AnswersTail manner number records rest (Err stop) old new
+pub no_read_fault : {N : Type 0} (manner : Manner N) (number : ℕ) (records : List (List ℕ)) (rest : List ℕ)
+    (stop : Stop) (old new : Option (List ℕ)) → AnswersTail manner number records rest (Err stop) old new
     → failed {N = N} stop ≡ failed {N = N} stops.ReadFault → ⊥
 no_read_fault manner number records rest stops.ReadFault old new answers is = answers
 no_read_fault manner number records rest stops.Memory old new answers is = absurd (cc)

@@ -32,7 +32,8 @@ pub record Gathered (T : Type 0) : Type 0 where
 
 -- records that are numbered from this number on were answered one after the other, with this result, which tells what
 -- they add to the end of the run
-abbrev pub Answers : {N : Type 0} → Manner N → ℕ → List (List ℕ) → Result (Verdict N) Stop → Option (List ℕ) → Option (List ℕ) → Type 0
+abbrev pub Answers : {N : Type 0} → Manner N → ℕ → List (List ℕ) → Result (Verdict N) Stop → Option (List ℕ)
+    → Option (List ℕ) → Type 0
 Answers manner number records (Ok verdict) old new =
     Grew (verdict_from manner number records ≡ verdict) (texts_from manner number records) old new
 Answers manner number records (Err stops.WriteFault) old new =
@@ -42,8 +43,8 @@ Answers manner number records (Err stops.ReadFault) old new = ⊥
 Answers manner number records (Err stops.Limit) old new = ⊥
 
 -- the records in front of those that are gathered still were answered, and add this to the end of the run
-pub record Advances {N : Type 0} (manner : Manner N) (number : ℕ) (records : List (List ℕ)) (first : ℕ) (waiting : List (List ℕ))
-    (verdict : Verdict N) (old new : Option (List ℕ)) : Type 0 where
+pub record Advances {N : Type 0} (manner : Manner N) (number : ℕ) (records : List (List ℕ)) (first : ℕ)
+    (waiting : List (List ℕ)) (verdict : Verdict N) (old new : Option (List ℕ)) : Type 0 where
   pub answered : List (List ℕ)
   pub parts : answered ++ waiting ≡ records
   pub next : first ≡ number + length answered
@@ -51,8 +52,8 @@ pub record Advances {N : Type 0} (manner : Manner N) (number : ℕ) (records : L
   pub written : Appends old new (texts_from manner number answered)
 
 -- the first of these records were answered, with this result, and the others wait
-abbrev pub AnswersFirst : {N : Type 0} → Manner N → ℕ → List (List ℕ) → ℕ → List (List ℕ) → Result (Verdict N) Stop → Option (List ℕ)
-    → Option (List ℕ) → Type 0
+abbrev pub AnswersFirst : {N : Type 0} → Manner N → ℕ → List (List ℕ) → ℕ → List (List ℕ) → Result (Verdict N) Stop
+    → Option (List ℕ) → Option (List ℕ) → Type 0
 AnswersFirst manner number records first waiting (Ok verdict) old new =
     Advances manner number records first waiting verdict old new
 AnswersFirst manner number records first waiting (Err stop) old new = Answers manner number records (Err stop) old new
@@ -62,8 +63,8 @@ abbrev pub blank_of : {N : Type 0} → Manner N → List ℕ → List ℕ
 blank_of manner rest = if manner.keeps_blank then (if is_blank_text rest then rest else []) else []
 
 -- gathered records and what follows the last closed record were answered, with this result
-abbrev pub AnswersTail : {N : Type 0} → Manner N → ℕ → List (List ℕ) → List ℕ → Result (Verdict N) Stop → Option (List ℕ) → Option (List ℕ)
-    → Type 0
+abbrev pub AnswersTail : {N : Type 0} → Manner N → ℕ → List (List ℕ) → List ℕ → Result (Verdict N) Stop
+    → Option (List ℕ) → Option (List ℕ) → Type 0
 AnswersTail manner number records rest (Ok verdict) old new =
     Grew (verdict_from manner number (records ++ last_of rest) ≡ verdict)
     (texts_from manner number (records ++ last_of rest) ++ blank_of manner rest) old new

@@ -30,7 +30,8 @@ pub record Divides {N : Type 0} (manner : Manner N) (limits : Limits) (front beh
   pub verdict : verdict_of manner (answered limits (front ++ behind))
       ≡ joined (verdict_of manner (answered limits front)) (verdict_of manner (answered limits behind))
 
--- where nothing that is due depends on a record's number, a stream within the limits can be divided behind any closed record
+-- where nothing that is due depends on a record's number, a stream within the limits can be divided behind any closed
+-- record
 abbrev pub StreamsDivide : Type 0 → Type 0
 StreamsDivide N = (manner : Manner N) (limits : Limits) (front behind : List ℕ) → IsUnnumbered manner
     → is_closed front ≡ true → limit_place limits (front ++ behind) ≡ None → Divides manner limits front behind

@@ -21,7 +21,8 @@ pub record Grew (P : Type 0) (text : List ℕ) (old new : Option (List ℕ)) : T
 
 -- the sink grew by the texts of the first of these records, which are numbered from this number on, and by no part of
 -- another
-pub record GrewFrom {N : Type 0} (manner : Manner N) (number : ℕ) (records : List (List ℕ)) (old new : Option (List ℕ)) : Type 0 where
+pub record GrewFrom {N : Type 0} (manner : Manner N) (number : ℕ) (records : List (List ℕ))
+    (old new : Option (List ℕ)) : Type 0 where
   pub before : List (List ℕ)
   pub front : IsFrontOf before records
   pub written : Appends old new (texts_from manner number before)
@@ -31,7 +32,8 @@ abbrev pub GrewTo : {N : Type 0} → Manner N → List (List ℕ) → Option (Li
 GrewTo manner records old new = GrewFrom manner 1 records old new
 
 -- no limit is passed, and the records add this to the end of the run
-pub record IsWhole {N : Type 0} (manner : Manner N) (limits : Limits) (verdict : Verdict N) (bytes : List ℕ) : Type 0 where
+pub record IsWhole {N : Type 0} (manner : Manner N) (limits : Limits) (verdict : Verdict N)
+    (bytes : List ℕ) : Type 0 where
   pub unlimited : limit_place limits bytes ≡ None
   pub told : verdict_of manner (answered limits bytes) ≡ verdict
 
@@ -40,7 +42,8 @@ abbrev pub IsLimited : Limits → List ℕ → Type 0
 IsLimited limits bytes = is_some (limit_place limits bytes) ≡ true
 
 -- a stream of these bytes was answered, with this result
-abbrev pub EndsAs : {N : Type 0} → Manner N → Limits → Result (Verdict N) Stop → Option (List ℕ) → Option (List ℕ) → List ℕ → Type 0
+abbrev pub EndsAs : {N : Type 0} → Manner N → Limits → Result (Verdict N) Stop → Option (List ℕ) → Option (List ℕ)
+    → List ℕ → Type 0
 EndsAs manner limits (Ok verdict) old new bytes =
     Grew (IsWhole manner limits verdict bytes) (due manner limits bytes) old new
 EndsAs manner limits (Err stops.Limit) old new bytes =
@@ -50,7 +53,8 @@ EndsAs manner limits (Err stops.Memory) old new bytes = GrewTo manner (answered 
 EndsAs manner limits (Err stops.ReadFault) old new bytes = ⊤
 
 -- no limit is passed by what was taken, and the sink grew by the texts of the records that are closed in it
-pub record AnswersTaken {N : Type 0} (manner : Manner N) (limits : Limits) (left rest old new : Option (List ℕ)) : Type 0 where
+pub record AnswersTaken {N : Type 0} (manner : Manner N) (limits : Limits)
+    (left rest old new : Option (List ℕ)) : Type 0 where
   pub taken : List ℕ
   pub consumed : Consumes left rest taken
   pub unlimited : limit_place limits taken ≡ None

@@ -2,6 +2,7 @@ pub mod Batches
 pub mod Dividing
 pub mod Due
 pub mod Endings
+pub mod Halting
 pub mod Limits
 pub mod Manner
 pub mod Reading

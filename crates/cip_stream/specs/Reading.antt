@@ -4,7 +4,9 @@ use Rattle.std.specs.declared.option.Option.{Option}
 use Rattle.std.specs.Io.KnownBytes.{Consumes, IsAtEnd}
 use Rattle.cip_frame.specs.Framing.{Framing, Holds, Passed}
 use Rattle.cip_stream.specs.declared.reading.Turn.{Turn}
-use Rattle.cip_stream.specs.declared.reading.Turn.TheVariants.{Piece, End, Fault, Limit}
+use Rattle.cip_stream.specs.declared.reading.Turn.TheVariants.{Piece, Last}
+use Rattle.cip_stream.specs.declared.reading.Halt.{Halt}
+use Rattle.cip_stream.specs.declared.reading.Halt.TheVariants.{End, Fault, Limit}
 use Rattle.cip_stream.specs.declared.stop.Stop.{Stop}
 use Rattle.cip_stream.specs.declared.stop.Stop.TheVariants as stops
 
@@ -54,12 +56,16 @@ pub record Ends (left rest : Option (List ℕ)) (old new : Framing) : Type 0 whe
   pub still : StandsStill left rest old new
   pub end : IsAtEnd rest
 
+-- how nothing more came, where there was room for so many bytes
+abbrev pub Halts : Halt → ℕ → Option (List ℕ) → Option (List ℕ) → Framing → Framing → Type 0
+Halts End room left rest old new = Ends left rest old new
+Halts Fault room left rest old new = StandsStill left rest old new
+Halts Limit room left rest old new = Overfeeds room left rest old new ⊎ Overflows room left rest old new
+
 -- what a turn brought, where there is room for so many bytes more
 abbrev pub Brings : ℕ → Result Turn Stop → Option (List ℕ) → Option (List ℕ) → Framing → Framing → Type 0
 Brings room (Ok (Piece count)) left rest old new = Feeds count room left rest old new
-Brings room (Ok End) left rest old new = Ends left rest old new
-Brings room (Ok Fault) left rest old new = StandsStill left rest old new
-Brings room (Ok Limit) left rest old new = Overfeeds room left rest old new ⊎ Overflows room left rest old new
+Brings room (Ok (Last halt)) left rest old new = Halts halt room left rest old new
 Brings room (Err stops.ReadFault) left rest old new = ⊥
 Brings room (Err stops.Memory) left rest old new = ⊤
 Brings room (Err stops.WriteFault) left rest old new = ⊥

@@ -1,6 +1,7 @@
 -- What records add to the end of a run, one after the other. Own.
-use Rattle.std.specs.Prelude.{◌||◌, false, Some, None}
+use Rattle.std.specs.Prelude.{◌||◌, false, Some, None, Result, Ok, Err}
 use Rattle.std.specs.declared.option.Option.{Option}
+use Rattle.cip_stream.specs.declared.stop.Stop.{Stop}
 use Rattle.cip_stream.specs.declared.verdict.Verdict.{Verdict}
 
 -- none is flagged, and there is no note
@@ -18,3 +19,8 @@ joined one behind = record {
   flagged = one.flagged || behind.flagged;
   note = first_note one.note behind.note;
 }
+
+-- the same result, with what records before add
+abbrev pub joined_result : {N : Type 0} → Verdict N → Result (Verdict N) Stop → Result (Verdict N) Stop
+joined_result verdict (Ok behind) = Ok (joined verdict behind)
+joined_result verdict (Err stop) = Err stop

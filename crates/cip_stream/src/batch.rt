@@ -154,8 +154,8 @@ impl<'a, T: Teller + Sync> Batch<'a, T> {
     }
 }
 
-/// Takes the records that wait in the framer, and answers each batch that is full. Says what the answered records add to
-/// the end of the run.
+/// Takes the records that wait in the framer, and answers each batch that is full. Says what the answered records add
+/// to the end of the run.
 pub fn answer_waiting<'a, R: Threads + Sync, G: Gate + Sync, T: Teller + Sync, K: Sink>(
     desks: &mut Desks<'_, R, G, T>,
     framer: &mut Framer,
@@ -224,7 +224,8 @@ pub fn answer_batch<'a, R: Threads + Sync, G: Gate + Sync, T: Teller + Sync, K: 
     Ok(verdict)
 }
 
-/// Answers all records that wait, those in the framer behind those of the batch. Says what they add to the end of the run.
+/// Answers all records that wait, those in the framer behind those of the batch. Says what they add to the end of the
+/// run.
 pub fn answer_rest<'a, R: Threads + Sync, G: Gate + Sync, T: Teller + Sync, K: Sink>(
     desks: &mut Desks<'_, R, G, T>,
     framer: &mut Framer,

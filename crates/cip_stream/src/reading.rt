@@ -18,6 +18,13 @@ const PIECE: usize = 65_536;
 pub enum Turn {
     /// So many bytes, all within the limits.
     Piece(u64),
+    /// Nothing more is read.
+    Last(Halt),
+}
+
+/// Why nothing more is read.
+#[derive(Clone, Copy)]
+pub enum Halt {
     /// The end of the source.
     End,
     /// A fault of the source.
@@ -51,19 +58,19 @@ pub fn feed_next<S: Source>(
     ensures limit { framer.new.limit ≡ framer.old.limit }
     ensures bounded { TakesAtMost (room + 1) (S.left source.old) (S.left source.new) }
     ensures later { S.faults source.old ≤ S.faults source.new }
-    ensures fault { result ≡ Ok Turn.Fault → Rose (S.faults source.old) (S.faults source.new) }
+    ensures fault { result ≡ Ok (Turn.Last Halt.Fault) → Rose (S.faults source.old) (S.faults source.new) }
 {
     let Ok(count) = pull_into(source, piece, room) else {
-        return Ok(Turn::Fault);
+        return Ok(Turn::Last(Halt::Fault));
     };
     if count == 0 {
-        return Ok(Turn::End);
+        return Ok(Turn::Last(Halt::End));
     }
     let within = (count as u64).min(room) as usize;
     match feed(framer, front(piece, within))? {
-        Fed::TooLong => Ok(Turn::Limit),
+        Fed::TooLong => Ok(Turn::Last(Halt::Limit)),
         Fed::Fits if count as u64 <= room => Ok(Turn::Piece(count as u64)),
-        Fed::Fits => Ok(Turn::Limit),
+        Fed::Fits => Ok(Turn::Last(Halt::Limit)),
     }
 }
 

@@ -1,16 +1,17 @@
 // Answering a whole stream.
-ghost use Rattle.std.specs.Prelude.{◌≡◌, ◌<◌, ◌+◌, ◌^◌, ℕ, List, [], true, None, IfSome, IsErrOf, IsOk, length};
+ghost use Rattle.std.specs.Prelude.{◌≡◌, ◌<◌, ◌+◌, ◌-◌, ◌^◌, ◌++◌, [], true, None, IfSome, IsErrOf, IsOk, length};
 ghost use Rattle.std.specs.Io.KnownBytes.{IsAtEnd};
-ghost use Rattle.cip_frame.specs.Framing.{Holds, is_within};
-ghost use Rattle.cip_frame.specs.Records.{cut_of, tail_of};
+ghost use Rattle.cip_frame.specs.Framing.{is_within};
+ghost use Rattle.cip_frame.specs.Records.{tail_of};
 ghost use Rattle.cip_io.specs.Faults.{Rose};
 ghost use Rattle.cip_stream.specs.Endings.{EndsAs, AnswersTaken};
+ghost use Rattle.cip_stream.specs.Halting.{AnswersHalted, AnswersSource, ended_by};
 ghost use Rattle.cip_stream.specs.Reading.{IsFresh, TakesAtMost};
 
 use crate::batch::{Batch, answer_batch, answer_rest, answer_tail, answer_waiting};
 use crate::crew::{Crew, Desks};
 use crate::limits::Limits;
-use crate::reading::{Turn, feed_next, new_piece};
+use crate::reading::{Halt, Turn, feed_next, new_piece};
 use crate::stop::Stop;
 use crate::teller::Teller;
 use crate::verdict::Verdict;
@@ -69,8 +70,7 @@ impl Inflow {
     fn finish(&mut self) -> Tail
         requires { self.old.framer.fault ≡ None }
         ensures small { is_within self.old.framer.limit result ≡ true }
-        ensures rest { (given : List (List ℕ)) (fed : List ℕ) → Holds given fed self.old.framer
-            → result ≡ tail_of (cut_of fed).rest }
+        ensures tail { result ≡ tail_of self.old.framer.open_bytes }
     {
         let framer = mem::replace(&mut self.framer, Framer::new(self.alloc, 0));
         framer.finish()
@@ -92,12 +92,8 @@ fn answer_pieces<'a, R: Threads + Sync, G: Gate + Sync, T: Teller + Sync, S: Sou
     requires fresh { IsFresh limits.record inflow.old.framer }
     requires first { batch.old.first ≡ 1 }
     requires none { batch.old.records ≡ [] }
-    ensures ended { IfSome (S.left source.old) (EndsAs (T.manner batch.old.teller) limits result
-        (K.taken sink.old) (K.taken sink.new)) }
-    ensures whole { IsOk result → IsAtEnd (S.left source.new) }
-    ensures read_fault { IsErrOf result Stop.ReadFault → AnswersTaken (T.manner batch.old.teller) limits
+    ensures answered { AnswersSource (T.manner batch.old.teller) limits result
         (S.left source.old) (S.left source.new) (K.taken sink.old) (K.taken sink.new) }
-    ensures bounded { TakesAtMost (limits.input + 1) (S.left source.old) (S.left source.new) }
     ensures source_fault { IsErrOf result Stop.ReadFault → Rose (S.faults source.old) (S.faults source.new) }
     ensures sink_fault { IsErrOf result Stop.WriteFault → Rose (K.faults sink.old) (K.faults sink.new) }
 {
@@ -109,19 +105,44 @@ fn answer_pieces<'a, R: Threads + Sync, G: Gate + Sync, T: Teller + Sync, S: Sou
                 verdict = verdict.and(answer_waiting(desks, &mut inflow.framer, batch, sink)?);
                 room -= count;
             }
-            Turn::End => {
-                let tail = inflow.finish();
-                verdict = verdict.and(answer_tail(desks, tail, batch, sink)?);
-                return Ok(verdict);
-            }
-            Turn::Fault => {
-                answer_batch(desks, batch, sink)?;
-                return Err(Stop::ReadFault);
-            }
-            Turn::Limit => {
-                answer_rest(desks, &mut inflow.framer, batch, sink)?;
-                return Err(Stop::Limit);
+            Turn::Last(halt) => {
+                return verdict.then(answer_halted(halt, desks, inflow, batch, sink));
             }
         }
+    }
+}
+
+// Answers the records that are gathered, where nothing more is read.
+fn answer_halted<'a, R: Threads + Sync, G: Gate + Sync, T: Teller + Sync, K: Sink>(
+    halt: Halt,
+    desks: &mut Desks<'_, R, G, T>,
+    inflow: &mut Inflow,
+    batch: &mut Batch<'a, T>,
+    sink: &mut K,
+) -> Result<Verdict<T::Note>, Stop>
+    requires limit { inflow.old.framer.limit < 2 ^ 31 }
+    requires room { batch.old.first + length (batch.old.records ++ inflow.old.framer.waiting) < 2 ^ 64 - 1 }
+    requires sound { halt ≡ Halt.End → inflow.old.framer.fault ≡ None }
+    ensures answered { AnswersHalted (T.manner batch.old.teller) halt batch.old.first batch.old.records
+        inflow.old.framer result (K.taken sink.old) (K.taken sink.new) }
+    ensures fault { IsErrOf result Stop.WriteFault → Rose (K.faults sink.old) (K.faults sink.new) }
+{
+    match halt {
+        Halt::End => answer_tail(desks, inflow.finish(), batch, sink),
+        Halt::Fault => ended_by(Stop::ReadFault, answer_batch(desks, batch, sink)),
+        Halt::Limit => ended_by(
+            Stop::Limit,
+            answer_rest(desks, &mut inflow.framer, batch, sink),
+        ),
+    }
+}
+
+// The cause for which it ends behind records, unless those stopped it.
+fn ended_by<N: Copy>(cause: Stop, answered: Result<Verdict<N>, Stop>) -> Result<Verdict<N>, Stop>
+    ensures { result ≡ ended_by cause answered }
+{
+    match answered {
+        Ok(_) => Err(cause),
+        Err(stop) => Err(stop),
     }
 }

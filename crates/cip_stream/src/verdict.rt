@@ -1,6 +1,8 @@
 // What records add to the end of a run.
 ghost use Rattle.std.specs.Prelude.{◌≡◌};
-ghost use Rattle.cip_stream.specs.Verdicts.{clear, joined};
+ghost use Rattle.cip_stream.specs.Verdicts.{clear, joined, joined_result};
+
+use crate::stop::Stop;
 
 /// What records add to the end of a run: whether one of them is flagged, and the first note on one of them.
 #[derive(Clone, Copy)]
@@ -27,6 +29,16 @@ impl<N: Copy> Verdict<N> {
         Verdict {
             flagged: self.flagged || behind.flagged,
             note: self.note.or(behind.note),
+        }
+    }
+
+    /// Of these records, and of others behind them unless those stopped the run.
+    pub fn then(self, behind: Result<Verdict<N>, Stop>) -> Result<Verdict<N>, Stop>
+        ensures { result ≡ joined_result self behind }
+    {
+        match behind {
+            Ok(behind) => Ok(self.and(behind)),
+            Err(stop) => Err(stop),
         }
     }
 }

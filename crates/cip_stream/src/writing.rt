@@ -16,8 +16,8 @@ use std::alloc::Global;
 // How many bytes wait to be written at once, at most: 256 KiB.
 const JOINED: usize = 262_144;
 
-/// Writes what was told of records, in their order and at once as far as it isn't long. Says what they add to the end of
-/// the run.
+/// Writes what was told of records, in their order and at once as far as it isn't long. Says what they add to the end
+/// of the run.
 pub fn write_all<N: Copy, K: Sink>(
     alloc: Global,
     found: &[Told<N>],

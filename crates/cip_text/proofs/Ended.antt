@@ -97,7 +97,7 @@ own_lines (line ∷ next ∷ lines) h =
 
 -- the lines of body and closing
 
-others : (line : List ℕ) (lines : List (List ℕ)) → are_ended (line ∷ lines) ≡ true → are_ended lines ≡ true
+pub others : (line : List ℕ) (lines : List (List ℕ)) → are_ended (line ∷ lines) ≡ true → are_ended lines ≡ true
 others line [] h = refl
 others line (next ∷ lines) h = (and_parts (is_ended line) (are_ended (next ∷ lines)) h).1
 

@@ -9,7 +9,7 @@ use Rattle.cip_text.specs.Laws.{has_line_feed, is_ended}
 use Rattle.cip_text.specs.Lines.{lf, crlf}
 use Rattle.cip_text.proofs.Ended.{end_as}
 
-last_place : (text : List ℕ) (b : ℕ) → length (text ++ b ∷ []) - 1 ≡ length text
+pub last_place : (text : List ℕ) (b : ℕ) → length (text ++ b ∷ []) - 1 ≡ length text
 last_place text b = rw (length-append text (b ∷ [])) (omega arith)
 
 pub last_is : (text : List ℕ) (b c : ℕ) → has_last c (text ++ b ∷ []) ≡ (b == c)
@@ -18,7 +18,7 @@ last_is text b c =
     let last : get_or (text ++ b ∷ []) (length text) 0 ≡ b = get_or-append_seam text b [] 0 in
     rw (some, last_place text b, last) refl
 
-before_last : (text : List ℕ) (b : ℕ) → without_last (text ++ b ∷ []) ≡ text
+pub before_last : (text : List ℕ) (b : ℕ) → without_last (text ++ b ∷ []) ≡ text
 before_last text b = rw (last_place text b) (take-append_seam text (b ∷ []))
 
 -- the last byte of two texts is that of the second one

@@ -1,5 +1,5 @@
-//! Lines of a text, fields by columns, and the numbers in fields. A text is any list of bytes. And lists whose items are
-//! counted in 32 bits.
+//! Lines of a text, fields by columns, and the numbers in fields. A text is any list of bytes. And lists whose items
+//! are counted in 32 bits.
 #![tactic(auto)]
 
 mod bodies;

@@ -1,3 +1,4 @@
 mod FitPairs
 pub mod KeptOrders
 mod Rounds
+mod Walked

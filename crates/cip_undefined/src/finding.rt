@@ -48,7 +48,7 @@ fn push_found<D: Digraphs, L: Ledger>(
         let outcome = labeller.label_site(alloc, setting, &unit.site, Sense::Plus, steps)?;
         found.push(UndefinedUnit {
             name: name_of(&unit.site),
-            site: unit.site.copy(alloc),
+            site: unit.site.copy(),
             drawn: setting.graph().drawn(),
             state: state_of(outcome),
         })?;

@@ -76,7 +76,7 @@ fn tied_sites(alloc: Global, found: &[UndefinedUnit]) -> Result<Vec<Site>, Alloc
     let mut sites = Vec::new(alloc);
     for unit in found {
         if ties(&unit.state) {
-            sites.push(unit.site.copy(alloc))?;
+            sites.push(unit.site.copy())?;
         }
     }
     Ok(sites)
@@ -138,7 +138,7 @@ fn loose<D: Digraphs, L: Ledger>(
     let mut left = Vec::new(alloc);
     for site in sites {
         if !is_firm(alloc, labeller, setting, site, free, steps)? {
-            left.push(site.copy(alloc))?;
+            left.push(site.copy())?;
         }
     }
     Ok(left)
@@ -180,7 +180,7 @@ fn is_tied<D: Digraphs, L: Ledger>(
     ensures tied { IfOk result (λ tied. tied ≡ is_tied setting.now labeller.old pair.now) }
     ensures kept { labeller.new ≡ labeller.old }
 {
-    let ligands = pair.ligands(alloc);
+    let ligands = pair.ligands();
     let ranked = labeller.rank_root(alloc, setting, pair.at, &ligands, steps)?;
     Ok(is_tie(&ranked))
 }

@@ -9,8 +9,8 @@ use cip_mol::{Places, Rule};
 use cip_print::{push_name, push_names_in_order, push_number, push_word, refusal};
 use std::alloc::{AllocError, Global};
 
-/// What is told of the undefined units of a record: a line for each, with its ligands in order where they all differ; or
-/// why the record is refused.
+/// What is told of the undefined units of a record: a line for each, with its ligands in order where they all differ;
+/// or why the record is refused.
 #[tactic(auto, unfolding(crate::specs::Texts::undefined_text))]
 pub fn undefined_text(alloc: Global, answer: &UndefinedAnswer) -> Result<Vec<u8>, AllocError>
     ensures { IfOk result (λ text. text.items ≡ undefined_text answer.now) }

@@ -91,8 +91,8 @@ fn push_bond(
         let site = Site::Bond {
             a,
             b,
-            first: end_ligands(alloc, sketch.graph, &unit, a),
-            second: end_ligands(alloc, sketch.graph, &unit, b),
+            first: end_ligands(sketch.graph, &unit, a),
+            second: end_ligands(sketch.graph, &unit, b),
         };
         push_unit(alloc, sketch.molecule, site, units)?;
     }

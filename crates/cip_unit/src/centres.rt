@@ -49,7 +49,7 @@ fn push_site(
 {
     let site = Site::Centre {
         at: atom,
-        ligands: centre_ligands(alloc, graph, atom),
+        ligands: centre_ligands(graph, atom),
     };
     push_unit(alloc, molecule, site, units)
 }
@@ -104,22 +104,22 @@ fn is_quadriligant(vertex: &Vertex) -> bool
     }
 }
 
-fn centre_ligands(alloc: Global, graph: &Graph, atom: u32) -> Ligands
+fn centre_ligands(graph: &Graph, atom: u32) -> Ligands
     requires { length (edges_at graph.now atom) ≤ 4 }
     ensures { result ≡ centre_ligands graph.now atom }
 {
-    let mut ligands = neighbours(alloc, graph, atom);
+    let mut ligands = neighbours(graph, atom);
     if ligands.len() == 3 {
         ligands.push(Ligand::LonePair);
     }
     ligands
 }
 
-fn neighbours(alloc: Global, graph: &Graph, atom: u32) -> Ligands
+fn neighbours(graph: &Graph, atom: u32) -> Ligands
     requires { length (edges_at graph.now atom) ≤ 4 }
     ensures { result ≡ map variants.Vertex (neighbours graph.now atom) }
 {
-    let mut ligands = Ligands::new(alloc);
+    let mut ligands = Ligands::new();
     for edge in graph.edges_at(atom) {
         ligands.push(Ligand::Vertex(edge.other_end(atom)));
     }

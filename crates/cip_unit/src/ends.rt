@@ -8,7 +8,6 @@ ghost use Rattle.cip_unit.specs.Sites.{has_drawn_outside};
 
 use cip_digraph::{Graph, Vertex};
 use cip_mol::{Ligand, Ligands};
-use std::alloc::Global;
 
 /// What is told of a number that is no vertex.
 const NO_VERTEX: Vertex = Vertex {
@@ -106,23 +105,23 @@ fn one_if(counts: bool) -> usize
 }
 
 /// The ligands of an end.
-pub fn end_ligands(alloc: Global, graph: &Graph, unit: &[u32], atom: u32) -> Ligands
+pub fn end_ligands(graph: &Graph, unit: &[u32], atom: u32) -> Ligands
     requires { length (edges_at graph.now atom) ≤ 3 }
     ensures { result ≡ end_ligands graph.now unit.now atom }
 {
-    let mut ligands = outer_ligands(alloc, graph, unit, atom);
+    let mut ligands = outer_ligands(graph, unit, atom);
     if vertex_at(graph, atom).z == 7 && graph.edges_at(atom).len() == 2 {
         ligands.push(Ligand::LonePair);
     }
     ligands
 }
 
-fn outer_ligands(alloc: Global, graph: &Graph, unit: &[u32], atom: u32) -> Ligands
+fn outer_ligands(graph: &Graph, unit: &[u32], atom: u32) -> Ligands
     requires { length (edges_at graph.now atom) ≤ 3 }
     ensures value { result ≡ map variants.Vertex (outer_neighbours graph.now unit.now atom) }
     ensures few { length result ≤ 3 }
 {
-    let mut ligands = Ligands::new(alloc);
+    let mut ligands = Ligands::new();
     for edge in graph.edges_at(atom) {
         push_outer(&mut ligands, unit, edge.other_end(atom));
     }

@@ -6,7 +6,19 @@ use Rattle.cip_text.specs.Columns.{without_spaces_before}
 use Rattle.cip_v3000.specs.declared.splitting.Within.{Within}
 use Rattle.cip_v3000.specs.declared.splitting.Within.TheVariants.{Plain, Bracket, Quote}
 use Rattle.cip_v3000.specs.Words.{after, ends_word, ended, words_from, words_of}
-use Rattle.cip_v3000.proofs.WordSteps.{state_stays}
+
+-- no byte behind the closing bracket begins or ends a part
+pub state_stays : (within : Within) (b : ℕ) → 41 < b → within ≡ after within b
+state_stays Plain b high =
+    let no_bracket : (b == 40) ≡ false = grind (arith, high) in
+    let no_quote : (b == 34) ≡ false = grind (arith, high) in
+    rw (no_bracket, no_quote) refl
+state_stays Bracket b high =
+    let no_bracket : (b == 41) ≡ false = grind (arith, high) in
+    rw no_bracket refl
+state_stays Quote b high =
+    let no_quote : (b == 34) ≡ false = grind (arith, high) in
+    rw no_quote refl
 
 -- spaces before it
 

@@ -107,7 +107,8 @@ pub parts_joined : (so_far : List ℕ) (parts : List (Bor (List ℕ))) (place : 
     → so_far ++ flat_map part_of (texts (drop place parts)) ≡ total → so_far ≡ total
 parts_joined so_far parts place total past is =
     sym (append-nil so_far)
-    ∙ ap (λ (left : List (Bor (List ℕ))). so_far ++ flat_map part_of (texts left)) (sym (drop_all place parts past)) ∙ is
+    ∙ ap (λ (left : List (Bor (List ℕ))). so_far ++ flat_map part_of (texts left)) (sym (drop_all place parts past))
+    ∙ is
 
 pub only_part : (parts : List (Bor (List ℕ))) (d : Bor (List ℕ)) → 1 ≤ length parts → length parts < 2
     → part_of (get_or parts 0 d).now ≡ flat_map part_of (texts parts)

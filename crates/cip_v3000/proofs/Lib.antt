@@ -11,5 +11,4 @@ pub mod NumberWords
 pub mod PlacedWords
 pub mod Soundness
 pub mod Tables
-pub mod WordSteps
 pub mod WorkedLines

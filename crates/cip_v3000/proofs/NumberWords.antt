@@ -15,8 +15,7 @@ use Rattle.cip_v3000.specs.declared.splitting.Within.TheVariants.{Plain}
 use Rattle.cip_v3000.specs.LineWords.{HaveNumber, HaveCoordinate}
 use Rattle.cip_v3000.specs.NumberWords.{IsNumberWord, IsNumberBegun}
 use Rattle.cip_v3000.specs.Words.{ends_word, ended, words_from, words_of}
-use Rattle.cip_v3000.proofs.FirstWords.{begun_ends, begun_runs_out, first_word}
-use Rattle.cip_v3000.proofs.WordSteps.{state_stays}
+use Rattle.cip_v3000.proofs.FirstWords.{begun_ends, begun_runs_out, first_word, state_stays}
 
 -- what a number of few digits is as a word
 number_read : (most : ℕ) (word : List ℕ) (number : ℕ) → Spells word number

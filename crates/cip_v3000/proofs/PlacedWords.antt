@@ -11,7 +11,8 @@ use Rattle.cip_v3000.specs.AtomLine.{point_by}
 use Rattle.cip_v3000.specs.LineWords.{HaveNumber, HaveCoordinate, HavePoint, AreAtomWords, AreBondWords}
 use Rattle.cip_v3000.specs.Words.{words_of}
 
-pub point_words_are : (words second third rest : List (List ℕ)) (x y z : Result ℤ ReadCause) (at : Result Vec3 ReadCause)
+pub point_words_are : (words second third rest : List (List ℕ)) (x y z : Result ℤ ReadCause)
+    (at : Result Vec3 ReadCause)
     → HaveCoordinate words x second → HaveCoordinate second y third → HaveCoordinate third z rest
     → at ≡ point_by x y z → IfOk at IsPlace → HavePoint words at rest
 point_words_are words second third rest x y z at a b c is near = record {

@@ -26,7 +26,8 @@ record IsOfSome {A : Type 0} (read : List (List ℕ) → Result A ReadCause) (x 
   words : List (List ℕ)
   gives : read words ≡ Ok x
 
-line_given : {A : Type 0} (past : ReadFault) (read : List (List ℕ) → Result A ReadCause) (line : Option JoinedLine) (x : A)
+line_given : {A : Type 0} (past : ReadFault) (read : List (List ℕ) → Result A ReadCause) (line : Option JoinedLine)
+    (x : A)
     → read_line past read line ≡ Ok x → IsOfSome read x
 line_given past read None x h = absurd cc
 line_given past read (Some line) x h =
@@ -121,7 +122,8 @@ sound_in lines joined drawing h =
     let bonds = given_of (bond_block joined atoms.was.indices counts.was.bonds (4 + counts.was.atoms)) _ drawing
     ended.gives in
     let number = given_of
-    (table_end joined.past (drop (behind_block (has_bond_block joined counts.was.bonds (4 + counts.was.atoms)) counts.was.bonds (4 + counts.was.atoms)) joined.lines))
+    (table_end joined.past (drop (behind_block (has_bond_block joined counts.was.bonds (4 + counts.was.atoms))
+    counts.was.bonds (4 + counts.was.atoms)) joined.lines))
     _ drawing bonds.gives in
     let last = given_of (molecule_end lines number.was) _ drawing number.gives in
     let sound : IsSound (length atoms.was.atoms) bonds.was.bonds =

@@ -5,7 +5,7 @@ ghost use Rattle.cip_text.specs.Kinds.{is_molecule_end};
 ghost use Rattle.cip_text.specs.Slices.{texts};
 ghost use Rattle.cip_mol.specs.Ranges.{IsAtom, IsBond};
 ghost use Rattle.cip_reading.specs.Reading.{Gives};
-ghost use Rattle.cip_v3000.specs.Blocks.{seen_atoms, seen_bonds};
+ghost use Rattle.cip_v3000.specs.Blocks.{seen_atoms, seen_bonds, AreAtoms, AreBonds};
 ghost use Rattle.cip_v3000.specs.Grammar.{atom_block, atom_row, bond_row, bond_rows, framed_bonds, has_bond_block, bond_block, behind_block, table_end, molecule_end};
 ghost use Rattle.cip_v3000.specs.Joining.{seen, seen_all, IsNumbered};
 
@@ -40,8 +40,7 @@ pub fn atom_block(
 ) -> Result<AtomBlock, ReadRefusal>
     requires { count ≤ 16384 }
     ensures value { Gives seen_atoms result (atom_block (seen_all joined.now) count) }
-    ensures range { IfOk result (λ block. All IsAtom block.atoms.items) }
-    ensures counted { IfOk result (λ block. (length block.atoms.items ≡ count) × (length block.indices ≡ count)) }
+    ensures are { IfOk result (AreAtoms count) }
 {
     let mut block = no_atoms(alloc, count)?;
     read_atoms(alloc, joined, count, &mut block)?;
@@ -66,8 +65,7 @@ fn read_atoms(
     requires count { count ≤ 16384 }
     requires none { seen_atoms block.old ≡ record { indices = []; atoms = [] } }
     ensures value { Gives (λ _. seen_atoms block.new) result (atom_block (seen_all joined.now) count) }
-    ensures range { OnOk result (All IsAtom block.new.atoms.items) }
-    ensures counted { OnOk result ((length block.new.atoms.items ≡ count) × (length block.new.indices ≡ count)) }
+    ensures are { OnOk result (AreAtoms count block.new) }
 {
     for row in 0..count as usize {
         read_atom(alloc, joined, row, block)?;
@@ -82,11 +80,11 @@ fn read_atom(
     row: usize,
     block: &mut AtomBlock,
 ) -> Result<(), ReadRefusal>
-    requires { row < 16384 }
-    ensures value { Gives (λ _. seen_atoms block.new) result (atom_row (seen_all joined.now) (seen_atoms block.old) row) }
-    ensures range { OnOk result (All IsAtom block.old.atoms.items → All IsAtom block.new.atoms.items) }
-    ensures counted { OnOk result ((length block.new.atoms.items ≡ length block.old.atoms.items + 1)
-        × (length block.new.indices ≡ length block.old.indices + 1)) }
+    requires row { row < 16384 }
+    requires are { AreAtoms row block.old }
+    ensures value { Gives (λ _. seen_atoms block.new) result
+        (atom_row (seen_all joined.now) (seen_atoms block.old) row) }
+    ensures are { OnOk result (AreAtoms (row + 1) block.new) }
 {
     let line = atom_line(alloc, joined, 3 + row, &block.indices)?;
     block.indices.push(line.index)?;
@@ -126,9 +124,7 @@ pub fn bond_block(
     requires place { place ≤ 16388 }
     requires has { has ≡ has_bond_block (seen_all joined.now) count place }
     ensures value { Gives seen_bonds result (bond_block (seen_all joined.now) atoms.now count place) }
-    ensures among { IfOk result (λ block. block.bonds.atoms ≡ length atoms.now) }
-    ensures range { IfOk result (λ block. All IsBond block.bonds.bonds) }
-    ensures counted { IfOk result (λ block. length block.bonds.bonds ≤ 32768) }
+    ensures are { IfOk result (AreBonds (length atoms.now) count) }
 {
     let mut block = no_bonds(alloc, atoms)?;
     if !has {
@@ -225,9 +221,7 @@ fn read_framed(
     requires among { block.old.bonds.atoms ≡ length atoms.now }
     ensures value { Gives (λ _. seen_bonds block.new) result
         (framed_bonds (seen_all joined.now) atoms.now count place) }
-    ensures among { OnOk result (block.new.bonds.atoms ≡ length atoms.now) }
-    ensures range { OnOk result (All IsBond block.new.bonds.bonds) }
-    ensures counted { OnOk result (length block.new.bonds.bonds ≤ 32768) }
+    ensures are { OnOk result (AreBonds (length atoms.now) count block.new) }
 {
     frame(alloc, joined, place, FrameLine::BeginBonds)?;
     read_bonds(alloc, joined, atoms, place + 1, count, block)?;
@@ -255,9 +249,7 @@ fn read_bonds(
     requires none { seen_bonds block.old ≡ record { indices = []; bonds = [] } }
     requires among { block.old.bonds.atoms ≡ length atoms.now }
     ensures value { Gives (λ _. seen_bonds block.new) result (bond_rows (seen_all joined.now) atoms.now first count) }
-    ensures among { OnOk result (block.new.bonds.atoms ≡ length atoms.now) }
-    ensures range { OnOk result (All IsBond block.new.bonds.bonds) }
-    ensures counted { OnOk result (length block.new.bonds.bonds ≡ count) }
+    ensures are { OnOk result (AreBonds (length atoms.now) count block.new) }
 {
     for row in 0..count as usize {
         read_bond(alloc, joined, atoms, first, row, block)?;
@@ -277,12 +269,10 @@ fn read_bond(
     requires few { length atoms.now ≤ 16384 }
     requires first { first ≤ 16389 }
     requires row { row < 32768 }
-    requires among { block.old.bonds.atoms ≡ length atoms.now }
+    requires are { AreBonds (length atoms.now) row block.old }
     ensures value { Gives (λ _. seen_bonds block.new) result
         (bond_row (seen_all joined.now) atoms.now first (seen_bonds block.old) row) }
-    ensures among { OnOk result (block.new.bonds.atoms ≡ length atoms.now) }
-    ensures range { OnOk result (All IsBond block.old.bonds.bonds → All IsBond block.new.bonds.bonds) }
-    ensures counted { OnOk result (length block.new.bonds.bonds ≡ length block.old.bonds.bonds + 1) }
+    ensures are { OnOk result (AreBonds (length atoms.now) (row + 1) block.new) }
 {
     let line = bond_line(
         alloc,

@@ -43,8 +43,8 @@ pub fn joined_lines<'a>(alloc: Global, lines: &'a [&'a [u8]]) -> Result<JoinedLi
     Ok(JoinedLines { lines: found, past })
 }
 
-// Puts the joined lines into a list that has none, and says which fault it is where one more is due. The list stays with
-// the caller, so that no line gives it back.
+// Puts the joined lines into a list that has none, and says which fault it is where one more is due. The list stays
+// with the caller, so that no line gives it back.
 #[tactic(auto, unfolding(crate::specs::JoinedLines::joined_lines))]
 fn join_lines<'a>(
     lines: &'a [&'a [u8]],

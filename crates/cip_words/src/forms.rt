@@ -22,8 +22,8 @@ pub enum Values {
     CentreLetter,
 }
 
-/// What an option takes: the letter that stands for its value in the help text, the values that it takes, and the number
-/// that holds where it isn't given. An option without such a one has to be given.
+/// What an option takes: the letter that stands for its value in the help text, the values that it takes, and the
+/// number that holds where it isn't given. An option without such a one has to be given.
 #[derive(Clone, Copy)]
 pub struct Choice {
     pub letter: u8,

@@ -43,8 +43,8 @@ pub enum Settings {
         workers: u8,
         rules: Rules,
     },
-    /// The record of this number is written with the mark that gives the centre at an atom its letter. Records and atoms
-    /// count from 1.
+    /// The record of this number is written with the mark that gives the centre at an atom its letter. Records and
+    /// atoms count from 1.
     Set {
         number: u32,
         atom: u32,

@@ -1,15 +1,8 @@
 // What each call answers.
 use crate::calls::{Call, call_named};
 use crate::carbons::{fault, lattice, renumbered};
-use crate::changing::{letter_set, marked, mirrored, not_mirrored};
-use crate::command_lines::readers_agree;
 use crate::directions::{around, sign_of_side, sign_of_volume};
 use crate::elements::{element, masses, valences_told};
-use crate::further::{axes_told, group_told, groups_told, undefined_told};
-use crate::labelled::labels;
-use crate::molfiles::{first_atom, refusal_of_v2000, refusal_of_v3000, second_atom};
-use crate::printing::{explained, lines_of, tally};
-use crate::records::changed_record;
 use crate::senses::sense;
 use crate::texts::{
     contents, decimal, field, halves, items, kind, labelled, listed, place, prepared, whole,
@@ -17,90 +10,40 @@ use crate::texts::{
 use crate::words::{asked, asked_by_no_words, help_lines};
 use gate_rows::{Caller, Row, Text};
 use std::alloc::Global;
+use std::io;
 use std::rt::Files;
-use std::{fs, io};
+use std::thread::Threads;
 
-/// The calls of the table.
+/// The calls on words, texts and drawings.
 #[derive(Drop)]
 pub struct Calls;
 
 impl Caller for Calls {
-    fn answer<R: Files + AllocGlobal>(&self, rt: &R, out: &mut Text, row: &Row) -> io::Result<()> {
-        let Some(call) = call_named(row.call()) else {
-            out.push_str("there is no such call");
-            return Ok(());
-        };
-        if row.field(2).ends_with(".mol") {
-            let record = fs::read(rt, row.field(2))?;
-            of_record(rt.alloc(), out, call, row, &record);
-            return Ok(());
+    fn answer<R: Files + Threads + Sync + AllocGlobal>(
+        &self,
+        rt: &R,
+        out: &mut Text,
+        row: &Row,
+    ) -> io::Result<()> {
+        match call_named(row.call()) {
+            Some(call) => of_words(rt.alloc(), out, call, row),
+            None => out.push_str("there is no such call"),
         }
-        of_words(rt.alloc(), out, call, row);
         Ok(())
     }
 }
 
-// Of a record as it is, or else of one that is changed.
-fn of_record(alloc: Global, out: &mut Text, call: Call, row: &Row, record: &[u8]) {
-    match call {
-        Call::Groups => groups_told(alloc, out, record),
-        Call::Axes => axes_told(alloc, out, record),
-        Call::Group => group_told(alloc, out, record),
-        _ => of_changed(alloc, out, call, row, record),
-    }
-}
-
-// Of a record, in which the row has a text put in the place of another one, or else lines changed.
-fn of_changed(alloc: Global, out: &mut Text, call: Call, row: &Row, record: &[u8]) {
-    let Ok(text) = str::from_utf8(record) else {
-        return out.push_str("no text");
-    };
-    match call {
-        Call::Mirror => mirrored(alloc, out, row, text),
-        Call::NotMirrored => not_mirrored(alloc, out, row, text),
-        Call::Marked => marked(alloc, out, row, text),
-        Call::Set => letter_set(alloc, out, row, text),
-        _ => of_changed_lines(alloc, out, call, row, record),
-    }
-}
-
-fn of_changed_lines(alloc: Global, out: &mut Text, call: Call, row: &Row, record: &[u8]) {
-    match changed_record(alloc, row, record, first_change(call)) {
-        Ok(changed) => of_lines(alloc, out, call, row, &changed),
-        Err(_) => out.miss(),
-    }
-}
-
-// From which field on a row says how lines are changed.
-fn first_change(call: Call) -> usize {
-    match call {
-        Call::Labels | Call::Undefined => 4,
-        _ => 3,
-    }
-}
-
-fn of_lines(alloc: Global, out: &mut Text, call: Call, row: &Row, record: &[u8]) {
-    match call {
-        Call::V2000 => refusal_of_v2000(alloc, out, record),
-        Call::V3000 => refusal_of_v3000(alloc, out, record),
-        Call::FirstAtom => first_atom(alloc, out, record),
-        Call::SecondAtom => second_atom(alloc, out, record),
-        Call::Labels => labels(alloc, out, record, row.number(3)),
-        Call::Undefined => undefined_told(alloc, out, record, row.number(3)),
-        _ => out.push_str("no call of a record"),
-    }
-}
-
-// Of words of a command line and of answers that are built, or else of texts.
+// Of words of a command line, or else of a text.
 fn of_words(alloc: Global, out: &mut Text, call: Call, row: &Row) {
     match call {
         Call::Words => asked(alloc, out, row.field(2)),
         Call::NoWords => asked_by_no_words(out),
-        Call::BothReaders => readers_agree(alloc, out, row.field(2)),
         Call::Help => help_lines(out),
-        Call::Values => lines_of(alloc, out, row),
-        Call::Explained => explained(alloc, out, row),
-        Call::Tally => tally(alloc, out),
+        Call::Field => field(out, row),
+        Call::Whole => whole(out, row),
+        Call::Decimal => decimal(out, row),
+        Call::Halves => halves(out, row),
+        Call::Kind => kind(out, row),
         _ => of_text(alloc, out, call, row),
     }
 }
@@ -108,13 +51,8 @@ fn of_words(alloc: Global, out: &mut Text, call: Call, row: &Row) {
 // Of a text that stands in the row, or else of a drawing.
 fn of_text(alloc: Global, out: &mut Text, call: Call, row: &Row) {
     match call {
-        Call::Field => field(out, row),
-        Call::Whole => whole(out, row),
-        Call::Decimal => decimal(out, row),
         Call::Lines => contents(alloc, out, row),
         Call::Line => place(alloc, out, row),
-        Call::Halves => halves(out, row),
-        Call::Kind => kind(out, row),
         Call::List => listed(alloc, out),
         Call::WithItem => labelled(alloc, out, row),
         Call::WithoutLabels => prepared(alloc, out, row),
@@ -136,6 +74,6 @@ fn of_drawing(alloc: Global, out: &mut Text, call: Call, row: &Row) {
         Call::Element => element(out, row),
         Call::Valences => valences_told(out, row),
         Call::Masses => masses(out),
-        _ => out.push_str("a record is to be named"),
+        _ => out.push_str("no call of a drawing"),
     }
 }

@@ -33,7 +33,7 @@ fn push_sense(alloc: Global, out: &mut Text, row: &Row, molecule: &Molecule) {
     let Ok(seconds) = numbers(alloc, row.field(4)) else {
         return out.miss();
     };
-    let site = site(alloc, molecule, row.field(2), &firsts, &seconds);
+    let site = site(molecule, row.field(2), &firsts, &seconds);
     out.push_str(shown(alloc, molecule, &site))
 }
 
@@ -67,8 +67,8 @@ fn molecule(
 }
 
 // These atoms, and a lone pair behind them where there is room.
-fn ligands(alloc: Global, numbers: &[u32]) -> Ligands {
-    let mut ligands = Ligands::new(alloc);
+fn ligands(numbers: &[u32]) -> Ligands {
+    let mut ligands = Ligands::new();
     for number in numbers {
         if ligands.len() < 4 {
             ligands.push(Ligand::Vertex(*number));
@@ -81,54 +81,42 @@ fn ligands(alloc: Global, numbers: &[u32]) -> Ligands {
 }
 
 // The ligands of an atom, where so many of them are drawn.
-fn ligands_at(
-    alloc: Global,
-    molecule: &Molecule,
-    at: u32,
-    numbers: &[u32],
-    least: u32,
-) -> Option<Ligands>
+fn ligands_at(molecule: &Molecule, at: u32, numbers: &[u32], least: u32) -> Option<Ligands>
     ensures atom { IfSome result (λ _. at < length molecule.now.atoms) }
     ensures drawn { IfSome result (λ ligands. least ≤ length (drawn (length molecule.now.atoms) ligands)) }
 {
-    let ligands = ligands(alloc, numbers);
-    if molecule.atoms().len() <= at as usize || drawn_of(alloc, molecule, &ligands).len() < least {
+    let ligands = ligands(numbers);
+    if molecule.atoms().len() <= at as usize || drawn_of(molecule, &ligands).len() < least {
         return None;
     }
     Some(ligands)
 }
 
 // The site of a kind, with its ligands at its first end and at its last one.
-fn site(
-    alloc: Global,
-    molecule: &Molecule,
-    kind: &str,
-    firsts: &[u32],
-    seconds: &[u32],
-) -> Option<Site>
+fn site(molecule: &Molecule, kind: &str, firsts: &[u32], seconds: &[u32]) -> Option<Site>
     ensures { IfSome result (IsSite (length molecule.now.atoms)) }
 {
     match kind.as_bytes() {
-        [b'c', ..] => centre(alloc, molecule, firsts),
-        [b'b', ..] => bond_site(alloc, molecule, firsts, seconds),
-        _ => axis(alloc, molecule, firsts, seconds),
+        [b'c', ..] => centre(molecule, firsts),
+        [b'b', ..] => bond_site(molecule, firsts, seconds),
+        _ => axis(molecule, firsts, seconds),
     }
 }
 
-fn centre(alloc: Global, molecule: &Molecule, numbers: &[u32]) -> Option<Site>
+fn centre(molecule: &Molecule, numbers: &[u32]) -> Option<Site>
     ensures { IfSome result (IsSite (length molecule.now.atoms)) }
 {
     let at = 0;
-    let ligands = ligands_at(alloc, molecule, at, numbers, 3)?;
+    let ligands = ligands_at(molecule, at, numbers, 3)?;
     Some(Site::Centre { at, ligands })
 }
 
-fn bond_site(alloc: Global, molecule: &Molecule, firsts: &[u32], seconds: &[u32]) -> Option<Site>
+fn bond_site(molecule: &Molecule, firsts: &[u32], seconds: &[u32]) -> Option<Site>
     ensures { IfSome result (IsSite (length molecule.now.atoms)) }
 {
     let (a, b) = (0, 1);
-    let first = ligands_at(alloc, molecule, a, firsts, 1)?;
-    let second = ligands_at(alloc, molecule, b, seconds, 1)?;
+    let first = ligands_at(molecule, a, firsts, 1)?;
+    let second = ligands_at(molecule, b, seconds, 1)?;
     Some(Site::Bond {
         a,
         b,
@@ -137,12 +125,12 @@ fn bond_site(alloc: Global, molecule: &Molecule, firsts: &[u32], seconds: &[u32]
     })
 }
 
-fn axis(alloc: Global, molecule: &Molecule, firsts: &[u32], seconds: &[u32]) -> Option<Site>
+fn axis(molecule: &Molecule, firsts: &[u32], seconds: &[u32]) -> Option<Site>
     ensures { IfSome result (IsSite (length molecule.now.atoms)) }
 {
     let (a, middle, b) = (0, 1, 2);
-    let first = ligands_at(alloc, molecule, a, firsts, 1)?;
-    let second = ligands_at(alloc, molecule, b, seconds, 1)?;
+    let first = ligands_at(molecule, a, firsts, 1)?;
+    let second = ligands_at(molecule, b, seconds, 1)?;
     Some(Site::Axis {
         a,
         middle,

@@ -5,8 +5,8 @@ ghost use Rattle.cip_words.specs.Settings.{AreWithin};
 use cip_mol::CentreLetter;
 use cip_rank::Rules;
 use cip_words::{Action, Labelling, Series, Settings, Task, help_text, read_words};
-use gate_rows::Text;
-use std::alloc::{AllocError, Global};
+use gate_rows::{Text, words};
+use std::alloc::Global;
 
 /// The settings that a line of words asks for.
 pub fn asked(alloc: Global, out: &mut Text, line: &str) {
@@ -29,15 +29,6 @@ pub fn help_lines(out: &mut Text) {
         return write!(out, "{lines}");
     }
     out.push_str("a line of more than 80 columns")
-}
-
-/// The words of a line, which one space each parts.
-pub fn words(alloc: Global, line: &str) -> Result<Vec<String>, AllocError> {
-    let mut words = Vec::new(alloc);
-    for word in line.split(' ') {
-        words.push(String::from_str(alloc, word)?)?;
-    }
-    Ok(words)
 }
 
 // What settings ask for as a line: the command, and the values of its options in the order of the help text.

@@ -1,40 +1,69 @@
-// Worked cases: runs the rows of a table over memory, and prints what each of them leaves behind.
+// All that the gate runs: worked cases, of which it prints what each leaves behind; digraphs that are made twice; and the
+// calls of tables, of which it prints those that answer something else.
 #![tactic(auto)]
 
 mod added;
+mod answering;
+mod batches;
 mod case;
+mod meeting;
+mod memory;
+mod pieces;
 mod running;
+mod runs;
+mod streams;
 mod turns;
 mod watched;
 
 use crate::added::lines_added;
+use crate::answering::Runs;
 use crate::case::{Case, read_case};
 use crate::running::{Outcome, run_case};
 use crate::turns::{run_in_turn, summary};
 use cip_io::{Sink, StdSink, push_all};
+use gate_calls::Calls;
+use gate_ranks::Ranks;
+use gate_records::Records;
+use gate_rows::make_calls;
+use gate_twice::{Worked, compare_records};
 use std::alloc::{AllocError, Global};
+use std::marker::Brand;
 use std::process::ExitCode;
 use std::rt::Files;
+use std::sync::ledger::Blank;
 use std::thread::Threads;
 use std::{fs, io};
 
-// The rows, beside their input files.
-const TABLE: &str = "cases.txt";
+// The cases, beside their input files.
+const CASES: &str = "cases.txt";
 
-fn main(rt: HostRuntime) -> ExitCode {
-    let mut out = StdSink::new(rt.stdout());
-    match show_cases(&rt, &mut out) {
-        Ok(()) => ExitCode::SUCCESS,
-        Err(_) => ExitCode::FAILURE,
-    }
+fn main(rt: HostRuntime) -> io::Result<ExitCode> {
+    show_cases(&rt, &mut StdSink::new(rt.stdout()))?;
+    let differ = compare_records::<_, Brand>(&rt, Blank::new(1))?;
+    make_all_calls(&rt)?;
+    Ok(if differ {
+        ExitCode::FAILURE
+    } else {
+        ExitCode::SUCCESS
+    })
 }
 
-// Runs each row of the table.
+// The calls of all tables.
+fn make_all_calls<R: Files + Print + Threads + Sync + AllocGlobal>(rt: &R) -> io::Result<()> {
+    make_calls(rt, "calls.txt", &Calls)?;
+    make_calls(rt, "records.txt", &Records)?;
+    make_calls(rt, "digraphs.txt", &Worked)?;
+    make_calls(rt, "branches.txt", &Ranks)?;
+    make_calls(rt, "made_branches.txt", &Ranks)?;
+    make_calls(rt, "runs.txt", &Runs)
+}
+
+// Runs each case of the table.
 fn show_cases<R: Files + Threads + Sync + AllocGlobal, K: Sink>(
     rt: &R,
     out: &mut K,
 ) -> io::Result<()> {
-    let table = fs::read_to_string(rt, TABLE)?;
+    let table = fs::read_to_string(rt, CASES)?;
     for line in table.as_str().lines() {
         if let Some(case) = read_case(line) {
             let text = text_of(rt, &case)?;

@@ -1,11 +1,10 @@
-//! Branches of small trees, ranked as by hand and by a second body. Tests alone.
+//! Calls on branches of small trees: how they rank, which nodes are walked, which branches are wanted still, and what
+//! both readings of their descriptors decide.
 #![tactic(auto)]
 
-#[cfg(test)]
+mod answering;
 mod pairs;
-#[cfg(test)]
-mod plain;
-#[cfg(test)]
 mod ranking;
-#[cfg(test)]
 mod trees;
+
+pub use answering::Ranks;

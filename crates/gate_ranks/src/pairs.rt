@@ -1,18 +1,16 @@
-// Rule 4b between two branches of two nodes each, as worked by hand.
-ghost use Rattle.std.specs.Prelude.{◌≡◌, IfOk, length};
+// Rule 4b between two branches.
+ghost use Rattle.std.specs.Prelude.{◌≤◌, length};
 ghost use Rattle.cip_branches.specs.Deciding.{AreFollowed};
 ghost use Rattle.cip_rows.specs.Keys.{AreKeyed};
 
-use crate::ranking::branches_of;
-use crate::trees::{Case, DEEPEST, ROOM, case_of};
+use crate::trees::{Case, ROOM};
 use cip_branches::Branches;
 use cip_digraph::Decision;
 use cip_ligands::{Asked, Descriptors, Readings, take_readings};
 use cip_mol::Descriptor;
+use gate_rows::Text;
 use std::alloc::{AllocError, Global};
 use std::cmp::Ordering;
-use std::process::Abort;
-use std::test::Fail;
 
 fn descriptor_of(letter: u8) -> Option<Descriptor> {
     match letter {
@@ -23,48 +21,49 @@ fn descriptor_of(letter: u8) -> Option<Descriptor> {
 }
 
 // The descriptors of nodes, a letter each.
-fn descriptors(rt: &impl Abort, alloc: Global, letters: &[u8]) -> Result<Descriptors, AllocError> {
+fn descriptors(alloc: Global, letters: &[u8]) -> Result<Descriptors, AllocError> {
     let mut all = Descriptors::reserve(alloc, ROOM)?;
     for letter in letters {
-        assert!(rt; all.len() < ROOM);
-        all.push(descriptor_of(*letter));
+        if all.len() < ROOM {
+            all.push(descriptor_of(*letter));
+        }
     }
     Ok(all)
 }
 
-// What is decided between the branches at nodes 1 and 2, whose children are 3 and 4.
-fn decided(rt: &impl Abort, alloc: Global, letters: &[u8]) -> Result<Option<Decision>, AllocError> {
-    let case = case_of(alloc, b"00012 00000 0")?;
-    let marks = descriptors(rt, alloc, letters)?;
-    decided_in(rt, alloc, &case, &marks)
-}
-
-// The same in a case, with the descriptors of its nodes.
-fn decided_in(
-    rt: &impl Abort,
+/// What both readings decide between the first two branches, by the descriptors of the nodes, a letter each: whether the
+/// first one precedes or follows, and in which sphere.
+pub fn push_readings(
     alloc: Global,
-    case: &Case,
-    marks: &Descriptors,
-) -> Result<Option<Decision>, AllocError> {
-    assert!(rt; marks.len() as usize == case.keys.len());
-    let branches = branches_of(rt, alloc, case, DEEPEST)?;
-    let decided = decided_between(rt, alloc, &branches, marks);
-    // given back by a call of its own: written out at the end of this function it takes a minute to prove
-    drop(branches);
-    decided
+    out: &mut Text,
+    branches: &Branches,
+    case: &Case<'_>,
+    letters: &[u8],
+)
+    requires followed { AreFollowed branches.now }
+    requires keyed { AreKeyed (length case.now.keys.now) branches.now.layers.kin }
+{
+    let Ok(marks) = descriptors(alloc, letters) else {
+        return out.miss();
+    };
+    if marks.len() as usize != case.keys.len() || branches.len() > ROOM {
+        return out.push_str("out of range");
+    }
+    match decided(alloc, branches, &marks) {
+        Ok(decision) => push_decision(out, decision),
+        Err(_) => out.miss(),
+    }
 }
 
-// What is decided between the branches at the first two places.
-fn decided_between(
-    rt: &impl Abort,
+fn decided(
     alloc: Global,
     branches: &Branches,
     marks: &Descriptors,
 ) -> Result<Option<Decision>, AllocError>
     requires followed { AreFollowed branches.now }
     requires keyed { AreKeyed (length marks.now.marks) branches.now.layers.kin }
+    requires fits { length branches.now.layers.kin.ups ≤ ROOM }
 {
-    assert!(rt; branches.len() <= ROOM);
     let mut readings = Readings::reserve(alloc, ROOM)?;
     let mut asked = [Asked {
         first: 0,
@@ -72,40 +71,18 @@ fn decided_between(
         decision: None,
     }];
     take_readings(branches, &mut readings, marks, &mut asked);
-    // as above
+    // given back by a call of its own: written out at the end of this function it takes a minute to prove
     drop(readings);
     Ok(asked[0].decision)
 }
 
-// The descriptors at nodes 0 to 4, and where the first branch precedes or follows, how and in which sphere.
-const WORKED: &str = "\
--RRRS higher 2
--SRSS higher 2
--SRSR
--RRSR lower 2
------
-";
-
-fn is_told(found: Option<Decision>, wanted: &str) -> bool {
-    let Some(found) = found else {
-        return wanted.is_empty();
+fn push_decision(out: &mut Text, decision: Option<Decision>) {
+    let Some(Decision { side, sphere, .. }) = decision else {
+        return out.push_str("tie");
     };
-    let (side, sphere) = wanted.split_once(' ').unwrap_or(("", ""));
-    let is_higher = found.side == Ordering::Greater;
-    let is_lower = found.side == Ordering::Less;
-    sphere.parse() == Ok(found.sphere)
-        && (is_higher && side == "higher" || is_lower && side == "lower")
-}
-
-#[test]
-fn pairs_are_decided_by_both_readings(rt: HostRuntime) -> Result<(), Fail> {
-    let mut count = 0u32;
-    for line in WORKED.lines() {
-        let (letters, wanted) = line.split_once(' ').unwrap_or((line, ""));
-        let found = decided(&rt, rt.alloc(), letters.as_bytes())?;
-        assert!(rt; is_told(found, wanted));
-        count = count.saturating_add(1);
+    match side {
+        Ordering::Greater => write!(out, "higher {sphere}"),
+        Ordering::Less => write!(out, "lower {sphere}"),
+        Ordering::Equal => write!(out, "equal {sphere}"),
     }
-    assert!(rt; count == 5);
-    Ok(())
 }

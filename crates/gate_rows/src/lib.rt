@@ -6,5 +6,5 @@ mod row;
 mod text;
 
 pub use making::{Caller, make_calls};
-pub use row::Row;
+pub use row::{Row, words};
 pub use text::Text;

@@ -1,29 +1,38 @@
 // The calls of a table, one row after the other.
+ghost use Rattle.std.specs.Thread.{IsSync};
+
 use crate::row::{Row, is_row};
 use crate::text::Text;
 use std::rt::Files;
+use std::thread::Threads;
 use std::{fs, io};
 
 /// What makes the call of a row.
 pub trait Caller {
     /// Writes what the call of a row answers.
-    fn answer<R: Files + AllocGlobal>(&self, rt: &R, out: &mut Text, row: &Row) -> io::Result<()>;
+    fn answer<R: Files + Threads + Sync + AllocGlobal>(
+        &self,
+        rt: &R,
+        out: &mut Text,
+        row: &Row,
+    ) -> io::Result<()>
+        requires { IsSync R.row };
 }
 
 /// Makes the calls of a table, prints what each of them answers where that isn't what its row has, and how many rows
 /// there are.
-pub fn make_calls<R: Files + Print + AllocGlobal, C: Caller>(
+pub fn make_calls<R: Files + Print + Threads + Sync + AllocGlobal, C: Caller>(
     rt: &R,
-    table: &str,
+    name: &str,
     caller: &C,
 ) -> io::Result<()> {
-    let table = fs::read_to_string(rt, table)?;
+    let table = fs::read_to_string(rt, name)?;
     let mut found = Text::new(rt.alloc());
     let count = make_each(rt, table.as_str(), caller, &mut found)?;
-    println!(rt; "{count} rows")
+    println!(rt; "{name}: {count} rows")
 }
 
-fn make_each<R: Files + Print + AllocGlobal, C: Caller>(
+fn make_each<R: Files + Print + Threads + Sync + AllocGlobal, C: Caller>(
     rt: &R,
     table: &str,
     caller: &C,
@@ -41,7 +50,7 @@ fn make_each<R: Files + Print + AllocGlobal, C: Caller>(
 }
 
 // Makes the call of a row, and prints what it answers where that isn't what the row has.
-fn make<R: Files + Print + AllocGlobal, C: Caller>(
+fn make<R: Files + Print + Threads + Sync + AllocGlobal, C: Caller>(
     rt: &R,
     row: &Row,
     caller: &C,

@@ -51,3 +51,12 @@ fn unescaped(alloc: Global, field: &str) -> Result<String, AllocError> {
     let returned = fed.replace(alloc, "\\r", "\r")?;
     returned.replace(alloc, "\\t", "\t")
 }
+
+/// The words of a line, which one space each parts.
+pub fn words(alloc: Global, line: &str) -> Result<Vec<String>, AllocError> {
+    let mut words = Vec::new(alloc);
+    for word in line.split(' ') {
+        words.push(String::from_str(alloc, word)?)?;
+    }
+    Ok(words)
+}

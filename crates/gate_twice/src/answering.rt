@@ -4,7 +4,6 @@ ghost use Rattle.std.specs.Prelude.{◌≡◌, ◌<◌};
 
 use crate::boxes::{child_keys, two_stand};
 use crate::growing::{settled, spheres};
-use crate::images::images;
 use crate::inside::inside;
 use crate::units::units_told;
 use cip_rank::Steps;
@@ -13,6 +12,7 @@ use std::alloc::Global;
 use std::marker::Brand;
 use std::rt::Files;
 use std::sync::ledger::{Blank, Ledger};
+use std::thread::Threads;
 use std::{fs, io};
 
 /// The calls of rows.
@@ -20,7 +20,12 @@ use std::{fs, io};
 pub struct Worked;
 
 impl Caller for Worked {
-    fn answer<R: Files + AllocGlobal>(&self, rt: &R, out: &mut Text, row: &Row) -> io::Result<()> {
+    fn answer<R: Files + Threads + Sync + AllocGlobal>(
+        &self,
+        rt: &R,
+        out: &mut Text,
+        row: &Row,
+    ) -> io::Result<()> {
         if row.field(2).ends_with(".mol") {
             let record = fs::read(rt, row.field(2))?;
             answer_with(rt.alloc(), out, row, &record);
@@ -52,7 +57,6 @@ fn answer_grown<L: Ledger>(alloc: Global, out: &mut Text, row: &Row, record: &[u
         "settled" => settled(alloc, out, row, &mut steps),
         "spheres" => spheres(alloc, out, row, &mut steps),
         "inside" => inside(alloc, out, record, row.number(3), &mut steps),
-        "images" => images(alloc, out, record, &mut steps),
         _ => out.push_str("there is no such call"),
     }
 }

@@ -51,7 +51,7 @@ fn settle_drawn<L: Ledger>(
 fn units_of(alloc: Global, field: &str) -> Result<Vec<Unit>, AllocError> {
     let mut units = Vec::new(alloc);
     if let Ok(at) = field.parse() {
-        let ligands = Ligands::new(alloc);
+        let ligands = Ligands::new();
         units.push(Unit {
             site: Site::Centre { at, ligands },
             geometry: Geometry::Unknown(Cause::NoMark),
@@ -72,7 +72,7 @@ fn settle_marked<L: Ledger>(
     if drawn.graph.vertices().is_empty() || bound == 0 || bound > MOST_NODES {
         return out.push_str("out of range");
     }
-    let ligands = ligands_of(alloc, row.field(4));
+    let ligands = ligands_of(row.field(4));
     let Ok(mut tables) = Tables::reserve(alloc, bound) else {
         return out.miss();
     };
@@ -82,8 +82,8 @@ fn settle_marked<L: Ledger>(
 }
 
 // Ligands by their vertices, the first four.
-fn ligands_of(alloc: Global, vertices: &str) -> Ligands {
-    let mut ligands = Ligands::new(alloc);
+fn ligands_of(vertices: &str) -> Ligands {
+    let mut ligands = Ligands::new();
     for vertex in vertices.split_whitespace() {
         if ligands.len() < 4 {
             ligands.push(Ligand::Vertex(vertex.parse().unwrap_or(0)));

@@ -12,7 +12,7 @@ use std::sync::ledger::{Blank, Ledger};
 use std::{fs, io};
 
 // The worked molecules.
-const MOLECULES: &str = "molecules.sdf";
+const MOLECULES: &str = "molecules.sd";
 // How many records are made, in the series that starts at 1.
 const MADE: u32 = 200;
 // The most nodes of a digraph.

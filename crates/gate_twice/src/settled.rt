@@ -22,10 +22,10 @@ use std::sync::ledger::Ledger;
 pub const COMPARED: u32 = 3;
 
 // The first four neighbours of a vertex.
-fn ligands_of(alloc: Global, graph: &Graph, vertex: u32) -> Ligands
+fn ligands_of(graph: &Graph, vertex: u32) -> Ligands
     requires { vertex < length graph.now.vertices }
 {
-    let mut ligands = Ligands::new(alloc);
+    let mut ligands = Ligands::new();
     for edge in graph.edges_at(vertex) {
         if ligands.len() < 4 {
             ligands.push(Ligand::Vertex(edge.other_end(vertex)));
@@ -58,7 +58,7 @@ pub fn compare_settled<L: Ledger>(
 {
     let root = Root {
         vertex: root,
-        ligands: ligands_of(alloc, &drawn.graph, root),
+        ligands: ligands_of(&drawn.graph, root),
         units: MarkedUnits::of(alloc, &[], 0)?,
     };
     compare_root(alloc, drawn, tables, &root, steps, counts)

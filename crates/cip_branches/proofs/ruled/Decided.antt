@@ -1,7 +1,7 @@
 -- The numbers of all tops tell how their branches compare, also of those that were let go.
 use Rattle.std.proofs.Common.{◌≡◌, ◌≢◌, ◌<◌, ◌+◌, ℕ, ℤ, suc, Bool, true, List, length, replicate, slice_index, refl, sym, ap, ◌∙◌, subst, arith, inl, inr}
 use Rattle.std.specs.declared.cmp.Ordering.{Ordering}
-use Rattle.std.specs.declared.cmp.Ordering.TheVariants.{Less, Equal, Greater}
+use Rattle.std.specs.declared.cmp.Ordering.TheVariants.{Less, Equal}
 use Rattle.std.specs.Cmp.{IsTotalOrder}
 use Rattle.std.specs.Ordering.{nat_cmp, ordering_reverse, ordering_then}
 use Rattle.std.specs.Cmp.Lexicographic.{slice_cmp}
@@ -10,7 +10,7 @@ use Rattle.std.proofs.lemmas.List.{length-replicate}
 use Rattle.cip_rank.specs.Comparison.{comparison}
 use Rattle.cip_rank.specs.Ranking.{by_number, key_at}
 use Rattle.cip_rank.proofs.NumberedNodes.{equal_is}
-use Rattle.cip_rank.proofs.Refining.{depths_refine}
+use Rattle.cip_rank.proofs.Refining.{depths_refine, first_decides}
 use Rattle.cip_rank.proofs.TotalOrder.{comparison_total}
 use Rattle.cip_branches.specs.Deciding.{Branched, AreFollowed, FlagsOpen, AreDecided}
 use Rattle.cip_branches.specs.Following.{AreRanked, Begins, Follows}
@@ -26,11 +26,6 @@ use Rattle.cip_rows.proofs.Cases.{cases_same}
 use Rattle.cip_branches.proofs.ruled.Filled.{all_set}
 use Rattle.cip_branches.proofs.ruled.Ruled.{ruled_first, ruled_next, ruled_fewer, tops_told}
 use Rattle.cip_branches.proofs.walked.Next.{old_at, at_old, is_known}
-
-pub first_stays : (r s : Ordering) → r ≢ Equal → ordering_then r s ≡ r
-first_stays Less s differ = refl
-first_stays Equal s differ = absurd (differ refl)
-first_stays Greater s differ = refl
 
 -- numbers that tie are the same
 pub same_number : (numbers : List ℕ) (a b : ℕ) → slice_index numbers a ≡ slice_index numbers b
@@ -168,7 +163,7 @@ module _ {N : Type 0} (children : N → List N) (earlier : N → N → Ordering)
             (passed.refines.ordered 0 (omega arith) (omega arith)).each a b (at_mid a la) (at_mid b lb)
             ∙ ap (λ n. ordering_then (nat_cmp n (slice_index passed.start b)) sets) (number_is a la)
             ∙ ap (λ n. ordering_then (nat_cmp (slice_index begin.ranked.numbers a) n) sets) (number_is b lb)
-            ∙ first_stays (by_number begin.ranked.numbers a b) sets differ
+            ∙ first_decides (by_number begin.ranked.numbers a b) sets differ
 
         top_is : (k : ℕ) → k < length old.wanted → has_flag old.wanted k ≡ true → IsWanted now old.wanted 0 k
         top_is k lt flag = record {

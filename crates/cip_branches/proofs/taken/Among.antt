@@ -11,7 +11,7 @@ use Rattle.cip_rank.specs.Comparison.{comparison}
 use Rattle.cip_rank.specs.Ranking.{by_number, key_at}
 use Rattle.cip_rank.proofs.Descending.{all_by}
 use Rattle.cip_rank.proofs.NumberedNodes.{equal_is}
-use Rattle.cip_rank.proofs.Refining.{depths_refine}
+use Rattle.cip_rank.proofs.Refining.{depths_refine, first_decides}
 use Rattle.cip_rank.proofs.TotalOrder.{comparison_total}
 use Rattle.cip_branches.specs.Among.{AreToldAmong, AreShownAmong, StandsAmong, IsTakenAmong}
 use Rattle.cip_branches.specs.Deciding.{Branched, FlagsOpen}
@@ -27,7 +27,7 @@ use Rattle.cip_branches.specs.Turning.{in_sphere}
 use Rattle.cip_branches.specs.Views.{IsEnded, OrdersSphere, Reaches, AreAhead, Begins}
 use Rattle.cip_branches.proofs.refined.Further.{begun, still_ahead}
 use Rattle.cip_rows.proofs.Cases.{both, cases_same}
-use Rattle.cip_branches.proofs.ruled.Decided.{first_stays, same_number}
+use Rattle.cip_branches.proofs.ruled.Decided.{same_number}
 use Rattle.cip_branches.proofs.taken.Ended.{whole}
 use Rattle.cip_branches.proofs.refined.Inwards.{reaches_next}
 use Rattle.cip_branches.proofs.refined.KidSets.{moved}
@@ -230,12 +230,12 @@ module _ (Among : ℕ → Type 0) {N : Type 0} (children : N → List N) (named 
         first_side : (a b : ℕ) → Among a → Among b → by_number before a b ≢ Equal
             → by_number numbers a b ≡ by_number before a b
         first_side a b la lb differ = splits.split.each a b (stands.shown.top a la) (stands.shown.top b lb)
-            ∙ first_stays (by_number before a b) (int_cmp (key_of keys old.layers.kin a) (key_of keys old.layers.kin b))
+            ∙ first_decides (by_number before a b) (int_cmp (key_of keys old.layers.kin a) (key_of keys old.layers.kin b))
             differ
 
         first_finer : (x y : N) → earlier x y ≢ Equal → rule 0 x y ≡ earlier x y
         unfolding comparison
-        first_finer x y differ = first_stays (earlier x y) (int_cmp (key x) (key y)) differ
+        first_finer x y differ = first_decides (earlier x y) (int_cmp (key x) (key y)) differ
 
         first_inner : (a b : ℕ) → Among a → Among b → has_flag old.wanted a ≡ true
             → has_flag old.wanted b ≡ true → by_number numbers a b ≡ rule 0 (node a) (node b)
@@ -303,7 +303,7 @@ module _ (Among : ℕ → Type 0) {N : Type 0} (children : N → List N) (named 
           (taken.shown.top b lb)
           ∙ ap (λ n. ordering_then (nat_cmp n (slice_index start b)) by_sets) at_a
           ∙ ap (λ n. ordering_then (nat_cmp (slice_index before a) n) by_sets) at_b
-          ∙ first_stays (by_number before a b) by_sets differ
+          ∙ first_decides (by_number before a b) by_sets differ
 
       next_finer : (x y : N) → rule far x y ≢ Equal → rule (suc far) x y ≡ rule far x y
       next_finer x y differ =

@@ -10,16 +10,12 @@ use Rattle.cip_rank.specs.Comparison.{sorted_down, sets, comparison}
 use Rattle.cip_rank.specs.Ranking.{by_number}
 use Rattle.cip_rank.proofs.Carried.{sets_carried}
 use Rattle.cip_rank.proofs.TotalOrder.{comparison_total}
+use Rattle.cip_rank.proofs.ExtendedOrder.{then_equal}
 use Rattle.cip_rows.specs.Rows.{OrdersPlaces}
 use Rattle.cip_branches.specs.Views.{IsView, IsEnded, OrdersSphere, Reaches, AreAhead}
 use Rattle.cip_branches.proofs.refined.KidSets.{moved, sets_of_kids}
 
-none_more : (r : Ordering) → ordering_then r Equal ≡ r
-none_more Less = refl
-none_more Equal = refl
-none_more Greater = refl
-
-twice : (r s : Ordering) → ordering_then (ordering_then r s) s ≡ ordering_then r s
+pub twice : (r s : Ordering) → ordering_then (ordering_then r s) s ≡ ordering_then r s
 twice Less s = refl
 twice Equal Less = refl
 twice Equal Equal = refl
@@ -66,7 +62,7 @@ module _ {N : Type 0} (children : N → List N) (node : ℕ → N) (kids : ℕ �
         ap (λ d. rule d (node a) (node b)) next
         ∙ ap (ordering_then (rule (more + 0) (node a) (node b))) (no_sets (rule (more + 0)) a b
         (subst (λ u. At u a) here p) (subst (λ u. At u b) here q))
-        ∙ none_more (rule (more + 0) (node a) (node b))
+        ∙ then_equal (rule (more + 0) (node a) (node b))
         ∙ stays zero t a b more e p q
     stays (suc k) t a b (suc more) e p q =
         let next : suc more + suc k ≡ suc (more + suc k) = omega arith in

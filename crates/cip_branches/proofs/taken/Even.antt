@@ -7,6 +7,7 @@ use Rattle.std.specs.Ordering.{int_cmp, nat_cmp, on, ordering_then}
 use Rattle.std.proofs.lemmas.Cmp.{nat_list_cmp_total, tied_itself}
 use Rattle.cip_rank.specs.Ranking.{by_number}
 use Rattle.cip_rank.proofs.NumberedNodes.{equal_is}
+use Rattle.cip_rank.proofs.Refining.{first_decides}
 use Rattle.cip_rows.specs.Keys.{key_of}
 use Rattle.cip_rows.specs.Kids.{kids_of, kid_set}
 use Rattle.cip_rows.specs.Parting.{TieAlike}
@@ -15,7 +16,6 @@ use Rattle.cip_branches.specs.Following.{AreRanked}
 use Rattle.cip_branches.specs.Layers.{Layers}
 use Rattle.cip_branches.specs.Taking.{Deepens, KeepsPlaces}
 use Rattle.cip_branches.specs.Turning.{in_sphere}
-use Rattle.cip_branches.proofs.ruled.Decided.{first_stays}
 
 -- what ties by keys is told by what goes before
 pub then_told : (r : Ordering) → r ≡ ordering_then r Equal
@@ -50,7 +50,7 @@ module _ (all : Layers) (last : ℕ) (ranked : AreRanked all last) where
     | inl tie ↦
         then_told (by_number numbers a b) ∙ ap (ordering_then (by_number numbers a b)) (sym (alike tie))
     | inr apart ↦
-        sym (first_stays (by_number numbers a b) (compare a b)
+        sym (first_decides (by_number numbers a b) (compare a b)
         (λ e. apart (equal_is (slice_index numbers a) (slice_index numbers b) e)))
   ]
 

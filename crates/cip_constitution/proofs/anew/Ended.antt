@@ -5,19 +5,13 @@ use Rattle.std.proofs.lemmas.List.{nil_from_length}
 use Rattle.std.specs.declared.cmp.Ordering.{Ordering}
 use Rattle.std.specs.List.{AllByRecursion}
 use Rattle.std.specs.List.Sorted.{IsPermutation}
-use Rattle.std.proofs.lemmas.List.Elements.{All-from_recursion}
-use Rattle.std.proofs.lemmas.List.Sorted.{length_permutation, IsPermutation-sym, All-permutation}
+use Rattle.std.proofs.lemmas.List.Sorted.{length_permutation, IsPermutation-sym}
 use Rattle.cip_rows.specs.Kids.{kids_of}
 use Rattle.cip_branches.specs.Layers.{Layers}
 use Rattle.cip_branches.specs.Ruled.{IsWanted, IsRuled}
 use Rattle.cip_rows.proofs.Cases.{both, holds_among}
 use Rattle.cip_digraph.specs.digraph.SameBranch.{EndsWithin}
-use Rattle.cip_digraph.proofs.lists.Elements.{all_by, all_mapped, by_recursion}
-use Rattle.cip_constitution.proofs.told.Differ.{from_mapped}
-
-permuted : {X : Type 0} (P : X → Type 0) (xs ys : List X) → IsPermutation xs ys → AllByRecursion P xs
-    → AllByRecursion P ys
-permuted P xs ys is all = by_recursion P ys (All-permutation P xs ys is (All-from_recursion P xs all))
+use Rattle.cip_digraph.proofs.lists.Elements.{all_by, all_mapped, all_arranged, all_unmapped}
 
 none_of : (ns : List ℕ) → AllByRecursion (λ n. ⊥) ns → ns ≡ []
 none_of [] all = refl
@@ -41,15 +35,15 @@ module _ {N : Type 0} (children : N → List N) (earlier : N → N → Ordering)
       let all = both (IsWanted now wanted (suc t)) (λ kid. branch_at kid ≡ branch_at place) kids
       (ruled.view.next t place lt p) (ruled.inherits t place lt p) in
       let empty : kids ≡ [] = none_of kids (all_by (λ kid. IsWanted now wanted (suc t) kid
-      × (branch_at kid ≡ branch_at place)) (λ kid. ⊥) (λ kid h. none kid (subst (λ u. IsWanted now wanted u kid) next h.0)
-      (h.1 ∙ here)) kids all) in
+      × (branch_at kid ≡ branch_at place)) (λ kid. ⊥)
+      (λ kid h. none kid (subst (λ u. IsWanted now wanted u kid) next h.0) (h.1 ∙ here)) kids all) in
       let told = subst (λ (ns : List ℕ). IsPermutation (map node ns) (children (node place))) empty
       (ruled.view.told t place lt p) in
       nil_from_length (children (node place)) (length_permutation [] (children (node place)) told)
   ends_before none (suc k) t place e p here =
       let lt : t < last = omega (arith, e) in
       let kids = kids_of now.kin place in
-      permuted (EndsWithin children k) (map node kids) (children (node place)) (ruled.view.told t place lt p)
+      all_arranged (EndsWithin children k) (map node kids) (children (node place)) (ruled.view.told t place lt p)
       (all_mapped (EndsWithin children k) node kids (all_by (λ kid. IsWanted now wanted (suc t) kid
       × (branch_at kid ≡ branch_at place)) (λ kid. EndsWithin children k (node kid)) (λ kid h.
       ends_before none k (suc t) kid (omega (arith, e)) h.0 (h.1 ∙ here)) kids
@@ -72,6 +66,6 @@ module _ {N : Type 0} (children : N → List N) (earlier : N → N → Ordering)
       let same = holds_among (λ kid. branch_at kid ≡ branch_at up) kids place (ruled.inherits t up lt is.up) is.kid in
       let above = ends_below top only ends t (suc k) up (omega (arith, e)) is.up (sym same ∙ here) in
       holds_among (λ kid. EndsWithin children k (node kid)) kids place
-      (from_mapped (EndsWithin children k) node kids
-      (permuted (EndsWithin children k) (children (node up)) (map node kids)
+      (all_unmapped (EndsWithin children k) node kids
+      (all_arranged (EndsWithin children k) (children (node up)) (map node kids)
       (IsPermutation-sym (map node kids) (children (node up)) (ruled.view.told t up lt is.up)) above)) is.kid

@@ -1,4 +1,4 @@
--- Where all branches that are wanted have their last nodes further out, ligands of different vertices are not alike anew.
+-- Where all branches that are wanted have their last nodes further out, no ligands of different vertices become alike.
 use Rattle.std.proofs.Common.{◌≡◌, ◌<◌, ◌≤◌, ◌-◌, ◌==◌, ◌⊎◌, ℕ, Bool, true, false, not, cond, List, [], ◌∷◌, None, Some}
 use Rattle.std.proofs.Common.{length, slice_index, refl, sym, ap, ◌∙◌, arith, inl, inr, eqb-true, eq-eqb}
 use Rattle.std.specs.List.{AllByRecursion, list_all}

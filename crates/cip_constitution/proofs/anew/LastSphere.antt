@@ -267,8 +267,8 @@ module _ (g : Graph) (positions : List (List ℕ)) (a : Growth) (h : Holds g pos
           → alike a.sphere (stand x) (stand y) ≡ true
           → (1 < a.sphere) × (alike (a.sphere - 1) (stand x) (stand y) ≡ true)
       pair_before x y anew now =
-          let told = alike_tied rules g positions all a h some sound inside (numbers_of branched) order_first ligands x y
-          now in
+          let told = alike_tied rules g positions all a h some sound inside (numbers_of branched) order_first ligands x
+          y now in
           let differ = differ_told (numbers_of branched) a.nodes x y in
           let closed_y = is_closed_ligand rules g positions all a y in
           let one = and_parts (is_closed_ligand rules g positions all a x) (closed_y && not differ) told in

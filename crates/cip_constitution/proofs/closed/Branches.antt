@@ -23,7 +23,7 @@ use Rattle.cip_digraph.specs.digraph.View.{view_children}
 use Rattle.cip_digraph.proofs.tree.Branches.{further_out}
 use Rattle.cip_digraph.proofs.numbered.Cut.{size, size_le, kids_near}
 use Rattle.cip_constitution.proofs.cut.Ends.{low_kids, cut_ends}
-use Rattle.cip_digraph.proofs.lists.Elements.{all_by, all_append, all_flat}
+use Rattle.cip_digraph.proofs.lists.Elements.{all_by, all_append, all_flat, all_mapped}
 use Rattle.cip_digraph.proofs.numbered.Kin.{told_children, told_tree}
 use Rattle.cip_digraph.proofs.numbered.Placing.{placed, parents, placed_parents, placed_length}
 use Rattle.cip_constitution.proofs.seen.Rules.{IsFurther, below_further}
@@ -37,11 +37,6 @@ none_any : {X : Type 0} (test : X → Bool) (xs : List X) → AllByRecursion (λ
     → list_any test xs ≡ false
 none_any test [] all = refl
 none_any test (x ∷ xs) all = or_from (test x) (list_any test xs) all.0 (none_any test xs all.1)
-
-mapped_all : {X Y : Type 0} (P : Y → Type 0) (f : X → Y) (xs : List X) → AllByRecursion (λ x. P (f x)) xs
-    → AllByRecursion P (map f xs)
-mapped_all P f [] all = tt
-mapped_all P f (x ∷ xs) all = (all.0, mapped_all P f xs all.1)
 
 within_all : {N : Type 0} (below : N → List N) (P : N → Type 0) (ns : List N) → (s : ℕ)
     → ((k : ℕ) → k < s → AllByRecursion P (nodes_below below k ns)) → AllByRecursion P (nodes_within below s ns)
@@ -233,7 +228,7 @@ module _ (rules : Rules) (g : Graph) (positions : List (List ℕ)) (all : List u
       λ k. all_by (IsBelow ps tree n) (λ m. test m ≡ false) (λ m b. none m (let lt = b.1 in omega (arith, lt, long))
       b.0) (nodes_below kids k (n ∷ [])) (below_under ps tree n (omega (arith, within, long)) k) in (
         ap is_empty (beyond ∙ none_flat (children g positions) (map f (nodes_below kids last (n ∷ [])))
-            (mapped_all (λ x. children g positions x ≡ []) f (nodes_below kids last (n ∷ []))
+            (all_mapped (λ x. children g positions x ≡ []) f (nodes_below kids last (n ∷ []))
             (all_by (λ m. InRange last m × (test m ≡ false)) (λ m. children g positions (f m) ≡ [])
             (λ m p. no_children m (let le = p.0.0 in omega (arith, le, first_last))
             (or_parts (in_unit (f m)) (nat_le a.first m && not (is_empty (children g positions (f m)))) p.1).1)
@@ -242,7 +237,7 @@ module _ (rules : Rules) (g : Graph) (positions : List (List ℕ)) (all : List u
             (depth_range last (omega (arith, at_last))) (below last))))),
         ap (list_any in_unit) (seen_within a.sphere (omega arith))
             ∙ none_any in_unit (map f (nodes_within kids a.sphere (n ∷ [])))
-            (mapped_all (λ x. in_unit x ≡ false) f (nodes_within kids a.sphere (n ∷ []))
+            (all_mapped (λ x. in_unit x ≡ false) f (nodes_within kids a.sphere (n ∷ []))
             (all_by (λ m. test m ≡ false) (λ m. in_unit (f m) ≡ false)
             (λ m e. (or_parts (in_unit (f m)) (nat_le a.first m && not (is_empty (children g positions (f m))))
             e).0)

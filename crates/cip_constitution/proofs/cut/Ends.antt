@@ -15,11 +15,6 @@ use Rattle.cip_digraph.proofs.numbered.Placing.{Placed, next_sphere, spheres, pl
 use Rattle.cip_digraph.proofs.numbered.Hanging.{node_at, others, by_numbers, last_kids, low_parents}
 use Rattle.cip_digraph.proofs.numbered.Cut.{size, size_le}
 
-both : {X : Type 0} (P Q : X → Type 0) (xs : List X) → AllByRecursion P xs → AllByRecursion Q xs
-    → AllByRecursion (λ x. P x × Q x) xs
-both P Q [] p q = tt
-both P Q (x ∷ xs) p q = ((p.0, q.0), both P Q xs p.1 q.1)
-
 map_none : {X : Type 0} (f : ℕ → X) (cs : List ℕ) → map f cs ≡ [] → cs ≡ []
 map_none f [] h = refl
 map_none f (c ∷ cs) h = let bad : f c ∷ map f cs ≡ [] = h in cc

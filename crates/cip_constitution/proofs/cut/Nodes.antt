@@ -87,8 +87,8 @@ module _ (g : Graph) (positions : List (List ℕ)) (s : ℕ) where
   pub cut_first : (key : Node → ℤ) (depth : ℕ) (a b : Node) → IsNear depth a → IsNear depth b
       → comparison cut all_tie key depth a b ≡ comparison (children g positions) all_tie key depth a b
   cut_first key depth a b of_a of_b =
-      embedded_comparison (λ node. node) IsNear (children g positions) cut all_tie all_tie key key embeds tie_total depth a
-      b of_a of_b
+      embedded_comparison (λ node. node) IsNear (children g positions) cut all_tie all_tie key key embeds tie_total
+      depth a b of_a of_b
     where
       embeds : Embeds (λ node. node) IsNear (children g positions) cut all_tie all_tie key key
       embeds = record {

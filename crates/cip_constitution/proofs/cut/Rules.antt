@@ -1,4 +1,4 @@
--- Rules 1b and 2 over branches that were followed by Rule 1a: the numbers of those that have ended compare by all three.
+-- Rules 1b and 2 over branches followed by Rule 1a: the numbers of those that have ended compare by all three.
 use Rattle.std.proofs.Common.{◌≡◌, ◌<◌, ◌≤◌, ◌-◌, ℕ, ℤ, suc, pos, List, [], map, length, slice_index, refl}
 use Rattle.std.proofs.Common.{sym, ap, ◌∙◌, subst, arith, inl, inr}
 use Rattle.std.proofs.lemmas.List.{get_or_past}
@@ -195,7 +195,8 @@ module _ (g : Graph) (positions : List (List ℕ)) (a : Growth) (h : Holds g pos
           let rest : d ≡ a.sphere - 1 = omega (arith, far) in
           record {
             number = 1;
-            path = subst (IsPath Anywhere 1) (top_is n p) (subst (λ k. IsPath Anywhere 1 (nm k)) (sym (f.top (n - 1) lt))
+            path = subst (IsPath Anywhere 1) (top_is n p)
+                (subst (λ k. IsPath Anywhere 1 (nm k)) (sym (f.top (n - 1) lt))
                 (first_path g positions a h some fits end branched f (n - 1) (omega (arith, lt, count))));
             low = omega (arith, some);
             ends = subst (λ k. EndsWithin (children g positions) k (node_at nodes n)) rest e.within;
@@ -221,7 +222,8 @@ module _ (g : Graph) (positions : List (List ℕ)) (a : Growth) (h : Holds g pos
           ∙ ap (λ j. by_number (numbers_of third) (suc (n - 1)) j) (back m q)
           ∙ third_told (n - 1) (m - 1) (branch_in n p) (branch_in m q)
           ∙ ap (λ x. three x (node_in nm branched (m - 1))) (top_is n p) ∙ ap (three (node_at nodes n)) (top_is m q)
-          ∙ cut_over g positions a.sphere dists two same_two total_two k3 d (node_at nodes n) (node_at nodes m) of_n of_m
+          ∙ cut_over g positions a.sphere dists two same_two total_two k3 d (node_at nodes n) (node_at nodes m) of_n
+          of_m
 
       pub over_within : (depth : ℕ) → branched.last ≡ depth → (n m : ℕ) → First n → First m
           → HasEnded g positions a.root depth high (node_at nodes n)

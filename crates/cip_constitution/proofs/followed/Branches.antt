@@ -154,8 +154,8 @@ module _ (g : Graph) (positions : List (List ℕ)) (root bound : ℕ) where
         let few = few_left parents (ascending g positions root (suc s) all tells) old.wanted kin old.first rise
         (nodes_to s) enough within far in
         let low = was.few in
-        subst (λ n. known + kids_left (children_of parents) kin.nodes old.first (n - old.first) < length parents) nodes_len
-        (omega (arith, few, low))
+        subst (λ n. known + kids_left (children_of parents) kin.nodes old.first (n - old.first) < length parents)
+        nodes_len (omega (arith, few, low))
 
     may : (room : ℕ) → kin.room ≡ room → length parents ≤ room + 1 → suc s ≤ room
         → MayWalk (length parents) (children_of parents) old.wanted old.first old.last old.layers
@@ -191,7 +191,8 @@ module _ (g : Graph) (positions : List (List ℕ)) (root bound : ℕ) where
       listed =
           let w = walks.walked in
           ap (λ (k : Kin). k.nodes) (walks.kin ∙ ap (λ (l : Layers). l.kin) w.ended) ∙ w.walks.listed
-          ∙ ap (λ n. kin.nodes ++ wanted_kids (children_of parents) old.wanted kin old.first (n - old.first)) (sym nodes_len)
+          ∙ ap (λ n. kin.nodes ++ wanted_kids (children_of parents) old.wanted kin old.first (n - old.first))
+          (sym nodes_len)
 
       sum : length new.layers.kin.ups ≡ known + length walked
       sum =
@@ -251,7 +252,8 @@ module _ (g : Graph) (positions : List (List ℕ)) (root bound : ℕ) where
       follows_next = record {
         last = let before = was.last in omega (arith, last, before);
         followed = followed;
-        decided = decided_after (children g positions) all_tie tie_total (λ a b. refl) key name old was.decided (length parents)
+        decided = decided_after (children g positions) all_tie tie_total (λ a b. refl) key name old was.decided
+            (length parents)
             (children_of parents) (atoms_of all) (may room is_room wide spheres) names keyed_now new last chosen walks;
         count = let len = chosen.len in let before = was.count in omega (arith, len, before);
         top = λ k lt.
@@ -304,8 +306,8 @@ module _ (g : Graph) (positions : List (List ℕ)) (a : Growth) (h : Holds g pos
     pub keyed_as : AreKeyed (length (parents_of a.nodes)) old.layers.kin
     keyed_as = keyed_now g positions a.root a.bound (a.sphere - 1) before a.nodes tells fitting old was
 
-    pub room_as : length old.layers.kin.ups + kids_left (children_of (parents_of a.nodes)) old.layers.kin.nodes old.first
-        (length old.layers.kin.ups - old.first) < length a.nodes
+    pub room_as : length old.layers.kin.ups + kids_left (children_of (parents_of a.nodes)) old.layers.kin.nodes
+        old.first (length old.layers.kin.ups - old.first) < length a.nodes
     room_as =
         let room = room_now g positions a.root a.bound (a.sphere - 1) before a.nodes tells fitting old was in
         omega (arith, room, parents_count)
@@ -318,5 +320,5 @@ module _ (g : Graph) (positions : List (List ℕ)) (a : Growth) (h : Holds g pos
     follows_as wide new walks followed first next chosen =
         subst (λ s. Follows g positions a.root a.bound s new) back_is
         (follows_next g positions a.root a.bound (a.sphere - 1) before a.nodes tells fitting old was new
-        old.layers.kin.room refl (omega (arith, parents_count, fits, wide)) (omega (arith, back_is, few_now, fits, wide)) walks
-        followed first next chosen)
+        old.layers.kin.room refl (omega (arith, parents_count, fits, wide))
+        (omega (arith, back_is, few_now, fits, wide)) walks followed first next chosen)

@@ -211,11 +211,11 @@ module _ (g : Graph) (positions : List (List ℕ)) (a : Growth) (trying : Trying
       first_decided : AreDecidedBy seen true name (node_in name branched) count begin (R1a ∷ [])
           (rule_1a seen seen.height) branched trying.noted
       first_decided =
-          first_decides seen true name (node_in name branched) count begin begin_within branched decided_seen ended_seen high
-          (λ k. refl) refl trying.noted
+          first_decides seen true name (node_in name branched) count begin begin_within branched decided_seen ended_seen
+          high (λ k. refl) refl trying.noted
           (out.notes.noted
-          ∙ same_found (found_below R1a (by_atoms g positions a.root a.bound) (top_of g positions a.root a.bound) a.sphere)
-          (found_below R1a (rule_1a seen) (node_in name branched) (branched.last + 1)) (AreWithin count)
+          ∙ same_found (found_below R1a (by_atoms g positions a.root a.bound) (top_of g positions a.root a.bound)
+          a.sphere) (found_below R1a (rule_1a seen) (node_in name branched) (branched.last + 1)) (AreWithin count)
           (λ one w. found_seen one.first one.second w.0 w.1) begin begin_within)
 
       distances_are : AreKeysOf name seen.distance

@@ -51,7 +51,8 @@ ascends_same zero n = tt
 ascends_same (suc count) n = (all_replicate (λ m. n ≤ m) count n (omega arith), ascends_same count n)
 
 module _ (g : Graph) (positions : List (List ℕ)) where
-  below_low : (number : ℕ) (nodes : List Node) → AllByRecursion (λ p. number ≤ p) (parents_below g positions number nodes)
+  below_low : (number : ℕ) (nodes : List Node)
+      → AllByRecursion (λ p. number ≤ p) (parents_below g positions number nodes)
   below_low number [] = tt
   below_low number (node ∷ nodes) = all_append (λ p. number ≤ p)
       (replicate (length (children g positions node)) number) (parents_below g positions (number + 1) nodes)
@@ -64,8 +65,10 @@ module _ (g : Graph) (positions : List (List ℕ)) where
   below_high number [] = tt
   below_high number (node ∷ nodes) = all_append (λ p. p ≤ number + length (node ∷ nodes))
       (replicate (length (children g positions node)) number) (parents_below g positions (number + 1) nodes)
-      (all_replicate (λ p. p ≤ number + length (node ∷ nodes)) (length (children g positions node)) number (omega arith))
-      (all_by (λ p. p ≤ number + 1 + length nodes) (λ p. p ≤ number + length (node ∷ nodes)) (λ p le. let h = le in omega (arith, h))
+      (all_replicate (λ p. p ≤ number + length (node ∷ nodes)) (length (children g positions node)) number
+      (omega arith))
+      (all_by (λ p. p ≤ number + 1 + length nodes) (λ p. p ≤ number + length (node ∷ nodes))
+      (λ p le. let h = le in omega (arith, h))
       (parents_below g positions (number + 1) nodes) (below_high (number + 1) nodes))
 
   below_ascend : (number : ℕ) (nodes : List Node) → Ascends (parents_below g positions number nodes)

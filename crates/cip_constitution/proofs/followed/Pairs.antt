@@ -104,7 +104,8 @@ module _ (g : Graph) (positions : List (List ℕ)) (root bound : ℕ) where
         f.decided.told a b la lb
         ∙ ap (λ n. by_atoms g positions root bound branched.last (name n)
         (name (slice_index branched.layers.kin.nodes b))) (f.top a la)
-        ∙ ap (λ n. by_atoms g positions root bound branched.last (top_of g positions root bound a) (name n)) (f.top b lb)
+        ∙ ap (λ n. by_atoms g positions root bound branched.last (top_of g positions root bound a) (name n))
+        (f.top b lb)
 
     pub notes_next : 0 < s → (pairs : List Pair) (asked new : List Asked)
         → Notes g positions root bound (s - 1) pairs asked
@@ -175,7 +176,7 @@ module _ (g : Graph) (positions : List (List ℕ)) (a : Growth) (h : Holds g pos
     branch = branch_at a.nodes;
     within = λ vertex. low_by (ligand_number a.nodes (Vertex vertex)) (ligand_node around (Vertex vertex))
         (ligand_at g positions a h some sound (Vertex vertex));
-    stands = λ vertex node is. stands_by (ligand_number a.nodes (Vertex vertex)) (ligand_node around (Vertex vertex)) node
-        (ligand_at g positions a h some sound (Vertex vertex)) is;
+    stands = λ vertex node is. stands_by (ligand_number a.nodes (Vertex vertex)) (ligand_node around (Vertex vertex))
+        node (ligand_at g positions a h some sound (Vertex vertex)) is;
     noted = is ∙ sym (nothing_found (map (asked_by (branch_at a.nodes)) pairs));
   }

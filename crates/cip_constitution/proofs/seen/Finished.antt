@@ -1,28 +1,18 @@
 -- Beyond the end of both branches a comparison doesn't change.
-use Rattle.std.proofs.Common.{◌≡◌, ℕ, zero, suc, ◌+◌, ℤ, List, [], map, refl, sym, ap, ◌∙◌, add-zero, add-suc}
+use Rattle.std.proofs.Common.{◌≡◌, ℕ, zero, suc, ◌+◌, ℤ, List, [], map, sym, ap, ◌∙◌, add-zero, add-suc}
 use Rattle.std.proofs.Common.{subst}
 use Rattle.std.proofs.lemmas.List.{map-id}
 use Rattle.std.specs.declared.cmp.Ordering.{Ordering}
-use Rattle.std.specs.declared.cmp.Ordering.TheVariants.{Less, Equal, Greater}
+use Rattle.std.specs.declared.cmp.Ordering.TheVariants.{Equal}
 use Rattle.std.specs.List.{AllByRecursion}
 use Rattle.std.specs.Ordering.{ordering_then}
 use Rattle.std.specs.Cmp.Lexicographic.{slice_cmp}
 use Rattle.cip_rank.specs.Comparison.{sorted_down, sets, comparison}
 use Rattle.cip_rank.proofs.Carried.{sets_carried}
+use Rattle.cip_rank.proofs.ExtendedOrder.{then_equal}
 use Rattle.cip_digraph.specs.digraph.SameBranch.{EndsWithin}
 use Rattle.cip_digraph.proofs.lists.Elements.{all_by}
-
-twice : (r s : Ordering) → ordering_then (ordering_then r s) s ≡ ordering_then r s
-twice Less s = refl
-twice Greater s = refl
-twice Equal Less = refl
-twice Equal Equal = refl
-twice Equal Greater = refl
-
-then_equal : (r : Ordering) → ordering_then r Equal ≡ r
-then_equal Less = refl
-then_equal Equal = refl
-then_equal Greater = refl
+use Rattle.cip_branches.proofs.taken.Ended.{twice}
 
 module _ {N : Type 0} (kids : N → List N) (prior : N → N → Ordering) (key : N → ℤ) where
   sets_same : (cmp other : N → N → Ordering) (P : N → Type 0) → ((x y : N) → P x → P y → other x y ≡ cmp x y)

@@ -233,7 +233,8 @@ module _ (rules : Rules) (g : Graph) (positions : List (List ℕ)) (all : List u
         (equal_from (rule (node_at nodes n) (node_at nodes m)) nodes_tie) in
         ap not (sym (eq_by_cmp (slice_index ranks n) (slice_index ranks m)) ∙ ap is_eq numbers_tie)
 
-    pub alike_tied : (ligands : List Ligand) (x y : Ligand) → are_alike_within rules g positions all (end_at a.root ligands)
+    pub alike_tied : (ligands : List Ligand) (x y : Ligand)
+        → are_alike_within rules g positions all (end_at a.root ligands)
         a.sphere (stand x) (stand y) ≡ true → alike_told rules g positions all a ranks x y ≡ true
     alike_tied ligands x y alike =
         let parts = closed_tie ligands x y alike in

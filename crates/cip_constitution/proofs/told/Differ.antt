@@ -35,7 +35,7 @@ use Rattle.cip_digraph.proofs.tree.Branches.{at_root}
 use Rattle.cip_digraph.proofs.numbered.Cut.{size, size_le, kids_near}
 use Rattle.cip_digraph.proofs.tree.Ended.{IsPath, Anywhere, leads_anywhere, paths_pass}
 use Rattle.cip_digraph.proofs.tree.Ligands.{one_at_most}
-use Rattle.cip_digraph.proofs.lists.Elements.{all_by}
+use Rattle.cip_digraph.proofs.lists.Elements.{all_by, all_unmapped}
 use Rattle.cip_digraph.proofs.numbered.Kin.{root_first, some_nodes, count_is, told_children}
 use Rattle.cip_digraph.proofs.numbered.Placing.{placed_parents}
 use Rattle.cip_constitution.proofs.seen.Rules.{IsFurther, seen_1a}
@@ -67,11 +67,6 @@ stands_same Delocalised path last vertex = refl
 
 pub eq_by_cmp : (i j : ℕ) → is_eq (nat_cmp i j) ≡ (i == j)
 eq_by_cmp i j = grind (arith, nat_tests)
-
-pub from_mapped : {X Y : Type 0} (P : Y → Type 0) (f : X → Y) (xs : List X) → AllByRecursion P (map f xs)
-    → AllByRecursion (λ x. P (f x)) xs
-from_mapped P f [] all = tt
-from_mapped P f (x ∷ xs) all = (all.0, from_mapped P f xs all.1)
 
 module _ (g : Graph) (positions : List (List ℕ)) (a : Growth) (h : Holds g positions a) (some : 0 < a.sphere)
     (sound : IsSound g) where
@@ -170,7 +165,7 @@ module _ (g : Graph) (positions : List (List ℕ)) (a : Growth) (h : Holds g pos
       (children_of (parents_of a.nodes) 0)
       (all_both (λ n. 1 ≤ n) (λ n. n < size g positions a.root 1) (children_of (parents_of a.nodes) 0) numbers_behind
       numbers_low)
-      (from_mapped (IsFurther g positions a.root) (node_at nodes) (children_of (parents_of a.nodes) 0)
+      (all_unmapped (IsFurther g positions a.root) (node_at nodes) (children_of (parents_of a.nodes) 0)
       (subst (AllByRecursion (IsFurther g positions a.root)) (sym around_is) all_further)))
 
   pub ligand_at : (ligand : Ligand) → LigandAt (ligand_number a.nodes ligand) (ligand_node around ligand)

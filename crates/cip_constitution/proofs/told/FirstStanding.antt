@@ -1,5 +1,5 @@
 -- The first of a range of nodes that stands for a vertex.
-use Rattle.std.proofs.Common.{◌≡◌, ◌<◌, ◌+◌, ◌-◌, ℕ, suc, true, false, cond, List, None, Some, ap, ◌∙◌, arith}
+use Rattle.std.proofs.Common.{◌≡◌, ◌<◌, ◌+◌, ◌-◌, ℕ, suc, true, false, cond, List, Some, ap, ◌∙◌, arith}
 use Rattle.std.specs.List.{range_with_len}
 use Rattle.cip_digraph.specs.declared.nodes.Told.{Told}
 use Rattle.cip_digraph.specs.digraph.NodeList.{told_at}
@@ -19,9 +19,3 @@ found_here all vertex node past lt e =
     let count : past - node ≡ suc (past - (node + 1)) = omega arith in
     ap (λ n. first_standing all vertex (range_with_len node n)) count
     ∙ ap (λ b. cond b (Some node) (first_standing all vertex (range_with_len (node + 1) (past - (node + 1))))) e
-
-pub none_left : (all : List Told) (vertex past : ℕ) → first_standing all vertex (range_with_len past (past - past))
-    ≡ None
-none_left all vertex past =
-    let count : past - past ≡ 0 = omega arith in
-    ap (λ n. first_standing all vertex (range_with_len past n)) count

@@ -1,5 +1,5 @@
 -- Whether some edge at a vertex passes a test, told by the edges of the graph.
-use Rattle.std.proofs.Common.{◌≡◌, ℕ, Bool, true, false, cond, ◌&&◌, ◌||◌, List, [], ◌∷◌, map, refl, ap, ◌∙◌}
+use Rattle.std.proofs.Common.{◌≡◌, ℕ, Bool, true, false, cond, ◌&&◌, ◌||◌, List, [], ◌∷◌, refl, ap, ◌∙◌}
 use Rattle.std.specs.Prelude.{nat_lt, filter}
 use Rattle.std.specs.List.{list_any}
 use Rattle.cip_digraph.specs.declared.graph.Edge.{Edge}
@@ -33,8 +33,3 @@ any_filtered test kept (x ∷ xs) = by (kept x) ∙ ap (λ b. (kept x && test x)
         ≡ ((b && test x) || list_any test (filter kept xs))
     by true = refl
     by false = refl
-
-pub any_mapped : {X Y : Type 0} (test : Y → Bool) (f : X → Y) (xs : List X)
-    → list_any test (map f xs) ≡ list_any (λ x. test (f x)) xs
-any_mapped test f [] = refl
-any_mapped test f (x ∷ xs) = ap (λ b. test (f x) || b) (any_mapped test f xs)

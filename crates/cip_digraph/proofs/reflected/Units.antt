@@ -105,6 +105,11 @@ module _ (rules : Rules) (graph : Graph) (positions : List (List ℕ)) where
       ≡ exchanged_mark (auxiliary rules graph positions all path)
   auxiliary_exchanged all path = marks_exchanged all (length graph.vertices) path
 
+pub atoms_stay : (some : List units.Unit)
+    → flat_map (λ unit. atoms_of unit.site) (map reflected_unit some) ≡ flat_map (λ unit. atoms_of unit.site) some
+atoms_stay [] = refl
+atoms_stay (unit ∷ others) = ap (λ atoms. atoms_of unit.site ++ atoms) (atoms_stay others)
+
 module _ (rules : Rules) (graph : Graph) (positions : List (List ℕ)) (all : List units.Unit) where
   end_exchanged : (end : End)
       → end_root rules graph positions (map reflected_unit all) end ≡ swapped (end_root rules graph positions all end)
@@ -126,11 +131,6 @@ module _ (rules : Rules) (graph : Graph) (positions : List (List ℕ)) (all : Li
     root_alike rules graph positions (auxiliary rules graph positions all) (end.at ∷ []) end.ligands,
     ends_alike ends,
   )
-
-  atoms_stay : (some : List units.Unit)
-      → flat_map (λ unit. atoms_of unit.site) (map reflected_unit some) ≡ flat_map (λ unit. atoms_of unit.site) some
-  atoms_stay [] = refl
-  atoms_stay (unit ∷ others) = ap (λ atoms. atoms_of unit.site ++ atoms) (atoms_stay others)
 
   unit_stays : is_in_unit rules graph positions (map reflected_unit all) ≡ is_in_unit rules graph positions all
   unit_stays = λ i node. is_real node.kind && is_in node.vertex (atoms_stay all i)

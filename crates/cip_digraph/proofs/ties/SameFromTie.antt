@@ -4,9 +4,9 @@ use Rattle.std.proofs.Common.{None, Some, Option, int_cmp, int_eq, Ordering, Equ
 use Rattle.std.specs.List.{AllByRecursion}
 use Rattle.std.proofs.lemmas.Cmp.{int_ranked}
 use Rattle.cip_rank.specs.Comparison.{comparison}
-use Rattle.cip_rank.specs.Matching.{InPairs, AreAlike}
+use Rattle.cip_rank.specs.Matching.{AreAlike}
 use Rattle.cip_rank.specs.Matching as matching
-use Rattle.cip_rank.proofs.MatchingBranches.{match_from_tie}
+use Rattle.cip_rank.proofs.MatchingBranches.{match_from_tie, pairs_by}
 use Rattle.cip_rank.proofs.RestOnTies.{both_tie}
 use Rattle.cip_mol.specs.declared.descriptor.Descriptor.{Descriptor}
 use Rattle.cip_mol.specs.declared.descriptor.Descriptor.TheVariants.{R}
@@ -45,13 +45,6 @@ parts_of children earlier key depth a b h =
     let t = both_tie (earlier a b) (int_cmp (key a) (key b))
     (earlier_tie children earlier key 0 depth a b (omega arith) h) in
     (t.0, same_number (key a) (key b) t.1)
-
-pub pairs_by : {N : Type 0} {Q T : N → N → Type 0} → ((n m : N) → Q n m → T n m) → (ns ms : List N) → InPairs Q ns ms
-    → InPairs T ns ms
-pairs_by f [] [] h = tt
-pairs_by f [] (m ∷ ms) h = h
-pairs_by f (n ∷ ns) [] h = h
-pairs_by f (n ∷ ns) (m ∷ ms) h = (f n m h.0, pairs_by f ns ms h.1)
 
 both_none : (rule : Rule) (found : Option Difference) (later : Option Decision) → decided_at rule found later ≡ None
     → (found ≡ None) × (later ≡ None)

@@ -8,7 +8,7 @@ use Rattle.std.proofs.lemmas.List.Sorted.{IsPermutation-map, IsPermutation-refl}
 use Rattle.cip_rank.specs.Comparison.{comparison}
 use Rattle.cip_rank.specs.Matching.{InPairs, Matches}
 use Rattle.cip_rank.specs.Matching as matching
-use Rattle.cip_rank.proofs.MatchingBranches.{tie_from_match}
+use Rattle.cip_rank.proofs.MatchingBranches.{tie_from_match, pairs_by}
 use Rattle.cip_mol.specs.declared.descriptor.Descriptor.{Descriptor}
 use Rattle.cip_mol.specs.declared.descriptor.Descriptor.TheVariants.{R}
 use Rattle.cip_mol.specs.declared.outcome.Rule.{Rule}
@@ -24,7 +24,6 @@ use Rattle.cip_digraph.specs.digraph.SameBranch.{Class, ClassR, ClassS, ClassSma
 use Rattle.cip_digraph.specs.digraph.SameBranch.{class_of, AreSameNodes, SameWithin, SameBranch, EndsWithin}
 use Rattle.cip_digraph.proofs.orders.Exchanged.{all_tie_total, total_4a, earlier_total, readings_total}
 use Rattle.cip_digraph.proofs.lists.Elements.{all_arranged}
-use Rattle.cip_digraph.proofs.ties.SameFromTie.{pairs_by}
 use Rattle.cip_digraph.proofs.ties.Turned.{total_4c}
 use Rattle.cip_digraph.proofs.orders.Whole.{total_1a, total_1b, total_2, total_3}
 

@@ -130,7 +130,7 @@ abbrev no_reason : Option Reason → Bool
 no_reason None = true
 no_reason (Some reason) = false
 
-tie_by_reason : (decision : Option Decision) → is_tie decision ≡ no_reason (reason_of decision)
+pub tie_by_reason : (decision : Option Decision) → is_tie decision ≡ no_reason (reason_of decision)
 tie_by_reason None = refl
 tie_by_reason (Some decision) = refl
 

@@ -25,7 +25,7 @@ different_append : {X : Type 0} (xs ys : List X) → Different xs → Different 
     → AllByRecursion (λ x. AllByRecursion (λ y. x ≢ y) ys) xs → Different (xs ++ ys)
 different_append xs ys one other cross = pairwise_append ◌≢◌ xs ys one other cross
 
-tail_of : {x y : ℕ} {xs ys : List ℕ} → x ∷ xs ≡ y ∷ ys → xs ≡ ys
+pub tail_of : {x y : ℕ} {xs ys : List ℕ} → x ∷ xs ≡ y ∷ ys → xs ≡ ys
 tail_of h = cc
 
 head_of : {x y : ℕ} {xs ys : List ℕ} → x ∷ xs ≡ y ∷ ys → x ≡ y

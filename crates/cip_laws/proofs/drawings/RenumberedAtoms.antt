@@ -16,7 +16,7 @@ use Rattle.cip_digraph.specs.graph.Hydrogens.{atom_at, bond_orders, hydrogens_of
 use Rattle.cip_digraph.specs.graph.LonePairs.{lone_pair_of}
 use Rattle.cip_digraph.specs.graph.Neglected.{neglects_at, is_counted}
 use Rattle.cip_digraph.specs.graph.Renumbering.{IsForward, IsTurned, IsImage, IsRenumbering}
-use Rattle.cip_digraph.proofs.lists.Elements.{Pairwise, by_recursion}
+use Rattle.cip_digraph.proofs.lists.Elements.{Pairwise, by_recursion, all_arranged}
 use Rattle.cip_image.specs.Images.{Among}
 use Rattle.cip_image.proofs.lists.Among.{among_map, from_map, among_arranged, among_range, from_range, among_all}
 use Rattle.cip_image.proofs.lists.Arranged.{filter_arranged}
@@ -53,15 +53,6 @@ pairs_all Q T P f [] [] all h = tt
 pairs_all Q T P f [] (m ∷ ms) all h = h
 pairs_all Q T P f (n ∷ ns) [] all h = h
 pairs_all Q T P f (n ∷ ns) (m ∷ ms) all h = (f n m h.0 all.0, pairs_all Q T P f ns ms all.1 h.1)
-
-pub all_arranged : {X : Type 0} (P : X → Type 0) (xs ys : List X) → IsPermutation xs ys → AllByRecursion P xs
-    → AllByRecursion P ys
-all_arranged {X} P xs ys p all =
-    each ys (λ y h. among_all P y xs all (among_arranged y ys xs (IsPermutation-sym xs ys p) h))
-  where
-    each : (ys : List X) → ((y : X) → Among y ys → P y) → AllByRecursion P ys
-    each [] f = tt
-    each (y ∷ ys) f = (f y (inl refl), each ys (λ z h. f z (inr h)))
 
 -- bonds in pairs that touch alike and have the same orders
 pub orders_alike : (R : Bond → Bond → Type 0) (k j : ℕ) → ((n m : Bond) → R n m → touches j m ≡ touches k n)

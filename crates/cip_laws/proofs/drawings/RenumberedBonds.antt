@@ -12,10 +12,10 @@ use Rattle.cip_mol.specs.Marks.{joins}
 use Rattle.cip_mol.specs.declared.molecule.Bond.{Bond}
 use Rattle.cip_mol.proofs.SimpleBonds.{IsJoin, Once, simple_from_sound, sound_from_simple}
 use Rattle.cip_digraph.specs.graph.Renumbering.{IsForward, IsTurned, IsRenumbering}
-use Rattle.cip_digraph.proofs.lists.Elements.{Pairwise, pairs_from_pairwise}
+use Rattle.cip_digraph.proofs.lists.Elements.{Pairwise, pairs_from_pairwise, all_arranged}
 use Rattle.cip_laws.proofs.drawings.BondsOnce.{once_back, bonds_once}
 use Rattle.cip_image.proofs.outcomes.LastReasons.{pairwise_arranged}
-use Rattle.cip_laws.proofs.drawings.RenumberedAtoms.{IsImageBond, all_arranged, image_below, image_onto, image_injective, image_eq, bond_pairs, degree_same}
+use Rattle.cip_laws.proofs.drawings.RenumberedAtoms.{IsImageBond, image_below, image_onto, image_injective, image_eq, bond_pairs, degree_same}
 use Rattle.std.proofs.Math.Bool.{and_comm, or_comm}
 
 module _ (drawing other : Drawing) (image : ℕ → ℕ) (r : IsRenumbering drawing other image)

@@ -7,6 +7,7 @@ use Rattle.cip_digraph.specs.graph.Graph.{Graph, edges_at, vertex_at}
 use Rattle.cip_digraph.specs.graph.SoundGraphs.{IsSound}
 use Rattle.cip_digraph.specs.units.Allenes.{doubles, is_allene_middle}
 use Rattle.cip_axis.specs.Cumulenes.{onward, leads_on, next_atom, chain_from, chain_over}
+use Rattle.cip_axis.proofs.Drawn.{if_short}
 use Rattle.cip_image.specs.Images.{Among}
 use Rattle.cip_image.proofs.lists.Arranged.{filter_arranged}
 use Rattle.cip_laws.proofs.units.CarriedAxes.{double_back, doubles_moved, middle_carried}
@@ -135,10 +136,6 @@ module _ (graph : Graph) (sound : IsSound graph) where
       by true e rest =
           let l = leads_back before at h e in
           rest at (next_atom graph before at) (before ∷ acc) l.near (further_back before at acc e l back)
-
-  if_short : (b : Bool) (vs : List ℕ) (n : ℕ) → length vs ≤ n → length (cond b vs []) ≤ n
-  if_short true vs n le = le
-  if_short false vs n le = omega arith
 
   pub from_short : (more before at : ℕ) → length (chain_from graph more before at) ≤ more
   from_short zero before at = omega arith

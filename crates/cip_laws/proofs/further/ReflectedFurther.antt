@@ -4,15 +4,15 @@ use Rattle.std.specs.List.{range_with_len}
 use Rattle.std.proofs.lemmas.List.{map-append}
 use Rattle.cip_mol.specs.Drawing.{Drawing}
 use Rattle.cip_mol.specs.Geometry.{geometry_of}
-use Rattle.cip_mol.specs.Marks.{is_crossed, is_either}
-use Rattle.cip_mol.specs.Reflection.{exchanged, mirrored_bond, reflected}
+use Rattle.cip_mol.specs.Marks.{is_crossed}
+use Rattle.cip_mol.specs.Reflection.{mirrored_bond, reflected}
 use Rattle.cip_mol.specs.declared.molecule.Bond as molecules
-use Rattle.cip_mol.specs.declared.molecule.Mark.{Mark}
 use Rattle.cip_mol.specs.declared.molecule.Mark.TheVariants as marks
 use Rattle.cip_mol.specs.declared.site.Cause.TheVariants.{Either}
 use Rattle.cip_mol.specs.declared.site.Geometry.{Geometry}
 use Rattle.cip_mol.specs.declared.site.Geometry.TheVariants.{Unknown}
 use Rattle.cip_mol.specs.declared.site.Site.{Site}
+use Rattle.cip_mol.proofs.ReflectedDrawing.{is_either-exchanged}
 use Rattle.cip_digraph.specs.graph.DrawnGraph.{graph_of}
 use Rattle.cip_digraph.specs.graph.Graph.{Graph, edges_at, other_end}
 use Rattle.cip_digraph.specs.rings.Positions.{positions_of}
@@ -27,14 +27,10 @@ use Rattle.cip_laws.specs.FurtherLaws.{reflected_further, ReflectsFurther, Refle
 use Rattle.cip_image.proofs.lists.CarriedLists.{mapped_twice, mapped_by, mapped_flat}
 use Rattle.cip_laws.proofs.drawings.ReflectedDrawings.{geometry_mirrored, graph_kept, reflection_keeps_drawings}
 
-either_kept : (mark : Mark) → is_either (exchanged mark) ≡ is_either mark
-either_kept marks.Up = refl
-either_kept mark = refl
-
 crossed_kept : (a b : ℕ) (some : List molecules.Bond) → is_crossed a b (map mirrored_bond some) ≡ is_crossed a b some
 crossed_kept a b [] = refl
 crossed_kept a b (x ∷ some) =
-    rw (either_kept x.mark, crossed_kept a b some)
+    rw (is_either-exchanged x.mark, crossed_kept a b some)
 
 unless_mirrored : (undecided : Bool) (site : Site) (geometry : Geometry)
     → (if undecided then Unknown Either else reflected_geometry site geometry)

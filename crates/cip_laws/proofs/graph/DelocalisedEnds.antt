@@ -15,8 +15,9 @@ use Rattle.cip_digraph.specs.graph.SoundGraphs.{JoinsBelow, IsSound}
 use Rattle.cip_digraph.proofs.ways.Alternating.{ring_found, ring_finds}
 use Rattle.cip_digraph.proofs.lists.Elements.{Pairwise, pairwise_filtered, pairwise_from_pairs, pairs_from_pairwise, by_recursion}
 use Rattle.cip_digraph.proofs.bonds.Neighbours.{neighbours_differ}
+use Rattle.cip_mancude.proofs.Turned.{partner_back, single_back}
 use Rattle.cip_image.specs.Images.{Among}
-use Rattle.cip_image.proofs.lists.Among.{among_map, from_map, among_filter, from_filter, in_from_among, among_from_in, among_all}
+use Rattle.cip_image.proofs.lists.Among.{among_map, from_map, among_filter, from_filter, among_from_in, among_all}
 use Rattle.cip_image.specs.Renamed.{Way, way, ways}
 use Rattle.cip_image.proofs.outcomes.LastReasons.{pairwise_arranged}
 use Rattle.cip_laws.proofs.further.AllButOne.{two_members}
@@ -92,33 +93,6 @@ module _ (graph : Graph) where
       subst (λ u. Among u (neighbours graph v)) (sym s.is) (among_map (other_end v) s.edge (edges_at graph v) s.among)
 
 module _ (graph : Graph) (sound : IsSound graph) where
-  partner_back : (v : ℕ) → is_alternating graph v ≡ true → is_alternating graph (partner graph v) ≡ true
-      → partner graph (partner graph v) ≡ v
-  partner_back v e f =
-      let d = doubled graph v e in
-      let there = doubled graph (other_end v d.edge) (subst (λ u. is_alternating graph u ≡ true) d.is f) in
-      let back =
-      (leads_back graph sound v (way v d.edge) (among_map (way v) d.edge (edges_at graph v) d.among)).back in
-      ap (partner graph) d.is ∙ there.is
-      ∙ sym (ap (λ (w : Way). w.to) (there.only (back_way graph v (way v d.edge)) back d.counted))
-
-  way_single : (v : ℕ) (w : Way) → Among w (ways graph v) → (w.order == 1) ≡ true → is_in w.to (singles graph v) ≡ true
-  way_single v w h e =
-      let found = from_map (way v) w (edges_at graph v) h in
-      in_from_among w.to (singles graph v)
-      (subst (λ (u : Way). Among u.to (singles graph v)) (sym found.2)
-      (among_map (other_end v) found.0 (filter (λ edge. edge.order == 1) (edges_at graph v))
-      (among_filter (λ edge. edge.order == 1) found.0 (edges_at graph v) found.1
-      (ap (λ (u : Way). u.order == 1) (sym found.2) ∙ e))))
-
-  single_back : (v to : ℕ) → is_in to (singles graph v) ≡ true → is_in v (singles graph to) ≡ true
-  single_back v to e =
-      let s = single_of graph v to e in
-      subst (λ u. is_in v (singles graph u) ≡ true) (sym s.is)
-      (way_single (other_end v s.edge) (back_way graph v (way v s.edge))
-      (leads_back graph sound v (way v s.edge) (among_map (way v) s.edge (edges_at graph v) s.among)).back
-      (eq-eqb s.edge.order 1 s.order))
-
   single_not_partner : (v to : ℕ) → is_alternating graph v ≡ true → is_in to (singles graph v) ≡ true
       → partner graph v ≢ to
   single_not_partner v to e f same =
@@ -151,8 +125,8 @@ module _ (graph : Graph) (sound : IsSound graph) where
       turned_way start (partner graph next) others (partner graph next ∷ after) target way.1 all.1.1
       (λ z f. (
         f,
-        subst (λ v. Alternates graph v after start) (sym (partner_back next all.0 all.1.0))
-            (ends next (single_back at next way.0)),
+        subst (λ v. Alternates graph v after start) (sym (partner_back graph sound next all.0 all.1.0))
+            (ends next (single_back graph sound at next way.0)),
       )) y e
 
   turned_met : (nexts after : List ℕ) → AllByRecursion IsAlternatingAtom (met graph nexts)
@@ -163,7 +137,7 @@ module _ (graph : Graph) (sound : IsSound graph) where
       let rest = met graph others in
       let behind = met graph after in
       let same : met graph (p ∷ after) ≡ p ∷ next ∷ behind =
-      ap (λ v. p ∷ v ∷ behind) (partner_back next all.0 all.1.0) in
+      ap (λ v. p ∷ v ∷ behind) (partner_back graph sound next all.0 all.1.0) in
       let ih : IsPermutation (rest ++ (p ∷ next ∷ behind)) (met graph (turned others (p ∷ after))) =
       subst (λ ms. IsPermutation (rest ++ ms) (met graph (turned others (p ∷ after)))) same
       (turned_met others (p ∷ after) all.1.1) in
@@ -183,7 +157,7 @@ module _ (graph : Graph) (sound : IsSound graph) where
   ring_back a o (next ∷ others) ring =
       let b = partner graph a in
       let all = by_recursion IsAlternatingAtom (ring_of graph a (next ∷ others)) ring.alternating in
-      let back : partner graph b ≡ a = partner_back a all.0 all.1.0 in
+      let back : partner graph b ≡ a = partner_back graph sound a all.0 all.1.0 in
       let p = partner graph next in
       let here = met graph (next ∷ others) in
       let nexts = turned (next ∷ others) [] in
@@ -200,7 +174,7 @@ module _ (graph : Graph) (sound : IsSound graph) where
           single = ring.way.0;
           way = subst (λ v. Alternates graph v nexts next) (sym back)
               (turned_way next p others (p ∷ []) o ring.way.1 all.1.1.1.1
-              (λ y e. (e, partner_back next all.1.1.0 all.1.1.1.0)) a ring.single);
+              (λ y e. (e, partner_back graph sound next all.1.1.0 all.1.1.1.0)) a ring.single);
           alternating =
               All-permutation IsAlternatingAtom (ring_of graph a (next ∷ others)) (ring_of graph b nexts) whole
               ring.alternating;

@@ -17,14 +17,14 @@ use Rattle.cip_digraph.specs.graph.Graph.{Graph, no_vertex, vertex_at, other_end
 use Rattle.cip_digraph.specs.graph.Graph as graphs
 use Rattle.cip_digraph.specs.graph.Hydrogens.{hydrogens_of}
 use Rattle.cip_digraph.specs.graph.Renumbering.{IsForward, IsTurned, hydrogen_number, IsRenumbering}
-use Rattle.cip_digraph.proofs.lists.Elements.{all_by}
+use Rattle.cip_digraph.proofs.lists.Elements.{all_by, all_arranged}
 use Rattle.cip_image.proofs.lists.Arranged.{filter_arranged}
 use Rattle.cip_image.proofs.lists.CarriedLists.{mapped_twice, mapped_below}
 use Rattle.cip_image.specs.Renamed.{IsInjective}
 use Rattle.cip_image.specs.Renamed.{Way, way, ways, way_image, IsRenamed}
 use Rattle.cip_laws.proofs.graph.Inverses.{IsOnto}
 use Rattle.cip_laws.proofs.graph.HydrogenPlaces.{before, locate, below_later, one_place, single_way, ways_from, ways_in, ways_append, carried_long, atom_ways, hydrogen_ways, beyond_ways}
-use Rattle.cip_laws.proofs.drawings.RenumberedAtoms.{IsImageBond, image_below, image_injective, image_onto, image_eq, bond_pairs, touches_carried, hydrogens_same, atom_same, lone_same, counted_same, all_arranged, bonds_join}
+use Rattle.cip_laws.proofs.drawings.RenumberedAtoms.{IsImageBond, image_below, image_injective, image_onto, image_eq, bond_pairs, touches_carried, hydrogens_same, atom_same, lone_same, counted_same, bonds_join}
 
 insert_permutes : (vertex : ℕ) (edge : Edge) (edges : List Edge)
     → IsPermutation (edge ∷ edges) (insert_up vertex edge edges)

@@ -1,5 +1,5 @@
 -- With all units reflected, each has the mirror image of its outcome, and the same costs.
-use Rattle.std.proofs.Common.{◌≡◌, ℕ, List, [], ◌∷◌, ◌++◌, ◌&&◌, map, length, flat_map, refl, ap, ◌∙◌, Bool, true, false, nat_lt}
+use Rattle.std.proofs.Common.{◌≡◌, ℕ, List, [], ◌∷◌, ◌&&◌, map, length, refl, ap, ◌∙◌, Bool, true, false, nat_lt}
 use Rattle.std.specs.List.{list_any}
 use Rattle.cip_rank.specs.declared.rules.Rules.{Rules}
 use Rattle.cip_mol.specs.declared.outcome.Label as labels
@@ -20,10 +20,10 @@ use Rattle.cip_digraph.specs.rules.Auxiliary.{root_at, auxiliary}
 use Rattle.cip_digraph.specs.rules.Exchange.{reflected_sense, reflected_unit}
 use Rattle.cip_digraph.specs.rules.Orders.{rule_1a, rule_1b, rule_2}
 use Rattle.cip_digraph.specs.units.Descriptors.{reason_needed}
-use Rattle.cip_digraph.specs.units.Ends.{End, ends_of, atoms_of}
+use Rattle.cip_digraph.specs.units.Ends.{End, ends_of}
 use Rattle.cip_digraph.specs.units.Ranked.{Root, has_tie}
 use Rattle.cip_digraph.proofs.reflected.Letters.{swapped, root_exchanged}
-use Rattle.cip_digraph.proofs.reflected.Units.{auxiliary_exchanged, outcome_exchanged}
+use Rattle.cip_digraph.proofs.reflected.Units.{auxiliary_exchanged, outcome_exchanged, atoms_stay}
 use Rattle.cip_laws.specs.ReflectionLaw.{IsMirrorOutcome, ReflectionMirrorsOutcomes}
 use Rattle.cip_image.proofs.outcomes.ReflectedReasons.{reason_swapped, ends_ranked}
 
@@ -87,11 +87,6 @@ module _ (rules : Rules) (graph : Graph) (positions : List (List ℕ)) (all : Li
       (label_of rules graph positions all site sense roots)
       (label_of rules graph positions mirrored site (reflected_sense site sense) others)
       (ap (λ reason. reason.rule) (reasons_stay ends)) (ap (λ reason. reason.sphere) (reasons_stay ends)) h
-
-  atoms_stay : (some : List units.Unit)
-      → flat_map (λ unit. atoms_of unit.site) (map reflected_unit some) ≡ flat_map (λ unit. atoms_of unit.site) some
-  atoms_stay [] = refl
-  atoms_stay (unit ∷ others) = ap (λ atoms. atoms_of unit.site ++ atoms) (atoms_stay others)
 
   -- descriptors and senses play no part in where an end is settled
   settled_stays : (end : End) → settled_in rules graph positions mirrored end ≡ settled_in rules graph positions all end

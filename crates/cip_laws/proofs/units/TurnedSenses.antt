@@ -3,28 +3,22 @@
 use Rattle.std.proofs.Common.{◌≡◌, ◌<◌, ◌≤◌, ◌+◌, ℕ, zero, suc, List, [], ◌∷◌, length, get_or, set, swap, refl, sym, ap, subst, ◌∙◌, Bool, true, false, not, cond, nat_lt, arith, if◌then◌else◌}
 use Rattle.std.specs.Prelude.{None, Some}
 use Rattle.std.specs.List.{AllByRecursion, cons_option}
-use Rattle.cip_mol.specs.declared.descriptor.Sense.TheVariants.{Plus, Minus}
 use Rattle.cip_mol.specs.declared.site.Geometry.{Geometry}
-use Rattle.cip_mol.specs.declared.site.Geometry.TheVariants.{Known, Unknown}
 use Rattle.cip_mol.specs.declared.site.Ligand.{Ligand}
 use Rattle.cip_mol.specs.declared.site.Ligand.TheVariants.{Vertex, LonePair}
 use Rattle.cip_mol.specs.DrawnLigands.{drawn}
 use Rattle.cip_mol.specs.Senses.{other_way}
+use Rattle.cip_mol.proofs.ExchangedLigands.{other_way_back}
 use Rattle.cip_digraph.specs.units.Descriptors.{is_odd}
 use Rattle.cip_image.proofs.lists.Exchanges.{exchange_long, exchanges_long}
 use Rattle.cip_image.specs.Exchanged.{exchange, exchanges, IsExchanged}
-
-other_twice : (g : Geometry) → other_way (other_way g) ≡ g
-other_twice (Known Plus) = refl
-other_twice (Known Minus) = refl
-other_twice (Unknown cause) = refl
 
 abbrev pub flip : Bool → Geometry → Geometry
 flip true g = other_way g
 flip false g = g
 
 flip_not : (b : Bool) (g : Geometry) → flip (not b) g ≡ other_way (flip b g)
-flip_not true g = sym (other_twice g)
+flip_not true g = sym (other_way_back g)
 flip_not false g = refl
 
 -- an exchange of neighbours is the swap of two places

@@ -5,7 +5,8 @@ use Rattle.cip_batch.proofs.batch.complete.Goals as goal
 pub loop-place-preserved : goal.loop-place-preserved
 loop-place-preserved g c = record {
   found = c.answer_at.ensures.found;
-  answers = c.in_ok-push.ensures.items ∙ ap (λ found. found ++ c.in_ok-answer_at.field-0 ∷ []) c.loop-place.invariant.answers
+  answers = c.in_ok-push.ensures.items ∙ ap (λ found. found ++ c.in_ok-answer_at.field-0 ∷ [])
+      c.loop-place.invariant.answers
       ∙ one_more g.J.Job.answer c.args.jobs.now c.loop-place.place c.in_ok-answer_at.field-0 c.loop-place-test.true
       c.in_ok-answer_at.ensures.answer;
 }

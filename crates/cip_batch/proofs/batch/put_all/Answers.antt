@@ -18,7 +18,8 @@ put-requires g c =
         c.type_bounds.send-J-Desk,
         (
           All-head is c.in-Some.entry c.next.new.self.rest.items
-              (All-same is _ c.loop-entry.entry-iterator.rest.items (sym c.in-Some.ensures.steps.0) c.loop-entry.invariant.entries),
+              (All-same is _ c.loop-entry.entry-iterator.rest.items
+              (sym c.in-Some.ensures.steps.0) c.loop-entry.invariant.entries),
           c.loop-entry.invariant.found,
         ),
       ),

@@ -58,7 +58,8 @@ loop-node-preserved c =
       none = below_next (λ k. is_under (parents_of a.nodes) c.args.top k ≡ true
           → is_open_in (told c.args.setting.now) a k ≡ false) node
           inv.none
-          (λ under. elim (and_cases flag (is_open_in (told c.args.setting.now) a node) (sym c.is_open.ensures ∙ c.if-is_open.false)) [
+          (λ under. elim (and_cases flag (is_open_in (told c.args.setting.now) a node) (sym c.is_open.ensures
+          ∙ c.if-is_open.false)) [
             | inl off ↦ absurd (true_false (sym under ∙ sym is ∙ off))
             | inr shut ↦ shut
           ]);

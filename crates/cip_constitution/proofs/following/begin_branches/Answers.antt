@@ -8,7 +8,8 @@ use Rattle.cip_constitution.proofs.following.begin_branches.Goals as goal
 pub begin-requires-clause-room : goal.begin-requires-clause-room
 begin-requires-clause-room c =
     let fits = c.len-past.ensures in
-    let tops = ap (λ (ns : List ℕ). length ns) (c.as_slice.ensures ∙ ap (λ (t : Reserved ℕ). t.items) c.fill_tops.ensures) in
+    let tops = ap (λ (ns : List ℕ). length ns) (c.as_slice.ensures
+    ∙ ap (λ (t : Reserved ℕ). t.items) c.fill_tops.ensures) in
     let len = length-range_with_len 1 (c.len-past.result - 1) in
     let wide = c.requires.room in
     omega (arith, tops, len, wide, fits.fits)

@@ -24,8 +24,8 @@ follow-requires-clause-room c =
     let old = c.args.branches.now in
     let s = c.requires.followed.0 in
     let grown = c.requires.followed.1 in
-    let room = subst (λ (ps : List ℕ). length old.layers.kin.ups + kids_left (kids_around ps []) old.layers.kin.nodes old.first
-    (length old.layers.kin.ups - old.first) < length a.nodes) (sym c.table.ensures)
+    let room = subst (λ (ps : List ℕ). length old.layers.kin.ups + kids_left (kids_around ps []) old.layers.kin.nodes
+    old.first (length old.layers.kin.ups - old.first) < length a.nodes) (sym c.table.ensures)
     (room_as s.graph s.positions a grown.holds grown.last grown.fits c.requires.further old c.requires.followed.2) in
     let wide = c.requires.room in
     let fits = grown.fits in
@@ -49,6 +49,7 @@ returns-clause-followed c setting grown followed =
     let new = c.follow.new.self in
     follows_as setting.graph setting.positions a grown.holds grown.last grown.fits c.requires.further old followed
     c.requires.room new
-    (subst (λ (ps : List ℕ). Follows old.layers old.first old.last (length ps) (kids_around ps []) old.wanted (atoms_of a.nodes) new.layers)
+    (subst (λ (ps : List ℕ). Follows old.layers old.first old.last (length ps) (kids_around ps []) old.wanted
+    (atoms_of a.nodes) new.layers)
     c.table.ensures c.follow.ensures.walked) c.follow.ensures.followed c.follow.ensures.first c.follow.ensures.last
     c.follow.ensures.chosen

@@ -17,5 +17,5 @@ loop-node-preserved g c =
 pub returns-clause-number : goal.returns-clause-number
 returns-clause-number g c =
     let none : c.children-first.result.1 - c.loop-node.node ≡ 0 = omega (arith, c.loop-node-test.false) in
-    sym (ap (λ n. first_standing (g.N.Nodes.nodes c.args.nodes.now) c.args.vertex (range_with_len c.loop-node.node n)) none)
-    ∙ c.loop-node.invariant
+    sym (ap (λ n. first_standing (g.N.Nodes.nodes c.args.nodes.now) c.args.vertex (range_with_len c.loop-node.node n))
+    none) ∙ c.loop-node.invariant

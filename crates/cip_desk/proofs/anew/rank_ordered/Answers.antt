@@ -16,7 +16,7 @@ returns-clause-told c =
     let work = c.args.work.now in
     on_ok c.take_noted.result c.take_noted.ensures.kept
     (λ kept. subst (λ (noted : List Asked). StandsAnyway (kept_of setting root ligands) arena.bound noted Known)
-    (sym kept) (ordered_anyway setting root ligands arena c.requires.rooted c.graph-graph.ensures.proper
+    (sym kept) (ordered_anyway setting root ligands arena c.requires.rooted c.args.rooted.now.proper
     c.requires.settled work.pairs work.noted c.requires.pairs c.requires.noted))
 
 pub returns-clause-standing : goal.returns-clause-standing

@@ -11,8 +11,8 @@ use Rattle.cip_desk.proofs.anew.rank_settled.Goals as goal
 pub returns-in-Over-clause-found : goal.returns-in-Over-clause-found
 returns-in-Over-clause-found c =
     let rooted = c.args.rooted.now in
-    over_anyway rooted.setting.now rooted.root rooted.ligands.now rooted.arena.now c.requires.rooted c.requires.proper
-    c.args.tables.now.aside.noted.items
+    over_anyway rooted.setting.now rooted.root rooted.ligands.now rooted.arena.now c.requires.rooted
+    c.args.rooted.now.proper c.args.tables.now.aside.noted.items
     (subst (SettledAs (settled_by rooted.setting.now rooted.ligands.now) rooted.arena.now) c.in-Over.is
     c.requires.settled)
 
@@ -27,8 +27,8 @@ returns-in-Over-clause-ranking c =
 pub returns-in-Tied-clause-found : goal.returns-in-Tied-clause-found
 returns-in-Tied-clause-found c =
     let rooted = c.args.rooted.now in
-    tied_anyway rooted.setting.now rooted.root rooted.ligands.now rooted.arena.now c.requires.rooted c.requires.proper
-    c.args.tables.now.aside.noted.items
+    tied_anyway rooted.setting.now rooted.root rooted.ligands.now rooted.arena.now c.requires.rooted
+    c.args.rooted.now.proper c.args.tables.now.aside.noted.items
     (subst (SettledAs (settled_by rooted.setting.now rooted.ligands.now) rooted.arena.now) c.in-Tied.is
     c.requires.settled)
 
@@ -36,7 +36,8 @@ pub returns-in-Tied-clause-ranking : goal.returns-in-Tied-clause-ranking
 returns-in-Tied-clause-ranking c =
     let rooted = c.args.rooted.now in
     tied_ranked rooted.setting.now rooted.ligands.now rooted.root rooted.arena.now c.requires.rooted.holds
-    c.requires.rooted.at (standing_of c.args.branches.now) c.requires.proper.sound c.requires.rooted.fit
+    c.requires.rooted.at (standing_of c.args.branches.now) c.args.rooted.now.proper.sound
+    c.requires.rooted.fit
     (subst (SettledAs (settled_by rooted.setting.now rooted.ligands.now) rooted.arena.now) c.in-Tied.is
     c.requires.settled) c.requires.rooted.fits
 
@@ -45,4 +46,4 @@ returns-in_ok-rank_ordered-in-Ordered-clause-ranking c =
     let rooted = c.args.rooted.now in
     subst (λ (s : Standing). RankedAs rooted.setting.now rooted.arena.now.bound rooted.root rooted.ligands.now
     (standing_of s) Known) (sym c.in_ok-rank_ordered-in-Ordered.ensures.standing)
-    (c.in_ok-rank_ordered-in-Ordered.ensures.told.each rooted.setting.now.units c.requires.proper.sites)
+    (c.in_ok-rank_ordered-in-Ordered.ensures.told.each rooted.setting.now.units c.args.rooted.now.proper.sites)

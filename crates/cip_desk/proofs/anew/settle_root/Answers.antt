@@ -31,8 +31,8 @@ returns-clause-settled g c =
     let setting = c.args.setting.now in
     subst (λ (t : Setting). SettledAs t c.settle.new.arena c.settle.result)
     (same_setting c.rules.result setting.rules c.graph-graph.result.now setting.graph c.positions.result.now
-    setting.positions c.units.result.now setting.units c.as_slice.result.now c.args.ligands.now c.rules.ensures c.graph-graph.ensures.value
-    c.positions.ensures c.units.ensures.value c.as_slice.ensures.value)
+    setting.positions c.units.result.now setting.units c.as_slice.result.now c.args.ligands.now c.rules.ensures
+    c.graph-graph.ensures.value c.positions.ensures c.units.ensures.value c.as_slice.ensures.value)
     c.settle.ensures.settled
 
 pub returns-clause-cost : goal.returns-clause-cost
@@ -46,7 +46,8 @@ returns-clause-cost g c =
     (c.settle.ensures.bound ∙ c.start.ensures.bound) c.settle.ensures.fits one c.settle.ensures.cost
     (subst (λ (t : Setting). c.settle.new.steps + 1 ≤ c.args.steps.now + cost_of t c.settle.new.arena.root)
     (same_setting c.rules.result setting.rules c.graph-graph.result.now setting.graph c.positions.result.now
-    setting.positions c.units.result.now setting.units c.as_slice.result.now c.args.ligands.now c.rules.ensures c.graph-graph.ensures.value
+    setting.positions c.units.result.now setting.units c.as_slice.result.now c.args.ligands.now c.rules.ensures
+    c.graph-graph.ensures.value
     c.positions.ensures c.units.ensures.value c.as_slice.ensures.value) c.settle.ensures.lazy)
 
 pub returns-clause-followed : goal.returns-clause-followed

@@ -12,7 +12,7 @@ returns-in_ok-take_named-in-Told-clause-ranking c =
     let found = subst (FoundAs kept bench.arena bench.work bench.tables) c.in-Told.is
     (found_kept bench c.args.found kept c.requires.found c.requires.root c.requires.ready.kept) in
     told_ranked told.setting.now told.root told.ligands.now told.bound noted c.in-Told.ranking c.take_named.new.self
-    c.graph-graph.ensures.proper
+    told.proper
     (subst (λ bound. StandsAnyway kept bound noted c.in-Told.ranking) c.requires.ready.room.arena found)
     (c.in_ok-take_named-in-Told.ensures.natural ∙ c.as_slice.ensures.value)
     (c.in_ok-take_named-in-Told.ensures.turned ∙ c.as_slice.ensures.value)

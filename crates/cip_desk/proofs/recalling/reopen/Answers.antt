@@ -29,7 +29,7 @@ rank_open-requires-clause-rooted c = record {
 
 pub rank_open-requires-clause-settled : goal.rank_open-requires-clause-settled
 rank_open-requires-clause-settled c =
-    c.requires.stands.settled.each c.args.told.now.setting.now.units c.graph-graph.ensures.proper.sites
+    c.requires.stands.settled.each c.args.told.now.setting.now.units c.args.told.now.proper.sites
 
 pub rank_open-requires-clause-constituted : goal.rank_open-requires-clause-constituted
 rank_open-requires-clause-constituted c =
@@ -37,8 +37,8 @@ rank_open-requires-clause-constituted c =
     let arena = c.args.bench.now.arena in
     let work = c.args.bench.now.work in
     let begin = restored c.args.bench.now.tables.aside.ranks work.branched in
-    subst (λ (w : Trying). AreConstituted setting.rules setting.graph setting.positions arena w.pairs w.branched w.noted)
-    (sym c.restore.ensures)
+    subst (λ (w : Trying). AreConstituted setting.rules setting.graph setting.positions arena w.pairs w.branched
+    w.noted) (sym c.restore.ensures)
     (subst (λ (noted : List Asked). AreConstituted setting.rules setting.graph setting.positions arena work.pairs begin
     noted) (sym c.as_slice.ensures.value)
     (subst (λ (pairs : List Pair). AreConstituted setting.rules setting.graph setting.positions arena pairs begin
@@ -82,8 +82,8 @@ returns-clause-stands c =
     let branched = ap (λ (w : Trying). w.branched) is in
     let noted = ap (λ (w : Trying). w.noted) is ∙ c.as_slice.ensures.value in
     on_three c.rank_open.result c.rank_open.ensures.same c.rank_open.ensures.pairs c.rank_open.ensures.len
-    (λ same pairs len. opened kept arena stands.holds stands.at stands.fits stands.settled begin tables.aside.noted.items
-    c.rank_open.new.work c.rank_open.new.tables tables.aside.ranks.room
+    (λ same pairs len. opened kept arena stands.holds stands.at stands.fits stands.settled begin
+    tables.aside.noted.items c.rank_open.new.work c.rank_open.new.tables tables.aside.ranks.room
     (pairs ∙ ap (λ (w : Trying). w.pairs) is ∙ stands.pairs)
     (ap (λ (aside : Aside). aside.ranks) c.rank_open.ensures.aside) stands.aside.numbers
     (subst (λ (b : Branched). AreSame b c.rank_open.new.work.branched) branched same)

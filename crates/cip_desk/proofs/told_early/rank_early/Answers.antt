@@ -6,6 +6,6 @@ pub returns-in_ok-take_named-clause-ranked : goal.returns-in_ok-take_named-claus
 returns-in_ok-take_named-clause-ranked c told =
     let rooted = c.args.rooted.now in
     let noted = c.noted.ensures ∙ c.in_ok-told.ensures.noted told in
-    told_ranked rooted.setting.now rooted.root rooted.ligands.now c.graph-graph.ensures.proper.sound c.requires.fit
+    told_ranked rooted.setting.now rooted.root rooted.ligands.now rooted.proper.sound c.requires.fit
     rooted.bound (sym c.in_ok-told.ensures.told ∙ c.if-told.true) c.take_named.new.self
     (c.in_ok-take_named.ensures.natural ∙ noted) (c.in_ok-take_named.ensures.turned ∙ noted)

@@ -56,8 +56,8 @@ returns-clause-marks c =
     ∙ take-append_seam flags (drop (length flags) c.in_ok-flags.flags.items) in
     let all = c.in_ok-units.ensures ∙ c.as_slice.ensures ∙ c.units.ensures.value in
     on_ok c.descriptors_where.result c.descriptors_where.ensures.marks
-    (λ are. have_marks setting arena c.requires.rooted.holds work.pairs work.branched work.noted c.requires.constituted
-    flags marks c.flag_nodes.ensures.flagged
+    (λ are. have_marks setting arena c.requires.rooted.holds work.pairs work.branched work.noted
+    c.requires.constituted flags marks c.flag_nodes.ensures.flagged
     (subst (λ (whole : Whole). AreMarked (sight_of whole) setting.units flags 0 marks) c.whole_of-whole.ensures
     (subst (λ (us : List units.Unit). AreMarked (sight_of c.whole_of-whole.result) us flags 0 marks) all
     (subst (λ (fs : List Bool). AreMarked (sight_of c.whole_of-whole.result) c.in_ok-units.units fs 0 marks) wanted

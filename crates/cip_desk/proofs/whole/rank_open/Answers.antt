@@ -11,11 +11,12 @@ returns-clause-ranked c =
     let setting = c.args.rooted.now.setting.now in
     let ligands = c.args.rooted.now.ligands.now in
     let arena = c.args.rooted.now.arena.now in
-    let fit = subst (λ (root : ℕ). IsFit setting.graph root ligands) (sym c.requires.rooted.at) c.requires.rooted.fit in
+    let fit = subst (λ (root : ℕ). IsFit setting.graph root ligands) (sym c.requires.rooted.at)
+    c.requires.rooted.fit in
     let standing = c.configure.new.self in
     on_ok c.configure.result c.configure.ensures.ordered
     (λ ordered. subst
     (λ (root : ℕ). RankedAs setting arena.bound root ligands (standing_of standing) Known) c.requires.rooted.at
-    (late_ranked setting ligands arena c.requires.rooted.holds c.graph-graph.ensures.proper.sound fit
-    c.requires.rooted.fits c.requires.settled c.args.work.now c.requires.pairs c.requires.constituted c.requires.undone
-    c.find_marks.new.tables.marks.marks c.in_ok-find_marks.ensures.marks standing ordered))
+    (late_ranked setting ligands arena c.requires.rooted.holds c.args.rooted.now.proper.sound fit
+    c.requires.rooted.fits c.requires.settled c.args.work.now c.requires.pairs c.requires.constituted
+    c.requires.undone c.find_marks.new.tables.marks.marks c.in_ok-find_marks.ensures.marks standing ordered))

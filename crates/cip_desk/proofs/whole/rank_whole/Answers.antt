@@ -6,7 +6,7 @@ use Rattle.cip_label.specs.Standing.{RankedAs}
 use Rattle.cip_label.specs.declared.digraphs.Ranking.TheVariants.{Known}
 use Rattle.cip_ligands.specs.declared.asked.Asked.{Asked}
 use Rattle.cip_desk.specs.Keeping.{StandsAnyway, kept_of}
-use Rattle.cip_desk.specs.Standing.{Standing, standing_of}
+use Rattle.cip_desk.specs.Standing.{Standing, both_as, standing_of}
 use Rattle.cip_desk.specs.declared.aside.Aside.{Aside}
 use Rattle.cip_desk.proofs.Anyway.{early_anyway, whole_anyway}
 use Rattle.cip_desk.proofs.OpenRoots.{opened}
@@ -22,27 +22,20 @@ returns-then-constitute-clause-found c =
     let constituted = subst (λ (rules : Rules). AreConstituted rules setting.graph setting.positions arena trying.pairs
     trying.branched trying.noted) c.rules.ensures
     (c.constitute.ensures.constituted setting.graph setting.positions c.requires.followed) in
-    let told = early_anyway setting root ligands arena c.requires.rooted c.graph-graph.ensures.proper c.requires.settled
-    trying (c.constitute.ensures.pairs ∙ c.requires.pairs) constituted
+    let told = early_anyway setting root ligands arena c.requires.rooted c.args.rooted.now.proper
+    c.requires.settled trying (c.constitute.ensures.pairs ∙ c.requires.pairs) constituted
     (sym c.constitute.ensures.all ∙ c.if-constitute.true) in
     subst (λ (noted : List Asked). StandsAnyway (kept_of setting root ligands) arena.bound noted Known)
     (sym c.in_ok-take_noted.ensures.kept) told
 
 pub returns-then-constitute-clause-ranking : goal.returns-then-constitute-clause-ranking
 returns-then-constitute-clause-ranking c =
-    let setting = c.args.rooted.now.setting.now in
-    let root = c.args.rooted.now.root in
-    let ligands = c.args.rooted.now.ligands.now in
-    let arena = c.args.rooted.now.arena.now in
-    let trying = c.constitute.new.self in
-    let constituted = subst (λ (rules : Rules). AreConstituted rules setting.graph setting.positions arena trying.pairs
-    trying.branched trying.noted) c.rules.ensures
-    (c.constitute.ensures.constituted setting.graph setting.positions c.requires.followed) in
-    let told = early_anyway setting root ligands arena c.requires.rooted c.graph-graph.ensures.proper c.requires.settled
-    trying (c.constitute.ensures.pairs ∙ c.requires.pairs) constituted
-    (sym c.constitute.ensures.all ∙ c.if-constitute.true) in
-    subst (λ (s : Standing). RankedAs setting arena.bound root ligands (standing_of s) Known)
-    (sym c.in_ok-take_noted.ensures.standing) (told.each setting.units c.graph-graph.ensures.proper.sites)
+    let rooted = c.args.rooted.now in
+    let told = returns-then-constitute-clause-found c in
+    let noted = c.in_ok-take_noted.ensures in
+    subst (λ (s : Standing). RankedAs rooted.setting.now rooted.arena.now.bound rooted.root rooted.ligands.now
+    (standing_of s) Known) (ap both_as noted.kept ∙ sym noted.standing) (told.each rooted.setting.now.units
+    rooted.proper.sites)
 
 pub returns-clause-found : goal.returns-clause-found
 returns-clause-found c =
@@ -58,7 +51,7 @@ returns-clause-found c =
     trying.branched trying.noted) c.rules.ensures
     (c.constitute.ensures.constituted setting.graph setting.positions c.requires.followed) in
     opened kept arena c.requires.rooted.holds c.requires.rooted.at c.requires.rooted.fits
-    (whole_anyway setting root ligands arena c.requires.rooted c.graph-graph.ensures.proper c.requires.settled)
+    (whole_anyway setting root ligands arena c.requires.rooted c.args.rooted.now.proper c.requires.settled)
     trying.branched trying.noted c.rank_open.new.work c.rank_open.new.tables c.args.tables.now.aside.ranks.room
     (c.in_ok-rank_open.ensures.pairs ∙ are)
     (ap (λ (aside : Aside). aside.ranks) aside ∙ c.set_aside.ensures.ranks) c.set_aside.ensures.count

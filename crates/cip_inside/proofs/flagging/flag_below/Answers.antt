@@ -38,7 +38,8 @@ loop-node-preserved c =
       only = λ n e.
           let new = c.set_if.new.flags in
           let stays : (k : ℕ) → flag_at old k ≡ true → flag_at new k ≡ true = λ k f.
-          subst (λ (flags : List Bool). flag_at flags k ≡ true) (sym c.set_if.ensures) (set_stays old node k b within f) in
+          subst (λ (flags : List Bool). flag_at flags k ≡ true) (sym c.set_if.ensures)
+          (set_stays old node k b within f) in
           let here : flag_at (if b then slice_set old node true else old) n ≡ true =
           subst (λ (flags : List Bool). flag_at flags n ≡ true) c.set_if.ensures e in
           let before : flag_at old n ≡ true → (flag_at c.args.flags.now n ≡ true)
@@ -57,7 +58,8 @@ loop-node-preserved c =
                         ∙ sym (c.is_below_flagged.ensures.below some) ∙ set),
                   )
               | inr unset ↦
-                  before (sym (ap (λ (by : Bool). flag_at (if by then slice_set old node true else old) n) unset) ∙ here)
+                  before (sym (ap (λ (by : Bool). flag_at (if by then slice_set old node true else old) n) unset)
+                  ∙ here)
             ]
           ];
       len = ap (λ (flags : List Bool). length flags) c.set_if.ensures ∙ set_len old node b ∙ len;

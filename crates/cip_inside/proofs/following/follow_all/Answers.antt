@@ -29,8 +29,8 @@ begin-requires-clause-keyed g c =
     let sight = sight_of c.args.whole.now in
     let shows = whole_shows c.args.whole.now c.nodes-nodes.ensures.whole in
     subst (λ (all : List Told). (k : ℕ) → k < length c.args.tops.now → slice_index c.args.tops.now k < length all)
-    (sym c.nodes-nodes.ensures.told) (tops_keyed sight shows c.args.node c.requires.real c.args.way.now c.requires.way.each
-    c.args.tops.now c.requires.tops)
+    (sym c.nodes-nodes.ensures.told) (tops_keyed sight shows c.args.node c.requires.real c.args.way.now
+    c.requires.way.each c.args.tops.now c.requires.tops)
 
 pub loop-keys-init : goal.loop-keys-init
 loop-keys-init g c =

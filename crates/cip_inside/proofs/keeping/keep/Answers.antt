@@ -1,12 +1,25 @@
-use Rattle.std.proofs.Common.{◌≡◌, ◌∙◌, length, List, sym, ap, subst}
+use Rattle.std.proofs.Common.{◌≡◌, ◌+◌, ◌∙◌, length, List, sym, subst}
 use Rattle.std.specs.Prelude.{OnOk, Some, slice_get}
 use Rattle.cip_aux.specs.Sights.{sight_of}
 use Rattle.cip_inside.specs.OpenLooks.{AreOpen, Look, look_of}
-use Rattle.cip_inside.proofs.OpenAgain.{last_is, opened, pushed_open}
+use Rattle.cip_inside.proofs.OpenAgain.{last_is, one_longer, opened, pushed_open}
 use Rattle.cip_inside.proofs.keeping.keep.Goals as goal
 
 pub narrowed-requires-clause-room : goal.narrowed-requires-clause-room
 narrowed-requires-clause-room g c = c.requires.open.room
+
+pub returns-in_err-tops-clause-open : goal.returns-in_err-tops-clause-open
+returns-in_err-tops-clause-open g c = c.requires.open
+
+pub returns-in_err-look-clause-open : goal.returns-in_err-look-clause-open
+returns-in_err-look-clause-open g c =
+    subst (AreOpen c.args.near.now.bound (sight_of c.args.whole.now)) (sym c.in_err-look.ensures.kept) c.requires.open
+
+pub returns-clause-more : goal.returns-clause-more
+returns-clause-more g c =
+    subst (λ (before : List Look). OnOk c.push.result (length c.push.new.self ≡ length before + 1))
+    c.in_ok-look.ensures.kept
+    (one_longer c.push.result c.taken.new.kept c.push.new.self (look_of c.in_ok-look.look) c.push.ensures.added)
 
 pub returns-clause-open : goal.returns-clause-open
 returns-clause-open g c =

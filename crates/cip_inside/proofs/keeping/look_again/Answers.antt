@@ -16,8 +16,8 @@ go_on-requires-clause-ready g c =
 pub go_on-requires-clause-open : goal.go_on-requires-clause-open
 go_on-requires-clause-open g c =
     let looks = c.args.looks.now in
-    at_place (IsOpen c.args.near.now.bound c.args.inner.now.sight) (map look_of looks) c.args.place _ c.requires.open.each
-    (slice_get-map look_of looks c.args.place
+    at_place (IsOpen c.args.near.now.bound c.args.inner.now.sight) (map look_of looks) c.args.place _
+    c.requires.open.each (slice_get-map look_of looks c.args.place
     ∙ ap (option_map look_of) (slice_get-get_or looks c.args.place c.index-looks-place.result c.requires.place))
 
 pub returns-clause-early : goal.returns-clause-early

@@ -1,4 +1,4 @@
-use Rattle.std.proofs.Common.{◌≡◌, ◌∙◌, ◌<◌, ℕ, List, IfOk, length, sym, ap, subst, arith}
+use Rattle.std.proofs.Common.{◌≡◌, ◌∙◌, ℕ, List, IfOk, sym, ap, subst, arith}
 use Rattle.std.specs.Prelude.{Some, slice_get}
 use Rattle.std.specs.declared.option.Option.{Option}
 use Rattle.cip_aux.specs.Early.{AreEarly}
@@ -31,6 +31,24 @@ keep-requires-clause-left g c =
 pub keep-requires-clause-open : goal.keep-requires-clause-open
 keep-requires-clause-open g c =
     subst (λ (s : Sight). AreOpen c.args.near.now.bound s c.args.kept.now) (sym c.whole.ensures) c.requires.open
+
+pub go_on-requires-clause-ready : goal.go_on-requires-clause-ready
+go_on-requires-clause-ready g c = λ look at.
+    subst (Ready c.args.inner.now) (sym (c.in_ok-keep.ensures.last look
+    (subst (λ n. slice_get c.keep.new.kept n ≡ Some look) c.len-place.ensures at)).0) c.requires.ready
+
+pub go_on-requires-clause-open : goal.go_on-requires-clause-open
+go_on-requires-clause-open g c =
+    subst (λ n. AreOpen n c.args.inner.now.sight c.keep.new.kept) (sym c.in_ok-keep.ensures.near)
+    (subst (λ (s : Sight). AreOpen c.args.near.now.bound s c.keep.new.kept) c.whole.ensures c.in_ok-keep.ensures.open)
+
+pub returns-in_err-keep-clause-open : goal.returns-in_err-keep-clause-open
+returns-in_err-keep-clause-open g c =
+    subst (λ (s : Sight). AreOpen c.args.near.now.bound s c.keep.new.kept) c.whole.ensures c.in_err-keep.ensures.open
+
+pub returns-clause-open : goal.returns-clause-open
+returns-clause-open g c =
+    subst (λ n. AreOpen n c.args.inner.now.sight c.go_on.new.self) c.in_ok-keep.ensures.near c.go_on.ensures.open
 
 pub returns-clause-early : goal.returns-clause-early
 returns-clause-early g c =

@@ -7,5 +7,5 @@ use Rattle.cip_inside.proofs.narrowing.move_all.Goals as goal
 pub loop-pair-preserved : goal.loop-pair-preserved
 loop-pair-preserved c =
     ap (slice_set c.loop-pair.pairs c.loop-pair.pair-index) c.moved.ensures
-    ∙ mapped_more (moved c.args.tops.now c.args.near.now.tops) c.args.pairs.now c.loop-pair.pairs c.loop-pair.pair-index _
-    c.loop-pair.invariant (omega arith)
+    ∙ mapped_more (moved c.args.tops.now c.args.near.now.tops) c.args.pairs.now c.loop-pair.pairs c.loop-pair.pair-index
+    _ c.loop-pair.invariant (omega arith)

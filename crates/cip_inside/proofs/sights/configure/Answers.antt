@@ -16,8 +16,8 @@ returns-then-all_inside-clause-ordered g c = λ begin mark within is undone agre
     let inner = c.args.inner.now in
     let near = c.args.near.now in
     c.configuration.ensures.decided inner.sight c.args.node begin mark within is undone
-    (subst (λ (marks : List (Option Descriptor)). AreMarksOf (node_at inner.sight.nodes) (marked_by mark) marks near.now)
-    (sym c.marks.ensures)
+    (subst (λ (marks : List (Option Descriptor)). AreMarksOf (node_at inner.sight.nodes) (marked_by mark) marks
+    near.now) (sym c.marks.ensures)
     (marks_are inner c.args.node c.requires.ready near.tops c.requires.tops near.now c.requires.placed
     (c.all_inside.ensures.from c.if-all_inside.true) (c.all_inside.ensures.behind c.if-all_inside.true) mark agrees))
 
@@ -38,6 +38,6 @@ returns-clause-ordered g c = λ begin mark within is undone agrees.
     let parents = c.table-table.ensures
     ∙ ap parents_of (c.nodes.ensures.told ∙ ap (λ (s : Sight). s.told) c.whole.ensures) in
     c.configuration-2.ensures.decided inner.sight c.args.node begin mark within is undone
-    (subst (λ (marks : List (Option Descriptor)). AreMarksOf (node_at inner.sight.nodes) (marked_by mark) marks near.now)
-    (sym (λ i. marks_below (parents i) (c.from.ensures i) (c.marks-2.ensures i)))
+    (subst (λ (marks : List (Option Descriptor)). AreMarksOf (node_at inner.sight.nodes) (marked_by mark) marks
+    near.now) (sym (λ i. marks_below (parents i) (c.from.ensures i) (c.marks-2.ensures i)))
     (counted_are inner c.args.node c.requires.ready near.tops near.now c.requires.placed mark agrees))

@@ -50,8 +50,8 @@ returns-in_ok-other-in-Two-clause-outcome g c =
     c.rank_root-in-Two.ensures.kept in
     c.of_two.ensures
     ∙ (λ k. of_two (as_site c.args.ends.now) c.args.sense (c.in_ok-one-in-Two.ensures.ranked k) (with_kept k))
-    ∙ known_by_two c.args.setting.now (g.D.Digraphs.bound c.args.digraphs.now) (as_site c.args.ends.now) c.args.sense one other
-    (ends_are c.args.ends.now ∙ ap ends_in c.in-Two.is)
+    ∙ known_by_two c.args.setting.now (g.D.Digraphs.bound c.args.digraphs.now)
+    (as_site c.args.ends.now) c.args.sense one other (ends_are c.args.ends.now ∙ ap ends_in c.in-Two.is)
 
 pub returns-in_err-root-in-One-clause-cost : goal.returns-in_err-root-in-One-clause-cost
 returns-in_err-root-in-One-clause-cost g c =

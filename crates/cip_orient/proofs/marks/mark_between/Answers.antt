@@ -3,4 +3,5 @@ use Rattle.cip_orient.proofs.BondsAtAtoms.{mark_to-at}
 use Rattle.cip_orient.proofs.marks.mark_between.Goals as goal
 
 pub returns : goal.returns
-returns c = rw c.bonds_at.ensures at c.mark_to.ensures ∙ mark_to-at c.args.atom c.args.neighbour c.args.molecule.now.bonds
+returns c = rw c.bonds_at.ensures at c.mark_to.ensures ∙ mark_to-at c.args.atom c.args.neighbour
+    c.args.molecule.now.bonds

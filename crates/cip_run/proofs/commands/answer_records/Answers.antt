@@ -22,7 +22,8 @@ returns-clause-missed g c =
     c.answer_stream-answered.result
     (streams (g.S.Source.left c.args.source.now) (g.S.Source.faults c.args.source.now)
     (g.K.Sink.taken c.args.sink.now) (g.K.Sink.faults c.args.sink.now))
-    (streams (g.S.Source.left c.answer_stream-answered.new.source) (g.S.Source.faults c.answer_stream-answered.new.source)
+    (streams (g.S.Source.left c.answer_stream-answered.new.source)
+    (g.S.Source.faults c.answer_stream-answered.new.source)
     (g.K.Sink.taken c.answer_stream-answered.new.sink) (g.K.Sink.faults c.answer_stream-answered.new.sink)) (record {
       ended = c.answer_stream-answered.ensures.ended;
       whole = c.answer_stream-answered.ensures.whole;

@@ -1,4 +1,5 @@
-use Rattle.std.proofs.Common.{◌∙◌, ap}
+use Rattle.std.proofs.Common.{◌≡◌, ◌∙◌, subst}
+use Rattle.std.specs.Prelude.{IfOk}
 use Rattle.cip_mol.specs.Drawing.{Drawing}
 use Rattle.cip_set.specs.FoundCentres.{found_at}
 use Rattle.cip_set.specs.SetLetters.{by_outcome}
@@ -6,7 +7,8 @@ use Rattle.cip_set.proofs.asking.mark_ligand.Goals as goal
 
 pub returns-clause-answer : goal.returns-clause-answer
 returns-clause-answer g c =
-    c.by_outcome.ensures
-    ∙ ap (by_outcome c.args.request.letter c.args.neighbour)
-    (c.in_ok-outcome.ensures.found
-    ∙ ap (λ (d : Drawing). found_at c.args.request.rules c.args.labeller.now d c.args.request.atom) (c.in_ok-drawn.ensures ∙ c.in_ok-up.ensures))
+    let asked = c.args.request in
+    subst
+    (λ (d : Drawing). IfOk c.mark_drawn-answer.result (λ answer.
+    answer ≡ by_outcome asked.letter c.args.neighbour (found_at asked.rules c.args.labeller.now d asked.atom)))
+    (c.in_ok-drawn.ensures ∙ c.in_ok-up.ensures) c.mark_drawn-answer.ensures.answer

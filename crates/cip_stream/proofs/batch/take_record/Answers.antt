@@ -18,7 +18,8 @@ returns-then-not-is_full-clause-answered g c =
     let records = batch.records ++ c.args.bytes ∷ [] in
     let manner = g.T.Teller.manner batch.teller in
     let taken = g.K.Sink.taken c.args.sink.now in
-    rw c.clear.ensures (subst (λ (b : Gathered _). Advances manner batch.first records b.first b.records clear taken taken)
+    rw c.clear.ensures (subst
+    (λ (b : Gathered _). Advances manner batch.first records b.first b.records clear taken taken)
     (sym c.in_ok-push.ensures.pushed) (none_yet manner batch.first records taken))
 
 pub returns : goal.returns

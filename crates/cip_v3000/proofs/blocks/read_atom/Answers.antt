@@ -1,4 +1,4 @@
-use Rattle.std.proofs.Common.{◌+◌, refl, sym}
+use Rattle.std.proofs.Common.{◌+◌, ◌∙◌, All, ap, length, subst, sym}
 use Rattle.std.proofs.lemmas.List.Elements.{All-push}
 use Rattle.std.proofs.lemmas.Result.{err_from_is_err_and}
 use Rattle.cip_mol.specs.Ranges.{IsAtom}
@@ -19,10 +19,16 @@ returns-in_err-line-clause-value c =
     (read_at joined (3 + c.args.row) (atom_of c.args.block.now.indices)) _ c.in_err-line.ensures.value
     (λ fault is. sym (atom_row_refused joined (seen_atoms c.args.block.now) c.args.row fault is)))
 
-pub returns : goal.returns
-returns c = rw (c.in_ok-push.ensures, c.in_ok-push-2.ensures.items) (record {
-  value = sym (atom_row_read (seen_all c.args.joined.now) (seen_atoms c.args.block.now) c.args.row c.in_ok-line.line
-      c.in_ok-line.ensures.value);
-  range = λ before. All-push IsAtom _ _ before c.in_ok-line.ensures.range.atom;
-  counted = (length-push _ _ _ refl, length-push _ _ _ refl);
-})
+pub returns-clause-value : goal.returns-clause-value
+returns-clause-value c =
+    rw (c.in_ok-push.ensures, c.in_ok-push-2.ensures.items)
+    (sym (atom_row_read (seen_all c.args.joined.now) (seen_atoms c.args.block.now) c.args.row c.in_ok-line.line
+    c.in_ok-line.ensures.value))
+
+pub returns-clause-are : goal.returns-clause-are
+returns-clause-are c = record {
+  range = subst (All IsAtom) (sym c.in_ok-push-2.ensures.items)
+      (All-push IsAtom _ _ c.requires.are.range c.in_ok-line.ensures.range.atom);
+  counted = ap length c.in_ok-push-2.ensures.items ∙ length-push _ _ _ c.requires.are.counted;
+  indexed = ap length c.in_ok-push.ensures ∙ length-push _ _ _ c.requires.are.indexed;
+}

@@ -1,4 +1,4 @@
-use Rattle.std.proofs.Common.{◌+◌, ◌∙◌, ap, sym}
+use Rattle.std.proofs.Common.{sym}
 use Rattle.std.proofs.lemmas.Result.{err_from_is_err_and}
 use Rattle.cip_reading.proofs.Refusals.{fails_alike}
 use Rattle.cip_reading.proofs.Rows.{step_read, step_refused, steps_read}
@@ -22,9 +22,7 @@ loop-row-preserved c = record {
   so_far = step_read (atom_row (seen_all c.args.joined.now)) (seen_atoms c.loop-row.block)
       (seen_atoms c.read_atom.new.block) c.args.count c.loop-row.row _ c.loop-row-test.true
       (sym c.in_ok-read_atom.ensures.value) c.loop-row.invariant.so_far;
-  range = c.in_ok-read_atom.ensures.range c.loop-row.invariant.range;
-  atoms = c.in_ok-read_atom.ensures.counted.0 ∙ ap (λ n. n + 1) c.loop-row.invariant.atoms;
-  indices = c.in_ok-read_atom.ensures.counted.1 ∙ ap (λ n. n + 1) c.loop-row.invariant.indices;
+  are = c.in_ok-read_atom.ensures.are;
 }
 
 pub returns-clause-value : goal.returns-clause-value

@@ -1,4 +1,4 @@
-use Rattle.std.proofs.Common.{◌+◌, refl, sym}
+use Rattle.std.proofs.Common.{◌+◌, sym}
 use Rattle.std.proofs.lemmas.List.Elements.{All-push}
 use Rattle.std.proofs.lemmas.Result.{err_from_is_err_and}
 use Rattle.cip_mol.specs.Ranges.{IsBond}
@@ -25,7 +25,9 @@ pub returns : goal.returns
 returns c = rw (c.in_ok-push.ensures, c.in_ok-push-2.ensures.added) (record {
   value = sym (bond_row_read (seen_all c.args.joined.now) c.args.atoms.now c.args.first (seen_bonds c.args.block.now)
       c.args.row c.in_ok-line.line c.in_ok-line.ensures.value);
-  among = c.requires.among;
-  range = λ before. All-push IsBond _ _ before c.in_ok-line.ensures.range.bond;
-  counted = length-push _ _ _ refl;
+  are = record {
+    among = c.requires.are.among;
+    range = All-push IsBond _ _ c.requires.are.range c.in_ok-line.ensures.range.bond;
+    counted = length-push _ _ _ c.requires.are.counted;
+  };
 })

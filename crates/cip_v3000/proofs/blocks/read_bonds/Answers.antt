@@ -1,4 +1,4 @@
-use Rattle.std.proofs.Common.{◌+◌, ◌∙◌, ap, sym}
+use Rattle.std.proofs.Common.{sym}
 use Rattle.std.proofs.lemmas.Result.{err_from_is_err_and}
 use Rattle.cip_reading.proofs.Refusals.{fails_alike}
 use Rattle.cip_reading.proofs.Rows.{step_read, step_refused, steps_read}
@@ -22,9 +22,7 @@ loop-row-preserved c = record {
   so_far = step_read (bond_row (seen_all c.args.joined.now) c.args.atoms.now c.args.first)
       (seen_bonds c.loop-row.block) (seen_bonds c.read_bond.new.block) c.args.count c.loop-row.row _
       c.loop-row-test.true (sym c.in_ok-read_bond.ensures.value) c.loop-row.invariant.so_far;
-  among = c.in_ok-read_bond.ensures.among;
-  range = c.in_ok-read_bond.ensures.range c.loop-row.invariant.range;
-  counted = c.in_ok-read_bond.ensures.counted ∙ ap (λ n. n + 1) c.loop-row.invariant.counted;
+  are = c.in_ok-read_bond.ensures.are;
 }
 
 pub returns-clause-value : goal.returns-clause-value

@@ -1,7 +1,6 @@
-use Rattle.std.proofs.Common.{◌≡◌, ◌-◌, length, All}
-use Rattle.cip_mol.specs.Ranges.{IsBond}
+use Rattle.std.proofs.Common.{◌≡◌, ◌-◌, length}
 use Rattle.cip_reading.specs.Reading.{through}
-use Rattle.cip_v3000.specs.Blocks.{seen_bonds}
+use Rattle.cip_v3000.specs.Blocks.{seen_bonds, AreBonds}
 use Rattle.cip_v3000.specs.Grammar.{bond_row, bond_rows}
 use Rattle.cip_v3000.specs.Joining.{seen_all}
 use Rattle.cip_v3000.proofs.blocks.read_bonds.Given as goal
@@ -10,7 +9,5 @@ abbrev pub invariant-loop-row : goal.invariant-loop-row
 invariant-loop-row l = record {
   so_far : through (bond_row (seen_all l.joined) l.atoms l.first) (seen_bonds l.block) (l.count - l.row) l.row
       ≡ bond_rows (seen_all l.joined) l.atoms l.first l.count;
-  among : l.block.bonds.atoms ≡ length l.atoms;
-  range : All IsBond l.block.bonds.bonds;
-  counted : length l.block.bonds.bonds ≡ l.row;
+  are : AreBonds (length l.atoms) l.row l.block;
 }

@@ -3,4 +3,4 @@ use Rattle.gate_ranks.specs.declared.trees.TheConstants.{ROOM}
 use Rattle.gate_ranks.proofs.pairs.descriptors.Given as goal
 
 abbrev pub invariant-loop-letter : goal.invariant-loop-letter
-invariant-loop-letter g l = record { bound : l.all.bound ≡ ROOM }
+invariant-loop-letter l = record { bound : l.all.bound ≡ ROOM }

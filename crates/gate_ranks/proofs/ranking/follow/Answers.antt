@@ -4,7 +4,7 @@ use Rattle.gate_ranks.proofs.SeenBranches.{next_to, tops_few, tops_below, walked
 use Rattle.gate_ranks.proofs.ranking.follow.Goals as goal
 
 pub begin-requires-clause-room : goal.begin-requires-clause-room
-begin-requires-clause-room g c =
+begin-requires-clause-room c =
     let nodes = c.deref.result.now in
     let are = ◌∙◌ {c = next_to c.args.around.now.table.now.parents c.args.from} c.deref.ensures.value
     c.in_ok-tops.ensures in
@@ -14,7 +14,7 @@ begin-requires-clause-room g c =
     omega (arith, few, c.requires.fits, room)
 
 pub begin-requires-clause-keyed : goal.begin-requires-clause-keyed
-begin-requires-clause-keyed g c = λ k lt.
+begin-requires-clause-keyed c = λ k lt.
     let nodes = c.deref.result.now in
     let are = ◌∙◌ {c = next_to c.args.around.now.table.now.parents c.args.from} c.deref.ensures.value
     c.in_ok-tops.ensures in
@@ -23,7 +23,7 @@ begin-requires-clause-keyed g c = λ k lt.
     omega (arith, low, c.requires.keyed)
 
 pub loop-init : goal.loop-init
-loop-init g c = record {
+loop-init c = record {
   walked = walked_first c.args.around.now.table.now.parents c.len-count.ensures.tree c.args.from c.requires.inside
       c.args.around.now.way.now c.requires.way c.deref.result.now (map pos c.args.keys.now.list.now) c.begin.new.self
       (◌∙◌ {c = next_to c.args.around.now.table.now.parents c.args.from} c.deref.ensures.value c.in_ok-tops.ensures) c.begin.ensures.begun c.begin.ensures.followed
@@ -32,17 +32,17 @@ loop-init g c = record {
 }
 
 pub follow-requires-clause-nodes : goal.follow-requires-clause-nodes
-follow-requires-clause-nodes g c = walked_keyed c.args.around.now.table.now.parents c.len-count.ensures.tree c.args.from
+follow-requires-clause-nodes c = walked_keyed c.args.around.now.table.now.parents c.len-count.ensures.tree c.args.from
     c.requires.inside c.args.around.now.way.now c.requires.way c.loop.branches c.loop.invariant.walked
 
 pub follow-requires-clause-room : goal.follow-requires-clause-room
-follow-requires-clause-room g c =
+follow-requires-clause-room c =
     let few = walked_room c.args.around.now.table.now.parents c.len-count.ensures.tree c.args.from c.requires.inside
     c.args.around.now.way.now c.requires.way c.loop.branches c.loop.invariant.walked in
     omega (arith, few, c.requires.fits, c.loop.invariant.room)
 
 pub loop-preserved : goal.loop-preserved
-loop-preserved g c = record {
+loop-preserved c = record {
   walked = walked_next c.args.around.now.table.now.parents c.len-count.ensures.tree c.args.from c.requires.inside
       c.args.around.now.way.now c.requires.way c.loop.branches c.loop.invariant.walked
       (map pos c.args.keys.now.list.now) c.follow.new.self c.follow.ensures.walked c.follow.ensures.followed

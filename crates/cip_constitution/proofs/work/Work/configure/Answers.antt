@@ -1,6 +1,7 @@
 use Rattle.std.proofs.Common.{rules, ◌≡◌, ◌++◌, List, take, drop, length, sym, ap, ◌∙◌, subst}
 use Rattle.std.proofs.Math.Seq.{take-append_seam}
 use Rattle.cip_constitution.specs.Following.{Trying}
+use Rattle.cip_rows.specs.Kin.{Kin}
 use Rattle.cip_ligands.specs.Deciding.{AreDecidedBy}
 use Rattle.cip_ligands.specs.Marked.{AreMarksOf}
 use Rattle.cip_ligands.specs.Orders.{rules_before}
@@ -25,4 +26,17 @@ returns-clause-ordered g c =
           (subst (λ (t : Trying). AreMarksOf named seen.mark (g.M.Marked.marks c.args.marks.now) t.branched)
           (sym c.self.view_is) marks) in
           (ap (λ n. take n (new ++ rest)) len ∙ take-append_seam new rest ∙ both.0, both.1);
+    }
+
+pub invariant_of-self : goal.invariant_of-self
+invariant_of-self g c =
+    let room = c.self.invariant in
+    record {
+      branches = ap (λ (k : Kin). k.room) c.decide_configuration.ensures.same.kept.kin ∙ room.branches;
+      tops = room.tops;
+      pairs = room.pairs;
+      few = room.few;
+      noted = room.noted;
+      saved = room.saved;
+      under = room.under;
     }

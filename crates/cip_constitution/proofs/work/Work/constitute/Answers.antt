@@ -1,6 +1,7 @@
-use Rattle.std.proofs.Common.{rules, ◌≡◌, ◌++◌, ◌∷◌, [], true, List, take, drop, length, sym, subst}
+use Rattle.std.proofs.Common.{rules, ◌≡◌, ◌++◌, ◌∷◌, [], true, List, take, drop, length, sym, ap, ◌∙◌, subst}
 use Rattle.std.proofs.Math.Seq.{take-append_seam}
 use Rattle.cip_branches.specs.Standing.{node_in}
+use Rattle.cip_rows.specs.Kin.{Kin}
 use Rattle.cip_constitution.specs.FollowedOut.{AreConstituted, AreFollowedOut, seen_with}
 use Rattle.cip_constitution.specs.Following.{Trying, named}
 use Rattle.cip_constitution.proofs.followed.Ends.{begin, begin_within, constituted, count}
@@ -37,3 +38,16 @@ returns-clause-constituted c g positions followed =
     (begin_within g positions arena trying out)
     (subst (λ (asked : List Asked). AreDecidedBy seen true name node (count g positions arena trying out) all (R1a ∷ [])
     (rule_1a seen seen.height) trying.branched asked) (sym c.as_mut_slice-noted.ensures.value) first) distances masses))
+
+pub invariant_of-self : goal.invariant_of-self
+invariant_of-self c =
+    let room = c.self.invariant in
+    record {
+      branches = ap (λ (k : Kin). k.room) c.decide_constitution.ensures.kin ∙ room.branches;
+      tops = room.tops;
+      pairs = room.pairs;
+      few = room.few;
+      noted = room.noted;
+      saved = room.saved;
+      under = room.under;
+    }

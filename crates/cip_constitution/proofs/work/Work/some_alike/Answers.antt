@@ -7,11 +7,33 @@ use Rattle.cip_ligands.proofs.TakenSteps.{stands_back}
 use Rattle.cip_constitution.specs.Alike.{TakesBoth}
 use Rattle.cip_constitution.specs.Ending.{NotAnew, EachPair}
 use Rattle.cip_constitution.specs.Following.{Trying, numbers_of}
+use Rattle.cip_constitution.specs.Trials.{FollowsTo, told}
 use Rattle.cip_constitution.proofs.told.Alike.{alike_is}
 use Rattle.cip_constitution.proofs.anew.LastSphere.{none_anew}
 use Rattle.cip_constitution.proofs.cut.Rules.{over_within}
 use Rattle.cip_constitution.proofs.cut.Taken.{same_both}
 use Rattle.cip_constitution.proofs.work.Work.some_alike.Goals as goal
+
+pub has_candidates-found-requires-clause-followed : goal.has_candidates-found-requires-clause-followed
+has_candidates-found-requires-clause-followed c =
+    let a = c.args.arena.now in
+    subst (λ (w : Trying). FollowsTo (told c.args.setting.now) a a.sphere w.branched) (sym c.self.view_is)
+    c.requires.followed
+
+pub invariant_of-self : goal.invariant_of-self
+invariant_of-self c =
+    let room = c.self.invariant in
+    let held = room.under in
+    let wide = c.has_candidates-found.ensures.room in
+    record {
+      branches = room.branches;
+      tops = room.tops;
+      pairs = room.pairs;
+      few = room.few;
+      noted = room.noted;
+      saved = room.saved;
+      under = omega (arith, held, wide);
+    }
 
 pub returns-then-not-found-clause-result : goal.returns-then-not-found-clause-result
 returns-then-not-found-clause-result c =

@@ -30,6 +30,6 @@ returns-clause-told c =
     sym (λ k. nat_le (length (digraph (c.graph.ensures.value k) (c.positions.ensures k) rooted.root 2)) rooted.bound)
     ∙ sym c.are_few.ensures ∙ within in
     c.are_decided.ensures ∙ ap (list_all is_decided) (c.deref.ensures.value ∙ c.self.view_is ∙ noted)
-    ∙ decided_is setting rooted.root c.graph.ensures.proper.sound rooted.ligands.now c.requires.fit
+    ∙ decided_is setting rooted.root rooted.proper.sound rooted.ligands.now c.requires.fit
     ∙ sym (ap (λ b. b && differ_within setting.rules setting.graph setting.positions setting.units
     (end_at rooted.root rooted.ligands.now) 2) few)

@@ -24,4 +24,5 @@ returns-clause-early g c = λ look at.
     (λ found. AreEarly c.args.inner.now l.node found.by_constitution l.ligands found.sides.natural.items
     found.sides.turned.items)) found.2
     (c.look_again.ensures.early found.0
-    (subst (λ (ls : List OpenLook). slice_get ls c.args.place ≡ Some found.0) (sym c.as_mut_slice.ensures.value) found.1))
+    (subst (λ (ls : List OpenLook). slice_get ls c.args.place ≡ Some found.0) (sym c.as_mut_slice.ensures.value)
+    found.1))

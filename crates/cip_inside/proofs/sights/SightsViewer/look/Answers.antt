@@ -2,13 +2,13 @@ use Rattle.std.proofs.Common.{ℕ, List, IfOk, sym, subst}
 use Rattle.std.specs.declared.option.Option.{Option}
 use Rattle.cip_aux.specs.Early.{AreEarly}
 use Rattle.cip_aux.specs.Inner.{Ready}
-use Rattle.cip_inside.proofs.OpenAgain.{asked_ligands, asked_node, some_at}
+use Rattle.cip_inside.proofs.OpenAgain.{some_at}
 use Rattle.cip_inside.proofs.sights.SightsViewer.look.Goals as goal
 
 pub go_on-requires-clause-ready : goal.go_on-requires-clause-ready
 go_on-requires-clause-ready g c = λ look at.
     subst (Ready c.args.inner.now)
-    (sym (asked_node look c.args.node c.args.ligands.now (c.in-Some.ensures.asks look at))) c.requires.ready
+    (sym (c.in-Some.ensures.asks look at).0) c.requires.ready
 
 pub returns-in-Some-clause-early : goal.returns-in-Some-clause-early
 returns-in-Some-clause-early g c =
@@ -16,7 +16,7 @@ returns-in-Some-clause-early g c =
     let look = found.0 in
     let asks = c.in-Some.ensures.asks look found.1 in
     subst (λ (n : ℕ). IfOk c.go_on.result (λ found. AreEarly c.args.inner.now n found.by_constitution c.args.ligands.now
-    found.sides.natural.items found.sides.turned.items)) (asked_node look c.args.node c.args.ligands.now asks)
+    found.sides.natural.items found.sides.turned.items)) asks.0
     (subst (λ (ls : List (Option ℕ)). IfOk c.go_on.result (λ found. AreEarly c.args.inner.now look.node
     found.by_constitution ls found.sides.natural.items found.sides.turned.items))
-    (asked_ligands look c.args.node c.args.ligands.now asks) (c.go_on.ensures.early look found.1))
+    asks.1 (c.go_on.ensures.early look found.1))

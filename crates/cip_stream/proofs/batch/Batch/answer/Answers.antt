@@ -8,7 +8,8 @@ pub returns-in_err-found-clause-answered : goal.returns-in_err-found-clause-answ
 returns-in_err-found-clause-answered g c =
     let p = err_from_is_err_and c.from_residual.result c.from_residual.ensures.1 in
     let batch = c.args.self.now in
-    rw (p.1, p.2) (no_memory (g.T.Teller.manner batch.teller) batch.first batch.records (g.K.Sink.taken c.args.sink.now))
+    rw (p.1, p.2) (no_memory (g.T.Teller.manner batch.teller) batch.first batch.records
+    (g.K.Sink.taken c.args.sink.now))
 
 pub returns-clause-answered : goal.returns-clause-answered
 returns-clause-answered g c =

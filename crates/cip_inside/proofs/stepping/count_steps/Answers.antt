@@ -1,0 +1,27 @@
+use Rattle.std.proofs.Common.{◌≡◌, ◌+◌, ◌++◌, ◌∷◌, [], ◌∙◌, ℕ, List, length, sym, ap, subst, arith}
+use Rattle.cip_rows.specs.Reserved.{Reserved}
+use Rattle.cip_aux.specs.Sights.{IsReal, path_at, sight_of}
+use Rattle.cip_digraph.specs.digraph.View.{apart}
+use Rattle.cip_inside.specs.Keys.{KnowSteps}
+use Rattle.cip_inside.proofs.KnownSteps.{known_more}
+use Rattle.cip_inside.proofs.stepping.count_steps.Goals as goal
+
+pub loop-preserved : goal.loop-preserved
+loop-preserved g c =
+    let sight = sight_of c.args.whole.now in
+    let from = c.args.from.now.node in
+    let old = c.loop.steps.items in
+    let next = c.next_steps-next.result in
+    let count : length c.as_slice.result.now ≡ length old = ap (λ (ns : List ℕ). length ns) c.as_slice.ensures in
+    let few = c.next_steps-next.ensures.few in
+    let more = known_more sight from (length old) next old c.loop.invariant.known
+    (subst (λ n. IsReal sight.nodes n → next ≡ apart (path_at sight.nodes from) (path_at sight.nodes n)) count
+    c.next_steps-next.ensures.steps) (omega (arith, count, few)) in
+    let pushed = c.push.ensures in
+    let one = c.loop.invariant.count in
+    record {
+      known = subst (λ (s : Reserved ℕ). KnowSteps sight from (length s.items) s.items) (sym pushed)
+          (subst (λ n. KnowSteps sight from n (old ++ next ∷ [])) (sym more.len) more);
+      count = ap (λ (s : Reserved ℕ). length s.items) pushed ∙ more.len ∙ ap (λ n. n + 1) one;
+      room = ap (λ (s : Reserved ℕ). s.room) pushed ∙ c.loop.invariant.room;
+    }

@@ -1,4 +1,0 @@
-use Rattle.gate_twice.proofs.main.Given as goal
-
-abbrev pub ghosts-compare_records : goal.ghosts-compare_records
-ghosts-compare_records a = record { name = a.blank.name; parts = a.blank.parts }
