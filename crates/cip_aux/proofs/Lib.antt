@@ -1,6 +1,7 @@
 pub mod EndTurns
 pub mod FarEnds
 pub mod FirstLetters
+pub mod FlaggedNodes
 pub mod FoundFirst
 pub mod Keeping
 pub mod LentEnds
@@ -24,3 +25,4 @@ pub mod SeenSpheres
 pub mod Spheres
 pub mod Standing
 pub mod WholeTold
+mod TurnedPairs

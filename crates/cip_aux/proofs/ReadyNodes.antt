@@ -1,19 +1,17 @@
 -- What is known where a node is ready to be looked from.
-use Rattle.std.proofs.Common.{◌<◌, ℕ, Bool, List, [], ◌∷◌, map, length, refl, ◌∙◌, All, Contains, IfSome}
+use Rattle.std.proofs.Common.{◌<◌, ℕ, List, [], ◌∷◌, map, length, refl, ◌∙◌, All, Contains, IfSome}
 use Rattle.std.specs.List.{AllByRecursion}
-use Rattle.std.specs.declared.cmp.Ordering.{Ordering}
 use Rattle.std.specs.declared.option.Option.{Option}
 use Rattle.std.proofs.lemmas.List.Elements.{All-from_recursion}
 use Rattle.cip_mol.specs.declared.site.Ligand.{Ligand}
 use Rattle.cip_mol.specs.declared.site.Ligand.TheVariants.{Vertex, LonePair}
 use Rattle.cip_digraph.specs.digraph.NodeList.{parents_of}
 use Rattle.cip_digraph.specs.rules.Auxiliary.{stands_for}
-use Rattle.cip_aux.specs.Early.{AreEarly}
 use Rattle.cip_aux.specs.Inner.{Inner, Ready}
-use Rattle.cip_aux.specs.Marking.{AreRootTurns}
+use Rattle.cip_aux.specs.Marking.{AreRootTurns, AreSeenTurns}
 use Rattle.cip_aux.specs.Neighbours.{ligand_number, neighbours_of, shape_at}
 use Rattle.cip_aux.specs.Sights.{seen_sides}
-use Rattle.cip_letters.specs.TurnsOf.{turns_of}
+use Rattle.cip_aux.specs.declared.viewer.FoundTurns.{FoundTurns}
 use Rattle.cip_aux.proofs.FoundFirst.{first_among}
 use Rattle.cip_aux.proofs.Paths.{within_told}
 use Rattle.cip_aux.proofs.RootTurns.{root_is}
@@ -43,12 +41,10 @@ module _ (inner : Inner) (node : ℕ) (r : Ready inner node) where
         each ligands,
       )
 
-  pub ready_early : (b : Bool) (ligands : List Ligand) (natural turned : List (Option Ordering))
-      → AreEarly inner node b (numbers_of ligands) natural turned
-      → AreRootTurns inner node b ligands (turns_of natural turned)
-  ready_early b ligands natural turned early = record {
-    each = λ mark counts.
-        (λ i. turns_of (early.of_natural mark counts i) (early.of_turned mark counts i))
+  pub ready_turns : (ligands : List Ligand) (found : FoundTurns) → AreSeenTurns inner node (numbers_of ligands) found
+      → AreRootTurns inner node found.by_constitution ligands found.turns
+  ready_turns ligands found seen = record {
+    each = λ mark counts. seen.each mark counts
         ∙ root_is inner.sight r.shows mark (seen_sides inner.sight node mark) node r.real
         (record { each = λ r_first a b la lb. refl }) ligands;
   }

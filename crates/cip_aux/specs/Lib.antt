@@ -1,10 +1,10 @@
-pub mod Early
 pub mod Inner
 pub mod Joining
 pub mod KeptTurns
 pub mod Marking
 pub mod Neighbours
 pub mod Sights
+pub mod Turning
 pub mod UnitsAt
 pub mod Below
 pub mod Sources

@@ -11,10 +11,12 @@ use Rattle.cip_digraph.specs.rules.Auxiliary.{root_at, roots_at, unit_letter, fi
 use Rattle.cip_digraph.specs.units.Ends.{End}
 use Rattle.cip_aux.specs.Below.{is_below}
 use Rattle.cip_letters.specs.declared.turns.Turns.{Turns}
-use Rattle.cip_letters.specs.TurnsOf.{root_turns, roots_turns}
+use Rattle.cip_letters.specs.Sides.{pair_sides}
+use Rattle.cip_letters.specs.TurnsOf.{root_turns, roots_turns, turns_of}
 use Rattle.cip_aux.specs.Inner.{Inner, AgreesInside, Counts, mark_at}
 use Rattle.cip_aux.specs.Joining.{EndsJoin}
-use Rattle.cip_aux.specs.Sights.{Sight, path_at}
+use Rattle.cip_aux.specs.Sights.{Sight, path_at, seen_sides}
+use Rattle.cip_aux.specs.declared.viewer.FoundTurns.{FoundTurns}
 
 module _ (inner : Inner) (node : ℕ) where
   -- the turns of these ligands at the node, whichever descriptors agree with those inside; by constitution whichever
@@ -24,6 +26,12 @@ module _ (inner : Inner) (node : ℕ) where
         ≡ root_turns
         (root_at inner.sight.rules inner.sight.graph inner.sight.positions mark (path_at inner.sight.nodes node)
         ligands)
+
+  -- the same of ligands by number: how each two of them stand, with R and with S first in the last rule
+  pub record AreSeenTurns (ligands : List (Option ℕ)) (found : FoundTurns) : Type 0 where
+    pub each : (mark : List ℕ → Option Descriptor) → Counts found.by_constitution inner mark → found.turns
+        ≡ turns_of (pair_sides (seen_sides inner.sight node mark true) ligands)
+        (pair_sides (seen_sides inner.sight node mark false) ligands)
 
   pub record AreEndTurns (by_constitution : Bool) (between : List ℕ) (ends : List End) (turns : Option Turns) : Type
       0 where

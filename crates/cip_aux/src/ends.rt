@@ -13,18 +13,11 @@ ghost use Rattle.cip_aux.specs.Neighbours.{shape_at};
 
 use crate::inner::Inner;
 use crate::neighbours::{ligands_at, real_child};
-use crate::viewer::Viewer;
+use crate::viewer::{FoundTurns, Viewer};
 use cip_digraph::Nodes;
-use cip_letters::{Turns, both, turns_from};
+use cip_letters::both;
 use cip_mol::{End, Ends, Ligands, TwoEnds};
 use std::alloc::{AllocError, Global};
-
-/// The turns of a unit's ends, none where two ligands tie, and whether constitution alone told them.
-#[derive(Clone, Copy)]
-pub struct FoundTurns {
-    pub turns: Option<Turns>,
-    pub by_constitution: bool,
-}
 
 // None, as the digraph is.
 fn no_turns() -> FoundTurns
@@ -68,11 +61,7 @@ fn turns_at<N: Nodes, V: Viewer>(
         AreRootTurns inner.now node found.by_constitution ligands.now found.turns) }
 {
     let numbers = ligands_at(alloc, inner.whole().nodes(), node, ligands)?;
-    let found = viewer.look(alloc, inner, node, numbers.as_slice())?;
-    Ok(FoundTurns {
-        turns: turns_from(&found.sides),
-        by_constitution: found.by_constitution,
-    })
+    viewer.look(alloc, inner, node, numbers.as_slice())
 }
 
 // The node of a unit's other end, where the rest of the unit follows below a node.

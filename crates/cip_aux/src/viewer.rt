@@ -1,25 +1,25 @@
 // A digraph as it is seen from one of its nodes.
 ghost use Rattle.std.specs.Prelude.{◌≡◌, ℕ, All, Contains, IfOk, IfSome};
 ghost use Rattle.cip_digraph.specs.digraph.NodeList.{parents_of};
-ghost use Rattle.cip_aux.specs.Early.{AreEarly};
 ghost use Rattle.cip_aux.specs.Inner.{Ready};
+ghost use Rattle.cip_aux.specs.Marking.{AreSeenTurns};
 ghost use Rattle.cip_aux.specs.Neighbours.{neighbours_of};
 ghost use Rattle.cip_aux.specs.Sights.{Sight};
 
 use crate::inner::Inner;
 use cip_digraph::Nodes;
-use cip_letters::BothSides;
+use cip_letters::Turns;
 use std::alloc::{AllocError, Global};
 
-/// Which of each two ligands precedes, and whether constitution alone told it: then it holds whichever descriptors
-/// there are.
-#[derive(Drop)]
-pub struct Decided {
-    pub sides: BothSides,
+/// How ligands turn a sense, not at all where two of them tie, and whether constitution alone told it: then it holds
+/// whichever descriptors there are.
+#[derive(Clone, Copy)]
+pub struct FoundTurns {
+    pub turns: Option<Turns>,
     pub by_constitution: bool,
 }
 
-/// What looks at whole digraphs from their nodes, and says which of two ligands precedes.
+/// What looks at whole digraphs from their nodes, and says how ligands turn a sense.
 pub trait Viewer {
     /// For how many nodes there is room.
     ghost room: { Self → ℕ };
@@ -27,21 +27,20 @@ pub trait Viewer {
     /// There is room for a digraph, and what is kept of looks is kept of this one.
     ghost stands: { Self → Sight → Type 0 };
 
-    /// Which of each two ligands of a real node precedes, with the descriptors that count at another one; the pairs in
-    /// the order of the list. A lone pair is below every node.
+    /// How ligands of a real node turn a sense, with the descriptors that count at another one. A lone pair is below
+    /// every node.
     fn look<N: Nodes>(
         &mut self,
         alloc: Global,
         inner: &Inner<'_, N>,
         node: u32,
         ligands: &[Option<u32>],
-    ) -> Result<Decided, AllocError>
+    ) -> Result<FoundTurns, AllocError>
         requires stands { stands self.old inner.now.sight }
         requires ready { Ready inner.now node }
         requires ligands { All (λ ligand. IfSome ligand (Contains (neighbours_of (parents_of inner.now.sight.told) node)))
             ligands.now }
         ensures room { room self.new ≡ room self.old }
         ensures stands { stands self.new inner.now.sight }
-        ensures early { IfOk result (λ found. AreEarly inner.now node found.by_constitution ligands.now
-            found.sides.natural.items found.sides.turned.items) };
+        ensures turns { IfOk result (AreSeenTurns inner.now node ligands.now) };
 }

@@ -5,7 +5,7 @@ use Rattle.cip_item.specs.Parts.{without_label_items}
 use Rattle.cip_item.specs.Putting.{with_item}
 use Rattle.cip_print.specs.Explaining.{explained}
 use Rattle.cip_print.specs.Values.{values_of}
-use Rattle.cip_record.specs.Answers.{answer_by}
+use Rattle.cip_answer.specs.Answers.{answer_by}
 use Rattle.cip_undefined.specs.Answers.{undefined_by}
 use Rattle.cip_undefined.specs.Texts.{undefined_text}
 use Rattle.cip_c.specs.declared.settings.Settings.{Settings}

@@ -2,14 +2,15 @@
 ghost use Rattle.std.specs.Prelude.{◌≡◌, ◌≤◌, ◌<◌, ◌-◌, ◌^◌, ◌++◌, IfOk, OnOk, length};
 ghost use Rattle.std.specs.List.{flat_map};
 ghost use Rattle.cip_print.specs.Values.{values_of, HasRoom};
-ghost use Rattle.cip_record.specs.Answers.{answer_without_items};
+ghost use Rattle.cip_answer.specs.Answers.{answer_without_items};
 ghost use Rattle.cip_c.specs.Texts.{annotated, ended_line, explained_text, text_of, undefined_told, values_text};
 
 use crate::settings::Settings;
 use crate::texts::Text;
+use cip_answer::label_within;
+use cip_desk::RecordLabeller;
 use cip_item::{Texts, lines_with_item, without_label_items};
 use cip_print::{Answer, explain_text, item_values};
-use cip_record::{RecordLabeller, label_within};
 use cip_text::RecordLines;
 use cip_undefined::{undefined_text, undefined_within};
 use std::alloc::{AllocError, Global};

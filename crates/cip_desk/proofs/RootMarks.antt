@@ -11,7 +11,7 @@ use Rattle.cip_constitution.specs.FollowedOut.{AreConstituted, with_flags}
 use Rattle.cip_constitution.specs.declared.pairs.Pair.{Pair}
 use Rattle.cip_digraph.specs.digraph.Telling.{node_at}
 use Rattle.cip_inside.proofs.Constituted.{place_low}
-use Rattle.cip_inside.proofs.FlaggedNodes.{set_len, set_stays, set_there}
+use Rattle.cip_aux.proofs.FlaggedNodes.{set_len, set_stays, set_there}
 use Rattle.cip_label.specs.Settings.{Setting}
 use Rattle.cip_ligands.specs.declared.asked.Asked.{Asked}
 use Rattle.cip_mol.specs.declared.descriptor.Descriptor.{Descriptor}

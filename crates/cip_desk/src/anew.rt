@@ -6,7 +6,6 @@ ghost use Rattle.cip_constitution.specs.Pairs.{pairs_of};
 ghost use Rattle.cip_constitution.specs.Settling.{SettledAs};
 ghost use Rattle.cip_digraph.specs.units.Ends.{end_at};
 ghost use Rattle.cip_label.specs.Fitting.{IsFit};
-ghost use Rattle.cip_label.specs.Settings.{IsProper};
 ghost use Rattle.cip_label.specs.Standing.{RankedAs};
 ghost use Rattle.cip_label.specs.declared.digraphs.Ranking.TheVariants.{Known};
 ghost use Rattle.cip_label.specs.Steps.{Rises};
@@ -23,8 +22,7 @@ use crate::rooted::Rooted;
 use crate::whole::{Tables, rank_whole};
 use cip_arena::Arena;
 use cip_constitution::{Settled, Work, settle};
-use cip_label::{Ranking, Setting};
-use cip_mol::Ligands;
+use cip_label::Ranking;
 use cip_rank::Steps;
 use std::alloc::{AllocError, Global};
 use std::sync::ledger::Ledger;
@@ -33,36 +31,35 @@ use std::sync::ledger::Ledger;
 fn settle_root<L: Ledger>(
     arena: &mut Arena,
     work: &mut Work,
-    setting: &Setting<'_>,
-    root: u32,
-    ligands: &Ligands,
+    told: &RootedLigands<'_, '_>,
     steps: &mut Steps<L>,
 ) -> Settled
-    requires fit { IsFit setting.now.graph root ligands.now }
+    requires fit { IsFit told.now.setting.now.graph told.now.root told.now.ligands.now }
     requires some { 1 ≤ arena.old.bound }
     requires room { arena.old.bound ≤ work.old.bound }
-    requires pairs { work.old.pairs ≡ pairs_of ligands.now }
-    ensures settled { SettledAs (settled_by setting.now ligands.now) arena.new result }
-    ensures rooted { IsRooted setting.now root ligands.now arena.new }
+    ensures settled { SettledAs (settled_by told.now.setting.now told.now.ligands.now) arena.new result }
+    ensures rooted { IsRooted told.now.setting.now told.now.root told.now.ligands.now arena.new }
     ensures bound { arena.new.bound ≡ arena.old.bound }
-    ensures cost { Rises setting.now arena.old.bound (end_at root ligands.now ∷ []) steps.old steps.new }
+    ensures cost { Rises told.now.setting.now arena.old.bound (end_at told.now.root told.now.ligands.now ∷ [])
+        steps.old steps.new }
     ensures work { work.new.bound ≡ work.old.bound }
-    ensures pairs { work.new.pairs ≡ pairs_of ligands.now }
-    ensures noted { result ≡ Settled.Ordered → Notes setting.now.graph setting.now.positions arena.new.root
-        arena.new.bound arena.new.sphere work.new.pairs work.new.noted }
-    ensures followed { result ≡ Settled.Whole → AreFollowedOut setting.now.graph setting.now.positions arena.new
-        work.new }
-    ensures proper { IsProper setting.now }
+    ensures pairs { work.new.pairs ≡ pairs_of told.now.ligands.now }
+    ensures noted { result ≡ Settled.Ordered → Notes told.now.setting.now.graph told.now.setting.now.positions
+        arena.new.root arena.new.bound arena.new.sphere work.new.pairs work.new.noted }
+    ensures followed { result ≡ Settled.Whole → AreFollowedOut told.now.setting.now.graph
+        told.now.setting.now.positions arena.new work.new }
 {
+    let setting = told.setting;
     let graph = setting.graph();
-    arena.start(graph, root);
+    arena.start(graph, told.root);
+    work.ask(told.ligands);
     settle(
         arena,
         work,
         graph,
         setting.positions(),
         setting.units(),
-        ligands.as_slice(),
+        told.ligands.as_slice(),
         setting.rules(),
         steps,
     )
@@ -144,21 +141,12 @@ pub fn rank_anew<L: Ledger>(
     ensures cost { Rises told.now.setting.now told.now.bound (end_at told.now.root told.now.ligands.now ∷ [])
         steps.old steps.new }
 {
-    let (setting, root, ligands) = (told.setting, told.root, told.ligands);
-    bench.work.ask(ligands);
-    let settled = settle_root(
-        &mut bench.arena,
-        &mut bench.work,
-        setting,
-        root,
-        ligands,
-        steps,
-    );
+    let settled = settle_root(&mut bench.arena, &mut bench.work, told, steps);
     let rooted = Rooted {
         arena: &bench.arena,
-        setting,
-        root,
-        ligands,
+        setting: told.setting,
+        root: told.root,
+        ligands: told.ligands,
     };
     rank_settled(
         alloc,

@@ -10,7 +10,6 @@ ghost use Rattle.cip_desk.specs.Standing.{standing_of};
 use crate::anew::rank_anew;
 use crate::branches::Branches;
 use crate::early::RootedLigands;
-use crate::kept_root::KeptRoot;
 use crate::memo::{Found, Memo};
 use crate::recalling::recall;
 use crate::whole::{Tables, is_costly};
@@ -60,11 +59,10 @@ fn keep(
         bench.old.arena bench.old.work bench.old.tables found }
     ensures { IsReady told.now.bound bench.new }
 {
-    if is_costly(&bench.arena, told.setting, found) {
-        bench.memo.root = Some(KeptRoot::of(alloc, told)?);
-        bench.memo.found = Some(found);
+    if !is_costly(&bench.arena, told.setting, found) {
+        return Ok(());
     }
-    Ok(())
+    bench.memo.keep(alloc, told, found)
 }
 
 // Forgets what was kept, grows the digraph of a root and ranks its ligands.

@@ -6,7 +6,7 @@ use crate::early::RootedLigands;
 use cip_digraph::{Graph, Positions};
 use cip_label::Setting;
 use cip_mol::{Ligand, Ligands, copy_ligands};
-use cip_rank::Rules;
+use cip_rank::{Rules, both};
 use std::alloc::{AllocError, Global};
 
 /// A root with its ligands, in which graph it stands, and by which wording it was ranked.
@@ -25,8 +25,10 @@ impl KeptRoot {
         ensures { IfOk result (λ kept. kept ≡ kept_of told.now.setting.now told.now.root told.now.ligands.now) }
     {
         let setting = told.setting;
-        let graph = setting.graph().copy(alloc)?;
-        let positions = setting.positions().copy(alloc)?;
+        let (graph, positions) = both(
+            setting.graph().copy(alloc)?,
+            setting.positions().copy(alloc),
+        )?;
         Ok(KeptRoot {
             rules: setting.rules(),
             graph,

@@ -21,4 +21,4 @@ mod told_early;
 mod whole;
 
 pub use desk::Desk;
-pub use errand::{Errand, run_once};
+pub use errand::{Errand, RecordLabeller, run_once};

@@ -1,10 +1,11 @@
 // What is kept of the root ranked last, where it was costly.
-ghost use Rattle.std.specs.Prelude.{◌≡◌, None, Some, IfSome};
+ghost use Rattle.std.specs.Prelude.{◌≡◌, None, Some, IfSome, OnErr, OnOk};
 ghost use Rattle.cip_desk.specs.Keeping.{kept_of, ranking_in};
 
 use crate::early::RootedLigands;
 use crate::kept_root::KeptRoot;
 use cip_label::Ranking;
+use std::alloc::{AllocError, Global};
 
 /// How far what was found of a root rests on the senses of units.
 #[derive(Clone, Copy)]
@@ -43,6 +44,23 @@ impl Memo {
             root: None,
             found: None,
         }
+    }
+
+    /// Keeps what was found of a root.
+    pub fn keep(
+        &mut self,
+        alloc: Global,
+        told: &RootedLigands<'_, '_>,
+        found: Found,
+    ) -> Result<(), AllocError>
+        ensures found { OnOk result (self.new.found ≡ Some found) }
+        ensures root { OnOk result (self.new.root
+            ≡ Some (kept_of told.now.setting.now told.now.root told.now.ligands.now)) }
+        ensures same { OnErr result (self.new ≡ self.old) }
+    {
+        self.root = Some(KeptRoot::of(alloc, told)?);
+        self.found = Some(found);
+        Ok(())
     }
 
     /// What was found, if it is this root that is kept.

@@ -2,14 +2,15 @@
 ghost use Rattle.std.specs.Prelude.{◌≡◌, ◌<◌, ◌≤◌, ◌^◌, ℕ, true, false, List, length, slice_index, IfOk, OnOk};
 ghost use Rattle.std.specs.List.{list_all};
 ghost use Rattle.cip_aux.specs.KeptTurns.{AreKept};
-ghost use Rattle.cip_aux.specs.Marking.{AreWanted, flag_at};
-ghost use Rattle.cip_aux.specs.Sights.{Sight};
+ghost use Rattle.cip_aux.specs.Marking.{AreMarked, AreWanted, flag_at};
+ghost use Rattle.cip_aux.specs.Sights.{Sight, sight_of};
 ghost use Rattle.cip_branches.specs.Deciding.{AreFollowed};
 ghost use Rattle.cip_branches.specs.Saving.{saved_of};
 ghost use Rattle.cip_branches.specs.Standing.{WantedIn};
 ghost use Rattle.cip_constitution.specs.FollowedOut.{AreConstituted, AreFollowedOut};
 ghost use Rattle.cip_constitution.specs.Pairs.{pairs_of};
 ghost use Rattle.cip_constitution.specs.Settling.{SettledAs};
+ghost use Rattle.cip_digraph.specs.digraph.NodeList.{parents_of};
 ghost use Rattle.cip_label.specs.Standing.{RankedAs};
 ghost use Rattle.cip_label.specs.declared.digraphs.Ranking.TheVariants.{Known};
 ghost use Rattle.cip_ligands.specs.Asking.{is_decided};
@@ -18,7 +19,7 @@ ghost use Rattle.cip_mol.specs.declared.site.Site.{Site as AnySite};
 ghost use Rattle.cip_rows.specs.Keys.{AreKeyed};
 ghost use Rattle.cip_desk.specs.Desks.{settled_by};
 ghost use Rattle.cip_desk.specs.Keeping.{FoundAs, kept_of, ranking_in};
-ghost use Rattle.cip_desk.specs.Rooting.{HasRoom, IsRooted, HaveMarks, HaveTurns};
+ghost use Rattle.cip_desk.specs.Rooting.{HasRoom, IsRooted, HaveMarks, HaveTurns, whole_at};
 ghost use Rattle.cip_desk.specs.Standing.{standing_of};
 
 use crate::aside::Aside;
@@ -26,10 +27,10 @@ use crate::branches::{Branches, copy, take_noted};
 use crate::memo::Found;
 use crate::rooted::{Rooted, whole_of};
 use cip_arena::Arena;
-use cip_aux::{KeptTurns, UnitsAt, Wanted};
+use cip_aux::{KeptTurns, UnitsAt, Wanted, auxiliaries, flag_below};
 use cip_constitution::{Settled, Work};
 use cip_digraph::Nodes;
-use cip_inside::{Sights, descriptors_where, flag_below};
+use cip_inside::Sights;
 use cip_label::{Ranking, Setting};
 use cip_ligands::{Descriptors, Readings};
 use cip_rank::{Table, both};
@@ -145,23 +146,48 @@ fn find_marks(
     ensures turns { HaveTurns rooted.now.setting.now rooted.now.arena.now tables.new }
     ensures aside { tables.new.aside ≡ tables.old.aside }
 {
-    let setting = rooted.setting;
-    let whole = whole_of(rooted);
     let mut flags = vec![in alloc; false; rooted.arena.len() as usize]?;
-    flag_nodes(work, whole.nodes().table(), flags.as_mut_slice());
-    let units = UnitsAt::new(alloc, setting.units().as_slice())?;
+    flag_nodes(work, rooted.arena.table(), flags.as_mut_slice());
+    let found = find_flagged(alloc, rooted, flags.as_slice(), tables);
+    drop(flags);
+    found
+}
+
+// Finds the descriptors at flagged nodes.
+fn find_flagged(
+    alloc: Global,
+    rooted: &Rooted<'_, '_>,
+    flags: &[bool],
+    tables: &mut Tables,
+) -> Result<(), AllocError>
+    requires rooted { IsRooted rooted.now.setting.now rooted.now.root rooted.now.ligands.now rooted.now.arena.now }
+    requires settled { SettledAs (settled_by rooted.now.setting.now rooted.now.ligands.now) rooted.now.arena.now
+        Settled.Whole }
+    requires below { AreWanted (parents_of rooted.now.arena.now.nodes) flags.now }
+    requires room { HasRoom rooted.now.arena.now.bound tables.old }
+    requires turns { HaveTurns rooted.now.setting.now rooted.now.arena.now tables.old }
+    ensures marks { OnOk result (AreMarked (sight_of (whole_at rooted.now.setting.now rooted.now.arena.now))
+        rooted.now.setting.now.units flags.now 0 tables.new.marks.marks) }
+    ensures room { HasRoom rooted.now.arena.now.bound tables.new }
+    ensures turns { HaveTurns rooted.now.setting.now rooted.now.arena.now tables.new }
+    ensures aside { tables.new.aside ≡ tables.old.aside }
+{
+    let whole = whole_of(rooted);
+    let units = UnitsAt::new(alloc, rooted.setting.units().as_slice())?;
     let wanted = Wanted {
         units: &units,
-        flags: flags.as_slice(),
+        flags,
     };
-    descriptors_where(
+    let found = auxiliaries(
         alloc,
         &whole,
+        &mut tables.sights,
         &wanted,
         &mut tables.turns,
-        &mut tables.sights,
         &mut tables.marks,
-    )
+    );
+    drop(units);
+    found
 }
 
 /// Ranks the ligands of a root by all rules, where constitution leaves two of them.

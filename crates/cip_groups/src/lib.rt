@@ -1,23 +1,10 @@
-//! The enhanced stereo groups of molfiles of version V3000, and both outcomes of each centre of a group.
+//! The call that tells of the stereo groups of a single record, in memory of its own, beside those that read groups.
 #![tactic(auto)]
 
-mod atom_lists;
-mod collections;
-mod faults;
-mod groups;
-mod kinds;
-mod laws;
-mod names;
-mod outcomes;
-mod places;
 mod telling;
 
-pub use collections::read_groups;
-pub use faults::{GroupCause, GroupFault};
-pub use groups::{Group, Groups, GroupsAnswer, Vertices};
-pub use kinds::GroupKind;
-pub use laws::{
-    both_are_of_one_centre, first_causes_decide, turned_twice_is_drawn, whole_groups_mirror,
-    worked_collections_are_read,
+pub use cip_collections::{
+    Group, GroupCause, GroupFault, GroupKind, GroupText, Groups, GroupsAnswer, Vertices,
+    read_groups,
 };
-pub use telling::{GroupText, group_text, group_text_within};
+pub use telling::group_text;

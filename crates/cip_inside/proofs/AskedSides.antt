@@ -19,7 +19,8 @@ use Rattle.cip_ligands.specs.Asking.{AreWithin, with_found}
 use Rattle.cip_aux.specs.Neighbours.{first_where, neighbours_of, parent_of}
 use Rattle.cip_letters.specs.Sides.{found_side, number_side, pair_sides}
 use Rattle.cip_letters.proofs.OddTurns.{rest_is}
-use Rattle.cip_inside.specs.Asking.{asked_of, asked_pairs, branch_at, side_at}
+use Rattle.cip_aux.specs.Turning.{side_at}
+use Rattle.cip_inside.specs.Asking.{asked_of, asked_pairs, branch_at}
 use Rattle.cip_inside.specs.Near.{asked_tops, branch_of, is_ligand}
 use Rattle.cip_inside.proofs.TiesItself.{order_itself}
 

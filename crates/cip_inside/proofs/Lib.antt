@@ -4,8 +4,6 @@ pub mod AwayNodes
 pub mod Configured
 pub mod Constituted
 pub mod CountedMarks
-pub mod EarlySides
-pub mod FlaggedNodes
 pub mod FollowedViews
 pub mod HangingPlaces
 pub mod KnownSteps
@@ -13,6 +11,7 @@ pub mod Meeting
 pub mod Narrowed
 pub mod NodeKeys
 pub mod OpenAgain
+pub mod SeenTurns
 pub mod Sources
 pub mod TiesItself
 pub mod WantedNodes

@@ -24,7 +24,8 @@ use Rattle.cip_ligands.proofs.RulesGoOn.{order_told}
 use Rattle.cip_ligands.proofs.UnmarkedBranches.{kept_both}
 use Rattle.cip_aux.specs.Neighbours.{neighbours_of}
 use Rattle.cip_aux.specs.Sights.{Sight}
-use Rattle.cip_inside.specs.Asking.{asked_between, asked_pairs, branch_at, side_at}
+use Rattle.cip_aux.specs.Turning.{side_at}
+use Rattle.cip_inside.specs.Asking.{asked_between, asked_pairs, branch_at}
 use Rattle.cip_inside.specs.Narrowing.{LeavesOpen, is_open_top, is_top_of, moved, open_tops}
 use Rattle.cip_inside.specs.Near.{AreConstituted, asked_tops, is_ligand, seen_at, top_node}
 use Rattle.cip_inside.proofs.AskedSides.{branch_low, branch_top, kept_in, pairs_found, pairs_within, tops_of}

@@ -1,4 +1,4 @@
--- The branches of two ligands as they are asked about, and which of them precedes. Own.
+-- The branches of two ligands as they are asked about. Own.
 use Rattle.std.specs.Prelude.{ℕ, List, [], ◌∷◌, ◌++◌, map, None, Some, unwrap_or}
 use Rattle.std.specs.declared.option.Option.{Option}
 use Rattle.std.specs.declared.cmp.Ordering.{Ordering}
@@ -6,7 +6,6 @@ use Rattle.std.specs.declared.cmp.Ordering.TheVariants.{Less, Greater}
 use Rattle.cip_mol.specs.declared.outcome.Rule.TheVariants.{R1a}
 use Rattle.cip_digraph.specs.declared.decision.Decision.{Decision}
 use Rattle.cip_ligands.specs.declared.asked.Asked.{Asked}
-use Rattle.cip_letters.specs.Sides.{found_side}
 use Rattle.cip_inside.specs.Near.{branch_of}
 
 abbrev pub asked_between : ℕ → ℕ → Option Decision → Asked
@@ -30,7 +29,3 @@ asked_of tops (Some a) (Some b) = asked_between (branch_at tops a) (branch_at to
 abbrev pub asked_pairs : List ℕ → List (Option ℕ) → List Asked
 asked_pairs tops [] = []
 asked_pairs tops (ligand ∷ ligands) = map (asked_of tops ligand) ligands ++ asked_pairs tops ligands
-
--- which of them precedes
-abbrev pub side_at : Asked → Option Ordering
-side_at asked = found_side asked.decision

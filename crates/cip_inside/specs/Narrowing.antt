@@ -9,7 +9,8 @@ use Rattle.cip_letters.specs.Sides.{pair_sides}
 use Rattle.cip_ligands.specs.Asking.{AreWithin, is_decided, with_found}
 use Rattle.cip_ligands.specs.declared.asked.Asked.{Asked}
 use Rattle.cip_mol.specs.declared.descriptor.Descriptor.{Descriptor}
-use Rattle.cip_inside.specs.Asking.{asked_between, asked_of, side_at}
+use Rattle.cip_aux.specs.Turning.{side_at}
+use Rattle.cip_inside.specs.Asking.{asked_between, asked_of}
 use Rattle.cip_inside.specs.Near.{AreConstituted, seen_at, top_node}
 
 -- what all rules decide between these pairs of branches tells how ligands stand, whichever descriptors there are

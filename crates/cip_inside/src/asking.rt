@@ -1,10 +1,10 @@
 // Pairs of ligands that are asked about, by their branches.
 ghost use Rattle.std.specs.Prelude.{◌≡◌, ◌++◌, IfOk, OnOk, Some, None, map};
-ghost use Rattle.cip_inside.specs.Asking.{asked_between, known, asked_of, asked_pairs, branch_at, side_at};
+ghost use Rattle.cip_inside.specs.Asking.{asked_between, known, asked_of, asked_pairs, branch_at};
 
 use crate::near::Near;
 use cip_digraph::Decision;
-use cip_letters::{BothSides, MOST_PAIRS};
+use cip_letters::MOST_PAIRS;
 use cip_ligands::Asked;
 use cip_mol::Rule;
 use smallvec::SmallVec;
@@ -22,25 +22,18 @@ pub fn open_pair(first: u32, second: u32) -> Asked
     }
 }
 
-// By Rule 1a, in a sphere that isn't told.
-fn known_side(side: Ordering) -> Decision
-    ensures { Some result ≡ known side }
-{
-    Decision {
-        side,
-        rule: Rule::R1a,
-        sphere: 1,
-    }
-}
-
-/// A pair of which one is a lone pair.
+/// A pair of which one is a lone pair: by Rule 1a, in a sphere that isn't told.
 pub fn known_pair(side: Ordering) -> Asked
     ensures { result ≡ asked_between 0 0 (known side) }
 {
     Asked {
         first: 0,
         second: 0,
-        decision: Some(known_side(side)),
+        decision: Some(Decision {
+            side,
+            rule: Rule::R1a,
+            sphere: 1,
+        }),
     }
 }
 
@@ -94,35 +87,4 @@ pub fn ask_all(
         rest = others;
     }
     Ok(pairs)
-}
-
-fn side(asked: Asked) -> Option<Ordering>
-    ensures { result ≡ side_at asked }
-{
-    Some(asked.decision?.side)
-}
-
-// What is decided between pairs.
-fn sides(
-    alloc: Global,
-    pairs: &[Asked],
-) -> Result<SmallVec<Option<Ordering>, MOST_PAIRS>, AllocError>
-    ensures { IfOk result (λ found. found.items ≡ map side_at pairs.now) }
-{
-    let mut found = SmallVec::new(alloc);
-    for pair in pairs {
-        found.push(side(*pair))?;
-    }
-    Ok(found)
-}
-
-/// What is decided between pairs, with R and with S first in the last rule.
-pub fn both_sides(alloc: Global, pairs: &[Asked], turned: &[Asked]) -> Result<BothSides, AllocError>
-    ensures natural { IfOk result (λ found. found.natural.items ≡ map side_at pairs.now) }
-    ensures turned { IfOk result (λ found. found.turned.items ≡ map side_at turned.now) }
-{
-    Ok(BothSides {
-        natural: sides(alloc, pairs)?,
-        turned: sides(alloc, turned)?,
-    })
 }

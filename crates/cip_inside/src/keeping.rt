@@ -1,25 +1,25 @@
 // Looks into a digraph of which those are kept that constitution leaves open.
 ghost use Rattle.std.specs.Prelude.{◌≡◌, ◌<◌, ◌≤◌, ◌+◌, ℕ, List, true, false, All, Contains, IfOk, IfSome, OnOk, Some, length, map, slice_get};
 ghost use Rattle.std.specs.declared.option.Option.{Option};
-ghost use Rattle.cip_aux.specs.Early.{AreEarly};
-ghost use Rattle.cip_aux.specs.Inner.{Inner as AnyInner, Ready};
+ghost use Rattle.cip_aux.specs.Inner.{Ready};
+ghost use Rattle.cip_aux.specs.Marking.{AreSeenTurns};
 ghost use Rattle.cip_aux.specs.Neighbours.{neighbours_of};
 ghost use Rattle.cip_aux.specs.Sights.{IsReal, sight_of};
 ghost use Rattle.cip_branches.specs.Saving.{restored, saved_of};
 ghost use Rattle.cip_digraph.specs.digraph.NodeList.{parents_of};
 ghost use Rattle.cip_ligands.specs.Taking.{AreSame};
-ghost use Rattle.cip_inside.specs.Asking.{asked_pairs, side_at};
+ghost use Rattle.cip_inside.specs.Asking.{asked_pairs};
 ghost use Rattle.cip_inside.specs.Narrowing.{LeavesOpen, open_tops};
 ghost use Rattle.cip_inside.specs.Near.{ArePlaced, AreTops, asked_tops};
 ghost use Rattle.cip_inside.specs.OpenLooks.{Look as AnyLook, AreOpen, Asks, IsOpen, look_of, looked_at};
 ghost use Rattle.cip_inside.specs.declared.open_looks.OpenLook.{OpenLook as OpenedLook};
 
-use crate::asking::{ask_all, both_sides};
+use crate::asking::ask_all;
 use crate::narrowing::{MOST_LIGANDS, Tops, move_all, open_tops};
 use crate::near::Near;
 use crate::open_looks::{OpenLook, OpenLooks};
 use crate::sights::configure;
-use cip_aux::{Decided, Inner, Whole};
+use cip_aux::{FoundTurns, Inner, Whole};
 use cip_branches::SavedRanks;
 use cip_digraph::Nodes;
 use cip_letters::MOST_PAIRS;
@@ -35,19 +35,6 @@ pub struct Look<'a> {
     pub ligands: &'a [Option<u32>],
 }
 
-// What constitution alone tells.
-fn settled(alloc: Global, pairs: &[Asked]) -> Result<Decided, AllocError>
-    ensures { (inner : AnyInner) (node : ℕ) (ligands : List (Option ℕ))
-        → AreEarly inner node true ligands (map side_at pairs.now) (map side_at pairs.now)
-        → IfOk result (λ found. AreEarly inner node found.by_constitution ligands found.sides.natural.items
-        found.sides.turned.items) }
-{
-    Ok(Decided {
-        sides: both_sides(alloc, pairs, pairs)?,
-        by_constitution: true,
-    })
-}
-
 // Takes the rules behind Rule 2 where constitution leaves a pair open.
 fn configured<N: Nodes>(
     alloc: Global,
@@ -55,25 +42,21 @@ fn configured<N: Nodes>(
     inner: &Inner<'_, N>,
     node: u32,
     pairs: &mut [Asked],
-) -> Result<Decided, AllocError>
+) -> Result<FoundTurns, AllocError>
     requires room { length inner.now.sight.told ≤ near.old.bound }
     requires ready { Ready inner.now node }
     requires tops { AreTops (parents_of inner.now.sight.told) node near.old.tops }
     requires placed { ArePlaced inner.now.sight node near.old.tops near.old.now }
-    ensures early { (ligands : List (Option ℕ))
-        → LeavesOpen inner.now.sight node near.old.tops near.old.now pairs.old ligands → IfOk result
-        (λ found. AreEarly inner.now node found.by_constitution ligands found.sides.natural.items
-        found.sides.turned.items) }
+    ensures turns { (ligands : List (Option ℕ))
+        → LeavesOpen inner.now.sight node near.old.tops near.old.now pairs.old ligands
+        → IfOk result (AreSeenTurns inner.now node ligands) }
     ensures same { AreSame near.old.now near.new.now }
     ensures bound { near.new.bound ≡ near.old.bound }
 {
     let mut turned = SmallVec::<Asked, MOST_PAIRS>::from_slice(alloc, pairs)?;
     let others = turned.as_mut_slice();
     configure(near, inner, node, pairs, others);
-    Ok(Decided {
-        sides: both_sides(alloc, pairs, others)?,
-        by_constitution: false,
-    })
+    Ok(FoundTurns::of(pairs, others, false))
 }
 
 // Lets the branches of an open look stand as constitution left them.
@@ -100,12 +83,11 @@ fn go_on<N: Nodes>(
     near: &mut Near,
     inner: &Inner<'_, N>,
     look: &mut OpenLook,
-) -> Result<Decided, AllocError>
+) -> Result<FoundTurns, AllocError>
     requires bound { length inner.now.sight.told ≤ near.old.bound }
     requires ready { Ready inner.now look.old.node }
     requires open { IsOpen near.old.bound inner.now.sight (look_of look.old) }
-    ensures early { IfOk result (λ found. AreEarly inner.now look.old.node found.by_constitution look.old.ligands.items
-        found.sides.natural.items found.sides.turned.items) }
+    ensures turns { IfOk result (AreSeenTurns inner.now look.old.node look.old.ligands.items) }
     ensures open { IsOpen near.old.bound inner.now.sight (look_of look.new) }
     ensures near { near.new.bound ≡ near.old.bound }
 {
@@ -261,14 +243,13 @@ fn look_on<N: Nodes>(
     asked: &Look<'_>,
     pairs: &mut [Asked],
     kept: &mut OpenLooks,
-) -> Result<Decided, AllocError>
+) -> Result<FoundTurns, AllocError>
     requires ready { Ready inner.now asked.now.node }
     requires tops { near.old.tops ≡ asked_tops (parents_of inner.now.sight.told) asked.now.ligands.now asked.now.node }
     requires left { LeavesOpen inner.now.sight asked.now.node near.old.tops near.old.now pairs.old
         asked.now.ligands.now }
     requires open { AreOpen near.old.bound inner.now.sight kept.old }
-    ensures early { IfOk result (λ found. AreEarly inner.now asked.now.node found.by_constitution asked.now.ligands.now
-        found.sides.natural.items found.sides.turned.items) }
+    ensures turns { IfOk result (AreSeenTurns inner.now asked.now.node asked.now.ligands.now) }
     ensures open { AreOpen near.old.bound inner.now.sight kept.new }
     ensures near { near.new.bound ≡ near.old.bound }
 {
@@ -288,23 +269,22 @@ fn look_at<N: Nodes>(
     asked: &Look<'_>,
     pairs: &mut [Asked],
     kept: &mut OpenLooks,
-) -> Result<Decided, AllocError>
+) -> Result<FoundTurns, AllocError>
     requires ready { Ready inner.now asked.now.node }
     requires next { All (λ ligand. IfSome ligand (Contains (neighbours_of (parents_of inner.now.sight.told)
         asked.now.node))) asked.now.ligands.now }
     requires tops { near.old.tops ≡ asked_tops (parents_of inner.now.sight.told) asked.now.ligands.now asked.now.node }
     requires pairs { pairs.old ≡ asked_pairs near.old.tops asked.now.ligands.now }
     requires open { AreOpen near.old.bound inner.now.sight kept.old }
-    ensures early { IfOk result (λ found. AreEarly inner.now asked.now.node found.by_constitution asked.now.ligands.now
-        found.sides.natural.items found.sides.turned.items) }
+    ensures turns { IfOk result (AreSeenTurns inner.now asked.now.node asked.now.ligands.now) }
     ensures open { AreOpen near.old.bound inner.now.sight kept.new }
     ensures near { near.new.bound ≡ near.old.bound }
 {
     if near.is_empty() {
-        return settled(alloc, pairs);
+        return Ok(FoundTurns::of(pairs, pairs, true));
     }
     if near.constitution(inner.whole(), asked.node, pairs) {
-        return settled(alloc, pairs);
+        return Ok(FoundTurns::of(pairs, pairs, true));
     }
     look_on(alloc, near, inner, asked, pairs, kept)
 }
@@ -316,13 +296,12 @@ pub fn look_first<N: Nodes>(
     inner: &Inner<'_, N>,
     asked: &Look<'_>,
     kept: &mut OpenLooks,
-) -> Result<Decided, AllocError>
+) -> Result<FoundTurns, AllocError>
     requires ready { Ready inner.now asked.now.node }
     requires next { All (λ ligand. IfSome ligand (Contains (neighbours_of (parents_of inner.now.sight.told)
         asked.now.node))) asked.now.ligands.now }
     requires open { AreOpen near.old.bound inner.now.sight kept.old }
-    ensures early { IfOk result (λ found. AreEarly inner.now asked.now.node found.by_constitution asked.now.ligands.now
-        found.sides.natural.items found.sides.turned.items) }
+    ensures turns { IfOk result (AreSeenTurns inner.now asked.now.node asked.now.ligands.now) }
     ensures open { AreOpen near.old.bound inner.now.sight kept.new }
     ensures near { near.new.bound ≡ near.old.bound }
 {
@@ -340,13 +319,12 @@ pub fn look_again<N: Nodes>(
     inner: &Inner<'_, N>,
     looks: &mut [OpenLook],
     place: usize,
-) -> Result<Decided, AllocError>
+) -> Result<FoundTurns, AllocError>
     requires place { place < length looks.old }
     requires ready { (look : OpenedLook) → slice_get looks.old place ≡ Some look → Ready inner.now look.node }
     requires open { AreOpen near.old.bound inner.now.sight (map look_of looks.old) }
-    ensures early { (look : OpenedLook) → slice_get looks.old place ≡ Some look → IfOk result
-        (λ found. AreEarly inner.now look.node found.by_constitution look.ligands.items found.sides.natural.items
-        found.sides.turned.items) }
+    ensures turns { (look : OpenedLook) → slice_get looks.old place ≡ Some look
+        → IfOk result (AreSeenTurns inner.now look.node look.ligands.items) }
     ensures open { AreOpen near.old.bound inner.now.sight (map look_of looks.new) }
     ensures near { near.new.bound ≡ near.old.bound }
 {

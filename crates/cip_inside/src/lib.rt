@@ -4,7 +4,6 @@
 mod asking;
 mod constituting;
 mod distances;
-mod flagging;
 mod following;
 mod inside;
 mod keeping;
@@ -15,10 +14,10 @@ mod open_looks;
 mod sights;
 mod stepping;
 mod tops;
+mod wanted;
 
 pub use distances::Distances;
-pub use flagging::flag_below;
-pub use inside::{descriptors_inside, descriptors_where};
+pub use inside::descriptors_inside;
 pub use marks_inside::MarksInside;
 pub use near::Near;
 pub use sights::Sights;

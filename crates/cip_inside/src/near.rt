@@ -19,9 +19,9 @@ ghost use Rattle.cip_inside.specs.Near.{AreConstituted, AreOrdered, AreTops, ask
 ghost use Rattle.cip_inside.specs.Near.{LeadsElsewhere};
 
 use crate::constituting::constitute;
-use crate::flagging::{are_behind, wanted_places};
 use crate::stepping::SeenFrom;
 use crate::tops::{branch_of, fill_tops};
+use crate::wanted::{are_behind, wanted_places};
 use cip_aux::Whole;
 use cip_branches::{Branches, SavedRanks};
 use cip_digraph::Nodes;

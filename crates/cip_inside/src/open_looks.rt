@@ -1,14 +1,14 @@
 // Looks that constitution leaves open, with their branches as they stand behind Rule 2: asked again with other descriptors
 // they need no rule of constitution.
 ghost use Rattle.std.specs.Prelude.{◌≡◌, ◌<◌, ◌≤◌, ◌+◌, ◌^◌, ◌++◌, ◌∷◌, [], true, false, IfOk, IfSome, OnErr, OnOk, Some, length, slice_get};
-ghost use Rattle.cip_aux.specs.Early.{AreEarly};
 ghost use Rattle.cip_aux.specs.Inner.{Ready};
+ghost use Rattle.cip_aux.specs.Marking.{AreSeenTurns};
 ghost use Rattle.cip_inside.specs.OpenLooks.{Look as AnyLook, AreOpen, Asks, look_of};
 
 use crate::keeping::look_again;
 use crate::narrowing::{MOST_LIGANDS, Tops};
 use crate::near::Near;
-use cip_aux::{Decided, Inner};
+use cip_aux::{FoundTurns, Inner};
 use cip_branches::{Branches, SavedRanks};
 use cip_digraph::Nodes;
 use cip_letters::MOST_PAIRS;
@@ -134,13 +134,12 @@ impl OpenLooks {
         near: &mut Near,
         inner: &Inner<'_, N>,
         place: usize,
-    ) -> Result<Decided, AllocError>
+    ) -> Result<FoundTurns, AllocError>
         requires place { place < length self.old }
         requires ready { (look : AnyLook) → slice_get self.old place ≡ Some look → Ready inner.now look.node }
         requires open { AreOpen near.old.bound inner.now.sight self.old }
-        ensures early { (look : AnyLook) → slice_get self.old place ≡ Some look → IfOk result
-            (λ found. AreEarly inner.now look.node found.by_constitution look.ligands found.sides.natural.items
-            found.sides.turned.items) }
+        ensures turns { (look : AnyLook) → slice_get self.old place ≡ Some look
+            → IfOk result (AreSeenTurns inner.now look.node look.ligands) }
         ensures open { AreOpen near.old.bound inner.now.sight self.new }
         ensures near { near.new.bound ≡ near.old.bound }
     {

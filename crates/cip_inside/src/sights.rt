@@ -16,7 +16,7 @@ use crate::keeping::{Look, look_first};
 use crate::marks_inside::MarksInside;
 use crate::near::Near;
 use crate::open_looks::OpenLooks;
-use cip_aux::{Decided, Inner, Viewer};
+use cip_aux::{FoundTurns, Inner, Viewer};
 use cip_digraph::Nodes;
 use cip_ligands::{Asked, Marked};
 use std::alloc::{AllocError, Global};
@@ -111,7 +111,7 @@ impl Viewer for Sights {
         inner: &Inner<'_, N>,
         node: u32,
         ligands: &[Option<u32>],
-    ) -> Result<Decided, AllocError> {
+    ) -> Result<FoundTurns, AllocError> {
         let near = &mut self.near;
         match self.kept.find(node, ligands) {
             Some(place) => self.kept.go_on(alloc, near, inner, place),

@@ -1,5 +1,5 @@
 -- The outcome of a unit is that of its ranked roots.
-use Rattle.std.proofs.Common.{◌≡◌, ◌≤◌, ◌+◌, ◌++◌, ◌∷◌, ◌∙◌, [], ℕ, suc, Bool, true, false, cond, ◌||◌, List, refl, sym}
+use Rattle.std.proofs.Common.{◌≡◌, ◌≤◌, ◌+◌, ◌++◌, ◌∷◌, ◌∙◌, [], ℕ, suc, Bool, true, false, cond, ◌||◌, List, refl, subst, sym}
 use Rattle.std.proofs.Common.{ap, map, length, nat_lt, is_lt, Ordering, append-nil}
 use Rattle.std.specs.List.{list_any, range_with_len}
 use Rattle.std.proofs.lemmas.List.{length-map}
@@ -21,7 +21,7 @@ use Rattle.cip_letters.proofs.LettersTurn.{letter_of_both}
 use Rattle.cip_label.specs.declared.roots.Ranked.{Ranked}
 use Rattle.cip_label.specs.declared.roots.Ranked.TheVariants as rankeds
 use Rattle.cip_label.specs.Settings.{Setting, cost_in, known_in, root_in}
-use Rattle.cip_label.specs.Labelling.{FitTogether, is_over, ranked_root, labelled, of_one, of_two}
+use Rattle.cip_label.specs.Labelling.{FitTogether, ranked_behind, ranked_root, labelled, of_one, of_two}
 use Rattle.cip_label.proofs.LastReason.{last_of_two, later_of}
 
 abbrev with_label : Bool → Bool → Outcome → Outcome
@@ -51,6 +51,26 @@ two_by : (site : Site) (sense : Sense) (p p-turned q q-turned : List ℕ) (one o
 two_by site sense p p-turned q q-turned one other label same false false false false = same
 two_by site sense p p-turned q q-turned one other label same false true false false = refl
 two_by site sense p p-turned q q-turned one other label same over tie more_over more_tie = refl
+
+-- where the first end is larger than the bound, the other one doesn't matter
+two_behind : (site : Site) (sense : Sense) (one other : Ranked) →
+    of_two site sense one (ranked_behind one other) ≡ of_two site sense one other
+two_behind site sense rankeds.Over other = refl
+two_behind site sense rankeds.Tie other = refl
+two_behind site sense (rankeds.Ordered places turned rule sphere) other = refl
+
+-- both ends as they are ranked, one behind the other
+pub record AreRanked (setting : Setting) (bound : ℕ) (one other : End) (near far : Ranked) : Type 0 where
+  pub first : near ≡ ranked_root setting bound one
+  pub second : far ≡ ranked_behind near (ranked_root setting bound other)
+
+pub are_ranked : (setting : Setting) (bound bound_then : ℕ) (one other : End) (near far : Ranked) →
+    bound_then ≡ bound → near ≡ ranked_root setting bound one →
+    far ≡ ranked_behind near (ranked_root setting bound_then other) → AreRanked setting bound one other near far
+are_ranked setting bound bound_then one other near far kept first second = record {
+  first = first;
+  second = second ∙ ap (λ b. ranked_behind near (ranked_root setting b other)) kept;
+}
 
 module _ (setting : Setting) (bound : ℕ) (site : Site) (sense : Sense) where
   abbrev root : End → Root Node
@@ -105,10 +125,12 @@ module _ (setting : Setting) (bound : ℕ) (site : Site) (sense : Sense) where
       of_one site sense (ranked_root setting bound end) ≡ known_in setting bound site sense
   known_by_one end e = one_end end ∙ ap by_ends (sym e)
 
-  pub known_by_two : (one other : End) → ends_of site ≡ one ∷ other ∷ [] →
-      of_two site sense (ranked_root setting bound one) (ranked_root setting bound other) ≡ known_in setting bound
-      site sense
-  known_by_two one other e = two_ends one other ∙ ap by_ends (sym e)
+  pub known_by_two : (one other : End) (near far : Ranked) → ends_of site ≡ one ∷ other ∷ [] →
+      AreRanked setting bound one other near far → of_two site sense near far ≡ known_in setting bound site sense
+  known_by_two one other near far e are =
+      let last = ranked_root setting bound other in
+      ap (of_two site sense near) are.second ∙ two_behind site sense near last
+      ∙ ap (λ root. of_two site sense root last) are.first ∙ two_ends one other ∙ ap by_ends (sym e)
 
 -- ranked roots have as many places as ligands
 sorted_length : {N : Type 0} (compare : N → N → Ordering) (ns : List N) → length (sorted_down compare ns) ≡ length ns
@@ -123,6 +145,11 @@ sorted_length {N = N} compare (n ∷ ns) = inserted (sorted_down compare ns) ∙
     inserted : (ms : List N) → length (insert_down compare n ms) ≡ suc (length ms)
     inserted [] = refl
     inserted (m ∷ ms) = if_longer (is_lt (compare n m)) m ms (insert_down compare n ms) (inserted ms)
+
+fit_behind : (one other : Ranked) → FitTogether one other → FitTogether one (ranked_behind one other)
+fit_behind rankeds.Over other fit = tt
+fit_behind rankeds.Tie other fit = tt
+fit_behind (rankeds.Ordered places turned rule sphere) other fit = fit
 
 module _ (setting : Setting) (bound : ℕ) where
   ranks_length : (end : End) → length (ranks (root_in setting end)) ≡ length end.ligands
@@ -142,26 +169,14 @@ module _ (setting : Setting) (bound : ℕ) where
   together_by p p-turned q q-turned one other few false false false true = tt
   together_by p p-turned q q-turned one other few false false false false = few
 
-  pub fit_together : (one other : End) → length one.ligands + length other.ligands ≤ 4 →
-      FitTogether (ranked_root setting bound one) (ranked_root setting bound other)
-  fit_together one other few =
+  pub fit_together : (one other : End) (near far : Ranked) → length one.ligands + length other.ligands ≤ 4 →
+      AreRanked setting bound one other near far → FitTogether near far
+  fit_together one other near far few are =
       let first = root_in setting one in
       let second = root_in setting other in
-      together_by (ranks first) (turned_ranks first) (ranks second) (turned_ranks second) (reason_needed (first ∷ []))
+      subst (FitTogether near) (sym are.second) (fit_behind near (ranked_root setting bound other)
+      (subst (λ root. FitTogether root (ranked_root setting bound other)) (sym are.first)
+      (together_by (ranks first) (turned_ranks first) (ranks second) (turned_ranks second) (reason_needed (first ∷ []))
       (reason_needed (second ∷ []))
       (rw (ranks_length one, ranks_length other) few)
-      (nat_lt bound (cost_in setting one)) (has_tie first) (nat_lt bound (cost_in setting other)) (has_tie second)
-
--- where the first end is larger than the bound, the other one doesn't matter
-over_first : (site : Site) (sense : Sense) (one other : Ranked) → is_over one ≡ true →
-    outcomes.Over ≡ of_two site sense one other
-over_first site sense rankeds.Over other e = refl
-over_first site sense rankeds.Tie other e = let bad : false ≡ true = e in cc
-over_first site sense (rankeds.Ordered places turned rule sphere) other e = let bad : false ≡ true = e in cc
-
-pub known_over : (setting : Setting) (bound : ℕ) (site : Site) (sense : Sense) (one other : End) (first : Ranked) →
-    ends_of site ≡ one ∷ other ∷ [] → first ≡ ranked_root setting bound one → is_over first ≡ true →
-    outcomes.Over ≡ known_in setting bound site sense
-known_over setting bound site sense one other first e is over =
-    over_first site sense (ranked_root setting bound one) (ranked_root setting bound other) (sym (ap is_over is) ∙ over)
-    ∙ known_by_two setting bound site sense one other e
+      (nat_lt bound (cost_in setting one)) (has_tie first) (nat_lt bound (cost_in setting other)) (has_tie second))))

@@ -17,24 +17,27 @@ module _ (setting : Setting) (bound : ℕ) where
   most_of_two : (one other : End) → most (one ∷ other ∷ []) ≡ most (one ∷ []) + most (other ∷ [])
   most_of_two one other = omega arith
 
-  pub one_of_two : (one other : End) (before after : ℕ) → Rises setting bound (one ∷ []) before after →
-      Rises setting bound (one ∷ other ∷ []) before after
-  one_of_two one other before after rises = record {
-    later = rises.later;
-    few = omega (arith, rises.few, most_of_two one other);
-  }
-
-  pub both : (one other : End) (before between after : ℕ) → Rises setting bound (one ∷ []) before between →
-      Rises setting bound (other ∷ []) between after →
-      Rises setting bound (one ∷ other ∷ []) before after
-  both one other before between after first second = record {
-    later = omega (arith, first.later, second.later);
-    few = omega (arith, first.few, second.few, most_of_two one other);
-  }
-
   pub in_site : (site : Site) (ends : List End) (before after : ℕ) → ends_of site ≡ ends →
       Rises setting bound ends before after → Rises setting bound (ends_of site) before after
   in_site site ends before after e rises = subst (λ ends. Rises setting bound ends before after) (sym e) rises
+
+  module _ (site : Site) (one other : End) (are : ends_of site ≡ one ∷ other ∷ []) where
+    pub one_of_two : (before after : ℕ) → Rises setting bound (one ∷ []) before after →
+        Rises setting bound (ends_of site) before after
+    one_of_two before after rises = in_site site (one ∷ other ∷ []) before after are (record {
+      later = rises.later;
+      few = omega (arith, rises.few, most_of_two one other);
+    })
+
+    pub both : (before between after bound_then : ℕ) → bound_then ≡ bound →
+        Rises setting bound (one ∷ []) before between → Rises setting bound_then (other ∷ []) between after →
+        Rises setting bound (ends_of site) before after
+    both before between after bound_then kept first then =
+        let second = subst (λ b. Rises setting b (other ∷ []) between after) kept then in
+        in_site site (one ∷ other ∷ []) before after are (record {
+          later = omega (arith, first.later, second.later);
+          few = omega (arith, first.few, second.few, most_of_two one other);
+        })
 
   same_entry : (place : ℕ) (one other : Unit) → slice_get setting.units place ≡ Some one →
       slice_get setting.units place ≡ Some other → one ≡ other

@@ -1,5 +1,5 @@
 -- The ranked ligands of a root, and the outcome of a unit by its ranked roots. Own.
-use Rattle.std.specs.Prelude.{◌≤◌, ◌+◌, length, ℕ, Bool, true, false, List, [], ◌∷◌, ◌++◌, Some, nat_lt}
+use Rattle.std.specs.Prelude.{◌≤◌, ◌+◌, length, ℕ, Bool, true, false, List, [], ◌∷◌, ◌++◌, Some, nat_lt, if◌then◌else◌}
 use Rattle.std.specs.declared.cmp.Ordering.TheVariants.{Equal}
 use Rattle.cip_mol.specs.declared.descriptor.Sense.{Sense}
 use Rattle.cip_mol.specs.declared.outcome.Outcome.{Outcome}
@@ -70,3 +70,7 @@ abbrev pub is_over : Ranked → Bool
 is_over Over = true
 is_over Tie = false
 is_over (Ordered places turned rule sphere) = false
+
+-- what is found of a second end, which isn't ranked where the first one is over the bound
+abbrev pub ranked_behind : Ranked → Ranked → Ranked
+ranked_behind one other = if is_over one then Over else other

@@ -1,6 +1,6 @@
 // The ranked ligands of a root.
 ghost use Rattle.std.specs.Prelude.{◌≡◌, ◌≤◌, ◌∷◌, [], true, IfOk, length};
-ghost use Rattle.cip_digraph.specs.units.Ends.{end_at};
+ghost use Rattle.cip_letters.specs.LentEnds.{as_end};
 ghost use Rattle.cip_label.specs.Fitting.{IsFit};
 ghost use Rattle.cip_label.specs.Labelling.{ranked_root};
 ghost use Rattle.cip_label.specs.Pairwise.{decided_each, ranked_in, ranked_once, turned_each};
@@ -12,7 +12,7 @@ use crate::places::{copied, ranked};
 use crate::reasons::reason_along;
 use crate::setting::Setting;
 use cip_digraph::Decision;
-use cip_mol::{Ligands, Places, Rule};
+use cip_mol::{End, Ligands, Places, Rule};
 use cip_rank::Steps;
 use std::alloc::{AllocError, Global};
 use std::sync::ledger::Ledger;
@@ -36,23 +36,21 @@ pub fn rank_root<D: Digraphs, L: Ledger>(
     alloc: Global,
     digraphs: &mut D,
     setting: &Setting<'_>,
-    root: u32,
-    ligands: &Ligands,
+    root: End<'_>,
     steps: &mut Steps<L>,
 ) -> Result<Ranked, AllocError>
-    requires fit { IsFit setting.now.graph root ligands.now }
+    requires fit { IsFit setting.now.graph root.at root.ligands.now }
     requires some { 1 ≤ D.bound digraphs.old }
-    ensures ranked { IfOk result (λ ranked. ranked ≡ ranked_root setting.now (D.bound digraphs.old)
-        (end_at root ligands.now)) }
+    ensures ranked { IfOk result (λ ranked. ranked ≡ ranked_root setting.now (D.bound digraphs.old) (as_end root.entry)) }
     ensures kept { D.bound digraphs.new ≡ D.bound digraphs.old }
-    ensures cost { Rises setting.now (D.bound digraphs.old) (end_at root ligands.now ∷ []) steps.old steps.new }
+    ensures cost { Rises setting.now (D.bound digraphs.old) (as_end root.entry ∷ []) steps.old steps.new }
 {
     // Reading the graph tells that it is sound.
     let _graph = setting.graph();
-    match digraphs.rank(alloc, setting, root, ligands, steps)? {
+    match digraphs.rank(alloc, setting, root.at, root.ligands, steps)? {
         Ranking::Over => Ok(Ranked::Over),
         Ranking::Tied => Ok(Ranked::Tie),
-        Ranking::Known => ranked_by(alloc, digraphs, ligands),
+        Ranking::Known => ranked_by(alloc, digraphs, root.ligands),
     }
 }
 

@@ -3,12 +3,12 @@ use Rattle.std.specs.Prelude.{◌≡◌, ℕ, List, [], ◌∷◌, ◌++◌, ◌
 use Rattle.std.specs.List.{list_any}
 use Rattle.cip_v3000.specs.JoinedLines.{JoinedLine}
 use Rattle.cip_v3000.specs.Tables.{Table}
-use Rattle.cip_groups.specs.declared.faults.GroupCause.TheVariants.{Repeated}
-use Rattle.cip_groups.specs.declared.groups.Group.{Group}
-use Rattle.cip_groups.specs.declared.kinds.GroupKind.{GroupKind}
-use Rattle.cip_groups.specs.Collections.{groups_of}
-use Rattle.cip_groups.specs.Grouping.{kinds_of}
-use Rattle.cip_groups.specs.Names.{same_kind}
+use Rattle.cip_collections.specs.declared.faults.GroupCause.TheVariants.{Repeated}
+use Rattle.cip_collections.specs.declared.groups.Group.{Group}
+use Rattle.cip_collections.specs.declared.kinds.GroupKind.{GroupKind}
+use Rattle.cip_collections.specs.Collections.{groups_of}
+use Rattle.cip_collections.specs.Grouping.{kinds_of}
+use Rattle.cip_collections.specs.Names.{same_kind}
 use Rattle.cip_laws.specs.GroupLines.{collected, group_lines, lines_of, atoms_in, repeats}
 
 -- some group of this name is there

@@ -8,11 +8,11 @@ use Rattle.cip_v3000.specs.Frames.{is_frame}
 use Rattle.cip_v3000.specs.Grammar.{words_in}
 use Rattle.cip_v3000.specs.JoinedLines.{JoinedLine}
 use Rattle.cip_v3000.specs.Tables.{Table}
-use Rattle.cip_groups.specs.declared.faults.GroupCause.{GroupCause}
-use Rattle.cip_groups.specs.declared.groups.Group.{Group}
-use Rattle.cip_groups.specs.declared.kinds.GroupKind.{GroupKind}
-use Rattle.cip_groups.specs.AtomLists.{names_of, atoms_of}
-use Rattle.cip_groups.specs.Names.{kind_of}
+use Rattle.cip_collections.specs.declared.faults.GroupCause.{GroupCause}
+use Rattle.cip_collections.specs.declared.groups.Group.{Group}
+use Rattle.cip_collections.specs.declared.kinds.GroupKind.{GroupKind}
+use Rattle.cip_collections.specs.AtomLists.{names_of, atoms_of}
+use Rattle.cip_collections.specs.Names.{kind_of}
 
 -- a line of these words stands in a collection that is open
 abbrev pub stands_in : Bool → List (List ℕ) → Bool

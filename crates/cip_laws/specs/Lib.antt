@@ -18,5 +18,7 @@ pub mod TieLaw
 pub mod TurnedBonds
 pub mod VertexImages
 pub mod WorkedFurtherLabels
+pub mod WorkedLabels
 pub mod WorkedNumberings
+pub mod WorkedRecords
 pub mod WorkedRenumbering

@@ -1,9 +1,9 @@
 -- Records that two definitions read, and records that are written mirrored. Own, after IUPAC 2013, P-92.
 use Rattle.std.specs.Prelude.{◌≡◌, ℕ, List}
-use Rattle.cip_mirror.specs.Answers.{mirror_answer, GivesReflected}
-use Rattle.cip_mirror.specs.declared.answers.MirrorAnswer.TheVariants.{Written}
+use Rattle.cip_change.specs.Answers.{mirror_answer, GivesReflected}
+use Rattle.cip_change.specs.declared.mirror_answers.MirrorAnswer.TheVariants.{Written}
 use Rattle.cip_rank.specs.declared.rules.Rules.{Rules}
-use Rattle.cip_record.specs.Answers.{answer_by}
+use Rattle.cip_answer.specs.Answers.{answer_by}
 use Rattle.cip_laws.specs.Records.{AnswersMirror}
 use Rattle.cip_v3000.specs.Grammar.{molecule_of}
 use Rattle.cip_v3000.specs.Tables.{table_of, drawn}

@@ -15,7 +15,7 @@ use Rattle.cip_print.specs.declared.answer.Answer.{Answer}
 use Rattle.cip_print.specs.declared.answer.Answer.TheVariants.{Labelled}
 use Rattle.cip_print.specs.declared.answer.UnitAnswer.{UnitAnswer}
 use Rattle.cip_print.specs.Naming.{name_of}
-use Rattle.cip_record.specs.Answers.{answer_by}
+use Rattle.cip_answer.specs.Answers.{answer_by}
 use Rattle.cip_molfile.specs.Molecules.{read_molecule}
 
 -- a record is read as this molecule

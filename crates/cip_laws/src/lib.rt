@@ -34,4 +34,4 @@ pub use renumbering::{
 pub use rings::delocalised_atoms_lie_in_rings;
 pub use tables::{elements_are_written, help_is_written};
 pub use ties::{lone_pairs_tie_with_nothing, ties_are_same_trees};
-pub use worked::worked_further_is_labelled;
+pub use worked::{worked_further_is_labelled, worked_records_have_labels};

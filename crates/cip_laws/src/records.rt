@@ -30,7 +30,7 @@ pub fn records_mirror()
 {}
 
 /// What is written for a record that is to be mirrored is read as its mirror image.
-#[tactic(auto, using(cip_mirror::proofs::MirrorReads::mirror_reads))]
+#[tactic(auto, using(cip_change::proofs::MirrorReads::mirror_reads))]
 pub fn mirrored_records_are_read()
     ensures { MirroredRecordsAreRead }
 {}

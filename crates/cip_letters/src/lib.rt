@@ -4,11 +4,9 @@
 mod marking;
 mod naming;
 mod places;
-mod sides;
 mod turns;
 
 pub use marking::MarkedUnits;
 pub use naming::{letter, named};
-pub use places::turns_in;
-pub use sides::{BothSides, MOST_PAIRS, has_tie, turns_from};
-pub use turns::{Turns, both};
+pub use places::{MOST_PAIRS, turns_in};
+pub use turns::{Turns, both, is_odd};

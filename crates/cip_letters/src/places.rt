@@ -7,6 +7,9 @@ ghost use Rattle.cip_letters.specs.TurnsOf.{places_turns};
 use crate::turns::{Turns, is_odd};
 use cip_mol::Places;
 
+/// How many pairs four ligands have. Those of more take memory.
+pub const MOST_PAIRS: usize = 6;
+
 /// How the places of an end's ligands in rank order turn the sense, with R and with S first in the last rule.
 pub fn turns_in(places: &Places, turned: &Places) -> Turns
     ensures { result ≡ places_turns places.now turned.now }

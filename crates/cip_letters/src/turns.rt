@@ -20,8 +20,9 @@ pub fn both(one: Turns, other: Turns) -> Turns
     }
 }
 
+/// Whether a number is odd.
 #[tactic(auto, using(crate::proofs::Odd::odd_is))]
-pub(crate) fn is_odd(number: usize) -> bool
+pub fn is_odd(number: usize) -> bool
     ensures { result ≡ is_odd number }
 {
     number % 2 == 1

@@ -31,7 +31,7 @@ impl Table {
     {
         let mut rows = Vec::with_capacity(alloc, atoms)?;
         for _ in 0..atoms {
-            rows.push(Row::new())?;
+            rows.push_reserved(Row::new());
         }
         Ok(Table { rows })
     }

@@ -4,7 +4,7 @@ ghost use Rattle.cip_text.specs.Slices.{texts};
 ghost use Rattle.cip_digraph.specs.graph.DrawnGraph.{graph_of};
 ghost use Rattle.cip_digraph.specs.rings.Positions.{positions_of};
 ghost use Rattle.cip_digraph.specs.units.DrawnUnits.{units_in};
-ghost use Rattle.cip_molfile.specs.Drawings.{Fit};
+ghost use Rattle.cip_molfile.specs.Drawings.{AreDrawnFrom, Fit};
 ghost use Rattle.cip_molfile.specs.Molecules.{read_molecule};
 
 use crate::reading::read_molecule;
@@ -21,9 +21,7 @@ use std::marker::Model;
 #[derive(Drop)]
 pub struct Drawn {
     molecule: Molecule,
-    graph: Graph,
-    positions: Positions,
-    units: Units,
+    found: Found,
 }
 
 impl Model for Drawn {
@@ -34,7 +32,31 @@ impl Model for Drawn {
 
     ghost view = { λ d. d.molecule };
 
-    ghost invariant = { λ d. AreDrawnFrom d.molecule d.graph d.positions d.units };
+    ghost invariant = { λ d. AreDrawnFrom d.molecule d.found.graph d.found.positions d.found.units };
+}
+
+// What is found in a drawing.
+#[derive(Drop)]
+struct Found {
+    graph: Graph,
+    positions: Positions,
+    units: Units,
+}
+
+// The molecule stays with the caller, so that no end gives it back.
+fn found_in(alloc: Global, molecule: &Molecule) -> Result<Found, AllocError>
+    ensures { IfOk result (λ found. AreDrawnFrom molecule.now found.graph found.positions found.units) }
+{
+    // Reading the atoms tells that there are few.
+    let _atoms = molecule.atoms();
+    let graph = graph_of(alloc, molecule)?;
+    let positions = positions(alloc, &graph)?;
+    let units = units(alloc, molecule, &graph, &positions)?;
+    Ok(Found {
+        graph,
+        positions,
+        units,
+    })
 }
 
 impl Drawn {
@@ -42,17 +64,8 @@ impl Drawn {
     pub fn of(alloc: Global, molecule: Molecule) -> Result<Drawn, AllocError>
         ensures { IfOk result (λ drawn. drawn ≡ molecule) }
     {
-        // Reading the atoms tells that there are few.
-        let _atoms = molecule.atoms();
-        let graph = graph_of(alloc, &molecule)?;
-        let positions = positions(alloc, &graph)?;
-        let units = units(alloc, &molecule, &graph, &positions)?;
-        Ok(Drawn {
-            molecule,
-            graph,
-            positions,
-            units,
-        })
+        let found = found_in(alloc, &molecule)?;
+        Ok(Drawn { molecule, found })
     }
 
     /// What the lines of a record before its terminator line draw, or why they are refused. The record has no label
@@ -79,14 +92,14 @@ impl Drawn {
     pub fn graph(&self) -> &Graph
         ensures { result.now ≡ graph_of self.now }
     {
-        &self.graph
+        &self.found.graph
     }
 
     /// Where the double bonds of its alternating atoms can stand.
     pub fn positions(&self) -> &Positions
         ensures { result.now ≡ positions_of (graph_of self.now) }
     {
-        &self.positions
+        &self.found.positions
     }
 
     /// Its units, each with what the drawing shows of it.
@@ -94,6 +107,6 @@ impl Drawn {
         ensures value { result.now ≡ units_in self.now }
         ensures fit { Fit self.now }
     {
-        &self.units
+        &self.found.units
     }
 }

@@ -1,14 +1,9 @@
-//! The answer to a record: the outcome of each stereogenic unit, or why the record is refused.
+//! The calls that answer a single record, in memory of their own.
 #![tactic(auto)]
 
-mod answering;
-mod colours;
-mod images;
-mod laws;
-mod units;
+mod axes;
+mod labelling;
 
-pub use answering::{RecordLabeller, is_flagged, label_record, label_within};
-pub use cip_molfile::read_molecule;
-pub use laws::{
-    lines_behind_change_nothing, worked_records_are_answered, worked_records_have_labels,
-};
+pub use axes::axes_text;
+pub use cip_answer::{AxesText, is_flagged, read_molecule};
+pub use labelling::label_record;

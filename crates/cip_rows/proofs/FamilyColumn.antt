@@ -17,6 +17,13 @@ place_count places kin is =
     let ups : length (map (λ (p : Place). p.up) places.items) ≡ length places.items = simp length-map in
     sym (ap (λ (k : Kin). length k.ups) is) ∙ ups
 
+-- a place of the family is one of the column, as it is lent
+pub place_within : (places : Reserved Place) (kin : Kin) → kin_of places ≡ kin → (lent : List Place)
+    → lent ≡ places.items → (place : ℕ) → place < length kin.ups → place < length lent
+place_within places kin view lent same place within =
+    let count = place_count places kin view in
+    subst (λ ps. place < length ps) (sym same) (omega (arith, within, count))
+
 pub kids_within : (places : Reserved Place) → KeepKin places → (kin : Kin) → kin_of places ≡ kin → (lent : List Place)
     → lent ≡ places.items → (at : ℕ) → at < length kin.ups
     → (slice_index_or lent at none).first + (slice_index_or lent at none).count ≤ length places.items

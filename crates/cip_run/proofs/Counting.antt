@@ -1,12 +1,12 @@
 -- Answers to made records, counted batch by batch.
-use Rattle.std.proofs.Common.{◌≡◌, ℕ, List, [], ◌∷◌, ◌++◌, Bool, ◌||◌, sym, ap, ◌∙◌, append_assoc, append-nil, fold, map}
+use Rattle.std.proofs.Common.{◌≡◌, List, [], ◌∷◌, ◌++◌, Bool, ◌||◌, sym, ap, ◌∙◌, append_assoc, append-nil, fold, map}
 use Rattle.std.proofs.Math.Bool.{or-false}
 use Rattle.std.proofs.lemmas.List.Folds.{list_any-append}
 use Rattle.std.proofs.lemmas.List.Sums.{fold-append}
 use Rattle.cip_print.specs.declared.answer.Answer.{Answer}
 use Rattle.cip_print.specs.Tallies as tallies
 use Rattle.cip_print.specs.Tallies.{Counts}
-use Rattle.cip_record.specs.Answers.{is_flagged}
+use Rattle.cip_answer.specs.Answers.{is_flagged}
 use Rattle.cip_run.specs.declared.series.Numbered.{Numbered}
 use Rattle.cip_run.specs.Trying.{Counted, answer_of, counted, some_flagged, with_one}
 

@@ -18,7 +18,7 @@ use Rattle.cip_item.proofs.Made.{IsMade}
 use Rattle.cip_print.specs.Values.{values_of}
 use Rattle.cip_print.proofs.Fit.{values_are_fit}
 use Rattle.cip_rank.specs.declared.rules.Rules.{Rules}
-use Rattle.cip_record.specs.Answers.{answer_by, is_flagged}
+use Rattle.cip_answer.specs.Answers.{answer_by, is_flagged}
 use Rattle.cip_stream.specs.declared.limits.Limits.{Limits}
 use Rattle.cip_stream.specs.Due.{are_flagged, due, texts_from, verdict_from}
 use Rattle.cip_stream.specs.Limits.{limit_place, answered}

@@ -2,15 +2,15 @@
 use Rattle.std.proofs.Common.{◌≡◌, ◌==◌, ℕ, List, Bool, true, false, refl, sym, ◌∙◌, ap, if◌then◌else◌}
 use Rattle.cip_item.proofs.Walking.{itself}
 use Rattle.cip_item.specs.Parts.{has_label_item, without_label_items}
-use Rattle.cip_mirror.proofs.MirrorReads.{mirror_reads}
-use Rattle.cip_mirror.specs.Answers.{GivesReflected, mirror_answer}
-use Rattle.cip_mirror.specs.declared.answers.MirrorAnswer.{MirrorAnswer}
-use Rattle.cip_mirror.specs.declared.answers.MirrorAnswer.TheVariants as mirrored
+use Rattle.cip_change.proofs.MirrorReads.{mirror_reads}
+use Rattle.cip_change.specs.Answers.{GivesReflected, mirror_answer}
+use Rattle.cip_change.specs.declared.mirror_answers.MirrorAnswer.{MirrorAnswer}
+use Rattle.cip_change.specs.declared.mirror_answers.MirrorAnswer.TheVariants as mirrored
 use Rattle.cip_mol.specs.declared.centre_letter.CentreLetter.{CentreLetter}
-use Rattle.cip_set.proofs.SetReads.{set_records_are_read}
-use Rattle.cip_set.specs.SetAnswers.{GivesLetter, set_answer}
-use Rattle.cip_set.specs.declared.answers.SetAnswer.{SetAnswer}
-use Rattle.cip_set.specs.declared.answers.SetAnswer.TheVariants as sets
+use Rattle.cip_change.proofs.SetReads.{set_records_are_read}
+use Rattle.cip_change.specs.SetAnswers.{GivesLetter, set_answer}
+use Rattle.cip_change.specs.declared.set_answers.SetAnswer.{SetAnswer}
+use Rattle.cip_change.specs.declared.set_answers.SetAnswer.TheVariants as sets
 use Rattle.cip_stream.specs.Batches.{Telling, telling}
 use Rattle.cip_words.specs.Ranges.{Labelling}
 use Rattle.cip_words.specs.declared.settings.Task.{Task}

@@ -1,14 +1,14 @@
 -- What becomes of the records of a stream in which one is to have a letter, or all are to be reflected. Own.
 use Rattle.std.specs.Prelude.{◌==◌, ℕ, List, Some, None, if◌then◌else◌}
 use Rattle.std.specs.declared.option.Option.{Option}
-use Rattle.cip_mirror.specs.Answers.{mirror_answer}
-use Rattle.cip_mirror.specs.declared.answers.MirrorAnswer.{MirrorAnswer}
-use Rattle.cip_mirror.specs.declared.answers.MirrorAnswer.TheVariants as mirrors
+use Rattle.cip_change.specs.Answers.{mirror_answer}
+use Rattle.cip_change.specs.declared.mirror_answers.MirrorAnswer.{MirrorAnswer}
+use Rattle.cip_change.specs.declared.mirror_answers.MirrorAnswer.TheVariants as mirrors
 use Rattle.cip_mol.specs.declared.centre_letter.CentreLetter.{CentreLetter}
 use Rattle.cip_rank.specs.declared.rules.Rules.{Rules}
-use Rattle.cip_set.specs.SetAnswers.{set_answer}
-use Rattle.cip_set.specs.declared.answers.SetAnswer.{SetAnswer}
-use Rattle.cip_set.specs.declared.answers.SetAnswer.TheVariants as sets
+use Rattle.cip_change.specs.SetAnswers.{set_answer}
+use Rattle.cip_change.specs.declared.set_answers.SetAnswer.{SetAnswer}
+use Rattle.cip_change.specs.declared.set_answers.SetAnswer.TheVariants as sets
 use Rattle.cip_run.specs.declared.ending.Missed.TheVariants.{NotSet, NotMirrored}
 use Rattle.cip_run.specs.declared.ending.Note.{Note}
 use Rattle.cip_run.specs.declared.ending.Note.TheVariants.{Changed, Missing}

@@ -1,7 +1,7 @@
 -- What is told of a record, by what is asked. Own.
 use Rattle.std.specs.Prelude.{ℕ, List, Bool, true, false, None}
-use Rattle.cip_axis_text.specs.AxesTexts.{are_axes_flagged, axes_of}
-use Rattle.cip_groups.specs.Texts as groups
+use Rattle.cip_answer.specs.AxesTexts.{are_axes_flagged, axes_of}
+use Rattle.cip_collections.specs.Texts as groups
 use Rattle.cip_item.specs.Parts.{without_label_items}
 use Rattle.cip_item.specs.Putting.{with_item}
 use Rattle.cip_mol.specs.declared.centre_letter.CentreLetter.{CentreLetter}
@@ -9,7 +9,7 @@ use Rattle.cip_print.specs.declared.answer.Answer.{Answer}
 use Rattle.cip_print.specs.Explaining as telling
 use Rattle.cip_print.specs.Values.{values_of}
 use Rattle.cip_rank.specs.declared.rules.Rules.{Rules}
-use Rattle.cip_record.specs.Answers.{answer_by, is_flagged}
+use Rattle.cip_answer.specs.Answers.{answer_by, is_flagged}
 use Rattle.cip_stream.specs.Manner.{Manner}
 use Rattle.cip_stream.specs.declared.verdict.Verdict.{Verdict}
 use Rattle.cip_words.specs.Ranges.{Labelling}

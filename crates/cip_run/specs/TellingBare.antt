@@ -1,13 +1,13 @@
 -- What is told of a record that has no label items. Own.
 use Rattle.std.specs.Prelude.{◌==◌, ℕ, List, if◌then◌else◌}
-use Rattle.cip_axis_text.specs.AxesTexts.{axes_without_items, is_flagged_without_items}
-use Rattle.cip_groups.specs.Texts as groups
-use Rattle.cip_mirror.specs.Answers as mirrors
+use Rattle.cip_answer.specs.AxesTexts.{axes_without_items, is_flagged_without_items}
+use Rattle.cip_collections.specs.Texts as groups
+use Rattle.cip_change.specs.Answers as mirrors
 use Rattle.cip_mol.specs.declared.centre_letter.CentreLetter.{CentreLetter}
 use Rattle.cip_print.specs.declared.answer.Answer.{Answer}
 use Rattle.cip_print.specs.Explaining as telling
-use Rattle.cip_record.specs.Answers.{answer_without_items, is_flagged}
-use Rattle.cip_set.specs.SetAnswers.{set_without_items}
+use Rattle.cip_answer.specs.Answers.{answer_without_items, is_flagged}
+use Rattle.cip_change.specs.SetAnswers.{set_without_items}
 use Rattle.cip_stream.specs.Batches.{Telling}
 use Rattle.cip_words.specs.Ranges.{Labelling}
 use Rattle.cip_words.specs.declared.settings.Task.{Task}

@@ -9,7 +9,7 @@ use Rattle.cip_print.specs.declared.answer.Answer.{Answer}
 use Rattle.cip_print.specs.Tallies as tallies
 use Rattle.cip_print.specs.Tallies.{Counts, tally, summary_line}
 use Rattle.cip_rank.specs.declared.rules.Rules.{Rules}
-use Rattle.cip_record.specs.Answers.{answer_by, is_flagged}
+use Rattle.cip_answer.specs.Answers.{answer_by, is_flagged}
 use Rattle.cip_stream.specs.declared.stop.Stop.{Stop}
 use Rattle.cip_stream.specs.declared.stop.Stop.TheVariants as stops
 use Rattle.cip_stream.specs.Endings.{Grew}

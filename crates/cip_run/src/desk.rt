@@ -1,19 +1,19 @@
 // What a worker keeps from record to record.
 ghost use Rattle.std.specs.Prelude.{◌≡◌, ◌≤◌, ◌<◌, ◌-◌, ◌^◌, IfOk, OnOk, length};
-ghost use Rattle.cip_axis_text.specs.AxesTexts.{axes_without_items, is_flagged_without_items};
-ghost use Rattle.cip_groups.specs.Texts.{told_without_items, with_number};
+ghost use Rattle.cip_answer.specs.AxesTexts.{axes_without_items, is_flagged_without_items};
+ghost use Rattle.cip_collections.specs.Texts.{told_without_items, with_number};
 ghost use Rattle.cip_print.specs.Values.{HasRoom};
-ghost use Rattle.cip_record.specs.Answers.{answer_by, answer_without_items};
-ghost use Rattle.cip_set.specs.SetAnswers.{set_without_items, IsFew};
+ghost use Rattle.cip_answer.specs.Answers.{answer_by, answer_without_items};
+ghost use Rattle.cip_change.specs.SetAnswers.{set_without_items, IsFew};
 
-use cip_axis_text::{AxesText, axes_text_within};
-use cip_groups::{GroupText, group_text_within};
+use cip_answer::{AxesText, axes_text_within, label_within};
+use cip_change::{SetAnswer, set_within};
+use cip_collections::{GroupText, group_text_within};
+use cip_desk::RecordLabeller;
 use cip_item::without_label_items;
 use cip_mol::CentreLetter;
 use cip_print::Answer;
 use cip_rank::Rules;
-use cip_record::{RecordLabeller, label_within};
-use cip_set::{SetAnswer, set_within};
 use cip_text::RecordLines;
 use std::alloc::{AllocError, Global};
 use std::marker::Model;

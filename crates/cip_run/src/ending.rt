@@ -5,7 +5,7 @@ ghost use Rattle.cip_run.specs.Endings.{ending_after, ending_of, line_of, missed
 use crate::status::{
     DONE, FLAGGED, LIMIT, NOT_CHANGED, OUT_OF_MEMORY, READ_FAULT, WORDS_REFUSED, WRITE_FAULT,
 };
-use cip_set::SetRefusal;
+use cip_change::SetRefusal;
 use cip_stream::{Stop, Verdict};
 use cip_words::Task;
 

@@ -3,18 +3,18 @@ ghost use Rattle.std.specs.Prelude.{◌≡◌, ◌≤◌, ◌<◌, ◌-◌, ◌^
 ghost use Rattle.cip_stream.specs.Batches.{telling};
 ghost use Rattle.cip_print.specs.Explaining.{explained};
 ghost use Rattle.cip_print.specs.Values.{HasRoom};
-ghost use Rattle.cip_record.specs.Answers.{is_flagged};
+ghost use Rattle.cip_answer.specs.Answers.{is_flagged};
 ghost use Rattle.cip_run.specs.Telling.{manner_of, plainly, with_answer};
 ghost use Rattle.cip_run.specs.TellingBare.{annotate_change, axes_bare, explain_bare, groups_bare, mirror_bare, set_bare, told_bare};
 
 use crate::asked::Asked;
 use crate::desk::Desk;
 use crate::ending::{Missed, Note};
+use cip_answer::is_flagged;
+use cip_change::{MirrorAnswer, SetAnswer, mirror_lines};
 use cip_item::{has_label_item, lines_with_item, lines_without_label_items};
 use cip_mol::CentreLetter;
 use cip_print::{Answer, explain_text, item_values};
-use cip_record::is_flagged;
-use cip_set::{MirrorAnswer, SetAnswer, mirror_lines};
 use cip_stream::{Teller, Told, Verdict};
 use cip_text::RecordLines;
 use cip_words::{Labelling, Task};
@@ -68,8 +68,25 @@ impl Asked {
         let bare = lines_without_label_items(alloc, &lines)?;
         // the lines of the record go before those of its copy come: a record has up to 16 million
         drop(lines);
-        let lines = RecordLines::new(alloc, &bare)?;
-        self.tell_lines(alloc, desk, number, &lines)
+        self.tell_bare(alloc, desk, number, &bare)
+    }
+
+    // What is told of a copy without label items, which stays with the caller.
+    fn tell_bare(
+        &self,
+        alloc: Global,
+        desk: &mut Desk,
+        number: u64,
+        bytes: &[u8],
+    ) -> Result<Told<Note>, AllocError>
+        requires few { length bytes.now ≤ 2 ^ 31 }
+        requires fit { desk.old ≡ self.now.labelling.nodes }
+        ensures { IfOk result (λ told. told ≡ told_bare self.now.labelling self.now.task number bytes.now) }
+    {
+        let lines = RecordLines::new(alloc, bytes)?;
+        let told = self.tell_lines(alloc, desk, number, &lines);
+        drop(lines);
+        told
     }
 
     // What is told of a record without label items.

@@ -5,11 +5,11 @@ ghost use Rattle.cip_run.specs.Trying.{answer_of, answers_to, counted, with_one,
 
 use crate::desk::Desk;
 use crate::series::{Numbered, Trial};
+use cip_answer::is_flagged;
 use cip_batch::{Gate, Job, Worker, map_batch};
 use cip_io::{Sink, push_all};
 use cip_make::record;
 use cip_print::{Answer, Tally};
-use cip_record::is_flagged;
 use cip_stream::{Crew, Stop};
 use std::alloc::{AllocError, Global};
 use std::marker::Model;

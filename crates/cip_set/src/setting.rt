@@ -1,34 +1,14 @@
-// A record in which a centre is to have a letter.
+// A single record in which a centre is to have a letter.
 ghost use Rattle.std.specs.Prelude.{◌≡◌, ◌≤◌, ◌<◌, ◌-◌, ◌^◌, IfOk, length};
-ghost use Rattle.cip_mol.specs.Drawing.{Drawing};
-ghost use Rattle.cip_set.specs.Marking.{with_mark};
-ghost use Rattle.cip_set.specs.SetLetters.{mark_asked};
-ghost use Rattle.cip_mirror.specs.Changed.{changed_record};
-ghost use Rattle.cip_set.specs.SetAnswers.{refusal_of, set_answer, set_drawn, set_marked, set_without_items, GivesLetter, IsFew};
+ghost use Rattle.cip_change.specs.SetAnswers.{set_answer, set_without_items, GivesLetter, IsFew};
 
-use crate::answers::{SetAnswer, SetRefusal};
-use crate::asking::mark_asked;
-use crate::letter::{CentreRefusal, Marked, Request};
-use crate::marking::with_mark;
+use cip_change::{SetAnswer, set_within};
 use cip_desk::{Errand, run_once};
-use cip_item::without_label_items;
 use cip_label::{Digraphs, Labeller};
-use cip_mirror::changed_record;
-use cip_mol::{CentreLetter, Molecule};
-use cip_molfile::Drawn;
+use cip_mol::CentreLetter;
 use cip_rank::Rules;
-use cip_record::RecordLabeller;
-use cip_text::{Bytes, RecordLines};
-use cip_v2000::is_v3000;
+use cip_text::RecordLines;
 use std::alloc::{AllocError, Global};
-
-// A letter that is asked for the centre at an atom, counted from 1, and by which wording of the rules it is labelled.
-#[derive(Clone, Copy)]
-struct Asked {
-    atom: u32,
-    letter: CentreLetter,
-    rules: Rules,
-}
 
 /// The record, without label items, in which the centre at an atom, counted from 1, has the asked letter, by a mark at
 /// its first ligand that can be marked. No digraph may have more than `nodes` nodes.
@@ -47,176 +27,34 @@ pub fn set_letter(
     ensures gives { IfOk result (λ answer. GivesLetter rules nodes atom letter bytes.now answer) }
     ensures few { IfOk result (λ answer. IsFew bytes.now answer) }
 {
-    let bare = without_label_items(alloc, bytes)?;
-    let lines = RecordLines::new(alloc, &bare)?;
-    let asked = Asked {
+    let errand = LetterErrand {
         atom,
         letter,
         rules,
     };
-    set_once(alloc, &lines, asked, nodes)
+    run_once(alloc, bytes, nodes, &errand)
 }
 
-// In memory that is reserved for this record alone.
-fn set_once(
-    alloc: Global,
-    lines: &RecordLines,
-    asked: Asked,
-    nodes: u32,
-) -> Result<SetAnswer, AllocError>
-    requires few { length lines.now < 2 ^ 32 - 1 }
-    requires some { 1 ≤ nodes }
-    requires bounded { nodes ≤ 1000000 }
-    ensures { IfOk result (λ answer. answer
-        ≡ set_without_items asked.rules nodes asked.atom asked.letter lines.now) }
-{
-    run_once(alloc, nodes, &SetErrand { lines, asked })
+// A letter that is asked for the centre at an atom, counted from 1, and by which wording of the rules it is labelled.
+#[derive(Clone, Copy)]
+struct LetterErrand {
+    atom: u32,
+    letter: CentreLetter,
+    rules: Rules,
 }
 
-// A record without label items in which a centre is to have a letter.
-#[derive(Drop)]
-struct SetErrand<'a, 'b> {
-    lines: &'a RecordLines<'b>,
-    asked: Asked,
-}
-
-impl Errand for SetErrand<'_, '_> {
+impl Errand for LetterErrand {
     type Answer = SetAnswer;
 
-    ghost may = { λ errand. length errand.lines.now < 2 ^ 32 - 1 };
-
-    ghost answers = { λ errand bound answer.
-        answer ≡ set_without_items errand.asked.rules bound errand.asked.atom errand.asked.letter errand.lines.now };
+    ghost answers = { λ errand bound bytes answer.
+        answer ≡ set_without_items errand.rules bound errand.atom errand.letter bytes };
 
     fn run<D: Digraphs>(
         &self,
         alloc: Global,
         labeller: &mut Labeller<D>,
+        lines: &RecordLines,
     ) -> Result<SetAnswer, AllocError> {
-        set_lines(alloc, labeller, self.lines, self.asked)
-    }
-}
-
-/// The same of a record that has no label items, with its lines at hand, in memory that was reserved before: once for
-/// many records.
-pub fn set_within(
-    alloc: Global,
-    labeller: &mut RecordLabeller,
-    lines: &RecordLines,
-    atom: u32,
-    letter: CentreLetter,
-    rules: Rules,
-) -> Result<SetAnswer, AllocError>
-    requires few { length lines.now < 2 ^ 32 - 1 }
-    ensures answer { IfOk result (λ answer. answer ≡ set_without_items rules labeller.old atom letter lines.now) }
-    ensures few { IfOk result (λ answer. IsFew lines.now answer) }
-    ensures kept { labeller.new ≡ labeller.old }
-{
-    let asked = Asked {
-        atom,
-        letter,
-        rules,
-    };
-    set_lines(alloc, labeller, lines, asked)
-}
-
-// Whoever grows and ranks the digraphs: a desk is large, so only the calls above name one.
-#[tactic(auto, unfolding(crate::specs::SetAnswers::set_without_items))]
-fn set_lines<D: Digraphs>(
-    alloc: Global,
-    labeller: &mut Labeller<D>,
-    lines: &RecordLines,
-    asked: Asked,
-) -> Result<SetAnswer, AllocError>
-    requires few { length lines.now < 2 ^ 32 - 1 }
-    ensures answer { IfOk result (λ answer. answer
-        ≡ set_without_items asked.rules labeller.old asked.atom asked.letter lines.now) }
-    ensures kept { labeller.new ≡ labeller.old }
-{
-    match Drawn::read(alloc, lines.contents())? {
-        Ok(drawn) => {
-            let answer = answer_drawn(alloc, labeller, lines, &drawn, asked);
-            // given back by a call of its own, which is quicker to prove than an end that owns it
-            drop(drawn);
-            answer
-        }
-        Err(fault) => Ok(SetAnswer::Refused(SetRefusal::Grammar(fault))),
-    }
-}
-
-// Of what these lines draw.
-fn answer_drawn<D: Digraphs>(
-    alloc: Global,
-    labeller: &mut Labeller<D>,
-    lines: &RecordLines,
-    drawn: &Drawn,
-    asked: Asked,
-) -> Result<SetAnswer, AllocError>
-    ensures answer { IfOk result (λ answer. answer
-        ≡ set_drawn asked.rules labeller.old asked.atom asked.letter lines.now drawn.now) }
-    ensures kept { labeller.new ≡ labeller.old }
-{
-    if is_v3000(lines.contents()) {
-        return Ok(SetAnswer::Refused(SetRefusal::OnlyV2000));
-    }
-    if asked.atom == 0 {
-        return Ok(SetAnswer::Refused(SetRefusal::NoCentre));
-    }
-    let request = Request {
-        atom: asked.atom - 1,
-        letter: asked.letter,
-        rules: asked.rules,
-    };
-    set_mark(alloc, labeller, drawn, request, lines.bytes())
-}
-
-// The record with the mark that is answered, where one is.
-fn set_mark<D: Digraphs>(
-    alloc: Global,
-    labeller: &mut Labeller<D>,
-    drawn: &Drawn,
-    request: Request,
-    bytes: &[u8],
-) -> Result<SetAnswer, AllocError>
-    ensures answer { IfOk result (λ answer. answer
-        ≡ set_marked bytes.now drawn.now request.atom
-        (mark_asked request.rules labeller.old drawn.now request.atom request.letter)) }
-    ensures kept { labeller.new ≡ labeller.old }
-{
-    match mark_asked(alloc, labeller, drawn, request)? {
-        Ok(marked) => {
-            let text = changed(alloc, drawn.molecule(), request.atom, marked, bytes)?;
-            Ok(SetAnswer::Written(Bytes::from_vec(text)))
-        }
-        Err(refusal) => Ok(SetAnswer::Refused(refusal_of(refusal))),
-    }
-}
-
-// The record of a molecule with this mark at the centre at an atom, counted from 0.
-fn changed(
-    alloc: Global,
-    molecule: &Molecule,
-    atom: u32,
-    marked: Marked,
-    bytes: &[u8],
-) -> Result<Vec<u8>, AllocError>
-    ensures { IfOk result (λ text. text.items
-        ≡ changed_record molecule.now (with_mark molecule.now atom marked.neighbour marked.mark).bonds bytes.now) }
-{
-    let drawn = with_mark(alloc, molecule, atom, marked.neighbour, marked.mark)?;
-    changed_record(alloc, molecule, drawn.bonds(), bytes)
-}
-
-fn refusal_of(refusal: CentreRefusal) -> SetRefusal
-    ensures { result ≡ refusal_of refusal }
-{
-    match refusal {
-        CentreRefusal::NoCentre => SetRefusal::NoCentre,
-        CentreRefusal::ThreeD => SetRefusal::ThreeD,
-        CentreRefusal::Coincident => SetRefusal::Coincident,
-        CentreRefusal::NoBond => SetRefusal::NoBond,
-        CentreRefusal::Over => SetRefusal::Over,
-        CentreRefusal::Tie => SetRefusal::Tie,
-        CentreRefusal::OtherKind { small } => SetRefusal::OtherKind { small },
+        set_within(alloc, labeller, lines, self.atom, self.letter, self.rules)
     }
 }

@@ -216,6 +216,13 @@ pub record IsJoined {N : Type 0} (manner : Manner N) (number : ℕ) (records : L
   pub told : verdict_from manner number (take count records) ≡ verdict
   pub text : TakesFront old new (texts_from manner number (take count records)) waiting
 
+pub none_joined : {N : Type 0} (manner : Manner N) (number : ℕ) (records : List (List ℕ)) (old : Option (List ℕ))
+    → IsJoined manner number records 0 clear [] old old
+none_joined manner number records old = record {
+  told = refl;
+  text = record { front = []; parts = refl; written = appends_none old };
+}
+
 pub one_joined : {N : Type 0} (manner : Manner N) (number : ℕ) (records : List (List ℕ)) (found : List (Telling N))
     (k : ℕ) (one : Telling N) (verdict : Verdict N) (waiting left : List ℕ) (old middle new : Option (List ℕ))
     → found ≡ told_from manner number records → k < length found

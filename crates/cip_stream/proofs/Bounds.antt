@@ -1,5 +1,5 @@
 -- Bounds on what is taken of a source.
-use Rattle.std.proofs.Common.{◌≤◌, ◌+◌, ℕ, List, ◌++◌, length, Some, None, Option, sym, ap, ◌∙◌, append_assoc, arith}
+use Rattle.std.proofs.Common.{◌≤◌, ◌+◌, ℕ, List, ◌++◌, length, Some, None, Option, [], refl, sym, ap, ◌∙◌, append_assoc, arith}
 use Rattle.std.proofs.lemmas.List.{length-append}
 use Rattle.std.specs.Io.KnownBytes.{Consumes}
 use Rattle.cip_stream.specs.Reading.{TakesAtMost}
@@ -11,6 +11,10 @@ consumes_both (Some a) None rest xs ys first second = absurd first
 consumes_both (Some a) (Some b) None xs ys first second = absurd second
 consumes_both (Some a) (Some b) (Some c) xs ys first second = first ∙ ap (λ s. xs ++ s) second
     ∙ sym (append_assoc xs ys c)
+
+pub takes_none : (most : ℕ) (left : Option (List ℕ)) → TakesAtMost most left left
+takes_none most None = record { bytes = []; few = omega arith; taken = tt }
+takes_none most (Some bytes) = record { bytes = []; few = omega arith; taken = refl }
 
 -- what was taken before, and what one more read took
 pub takes_more : (most room : ℕ) (left middle rest : Option (List ℕ)) (before : List ℕ) → Consumes left middle before

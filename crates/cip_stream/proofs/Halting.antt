@@ -1,5 +1,5 @@
 -- A run over a source, from its turns.
-use Rattle.std.proofs.Common.{◌≡◌, ◌<◌, ◌+◌, ◌-◌, ◌^◌, ◌++◌, [], ℕ, List, length, Option, Some, None, Result, Ok, Err, IfSome, subst, sym, ◌∙◌, ap, append-nil, arith}
+use Rattle.std.proofs.Common.{◌≡◌, ◌<◌, ◌+◌, ◌-◌, ◌^◌, ◌++◌, [], ℕ, List, length, Option, Some, None, Result, Ok, Err, IfSome, subst, sym, ◌∙◌, ap, append-nil, length-append, arith}
 use Rattle.cip_frame.specs.Framing.{Framing}
 use Rattle.cip_frame.specs.Records.{cut_of}
 use Rattle.cip_stream.specs.declared.limits.Limits.{Limits}
@@ -10,13 +10,18 @@ use Rattle.cip_stream.specs.declared.stop.Stop.TheVariants as stops
 use Rattle.cip_stream.specs.declared.verdict.Verdict.{Verdict}
 use Rattle.cip_stream.specs.Batches.{Answers, AnswersTail}
 use Rattle.cip_stream.specs.Endings.{EndsAs}
-use Rattle.cip_stream.specs.Halting.{AnswersHalted, AnswersLast, AnswersSource, ended_by}
+use Rattle.cip_stream.specs.Halting.{AnswersHalted, AnswersSource, ended_by}
 use Rattle.cip_stream.specs.Manner.{Manner}
 use Rattle.cip_stream.specs.Reading.{Brings, Halts, StandsStill, TakesAtMost}
 use Rattle.cip_stream.specs.Verdicts.{joined_result}
 use Rattle.cip_stream.proofs.Ending.{bounded, ended, limit_met, limited, read_fault, room_met, still_fed, stopped_at_limit, stopped_fed, turn_failed}
 use Rattle.cip_stream.proofs.Progressing.{Fed, Progress, room_between}
 use Rattle.cip_stream.proofs.Tails.{never_read_fault, no_read_fault}
+
+-- there is room for those that are gathered alone
+pub front_room : (first : ℕ) (records more : List (List ℕ)) → first + length (records ++ more) < 2 ^ 64 - 1
+    → first + length records < 2 ^ 64 - 1
+front_room first records more room = omega (arith, length-append records more, room)
 
 unread : {N : Type 0} (manner : Manner N) (limits : Limits) (left old new : Option (List ℕ))
     → IfSome left (EndsAs manner limits (Err stops.ReadFault) old new)

@@ -5,6 +5,7 @@ use Rattle.std.proofs.Math.Seq.{take-append_seam}
 use Rattle.std.proofs.lemmas.List.Sums.{take_while-cons}
 use Rattle.std.proofs.lemmas.Grind.{common_steps}
 use Rattle.std.proofs.lemmas.Bool.{and_parts}
+use Rattle.std.proofs.lemmas.Bool.Decides.{nat_tests}
 use Rattle.cip_frame.specs.Records.{Cut, cut_of}
 use Rattle.cip_frame.specs.Framing.{fits, all_fit}
 use Rattle.cip_frame.specs.Following.{closes, cut_behind}
@@ -12,6 +13,12 @@ use Rattle.cip_frame.proofs.Cutting.{cut_closing, cut_open, cuts_follow}
 use Rattle.cip_frame.proofs.Limits.{over_line}
 use Rattle.cip_stream.specs.declared.limits.Limits.{Limits}
 use Rattle.cip_stream.specs.Limits.{passes, first_passing, limit_place}
+
+is_within : (most n : ℕ) → n ≤ most → nat_lt most n ≡ false
+is_within most n le = grind (arith, nat_tests)
+
+is_more : (most n : ℕ) → nat_lt most n ≡ true → most < n
+is_more most n k = grind (arith, nat_tests)
 
 -- the next byte is one too many, where so many came and these are of the open record
 abbrev pub is_over : Limits → ℕ → List ℕ → Bool
@@ -86,7 +93,7 @@ record_fits : (limits : Limits) (begun : List ℕ) (b : ℕ) (bs : List ℕ) (k 
     → nat_lt limits.record (length begun + 1) ≡ k
     → all_fit limits.record (cut_behind begun (b ∷ bs)) ≡ true → nat_lt limits.record (length begun + 1) ≡ false
 record_fits limits begun b bs true k h =
-    let more : limits.record < length begun + 1 = grind (arith, common_steps) in
+    let more = is_more limits.record (length begun + 1) k in
     let over = over_line limits.record begun (b ∷ []) bs refl more in
     absurd (grind (arith, over.over, h))
 record_fits limits begun b bs false k h = k
@@ -94,7 +101,7 @@ record_fits limits begun b bs false k h = k
 not_over : (limits : Limits) (came : ℕ) (begun : List ℕ) (b : ℕ) (bs : List ℕ) → came + 1 ≤ limits.input
     → all_fit limits.record (cut_behind begun (b ∷ bs)) ≡ true → is_over limits came begun ≡ false
 not_over limits came begun b bs input h =
-    let small : nat_lt limits.input (came + 1) ≡ false = grind (arith, common_steps) in
+    let small = is_within limits.input (came + 1) input in
     rw (small, record_fits limits begun b bs (nat_lt limits.record (length begun + 1)) refl h) refl
 
 abbrev Follows : Limits → ℕ → List ℕ → List ℕ → List ℕ → Type 0
@@ -139,7 +146,7 @@ pub record Stops (limits : Limits) (came : ℕ) (begun xs : List ℕ) : Type 0 w
 record_over : (limits : Limits) (came : ℕ) (begun : List ℕ) (b : ℕ) (xs : List ℕ)
     → nat_lt limits.record (length begun + 1) ≡ true → Stops limits came begun (b ∷ xs)
 record_over limits came begun b xs k =
-    let more : limits.record < length begun + 1 = grind (arith, common_steps) in
+    let more = is_more limits.record (length begun + 1) k in
     let over = over_line limits.record begun (b ∷ []) xs refl more in
     let now : is_over limits came begun ≡ true = grind (arith, k) in
     let count : came + 0 + 1 ≡ came + 1 = omega arith in
@@ -160,7 +167,7 @@ record_in limits came begun b xs true k input r h closed still =
     let fit : fits limits.record (begun ++ b ∷ [])
     ≡ true = rw (length-append begun (b ∷ [])) (grind (arith, common_steps)) in
     let stops = closed (rw (cut_closing begun b xs k, fit) at h) in
-    let small : nat_lt limits.input (came + 1) ≡ false = grind (arith, common_steps) in
+    let small = is_within limits.input (came + 1) input in
     let count : came + 1 + stops.bytes + 1 ≡ came + (stops.bytes + 1) + 1 = omega arith in
     let next : stops.bytes + 1 ≡ suc stops.bytes = omega arith in
     record {
@@ -178,7 +185,7 @@ record_in limits came begun b xs true k input r h closed still =
     }
 record_in limits came begun b xs false k input r h closed still =
     let stops = still (rw (cut_open begun b xs k) at h) in
-    let small : nat_lt limits.input (came + 1) ≡ false = grind (arith, common_steps) in
+    let small = is_within limits.input (came + 1) input in
     let count : came + 1 + stops.bytes + 1 ≡ came + (stops.bytes + 1) + 1 = omega arith in
     let next : stops.bytes + 1 ≡ suc stops.bytes = omega arith in
     record {

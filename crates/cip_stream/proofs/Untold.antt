@@ -1,19 +1,13 @@
 -- A stream of which nothing was told, for want of memory.
-use Rattle.std.proofs.Common.{List, ℕ, ◌≡◌, rules}
-use Rattle.std.specs.Prelude.{Result, Some, None, Err, IfSome}
+use Rattle.std.proofs.Common.{List, ℕ, rules}
+use Rattle.std.specs.Prelude.{Some, None, Err, IfSome}
 use Rattle.std.specs.declared.option.Option.{Option}
 use Rattle.cip_stream.specs.Endings.{EndsAs}
 use Rattle.cip_stream.specs.Manner.{Manner}
 use Rattle.cip_stream.specs.declared.limits.Limits.{Limits}
-use Rattle.cip_stream.specs.declared.stop.Stop.{Stop}
 use Rattle.cip_stream.specs.declared.stop.Stop.TheVariants as stops
-use Rattle.cip_stream.specs.declared.verdict.Verdict.{Verdict}
 
-nothing_told : {N : Type 0} (manner : Manner N) (limits : Limits) (left old : Option (List ℕ))
+pub nothing_told : {N : Type 0} (manner : Manner N) (limits : Limits) (left old : Option (List ℕ))
     → IfSome left (EndsAs manner limits (Err stops.Memory) old old)
 nothing_told manner limits None old = search rules
 nothing_told manner limits (Some bytes) old = search rules
-
-pub untold : {N : Type 0} (manner : Manner N) (limits : Limits) (left old : Option (List ℕ))
-    (result : Result (Verdict N) Stop) → result ≡ Err stops.Memory → IfSome left (EndsAs manner limits result old old)
-untold manner limits left old result e = rw e (nothing_told manner limits left old)

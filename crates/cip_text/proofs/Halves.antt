@@ -48,20 +48,6 @@ short_closing bytes =
     ap length (sym (body_closing bytes)) ∙ length-append (body bytes) (closing bytes) in
     omega (arith, whole)
 
--- a line that isn't the terminator line
-pub body_on : (bytes line behind : List ℕ) → lines_of bytes ≡ line ∷ lines_of behind
-    → is_terminator (content_of line) ≡ false → body_lines (lines_of bytes) ≡ line ∷ body_lines (lines_of behind)
-body_on bytes line behind l e = rw (l, e) refl
-
-pub closing_on : (bytes line behind : List ℕ) → lines_of bytes ≡ line ∷ lines_of behind
-    → is_terminator (content_of line) ≡ false → closing bytes ≡ closing behind
-closing_on bytes line behind l e = rw (l, e) refl
-
--- nothing stands before the terminator line
-pub body_none : (bytes line behind : List ℕ) → lines_of bytes ≡ line ∷ lines_of behind
-    → is_terminator (content_of line) ≡ true → body_contents bytes ≡ []
-body_none bytes line behind l e = rw (l, e) refl
-
 -- the content of a line more
 pub content_more : (rest line behind : List ℕ) (contents now total : List (List ℕ))
     → body_lines (lines_of rest) ≡ line ∷ body_lines (lines_of behind) → now ≡ contents ++ content_of line ∷ []

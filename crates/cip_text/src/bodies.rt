@@ -1,5 +1,5 @@
 // A record by its lines.
-ghost use Rattle.std.specs.Prelude.{◌≡◌, ◌≤◌, ◌<◌, ◌+◌, ◌∷◌, [], length, IfOk, IfSome, None};
+ghost use Rattle.std.specs.Prelude.{◌≡◌, ◌≤◌, ◌<◌, ◌+◌, ◌∷◌, [], length, IfOk, IfSome, None, OnOk};
 ghost use Rattle.cip_text.specs.Lines.{content_of, lines_of};
 ghost use Rattle.cip_text.specs.Kinds.{is_terminator};
 ghost use Rattle.cip_text.specs.Bodies.{body, body_contents, body_lines, closing};
@@ -36,7 +36,8 @@ impl<'a> RecordLines<'a> {
     pub fn new(alloc: Global, bytes: &'a [u8]) -> Result<RecordLines<'a>, AllocError>
         ensures { IfOk result (λ lines. lines ≡ bytes.now) }
     {
-        let (contents, closing) = split_record(alloc, bytes)?;
+        let mut contents = room_for_lines(alloc, bytes)?;
+        let closing = push_contents(bytes, &mut contents)?;
         Ok(RecordLines {
             bytes,
             contents,
@@ -80,35 +81,32 @@ pub fn body_contents(alloc: Global, bytes: &[u8]) -> Result<Vec<&[u8]>, AllocErr
     ensures value { IfOk result (λ found. texts found.items ≡ body_contents bytes.now) }
     ensures few { IfOk result (λ found. length found.items ≤ length bytes.now) }
 {
-    let (contents, _) = split_record(alloc, bytes)?;
+    let mut contents = room_for_lines(alloc, bytes)?;
+    push_contents(bytes, &mut contents)?;
     Ok(contents)
 }
 
-// The contents of the lines before the terminator line, and what stands from it on.
-fn split_record(alloc: Global, bytes: &[u8]) -> Result<(Vec<&[u8]>, &[u8]), AllocError>
-    ensures contents { IfOk result (λ parts. texts parts.0.items ≡ body_contents bytes.now) }
-    ensures closing { IfOk result (λ parts. parts.1.now ≡ closing bytes.now) }
-    ensures few { IfOk result (λ parts. length parts.0.items ≤ length bytes.now) }
+// No lines, and room for as many as most records of this length have.
+fn room_for_lines<'a>(alloc: Global, bytes: &'a [u8]) -> Result<Vec<&'a [u8]>, AllocError>
+    ensures { IfOk result (λ contents. contents.items ≡ []) }
 {
-    let mut contents = Vec::with_capacity(alloc, bytes.len() / 16)?;
-    let mut rest = bytes;
-    while let Some((line, behind)) = split_line(rest) {
-        let content = without_end(line);
-        if is_closing(line, content) {
-            return Ok((contents, rest));
-        }
-        contents.push(content)?;
-        rest = behind;
-    }
-    Ok((contents, rest))
+    Vec::with_capacity(alloc, bytes.len() / 16)
 }
 
-// Whether a line of this content is the terminator line. Most lines are told by their first byte.
-fn is_closing(line: &[u8], content: &[u8]) -> bool
-    requires { content.now ≡ content_of line.now }
-    ensures { result ≡ is_terminator (content_of line.now) }
+// Puts the contents of the lines before the terminator line into a list that has none, and gives what stands from it
+// on. The list stays with the caller, so that no line gives it back.
+fn push_contents<'a>(bytes: &'a [u8], contents: &mut Vec<&'a [u8]>) -> Result<&'a [u8], AllocError>
+    requires { contents.old.items ≡ [] }
+    ensures contents { OnOk result (texts contents.new.items ≡ body_contents bytes.now) }
+    ensures closing { IfOk result (λ rest. rest.now ≡ closing bytes.now) }
+    ensures few { OnOk result (length contents.new.items ≤ length bytes.now) }
 {
-    begins_with(line, b'$') && is_terminator(content)
+    let mut rest = bytes;
+    while let Some((line, behind)) = split_body_line(rest) {
+        contents.push(without_end(line))?;
+        rest = behind;
+    }
+    Ok(rest)
 }
 
 /// The first line of a record with its end, and what follows it. None at the terminator line, and for the empty
@@ -123,8 +121,16 @@ pub fn split_body_line(bytes: &[u8]) -> Option<(&[u8], &[u8])>
     ensures some { IfSome result (λ parts. length parts.1.now < length bytes.now) }
     ensures whole { IfSome result (λ parts. length parts.0.now + length parts.1.now ≡ length bytes.now) }
 {
-    match split_line(bytes) {
-        Some((line, _)) if begins_with(line, b'$') && is_terminator(without_end(line)) => None,
-        parts => parts,
+    let (line, behind) = split_line(bytes)?;
+    if is_closing(line) {
+        return None;
     }
+    Some((line, behind))
+}
+
+// Whether a line is the terminator line. Most lines are told by their first byte.
+fn is_closing(line: &[u8]) -> bool
+    ensures { result ≡ is_terminator (content_of line.now) }
+{
+    begins_with(line, b'$') && is_terminator(without_end(line))
 }

@@ -5,7 +5,7 @@ ghost use Rattle.cip_text.specs.Writing.{coordinate, right};
 use std::alloc::{AllocError, Global};
 
 /// Adds a text behind as many spaces as it needs to end in the last of so many columns.
-#[tactic(auto, unfolding(crate::specs::Writing::right), using(crate::proofs::Spaces::one_space))]
+#[tactic(auto, unfolding(crate::specs::Writing::right))]
 pub fn push_right(line: &mut Vec<u8>, width: usize, text: &[u8]) -> Result<(), AllocError>
     ensures { OnOk result (line.new.items ≡ line.old.items ++ right width text.now) }
 {

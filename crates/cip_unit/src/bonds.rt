@@ -11,11 +11,10 @@ use crate::unit::push_unit;
 use cip_digraph::{Edge, Graph, Positions, Units};
 use cip_mol::Site;
 use cip_ring::{VertexSet, is_in_small_ring};
-use std::alloc::{AllocError, Global};
+use std::alloc::AllocError;
 
 /// Adds the bond units of a first end, by the second one. The set serves the search for rings.
 pub fn push_bonds(
-    alloc: Global,
     sketch: &Sketch<'_>,
     a: u32,
     reached: &mut VertexSet,
@@ -31,7 +30,7 @@ pub fn push_bonds(
     if !can_begin(sketch, a) {
         return Ok(());
     }
-    push_bonds_from(alloc, sketch, a, reached, units)
+    push_bonds_from(sketch, a, reached, units)
 }
 
 fn can_begin(sketch: &Sketch<'_>, a: u32) -> bool
@@ -42,7 +41,6 @@ fn can_begin(sketch: &Sketch<'_>, a: u32) -> bool
 }
 
 fn push_bonds_from(
-    alloc: Global,
     sketch: &Sketch<'_>,
     a: u32,
     reached: &mut VertexSet,
@@ -57,7 +55,7 @@ fn push_bonds_from(
     for edge in sketch.graph.edges_at(a) {
         // Most bonds are single: no site is made for them.
         if is_counted_double(edge) {
-            push_bond(alloc, sketch, a, edge, reached, units)?;
+            push_bond(sketch, a, edge, reached, units)?;
         }
     }
     Ok(())
@@ -71,7 +69,6 @@ fn is_counted_double(edge: &Edge) -> bool
 
 // Adds the unit of a bond, where it is one.
 fn push_bond(
-    alloc: Global,
     sketch: &Sketch<'_>,
     a: u32,
     edge: &Edge,
@@ -94,7 +91,7 @@ fn push_bond(
             first: end_ligands(sketch.graph, &unit, a),
             second: end_ligands(sketch.graph, &unit, b),
         };
-        push_unit(alloc, sketch.molecule, site, units)?;
+        push_unit(sketch.molecule, site, units)?;
     }
     Ok(())
 }

@@ -13,11 +13,10 @@ use crate::unit::push_unit;
 use cip_digraph::{Edge, Graph, Units, Vertex};
 use cip_elem::outer;
 use cip_mol::{Ligand, Ligands, Molecule, Site};
-use std::alloc::{AllocError, Global};
+use std::alloc::AllocError;
 
 /// Adds the centre at an atom, where it is one.
 pub fn push_centre(
-    alloc: Global,
     molecule: &Molecule,
     graph: &Graph,
     atom: u32,
@@ -28,7 +27,7 @@ pub fn push_centre(
     ensures { OnOk result (units.new ≡ units.old ++ units_at molecule.now (centre_sites graph.now atom)) }
 {
     if is_centre(graph, atom) {
-        push_site(alloc, molecule, graph, atom, units)?;
+        push_site(molecule, graph, atom, units)?;
     }
     Ok(())
 }
@@ -36,7 +35,6 @@ pub fn push_centre(
 // Most atoms are no centre: what makes a site stands aside, so that looking for them takes few steps.
 #[inline(never)]
 fn push_site(
-    alloc: Global,
     molecule: &Molecule,
     graph: &Graph,
     atom: u32,
@@ -51,7 +49,7 @@ fn push_site(
         at: atom,
         ligands: centre_ligands(graph, atom),
     };
-    push_unit(alloc, molecule, site, units)
+    push_unit(molecule, site, units)
 }
 
 fn is_centre(graph: &Graph, atom: u32) -> bool

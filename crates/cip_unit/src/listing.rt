@@ -32,17 +32,12 @@ pub fn units(
     };
     let atoms = molecule.atoms().len() as u32;
     let mut units = Units::new(alloc);
-    push_all_centres(alloc, &sketch, atoms, &mut units)?;
+    push_all_centres(&sketch, atoms, &mut units)?;
     push_all_doubles(alloc, &sketch, atoms, &mut units)?;
     Ok(units)
 }
 
-fn push_all_centres(
-    alloc: Global,
-    sketch: &Sketch<'_>,
-    atoms: u32,
-    units: &mut Units,
-) -> Result<(), AllocError>
+fn push_all_centres(sketch: &Sketch<'_>, atoms: u32, units: &mut Units) -> Result<(), AllocError>
     requires drawn { sketch.now.graph.now.drawn ≡ length sketch.now.molecule.now.atoms }
     requires atoms { atoms ≡ sketch.now.graph.now.drawn }
     ensures { OnOk result
@@ -50,7 +45,7 @@ fn push_all_centres(
         ++ units_at sketch.now.molecule.now (flat_map (centre_sites sketch.now.graph.now) (range_with_len 0 atoms))) }
 {
     for atom in 0..atoms {
-        push_centre(alloc, sketch.molecule, sketch.graph, atom, units)?;
+        push_centre(sketch.molecule, sketch.graph, atom, units)?;
     }
     Ok(())
 }
@@ -73,7 +68,7 @@ fn push_all_doubles(
         return Ok(());
     }
     push_all_bonds(alloc, sketch, atoms, units)?;
-    push_all_axes(alloc, sketch, atoms, units)
+    push_all_axes(sketch, atoms, units)
 }
 
 fn has_double(graph: &Graph) -> bool
@@ -96,18 +91,13 @@ fn push_all_bonds(
 {
     let mut reached = VertexSet::new(alloc, sketch.graph.vertices().len())?;
     for atom in 0..atoms {
-        push_bonds(alloc, sketch, atom, &mut reached, units)?;
+        push_bonds(sketch, atom, &mut reached, units)?;
     }
     Ok(())
 }
 
 // Few molecules have an allene, so axes are looked for where there is one.
-fn push_all_axes(
-    alloc: Global,
-    sketch: &Sketch<'_>,
-    atoms: u32,
-    units: &mut Units,
-) -> Result<(), AllocError>
+fn push_all_axes(sketch: &Sketch<'_>, atoms: u32, units: &mut Units) -> Result<(), AllocError>
     requires drawn { sketch.now.graph.now.drawn ≡ length sketch.now.molecule.now.atoms }
     requires atoms { atoms ≡ sketch.now.graph.now.drawn }
     requires leads { LeadsToAtoms sketch.now.graph.now }
@@ -116,7 +106,7 @@ fn push_all_axes(
     if !has_allene(sketch.graph, atoms) {
         return Ok(());
     }
-    push_each_axis(alloc, sketch, atoms, units)
+    push_each_axis(sketch, atoms, units)
 }
 
 fn has_allene(graph: &Graph, atoms: u32) -> bool
@@ -130,19 +120,14 @@ fn has_allene(graph: &Graph, atoms: u32) -> bool
     false
 }
 
-fn push_each_axis(
-    alloc: Global,
-    sketch: &Sketch<'_>,
-    atoms: u32,
-    units: &mut Units,
-) -> Result<(), AllocError>
+fn push_each_axis(sketch: &Sketch<'_>, atoms: u32, units: &mut Units) -> Result<(), AllocError>
     requires drawn { sketch.now.graph.now.drawn ≡ length sketch.now.molecule.now.atoms }
     requires atoms { atoms ≡ sketch.now.graph.now.drawn }
     requires leads { LeadsToAtoms sketch.now.graph.now }
     ensures { OnOk result (units.new ≡ with_axes sketch.now.molecule.now sketch.now.graph.now atoms units.old) }
 {
     for atom in 0..atoms {
-        push_axes(alloc, sketch, atom, units)?;
+        push_axes(sketch, atom, units)?;
     }
     Ok(())
 }

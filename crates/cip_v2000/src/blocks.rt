@@ -46,7 +46,7 @@ pub fn atom_block(alloc: Global, lines: &[&[u8]], count: u32) -> Result<Vec<Atom
     let mut atoms = Vec::with_capacity(alloc, count as usize)?;
     for row in 0..count as usize {
         let atom = atom_line(lines, 4 + row)?;
-        atoms.push(atom)?;
+        atoms.push_reserved(atom);
     }
     Ok(atoms)
 }

@@ -71,7 +71,7 @@ fn keep_all(
 {
     let mut atoms = Vec::with_capacity(alloc, lines.len())?;
     for line in lines {
-        atoms.push(keep(charges, isotopes, *line))?;
+        atoms.push_reserved(keep(charges, isotopes, *line));
     }
     Ok(atoms)
 }

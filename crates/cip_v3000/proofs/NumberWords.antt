@@ -13,7 +13,7 @@ use Rattle.cip_reading.proofs.UsualNumbers.{digits_read}
 use Rattle.cip_v3000.specs.declared.splitting.Within.{Within}
 use Rattle.cip_v3000.specs.declared.splitting.Within.TheVariants.{Plain}
 use Rattle.cip_v3000.specs.LineWords.{HaveNumber, HaveCoordinate}
-use Rattle.cip_v3000.specs.NumberWords.{IsNumberWord, IsNumberBegun}
+use Rattle.cip_v3000.specs.NumberWords.{IsNumberBegun}
 use Rattle.cip_v3000.specs.Words.{ends_word, ended, words_from, words_of}
 use Rattle.cip_v3000.proofs.FirstWords.{begun_ends, begun_runs_out, first_word, state_stays}
 
@@ -35,25 +35,18 @@ number_ends text at within space is = elim (cases_lt at (length text)) [
       rw (← end) (begun_runs_out Plain text at past is))
 ]
 
-pub number_first : (text begun : List ℕ) (number end : ℕ) → begun ≡ without_spaces_before text
-    → IsNumberBegun begun (number, end) → IsNumberWord text number (take (length begun - end) (drop end begun))
-number_first text begun number end bare is =
+pub number_next : (most : ℕ) (text begun : List ℕ) (number end : ℕ) (found : Option ℕ)
+    → begun ≡ without_spaces_before text → IsNumberBegun begun (number, end)
+    → found ≡ up_to most (Some (pos number)) → IfSome found (λ n. n ≤ most)
+    → HaveNumber most (words_of text) found (words_of (take (length begun - end) (drop end begun)))
+number_next most text begun number end found bare is read few =
     let some : 0 < length begun = omega (arith, is.spells.some, length-take-le end begun is.within, is.within) in
     record {
       word = take end begun;
-      words = (first_word text begun end bare some is.cut is.within is.space).words;
-      spells = is.spells;
+      split = (first_word text begun end bare some is.cut is.within is.space).words;
+      is = read ∙ number_read most (take end begun) number is.spells;
+      few = few;
     }
-
-pub number_next : (most : ℕ) (text : List ℕ) (number : ℕ) (rest : List ℕ) (found : Option ℕ)
-    → IsNumberWord text number rest → found ≡ up_to most (Some (pos number)) → IfSome found (λ n. n ≤ most)
-    → HaveNumber most (words_of text) found (words_of rest)
-number_next most text number rest found is read few = record {
-  word = is.word;
-  split = is.words;
-  is = read ∙ number_read most is.word number is.spells;
-  few = few;
-}
 
 -- bytes above the closing bracket stay in their word
 high_goes_on : (front rest word : List ℕ) → list_all is_high front ≡ true

@@ -1,5 +1,5 @@
 -- Blocks in memory, as contracts see them. Own.
-use Rattle.std.specs.Prelude.{◌≡◌, ℕ, All, length}
+use Rattle.std.specs.Prelude.{◌≡◌, ℕ, [], All, length}
 use Rattle.cip_mol.specs.Ranges.{IsAtom, IsBond}
 use Rattle.cip_v3000.specs.declared.blocks.AtomBlock.{AtomBlock}
 use Rattle.cip_v3000.specs.declared.blocks.BondBlock.{BondBlock}
@@ -22,3 +22,8 @@ pub record AreBonds (atoms count : ℕ) (block : BondBlock) : Type 0 where
   pub among : block.bonds.atoms ≡ atoms
   pub range : All IsBond block.bonds.bonds
   pub counted : length block.bonds.bonds ≡ count
+
+-- no bonds yet, among so many atoms
+pub record HasNoBonds (atoms : ℕ) (block : BondBlock) : Type 0 where
+  pub none : seen_bonds block ≡ record { indices = []; bonds = [] }
+  pub among : block.bonds.atoms ≡ atoms

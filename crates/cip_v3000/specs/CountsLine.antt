@@ -1,5 +1,5 @@
 -- The counts line. CTfile Formats, V3000; the limits are own.
-use Rattle.std.specs.Prelude.{ℕ, List, [], ◌∷◌, Bool, false, codes, slice_get, Some, None, Result, Ok}
+use Rattle.std.specs.Prelude.{◌≤◌, ℕ, List, [], ◌∷◌, Bool, false, codes, slice_get, Some, None, Result, Ok}
 use Rattle.std.specs.declared.option.Option.{Option}
 use Rattle.std.specs.Option.{ok_or}
 use Rattle.std.specs.Str.{bytes_eq}
@@ -28,3 +28,7 @@ counts_of words = do
   atoms ← ok_or (count_at 16384 1 words) Counts
   bonds ← ok_or (count_at 32768 2 words) Counts
   Ok (record { atoms = atoms; bonds = bonds })
+
+pub record AreCounts (counts : CountsLine) : Type 0 where
+  pub atoms : counts.atoms ≤ 16384
+  pub bonds : counts.bonds ≤ 32768

@@ -1,15 +1,9 @@
 -- Numbers of few digits that begin a text, as they are read. Own.
-use Rattle.std.specs.Prelude.{◌≡◌, ◌≤◌, ◌<◌, ℕ, List, ◌∷◌, ◌++◌, length, take, drop, slice_index}
+use Rattle.std.specs.Prelude.{◌≡◌, ◌≤◌, ◌<◌, ℕ, List, ◌++◌, length, take, drop, slice_index}
 use Rattle.cip_reading.specs.Usual.{Spells}
 use Rattle.cip_v3000.specs.Words.{ended, words_of}
 
--- the first word of a text is a number of few digits, and this stands behind it
-pub record IsNumberWord (text : List ℕ) (number : ℕ) (rest : List ℕ) : Type 0 where
-  pub word : List ℕ
-  pub words : words_of text ≡ word ∷ words_of rest
-  pub spells : Spells word number
-
--- such a number begins a text, and ends at this place
+-- a number of few digits begins a text, and ends at this place
 pub record IsNumberBegun (text : List ℕ) (found : ℕ × ℕ) : Type 0 where
   pub spells : Spells (take found.1 text) found.0
   pub cut : words_of text ≡ ended (take found.1 text) ++ words_of (drop found.1 text)

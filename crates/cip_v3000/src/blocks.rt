@@ -5,7 +5,7 @@ ghost use Rattle.cip_text.specs.Kinds.{is_molecule_end};
 ghost use Rattle.cip_text.specs.Slices.{texts};
 ghost use Rattle.cip_mol.specs.Ranges.{IsAtom, IsBond};
 ghost use Rattle.cip_reading.specs.Reading.{Gives};
-ghost use Rattle.cip_v3000.specs.Blocks.{seen_atoms, seen_bonds, AreAtoms, AreBonds};
+ghost use Rattle.cip_v3000.specs.Blocks.{seen_atoms, seen_bonds, AreAtoms, AreBonds, HasNoBonds};
 ghost use Rattle.cip_v3000.specs.Grammar.{atom_block, atom_row, bond_row, bond_rows, framed_bonds, has_bond_block, bond_block, behind_block, table_end, molecule_end};
 ghost use Rattle.cip_v3000.specs.Joining.{seen, seen_all, IsNumbered};
 
@@ -110,41 +110,39 @@ pub fn has_bond_block(
     }
 }
 
-/// Reads the bond block at a place, where there is one.
+/// Bonds that are still to be read, between these atoms.
+pub fn no_bonds(alloc: Global, atoms: &Indices) -> Result<BondBlock, AllocError>
+    ensures { IfOk result (HasNoBonds (length atoms.now)) }
+{
+    let indices = Indices::new(alloc);
+    let bonds = BondList::new(alloc, atoms.len())?;
+    Ok(BondBlock { indices, bonds })
+}
+
+/// Reads the bond block at a place, where there is one, and says which place is behind it. The bonds stay with the
+/// caller, so that no end gives them back.
 pub fn bond_block(
     alloc: Global,
     joined: &JoinedLines<'_>,
     atoms: &Indices,
     count: u32,
     place: usize,
-    has: bool,
-) -> Result<BondBlock, ReadRefusal>
+    block: &mut BondBlock,
+) -> Result<usize, ReadRefusal>
     requires few { length atoms.now ≤ 16384 }
     requires count { count ≤ 32768 }
     requires place { place ≤ 16388 }
-    requires has { has ≡ has_bond_block (seen_all joined.now) count place }
-    ensures value { Gives seen_bonds result (bond_block (seen_all joined.now) atoms.now count place) }
-    ensures are { IfOk result (AreBonds (length atoms.now) count) }
+    requires none { HasNoBonds (length atoms.now) block.old }
+    ensures value { Gives (λ _. seen_bonds block.new) result (bond_block (seen_all joined.now) atoms.now count place) }
+    ensures behind { IfOk result (λ behind. behind
+        ≡ behind_block (has_bond_block (seen_all joined.now) count place) count place) }
+    ensures are { OnOk result (AreBonds (length atoms.now) count block.new) }
 {
-    let mut block = no_bonds(alloc, atoms)?;
-    if !has {
-        return Ok(block);
+    if !has_bond_block(alloc, joined, count, place)? {
+        return Ok(place);
     }
-    read_framed(alloc, joined, atoms, count, place, &mut block)?;
-    Ok(block)
-}
-
-/// The place behind the bond block at a place, where there is one.
-pub fn behind_bonds(has: bool, count: u32, place: usize) -> usize
-    requires count { count ≤ 32768 }
-    requires place { place ≤ 16388 }
-    ensures { result ≡ behind_block has count place }
-{
-    if has {
-        place + count as usize + 2
-    } else {
-        place
-    }
+    read_framed(alloc, joined, atoms, count, place, block)?;
+    Ok(place + count as usize + 2)
 }
 
 /// The number of the line behind the end of the table, which stands at this place of the joined lines or behind it;
@@ -196,15 +194,6 @@ fn is_any_end(lines: &[&[u8]]) -> bool
     lines.iter().any(|line| is_molecule_end(line))
 }
 
-fn no_bonds(alloc: Global, atoms: &Indices) -> Result<BondBlock, AllocError>
-    ensures value { IfOk result (λ block. seen_bonds block ≡ record { indices = []; bonds = [] }) }
-    ensures among { IfOk result (λ block. block.bonds.atoms ≡ length atoms.now) }
-{
-    let indices = Indices::new(alloc);
-    let bonds = BondList::new(alloc, atoms.len())?;
-    Ok(BondBlock { indices, bonds })
-}
-
 // Reads the bond block with its frame, from this place on, into one that has no bonds.
 fn read_framed(
     alloc: Global,
@@ -217,8 +206,7 @@ fn read_framed(
     requires few { length atoms.now ≤ 16384 }
     requires count { count ≤ 32768 }
     requires place { place ≤ 16388 }
-    requires none { seen_bonds block.old ≡ record { indices = []; bonds = [] } }
-    requires among { block.old.bonds.atoms ≡ length atoms.now }
+    requires none { HasNoBonds (length atoms.now) block.old }
     ensures value { Gives (λ _. seen_bonds block.new) result
         (framed_bonds (seen_all joined.now) atoms.now count place) }
     ensures are { OnOk result (AreBonds (length atoms.now) count block.new) }
@@ -246,8 +234,7 @@ fn read_bonds(
     requires few { length atoms.now ≤ 16384 }
     requires count { count ≤ 32768 }
     requires first { first ≤ 16389 }
-    requires none { seen_bonds block.old ≡ record { indices = []; bonds = [] } }
-    requires among { block.old.bonds.atoms ≡ length atoms.now }
+    requires none { HasNoBonds (length atoms.now) block.old }
     ensures value { Gives (λ _. seen_bonds block.new) result (bond_rows (seen_all joined.now) atoms.now first count) }
     ensures are { OnOk result (AreBonds (length atoms.now) count block.new) }
 {

@@ -1,7 +1,7 @@
 // The counts line.
 ghost use Rattle.std.specs.Prelude.{◌≡◌, ◌≤◌, IfOk, IfSome};
 ghost use Rattle.cip_text.specs.Slices.{texts};
-ghost use Rattle.cip_v3000.specs.CountsLine.{is_counts, count_at, counts_of};
+ghost use Rattle.cip_v3000.specs.CountsLine.{is_counts, count_at, counts_of, AreCounts};
 
 use cip_mol::ReadCause;
 use cip_reading::number_stated;
@@ -17,7 +17,7 @@ pub struct CountsLine {
 #[tactic(auto, unfolding(crate::specs::CountsLine::counts_of))]
 pub fn counts_in(words: &[&[u8]]) -> Result<CountsLine, ReadCause>
     ensures value { result ≡ counts_of (texts words.now) }
-    ensures range { IfOk result (λ counts. (counts.atoms ≤ 16384) × (counts.bonds ≤ 32768)) }
+    ensures range { IfOk result AreCounts }
 {
     if !is_counts(words) {
         return Err(ReadCause::Frame);

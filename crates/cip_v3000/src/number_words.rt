@@ -6,7 +6,7 @@ ghost use Rattle.cip_reading.specs.Fields.{number_stated, up_to};
 ghost use Rattle.cip_mol.specs.Ranges.{IsPlace};
 ghost use Rattle.cip_v3000.specs.AtomLine.{point_by};
 ghost use Rattle.cip_v3000.specs.LineWords.{IsNear, HaveNumber, HaveCoordinate, HavePoint};
-ghost use Rattle.cip_v3000.specs.NumberWords.{IsNumberWord, IsNumberBegun};
+ghost use Rattle.cip_v3000.specs.NumberWords.{IsNumberBegun};
 ghost use Rattle.cip_v3000.specs.Words.{words_of};
 
 use crate::splitting::next_word;
@@ -20,8 +20,9 @@ pub fn next_number(most: u32, text: &[u8]) -> Option<(Option<u32>, &[u8])>
     ensures some { IfSome result (λ p. HaveNumber most (words_of text.now) p.0 (words_of p.1.now)) }
     ensures none { IsNone result → words_of text.now ≡ [] }
 {
-    if let Some((number, rest)) = number_word(text) {
-        return Some((at_most(most, number), rest));
+    let begun = behind_spaces(text);
+    if let Some((number, end)) = number_begun(begun) {
+        return Some((at_most(most, number), &begun[end..]));
     }
     let (word, rest) = next_word(text)?;
     Some((number_stated(most, word), rest))
@@ -64,15 +65,6 @@ fn point(
 {
     let (x, y, z) = (x?, y?, z?);
     Ok(Vec3 { x, y, z })
-}
-
-// The number of few digits that the first word of a text is, where it is one, and what stands behind the word.
-fn number_word(text: &[u8]) -> Option<(u32, &[u8])>
-    ensures { IfSome result (λ p. IsNumberWord text.now p.0 p.1.now) }
-{
-    let begun = behind_spaces(text);
-    let (number, end) = number_begun(begun)?;
-    Some((number, &begun[end..]))
 }
 
 // A number that isn't larger than a most.

@@ -3,7 +3,7 @@ ghost use Rattle.std.specs.Prelude.{◌≡◌, ◌≤◌, length, Ok, IfOk};
 ghost use Rattle.cip_reading.specs.Reading.{Gives, numbered};
 ghost use Rattle.cip_v3000.specs.AtomLine.{atom_of, IsAtomLine};
 ghost use Rattle.cip_v3000.specs.BondLine.{bond_of, IsBondLine};
-ghost use Rattle.cip_v3000.specs.CountsLine.{counts_of};
+ghost use Rattle.cip_v3000.specs.CountsLine.{counts_of, AreCounts};
 ghost use Rattle.cip_v3000.specs.Frames.{is_frame};
 ghost use Rattle.cip_v3000.specs.Grammar.{words_in, read_at, frame_at};
 ghost use Rattle.cip_v3000.specs.Joining.{seen, seen_all};
@@ -24,7 +24,7 @@ use std::alloc::{AllocError, Global};
 #[tactic(auto, unfolding(crate::specs::Grammar::read_at))]
 pub fn counts_line(alloc: Global, joined: &JoinedLines<'_>) -> Result<CountsLine, ReadRefusal>
     ensures value { Gives (λ counts. counts) result (read_at (seen_all joined.now) 1 counts_of) }
-    ensures range { IfOk result (λ counts. (counts.atoms ≤ 16384) × (counts.bonds ≤ 32768)) }
+    ensures range { IfOk result AreCounts }
 {
     let line = joined.line(1)?;
     let text = text_of(alloc, &line)?;
@@ -34,7 +34,7 @@ pub fn counts_line(alloc: Global, joined: &JoinedLines<'_>) -> Result<CountsLine
 // The same of a line's text, which stays with the caller.
 fn counts_of(alloc: Global, number: u32, text: &[u8]) -> Result<CountsLine, ReadRefusal>
     ensures value { Gives (λ counts. counts) result (numbered number (counts_of (words_of text.now))) }
-    ensures range { IfOk result (λ counts. (counts.atoms ≤ 16384) × (counts.bonds ≤ 32768)) }
+    ensures range { IfOk result AreCounts }
 {
     let words = words(alloc, text)?;
     told(number, counts_in(&words))

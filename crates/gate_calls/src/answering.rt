@@ -1,14 +1,16 @@
 // What each call answers.
 use crate::calls::{Call, call_named};
 use crate::carbons::{fault, lattice, renumbered};
+use crate::command_lines::{asked, asked_by_no_words, help_lines};
 use crate::directions::{around, sign_of_side, sign_of_volume};
 use crate::elements::{element, masses, valences_told};
+use crate::making::Caller;
+use crate::row::Row;
 use crate::senses::sense;
+use crate::text::Text;
 use crate::texts::{
     contents, decimal, field, halves, items, kind, labelled, listed, place, prepared, whole,
 };
-use crate::words::{asked, asked_by_no_words, help_lines};
-use gate_rows::{Caller, Row, Text};
 use std::alloc::Global;
 use std::io;
 use std::rt::Files;

@@ -4,8 +4,9 @@ ghost use Rattle.cip_mol.specs.Ranges.{IsAtom};
 
 use crate::drawings::{bonds, carbon};
 use crate::lists::{Line, lines};
+use crate::row::Row;
+use crate::text::Text;
 use cip_mol::{Atom, MolFault, Molecule};
-use gate_rows::{Row, Text};
 use std::alloc::{AllocError, Global};
 
 /// Why the molecule of a row is none; nothing where it is one.

@@ -4,8 +4,9 @@ ghost use Rattle.cip_num.specs.Plane.{IsSmall};
 ghost use Rattle.cip_num.specs.Space.{IsSmall3};
 
 use crate::lists::{Point, points};
+use crate::row::Row;
+use crate::text::Text;
 use cip_num::{Sign, Vec2, Vec3, circular, same_side, volume};
-use gate_rows::{Row, Text};
 use std::alloc::{AllocError, Global};
 
 /// In which order the directions of a row are met counterclockwise from the first.

@@ -27,4 +27,5 @@ pub fn masses(out: &mut Text) {
     write!(out, " {:?} {:?} {:?}", outer(15), outer(34), outer(8))
 }
 
-use gate_rows::{Row, Text};
+use crate::row::Row;
+use crate::text::Text;

@@ -6,9 +6,10 @@ ghost use Rattle.cip_mol.specs.Sites.{IsSite};
 
 use crate::drawings::{bonds, carbon};
 use crate::lists::{Line, Point, lines, numbers, points};
+use crate::row::Row;
+use crate::text::Text;
 use cip_mol::{Atom, Cause, Geometry, Ligand, Ligands, Molecule, Sense, Site};
 use cip_orient::{drawn_of, orient};
-use gate_rows::{Row, Text};
 use std::alloc::{AllocError, Global};
 
 /// What the drawing of a row shows.

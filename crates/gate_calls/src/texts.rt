@@ -1,12 +1,13 @@
 // Lines of texts, fields in them, and the items of records.
 ghost use Rattle.std.specs.Prelude.{◌≡◌, IfOk, length};
 
+use crate::row::Row;
+use crate::text::Text;
 use cip_item::{Item, Items, Texts, split_items, with_item, without_label_items};
 use cip_text::{
     Bytes, Line, Listing, NumberFault, columns, content, decimal4, integer, is_blank,
     is_terminator, lines, split_line,
 };
-use gate_rows::{Row, Text};
 use std::alloc::{AllocError, Global};
 
 // More bytes than any of the texts has.

@@ -1,6 +1,6 @@
 // A gate at which jobs of a batch meet, which one thread alone can't make them do.
 use cip_batch::Gate;
-use gate_rows::Text;
+use gate_calls::Text;
 use std::alloc::{AllocError, Global};
 use std::sync::atomic::{AtomicU64, Ordering};
 

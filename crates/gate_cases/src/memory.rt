@@ -2,7 +2,7 @@
 ghost use Rattle.std.specs.Prelude.{None};
 
 use cip_io::{Failed, Joined, MemSink, MemSource, Sink, Source, StdSink, StdSource, push_all};
-use gate_rows::Text;
+use gate_calls::Text;
 use std::alloc::{AllocError, Global};
 use std::io;
 

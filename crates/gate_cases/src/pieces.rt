@@ -6,7 +6,7 @@ ghost use Rattle.cip_frame.specs.Framing.{Holds, Passed, all_fit, fits};
 
 use cip_frame::{FrameFault, Framer, Tail};
 use cip_text::Bytes;
-use gate_rows::{Row, Text};
+use gate_calls::{Row, Text};
 use std::alloc::{AllocError, Global};
 
 // Hands out every record of a stream, whatever pieces it comes in, up to one that is too long. What it promises speaks

@@ -4,7 +4,7 @@ ghost use Rattle.std.specs.Prelude.{◌≢◌, None};
 use crate::meeting::Meeting;
 use cip_io::{Failed, MemSink, MemSource, Sink, Source, SteadySource};
 use cip_run::{LIMITS, Open, run, run_limits};
-use gate_rows::{Row, Text, words};
+use gate_calls::{Row, Text, words};
 use std::alloc::{AllocError, Global};
 use std::sync::atomic::{AtomicU64, Ordering};
 use std::thread::Threads;

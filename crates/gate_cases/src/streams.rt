@@ -5,7 +5,7 @@ ghost use Rattle.cip_text.specs.Lines.{line_feed};
 use cip_batch::Open;
 use cip_io::{MemSink, MemSource};
 use cip_stream::{Crew, LIMITS, Teller, Told, Verdict, answer_stream};
-use gate_rows::{Row, Text};
+use gate_calls::{Row, Text};
 use std::alloc::{AllocError, Global};
 use std::thread::Threads;
 

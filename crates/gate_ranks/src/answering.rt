@@ -1,7 +1,7 @@
 // What each call answers.
 use crate::ranking::{Asked, told};
 use crate::trees::{Case, DEEPEST, digit_in, nodes_told};
-use gate_rows::{Caller, Row, Text};
+use gate_calls::{Caller, Row, Text};
 use std::alloc::Global;
 use std::io;
 use std::rt::Files;

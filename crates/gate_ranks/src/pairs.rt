@@ -8,7 +8,7 @@ use cip_branches::Branches;
 use cip_digraph::Decision;
 use cip_ligands::{Asked, Descriptors, Readings, take_readings};
 use cip_mol::Descriptor;
-use gate_rows::Text;
+use gate_calls::Text;
 use std::alloc::{AllocError, Global};
 use std::cmp::Ordering;
 

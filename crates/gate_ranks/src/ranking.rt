@@ -9,7 +9,7 @@ use crate::pairs::push_readings;
 use crate::trees::{Case, Keys, ROOM, neighbours, table_of, way_to};
 use cip_branches::{Around, Branches};
 use cip_rank::Table;
-use gate_rows::Text;
+use gate_calls::Text;
 use std::alloc::{AllocError, Global};
 
 /// What is asked of branches.

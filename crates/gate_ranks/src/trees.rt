@@ -6,7 +6,7 @@ ghost use Rattle.cip_rows.specs.Parting.{has_flag};
 
 use cip_rank::marks::{cover, mark_way};
 use cip_rank::{Keyed, Table};
-use gate_rows::Text;
+use gate_calls::Text;
 use std::alloc::{AllocError, Global};
 use std::cmp::Ordering;
 

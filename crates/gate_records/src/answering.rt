@@ -7,7 +7,7 @@ use crate::labelled::labels;
 use crate::molfiles::{first_atom, refusal_of_v2000, refusal_of_v3000, second_atom};
 use crate::printing::{explained, lines_of, tally};
 use crate::records::changed_record;
-use gate_rows::{Caller, Row, Text};
+use gate_calls::{Caller, Row, Text};
 use std::alloc::Global;
 use std::rt::Files;
 use std::thread::Threads;

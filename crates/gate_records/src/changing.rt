@@ -1,9 +1,8 @@
 // Records that are changed: a centre that is to have a letter, and the mirrored record.
-use cip_mirror::{MirrorAnswer, MirrorRefusal, mirror_record};
 use cip_mol::{CentreLetter, ReadFault};
 use cip_rank::Rules;
-use cip_set::{SetAnswer, SetRefusal, set_letter};
-use gate_rows::{Row, Text};
+use cip_set::{MirrorAnswer, MirrorRefusal, SetAnswer, SetRefusal, mirror_record, set_letter};
+use gate_calls::{Row, Text};
 use std::alloc::{AllocError, Global};
 
 // More bytes than any of the records has.

@@ -3,15 +3,15 @@ ghost use Rattle.std.specs.Prelude.{◌≡◌, ◌<◌, ◌≤◌, ◌-◌, ◌^
 ghost use Rattle.cip_text.specs.Bodies.{body_contents};
 ghost use Rattle.cip_v3000.specs.Grammar.{molecule_of};
 
-use cip_axis_text::axes_text;
 use cip_desk::Desk;
 use cip_groups::{Group, GroupsAnswer, group_text, read_groups};
 use cip_label::{Digraphs, Labeller};
 use cip_mol::Molecule;
 use cip_rank::Rules;
+use cip_record::axes_text;
 use cip_text::RecordLines;
 use cip_undefined::{UndefinedAnswer, undefined_text, undefined_within};
-use gate_rows::Text;
+use gate_calls::Text;
 use std::alloc::{AllocError, Global};
 
 // More bytes than any of the records has.

@@ -9,7 +9,7 @@ use cip_label::{Digraphs, Labeller, Setting};
 use cip_mol::{Label, Molecule, Outcome};
 use cip_molfile::Drawn;
 use cip_rank::{Rules, Steps};
-use gate_rows::Text;
+use gate_calls::Text;
 use std::alloc::{AllocError, Global};
 use std::marker::Brand;
 use std::sync::ledger::{Blank, Ledger};

@@ -3,7 +3,7 @@ use cip_item::Texts;
 use cip_print::{Answer, item_values};
 use cip_rank::Rules;
 use cip_record::{is_flagged, label_record};
-use gate_rows::Text;
+use gate_calls::Text;
 use std::alloc::Global;
 
 // More bytes than any of the records has.

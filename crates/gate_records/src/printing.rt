@@ -5,7 +5,7 @@ ghost use Rattle.cip_print.specs.Values.{HasRoom};
 use crate::built::built;
 use cip_print::{Answer, Tally, explain_text, item_values};
 use cip_rank::Rules;
-use gate_rows::{Row, Text};
+use gate_calls::{Row, Text};
 use std::alloc::{AllocError, Global};
 
 /// The value lines of an answer, a bar behind each, within a row's bound and by its wording.

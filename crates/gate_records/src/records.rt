@@ -1,6 +1,6 @@
 // Records of rows.
 use bstr::ByteSlice;
-use gate_rows::Row;
+use gate_calls::Row;
 use std::alloc::{AllocError, Global};
 
 /// A record whose lines are changed as a row's fields from this one on say, at most twice.

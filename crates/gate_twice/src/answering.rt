@@ -7,7 +7,7 @@ use crate::growing::{settled, spheres};
 use crate::inside::inside;
 use crate::units::units_told;
 use cip_rank::Steps;
-use gate_rows::{Caller, Row, Text};
+use gate_calls::{Caller, Row, Text};
 use std::alloc::Global;
 use std::marker::Brand;
 use std::rt::Files;

@@ -8,7 +8,7 @@ use crate::written::written;
 use cip_digraph::{Decision, Nodes};
 use cip_rank::Rules;
 use cip_tree::{Flat, PlainTree, plain_tree};
-use gate_rows::{Row, Text};
+use gate_calls::{Row, Text};
 use std::alloc::{AllocError, Global};
 use std::cmp::Ordering;
 

@@ -11,7 +11,7 @@ use cip_constitution::settle;
 use cip_letters::MarkedUnits;
 use cip_mol::{Cause, Geometry, Ligand, Ligands, Site, Unit};
 use cip_rank::{Rules, Steps};
-use gate_rows::{Row, Text};
+use gate_calls::{Row, Text};
 use std::alloc::{AllocError, Global};
 use std::sync::ledger::Ledger;
 

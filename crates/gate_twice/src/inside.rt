@@ -14,7 +14,7 @@ use cip_ligands::Descriptors;
 use cip_mol::{Molecule, Unit};
 use cip_rank::{Rules, Steps};
 use cip_unit::units;
-use gate_rows::Text;
+use gate_calls::Text;
 use std::alloc::{AllocError, Global};
 use std::sync::ledger::Ledger;
 

@@ -8,7 +8,7 @@ use cip_digraph::Graph;
 use cip_mol::{Ligand, Ligands, Molecule, Site, Unit};
 use cip_ring::smallest_ring;
 use cip_unit::units;
-use gate_rows::{Row, Text};
+use gate_calls::{Row, Text};
 use std::alloc::Global;
 
 /// How many vertices and edges a molecule's graph has, the positions of an atom, how many atoms the smallest ring through

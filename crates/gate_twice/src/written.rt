@@ -5,7 +5,7 @@ ghost use Rattle.cip_mol.specs.Ranges.{IsAtom, IsBond};
 use crate::molecules::{Drawn, drawn_if};
 use cip_mol::{Atom, Bond, Mark, Molecule};
 use cip_num::Vec3;
-use gate_rows::Row;
+use gate_calls::Row;
 use std::alloc::{AllocError, Global};
 
 // Both ends of a bond, and its order.

@@ -7,6 +7,17 @@ use Rattle.cip_rows.specs.Rows.{number_in, AreClassed}
 use Rattle.cip_branches.specs.Turning.{in_sphere, AreSpheres, SamePlaces}
 use Rattle.cip_rows.proofs.Cases.{cases_same}
 
+pub kept_itself : (from to : ℕ) (rows numbers : List ℕ) → AreClassed rows numbers from to
+    → KeepsSphere from to rows rows numbers numbers
+kept_itself from to rows numbers classed = record {
+  classed = classed;
+  there = λ place p. p;
+  back = λ place p. p;
+  kept = record { len = refl; before = λ k lt. refl; behind = λ k le. refl };
+  others = λ place none. refl;
+  len = refl;
+}
+
 -- rows whose numbers are those of before are classed as before
 pub classed_moves : (rows new_rows numbers new : List ℕ) (first past : ℕ)
     → ((k : ℕ) → first ≤ k → k < past → number_in new_rows new k ≡ number_in rows numbers k)

@@ -1,5 +1,5 @@
 -- Spheres that have to be looked at: as one turn finds them, and when all turns are done.
-use Rattle.std.proofs.Common.{◌≡◌, ◌≢◌, ◌<◌, ◌≤◌, ◌+◌, ◌==◌, ◌&&◌, ◌↔◌, ℕ, zero, suc, true, List, nat_eq, nat_lt, slice_index, refl, sym, ap, ◌∙◌, subst, arith, inl, inr}
+use Rattle.std.proofs.Common.{false, ◌≡◌, ◌≢◌, ◌<◌, ◌≤◌, ◌+◌, ◌==◌, ◌&&◌, ◌↔◌, ℕ, zero, suc, true, List, nat_eq, nat_lt, slice_index, refl, sym, ap, ◌∙◌, subst, arith, inl, inr}
 use Rattle.std.proofs.lemmas.Bool.{cases_lt}
 use Rattle.std.proofs.lemmas.Bool.Decides.{nat_tests}
 use Rattle.cip_rows.specs.Parting.{KeepsSphere, is_shared}
@@ -36,6 +36,9 @@ module _ (ups starts before now : List ℕ) (u : ℕ) (rows numbers new_rows new
       }
 
 -- the innermost one is the first, where and only where all have to be looked at
+pub not_first : (t : ℕ) → nat_eq t 0 ≡ false → 0 < t
+not_first t not = grind (arith, nat_tests)
+
 pub first_is : (ups rows starts : List ℕ) (t far : ℕ) (before start now : List ℕ)
     → IsInnermost ups rows starts t far before start now
     → (nat_eq t 0 ≡ true) ↔ AreStirred ups rows starts 0 far before start now

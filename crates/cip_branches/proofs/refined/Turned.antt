@@ -4,7 +4,7 @@ use Rattle.cip_rank.proofs.Descending.{all_by}
 use Rattle.cip_rows.specs.Kids.{AreCalm, by_kids, kid_set, KnowTheirKids}
 use Rattle.cip_rows.specs.Parting.{has_flag, is_shared, FlagHeads}
 use Rattle.cip_rows.specs.Rows.{IsRow, number_in, AreClassed, OrdersPlaces}
-use Rattle.cip_rows.specs.Stirring.{number_above, StirsAbove, KnowParents, TieUnlessStirred, NoFlags}
+use Rattle.cip_rows.specs.Stirring.{number_above, IsAbove, StirsAbove, KnowParents, TieUnlessStirred, NoFlags}
 use Rattle.cip_rows.proofs.ClassInSphere.{place_low, place_high, place_head, one_place}
 use Rattle.cip_rows.proofs.Cases.{cases_flag, not_both}
 use Rattle.cip_branches.proofs.refined.KidSets.{still_ordered}
@@ -97,3 +97,15 @@ module _ (kids : ℕ → List ℕ) (ups rows before numbers : List ℕ) (from to
     cleared = none_after old new stirs none;
     stands = λ same. stands old (subst (StirsAbove ups rows before numbers to past old) same stirs) none ties;
   }
+
+-- where no flag was set, nothing is to be looked at
+pub none_above : (ups rows before numbers : List ℕ) (from to : ℕ) (old new : List Bool)
+    → StirsAbove ups rows before numbers from to old new → NoFlags old → new ≡ old
+    → (number : ℕ) × IsAbove ups rows before numbers from to number → ⊥
+none_above ups rows before numbers from to old new stirs none same found =
+    let above = found.1 in
+    let place = number_above ups rows numbers above.row in
+    not_both (has_flag new place)
+    (stirs.each above.row above.low above.high above.differs
+    (subst (λ n. is_shared rows numbers n from ≡ true) (sym above.here) above.shared))
+    (subst (λ flags. has_flag flags place ≡ false) (sym same) (none.none place))

@@ -14,7 +14,7 @@ use Rattle.cip_rows.specs.Stirring.{IsAbove, KnowParents, TieUnlessStirred}
 use Rattle.cip_branches.specs.Turning.{in_sphere, AreSpheres, AreSteadyBefore, AreStirred, IsStirred, Turns}
 use Rattle.cip_rows.proofs.Cases.{both}
 use Rattle.cip_branches.proofs.refined.Inwards.{refines_none, refines_step}
-use Rattle.cip_branches.proofs.refined.Kept.{same_itself, same_after, other_place, places_kept, spheres_kept}
+use Rattle.cip_branches.proofs.refined.Kept.{kept_itself, same_itself, same_after, other_place, places_kept, spheres_kept}
 use Rattle.cip_branches.proofs.refined.Stirred.{above_is, stirred_is, stirred_on}
 use Rattle.cip_branches.proofs.refined.KidSets.{still_ordered}
 
@@ -95,14 +95,7 @@ module _ (kids : ℕ → List ℕ) (ups rows starts : List ℕ) (last : ℕ) (st
         }
 
     pub keeps_itself : KeepsSphere (slice_index starts s) (slice_index starts (suc s)) mid_rows mid_rows mid mid
-    keeps_itself = record {
-      classed = turns.spheres.classed s (omega (arith, le, far_in));
-      there = λ place p. p;
-      back = λ place p. p;
-      kept = record { len = refl; before = λ k lt. refl; behind = λ k le. refl };
-      others = λ place none. refl;
-      len = refl;
-    }
+    keeps_itself = kept_itself _ _ mid_rows mid (turns.spheres.classed s (omega (arith, le, far_in)))
 
   -- where the places of a sphere stand, so do all further in
   pub stood : (before mid_rows mid : List ℕ) → AreSteadyBefore kids rows starts far before start → (s : ℕ) → s ≤ far

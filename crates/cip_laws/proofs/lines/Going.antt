@@ -20,7 +20,7 @@ use Rattle.cip_image.proofs.lists.Among.{among_map, from_map}
 use Rattle.cip_laws.proofs.drawings.ReflectedDrawings.{reflection_keeps_drawings}
 use Rattle.cip_laws.proofs.drawings.Renumbered.{renumbering_keeps_outcomes}
 use Rattle.cip_print.specs.declared.answer.UnitAnswer.{UnitAnswer}
-use Rattle.cip_record.specs.Answers.{unit_answer}
+use Rattle.cip_answer.specs.Answers.{unit_answer}
 use Rattle.cip_laws.specs.Records.{IsImageAnswer, RecordsGo, IsMirrorAnswer, RecordsMirror}
 use Rattle.cip_laws.proofs.lines.Reading.{readings_are_sound, answer_is}
 

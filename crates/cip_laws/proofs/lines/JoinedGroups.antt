@@ -5,11 +5,11 @@ use Rattle.std.specs.Prelude.{nat_eq}
 use Rattle.std.specs.List.{list_any}
 use Rattle.std.proofs.lemmas.List.Folds.{list_any-append}
 use Rattle.std.proofs.Math.Bool.{or-false}
-use Rattle.cip_groups.specs.declared.groups.Group.{Group}
-use Rattle.cip_groups.specs.declared.kinds.GroupKind.{GroupKind}
-use Rattle.cip_groups.specs.declared.kinds.GroupKind.TheVariants.{Absolute, Racemic, Relative}
-use Rattle.cip_groups.specs.Grouping.{kinds_of, with_line}
-use Rattle.cip_groups.specs.Names.{same_kind}
+use Rattle.cip_collections.specs.declared.groups.Group.{Group}
+use Rattle.cip_collections.specs.declared.kinds.GroupKind.{GroupKind}
+use Rattle.cip_collections.specs.declared.kinds.GroupKind.TheVariants.{Absolute, Racemic, Relative}
+use Rattle.cip_collections.specs.Grouping.{kinds_of, with_line}
+use Rattle.cip_collections.specs.Names.{same_kind}
 use Rattle.cip_laws.specs.GroupLaws.{is_named, holds, are_different}
 
 pub same_is : (one other : GroupKind) → same_kind one other ≡ true → one ≡ other

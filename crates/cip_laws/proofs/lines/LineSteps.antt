@@ -7,15 +7,15 @@ use Rattle.cip_reading.specs.Turns.{over}
 use Rattle.cip_reading.proofs.Given.{given_of}
 use Rattle.cip_v3000.specs.declared.frames.FrameLine.TheVariants.{BeginCollection, EndCollection}
 use Rattle.cip_v3000.specs.Frames.{is_frame}
-use Rattle.cip_groups.specs.declared.collections.Found.{Found}
-use Rattle.cip_groups.specs.declared.groups.Group.{Group}
-use Rattle.cip_groups.specs.declared.kinds.GroupKind.{GroupKind}
-use Rattle.cip_groups.specs.AtomLists.{names_of, atoms_of, all_taken}
-use Rattle.cip_groups.specs.Collections.{with_kind, with_words, with_joined}
-use Rattle.cip_groups.specs.Grouping.{with_line}
-use Rattle.cip_groups.specs.Names.{kind_of}
-use Rattle.cip_groups.specs.Reading.{told_at}
-use Rattle.cip_groups.proofs.Told.{read_from_told}
+use Rattle.cip_collections.specs.declared.collections.Found.{Found}
+use Rattle.cip_collections.specs.declared.groups.Group.{Group}
+use Rattle.cip_collections.specs.declared.kinds.GroupKind.{GroupKind}
+use Rattle.cip_collections.specs.AtomLists.{names_of, atoms_of, all_taken}
+use Rattle.cip_collections.specs.Collections.{with_kind, with_words, with_joined}
+use Rattle.cip_collections.specs.Grouping.{with_line}
+use Rattle.cip_collections.specs.Names.{kind_of}
+use Rattle.cip_collections.specs.Reading.{told_at}
+use Rattle.cip_collections.proofs.Told.{read_from_told}
 use Rattle.cip_laws.specs.GroupLines.{stands_in, opens, listed, group_by, line_group, atoms_in}
 use Rattle.cip_laws.proofs.lines.JoinedGroups.{joined}
 

@@ -8,12 +8,12 @@ use Rattle.cip_v3000.specs.declared.frames.FrameLine.TheVariants.{EndTable}
 use Rattle.cip_v3000.specs.Frames.{is_frame}
 use Rattle.cip_v3000.specs.Grammar.{words_in}
 use Rattle.cip_v3000.specs.JoinedLines.{JoinedLine}
-use Rattle.cip_groups.specs.declared.collections.Found.{Found}
-use Rattle.cip_groups.specs.declared.faults.GroupCause.TheVariants.{Frame}
-use Rattle.cip_groups.specs.declared.faults.GroupFault.{GroupFault}
-use Rattle.cip_groups.specs.declared.groups.Group.{Group}
-use Rattle.cip_groups.specs.Collections.{nothing, with_joined, ended, groups_from, groups_of}
-use Rattle.cip_groups.specs.Grouping.{kinds_of}
+use Rattle.cip_collections.specs.declared.collections.Found.{Found}
+use Rattle.cip_collections.specs.declared.faults.GroupCause.TheVariants.{Frame}
+use Rattle.cip_collections.specs.declared.faults.GroupFault.{GroupFault}
+use Rattle.cip_collections.specs.declared.groups.Group.{Group}
+use Rattle.cip_collections.specs.Collections.{nothing, with_joined, ended, groups_from, groups_of}
+use Rattle.cip_collections.specs.Grouping.{kinds_of}
 use Rattle.cip_laws.specs.GroupLaws.{is_named, holds, are_different, GroupsAreOfLines}
 use Rattle.cip_laws.specs.GroupLines.{stands_in, opens, collected, line_group, group_lines, lines_of, atoms_in, repeats}
 use Rattle.cip_laws.proofs.lines.JoinedGroups.{joined, joined_more, named_joined, held_joined, different_joined}

@@ -1,7 +1,7 @@
 -- A record that is written mirrored has the mirror image's answer.
 use Rattle.std.proofs.Common.{subst}
-use Rattle.cip_mirror.specs.Answers.{GivesReflected, IsMirrored}
-use Rattle.cip_mirror.proofs.MirrorReads.{mirror_reads}
+use Rattle.cip_change.specs.Answers.{GivesReflected, IsMirrored}
+use Rattle.cip_change.proofs.MirrorReads.{mirror_reads}
 use Rattle.cip_laws.specs.Readings.{MirroredRecordsMirror}
 use Rattle.cip_laws.proofs.lines.Going.{records_mirror}
 

@@ -9,12 +9,12 @@ use Rattle.cip_reading.specs.Reading.{◌>>=◌}
 use Rattle.cip_reading.specs.Spaces.{spaced_words_of}
 use Rattle.cip_reading.specs.Turns.{over}
 use Rattle.cip_v3000.specs.BondLine.{place_named}
-use Rattle.cip_groups.specs.declared.faults.GroupCause.{GroupCause}
-use Rattle.cip_groups.specs.declared.faults.GroupCause.TheVariants.{Name, Word, Atom, Repeated}
-use Rattle.cip_groups.specs.declared.kinds.GroupKind.{GroupKind}
-use Rattle.cip_groups.specs.declared.kinds.GroupKind.TheVariants.{Absolute}
-use Rattle.cip_groups.specs.AtomLists.{is_counted, inner, with_inner, with_names, names_of, atom_of, with_atom, atoms_of}
-use Rattle.cip_groups.specs.Names.{unless_zero, number_of, racemic_by, relative_by, kind_of}
+use Rattle.cip_collections.specs.declared.faults.GroupCause.{GroupCause}
+use Rattle.cip_collections.specs.declared.faults.GroupCause.TheVariants.{Name, Word, Atom, Repeated}
+use Rattle.cip_collections.specs.declared.kinds.GroupKind.{GroupKind}
+use Rattle.cip_collections.specs.declared.kinds.GroupKind.TheVariants.{Absolute}
+use Rattle.cip_collections.specs.AtomLists.{is_counted, inner, with_inner, with_names, names_of, atom_of, with_atom, atoms_of}
+use Rattle.cip_collections.specs.Names.{unless_zero, number_of, racemic_by, relative_by, kind_of}
 
 -- where something is refused
 pub refused_of : {A B E : Type 0} (read : Result A E) (next : A → Result B E) (cause : E) → (read >>= next) ≡ Err cause

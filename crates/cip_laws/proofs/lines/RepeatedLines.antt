@@ -5,9 +5,9 @@ use Rattle.cip_v3000.specs.declared.frames.FrameLine.TheVariants.{EndTable}
 use Rattle.cip_v3000.specs.Frames.{is_frame}
 use Rattle.cip_v3000.specs.Grammar.{words_in}
 use Rattle.cip_v3000.specs.JoinedLines.{JoinedLine}
-use Rattle.cip_groups.specs.declared.collections.Found.{Found}
-use Rattle.cip_groups.specs.declared.groups.Group.{Group}
-use Rattle.cip_groups.specs.Collections.{nothing, ended, groups_from, groups_of}
+use Rattle.cip_collections.specs.declared.collections.Found.{Found}
+use Rattle.cip_collections.specs.declared.groups.Group.{Group}
+use Rattle.cip_collections.specs.Collections.{nothing, ended, groups_from, groups_of}
 use Rattle.cip_laws.specs.GroupLaws.{RepeatsAt, RepeatedIsNamedTwice}
 use Rattle.cip_laws.specs.GroupLines.{stands_in, collected, group_lines, atoms_in, repeats}
 use Rattle.cip_laws.proofs.lines.LineSteps.{step_of}

@@ -6,8 +6,8 @@ use Rattle.std.proofs.lemmas.Bool.{or_from, or_parts}
 use Rattle.std.proofs.lemmas.List.{append-nil, append_assoc}
 use Rattle.cip_reading.specs.Turns.{over}
 use Rattle.cip_reading.proofs.Given.{given_of}
-use Rattle.cip_groups.specs.declared.faults.GroupCause.TheVariants.{Repeated}
-use Rattle.cip_groups.specs.AtomLists.{with_taken, all_taken}
+use Rattle.cip_collections.specs.declared.faults.GroupCause.TheVariants.{Repeated}
+use Rattle.cip_collections.specs.AtomLists.{with_taken, all_taken}
 use Rattle.cip_laws.specs.GroupLines.{repeats}
 
 -- atoms behind others that repeat none

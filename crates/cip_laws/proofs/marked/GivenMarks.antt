@@ -7,8 +7,8 @@ use Rattle.cip_mol.specs.Marks.{is_narrow_at, joins}
 use Rattle.cip_mol.specs.declared.molecule.Bond.{Bond}
 use Rattle.cip_mol.specs.declared.molecule.Mark.{Mark}
 use Rattle.cip_mol.specs.declared.molecule.Mark.TheVariants.{Plain}
-use Rattle.cip_set.specs.Marking.{bare_bonds, is_free, is_plain, marked_to, with_mark, without_mark}
-use Rattle.cip_set.specs.Remarked.{AreRemarked, IsRemarked}
+use Rattle.cip_change.specs.Marking.{bare_bonds, is_free, is_plain, marked_to, with_mark, without_mark}
+use Rattle.cip_change.specs.Remarked.{AreRemarked, IsRemarked}
 use Rattle.cip_laws.specs.Marks.{GivenMarksKeepOrders, IsDrawnFrom}
 use Rattle.cip_laws.proofs.marked.KeptMarks.{marks_keep}
 

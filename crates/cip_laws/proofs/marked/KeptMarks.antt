@@ -4,9 +4,9 @@ use Rattle.cip_mol.specs.declared.site.Geometry.TheVariants.{Known}
 use Rattle.cip_digraph.specs.graph.DrawnGraph.{graph_of}
 use Rattle.cip_digraph.specs.outcome.Outcomes.{outcome_of}
 use Rattle.cip_digraph.specs.units.Units.{centre_site}
-use Rattle.cip_set.specs.FoundCentres.{outcome_as}
-use Rattle.cip_set.specs.MarkLaw.{with_bonds}
-use Rattle.cip_set.proofs.RemarkedCentres.{keeps_ranks}
+use Rattle.cip_change.specs.FoundCentres.{outcome_as}
+use Rattle.cip_change.specs.MarkLaw.{with_bonds}
+use Rattle.cip_change.proofs.RemarkedCentres.{keeps_ranks}
 use Rattle.cip_label.specs.Settings.{setting_in}
 use Rattle.cip_undefined.specs.Laws.{lettered}
 use Rattle.cip_undefined.proofs.KeptOrders.{senses_keep}

@@ -30,12 +30,12 @@ use Rattle.cip_laws.proofs.graph.RenumberedGraph.{carry, graph_renamed}
 use Rattle.cip_image.proofs.outcomes.CarriedOutcomes.{outcome_carried}
 use Rattle.cip_image.specs.Renamed.{IsRenamed}
 use Rattle.cip_laws.proofs.units.CarriedSites.{SiteImage, centre_carried, centre_image}
-use Rattle.cip_set.specs.FoundCentres.{outcome_as, shown_at}
-use Rattle.cip_set.specs.MarkLaw.{KeepsRanks}
-use Rattle.cip_set.specs.Marking.{bare, bare_bonds, has_centre, is_free, is_plain, marked, marked_to, with_mark}
-use Rattle.cip_set.specs.Remarked.{AreRemarked, IsRemarked}
-use Rattle.cip_set.proofs.RemarkedCentres.{keeps_ranks}
-use Rattle.cip_set.proofs.SetSound.{sound_bare}
+use Rattle.cip_change.specs.FoundCentres.{outcome_as, shown_at}
+use Rattle.cip_change.specs.MarkLaw.{KeepsRanks}
+use Rattle.cip_change.specs.Marking.{bare, bare_bonds, has_centre, is_free, is_plain, marked, marked_to, with_mark}
+use Rattle.cip_change.specs.Remarked.{AreRemarked, IsRemarked}
+use Rattle.cip_change.proofs.RemarkedCentres.{keeps_ranks}
+use Rattle.cip_change.proofs.SetSound.{sound_bare}
 use Rattle.cip_label.specs.Settings.{setting_in}
 use Rattle.cip_undefined.proofs.KeptOrders.{senses_keep}
 use Rattle.cip_laws.specs.TurnedBonds.{GivenMarksKeepLigands, KeepsLigands}

@@ -16,7 +16,7 @@ use Rattle.cip_digraph.specs.graph.Hydrogens.{atom_at, bond_orders, hydrogens, h
 use Rattle.cip_digraph.specs.graph.Renumbering.{IsImage, IsRenumbering}
 use Rattle.std.proofs.Math.Bool.{or_comm}
 use Rattle.cip_laws.proofs.drawings.RenumberedAtoms.{orders_alike}
-use Rattle.cip_set.specs.Marking.{is_free, is_plain, marked, marked_to}
+use Rattle.cip_change.specs.Marking.{is_free, is_plain, marked, marked_to}
 use Rattle.cip_laws.proofs.graph.RenumberedGraph.{carry}
 
 abbrev pub still : ℕ → ℕ

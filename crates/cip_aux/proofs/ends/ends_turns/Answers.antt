@@ -2,7 +2,7 @@ use Rattle.std.proofs.Common.{◌∙◌, sym, ap, subst, [], ◌∷◌}
 use Rattle.cip_digraph.specs.digraph.NodeList.{parents_of}
 use Rattle.cip_digraph.specs.units.Ends.{end_at}
 use Rattle.std.specs.Prelude.{option_to_list}
-use Rattle.cip_aux.specs.declared.ends.FoundTurns.{FoundTurns}
+use Rattle.cip_aux.specs.declared.viewer.FoundTurns.{FoundTurns}
 use Rattle.cip_aux.specs.Joining.{far_number}
 use Rattle.cip_aux.specs.Marking.{AreRootTurns, AreEndTurns}
 use Rattle.cip_aux.specs.Neighbours.{shape_at}

@@ -1,4 +1,4 @@
-use Rattle.cip_aux.specs.declared.ends.FoundTurns.{FoundTurns}
+use Rattle.cip_aux.specs.declared.viewer.FoundTurns.{FoundTurns}
 use Rattle.cip_aux.specs.Marking.{AreRootTurns, AreEndTurns}
 use Rattle.cip_digraph.specs.rules.Auxiliary.{nearer_first}
 use Rattle.cip_digraph.specs.units.Ends.{end_at}

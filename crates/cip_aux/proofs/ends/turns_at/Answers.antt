@@ -1,11 +1,12 @@
-use Rattle.std.proofs.Common.{◌≡◌, ◌∙◌, ℕ, List, map, sym, ap, subst, All, Contains, IfSome}
+use Rattle.std.proofs.Common.{◌≡◌, ◌∙◌, ℕ, List, map, sym, ap, subst, All, Contains, IfOk, IfSome}
 use Rattle.std.specs.declared.option.Option.{Option}
 use Rattle.cip_digraph.specs.digraph.NodeList.{parents_of}
-use Rattle.cip_aux.specs.Early.{AreEarly}
-use Rattle.cip_aux.specs.Marking.{AreRootTurns}
+use Rattle.cip_aux.specs.Marking.{AreRootTurns, AreSeenTurns}
 use Rattle.cip_aux.specs.Neighbours.{ligand_number, neighbours_of, shape_at}
 use Rattle.cip_aux.specs.Sights.{Sight}
-use Rattle.cip_aux.proofs.ReadyNodes.{numbers_of, ready_neighbours, ready_early}
+use Rattle.cip_aux.specs.declared.viewer.FoundTurns.{FoundTurns}
+use Rattle.cip_aux.proofs.NodeMarks.{ok_by}
+use Rattle.cip_aux.proofs.ReadyNodes.{numbers_of, ready_neighbours, ready_turns}
 use Rattle.cip_aux.proofs.ends.turns_at.Goals as goal
 
 pub look-requires-clause-ligands : goal.look-requires-clause-ligands
@@ -22,14 +23,12 @@ pub returns-clause-turns : goal.returns-clause-turns
 returns-clause-turns g c =
     let inner = c.args.inner.now in
     let node = c.args.node in
-    let found = c.in_ok-found.found in
-    let sides = found.sides in
     let told = c.nodes.ensures.told ∙ ap (λ (s : Sight). s.told) c.whole.ensures in
     let numbers : c.as_slice.result.now ≡ numbers_of inner node c.requires.ready c.args.ligands.now =
     c.as_slice.ensures ∙ c.in_ok-numbers.ensures
     ∙ ap (λ all. map (ligand_number (shape_at all) (parents_of all) node) c.args.ligands.now) told in
-    subst (AreRootTurns inner node found.by_constitution c.args.ligands.now) (sym c.turns_from.ensures)
-    (ready_early inner node c.requires.ready found.by_constitution c.args.ligands.now sides.natural.items
-    sides.turned.items
-    (subst (λ (ligands : List (Option ℕ)). AreEarly inner node found.by_constitution ligands sides.natural.items
-    sides.turned.items) numbers c.in_ok-found.ensures.early))
+    ok_by (AreSeenTurns inner node (numbers_of inner node c.requires.ready c.args.ligands.now))
+    (λ (found : FoundTurns). AreRootTurns inner node found.by_constitution c.args.ligands.now found.turns) c.look.result
+    (ready_turns inner node c.requires.ready c.args.ligands.now)
+    (subst (λ (ligands : List (Option ℕ)). IfOk c.look.result (AreSeenTurns inner node ligands)) numbers
+    c.look.ensures.turns)

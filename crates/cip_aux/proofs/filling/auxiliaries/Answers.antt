@@ -43,3 +43,38 @@ loop-done-preserved g c =
           (one_more sight all flags node old c.in_ok-mark.mark low c.in_ok-mark.ensures.mark
           (subst (λ k. are k old) now c.loop-done.invariant.marks)));
     }
+
+pub wanted_mark-requires-clause-within : goal.wanted_mark-requires-clause-within
+wanted_mark-requires-clause-within g c =
+    let sight = sight_of c.args.whole.now in
+    let shows = whole_shows c.args.whole.now c.nodes.ensures.whole in
+    let many : c.len-count.result ≡ length sight.nodes =
+    c.len-count.ensures.len ∙ ap length c.table.ensures ∙ ap (λ all. length (parents_of all)) c.nodes.ensures.told
+    ∙ sym shows.told.len in
+    omega (arith, many, c.loop-done-test.true)
+
+pub wanted_mark-requires-clause-wanted : goal.wanted_mark-requires-clause-wanted
+wanted_mark-requires-clause-wanted g c = c.requires.wanted
+
+pub wanted_mark-requires-clause-behind : goal.wanted_mark-requires-clause-behind
+wanted_mark-requires-clause-behind g c =
+    let wanted = c.args.wanted.now in
+    let count = c.len-count.result in
+    let now : count - c.loop-done.done ≡ count - 1 - c.loop-done.done + 1 = omega (arith, c.loop-done-test.true) in
+    subst (λ k. AreMarked (sight_of c.args.whole.now) wanted.units.now wanted.flags.now k c.loop-done.marks.marks) now
+    c.loop-done.invariant.marks
+
+pub wanted_mark-requires-clause-stands : goal.wanted_mark-requires-clause-stands
+wanted_mark-requires-clause-stands g c = c.loop-done.invariant.stands
+
+pub wanted_mark-requires-clause-kept : goal.wanted_mark-requires-clause-kept
+wanted_mark-requires-clause-kept g c = c.loop-done.invariant.kept
+
+pub returns-in_err-mark-clause-room : goal.returns-in_err-mark-clause-room
+returns-in_err-mark-clause-room g c = c.wanted_mark.ensures.room ∙ c.loop-done.invariant.room
+
+pub returns-in_err-mark-clause-stands : goal.returns-in_err-mark-clause-stands
+returns-in_err-mark-clause-stands g c = c.wanted_mark.ensures.stands
+
+pub returns-in_err-mark-clause-kept : goal.returns-in_err-mark-clause-kept
+returns-in_err-mark-clause-kept g c = c.wanted_mark.ensures.kept

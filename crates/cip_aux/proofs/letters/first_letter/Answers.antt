@@ -31,3 +31,24 @@ loop-rest-preserved g c =
           c.in_ok-letter.ensures.letter)
           c.loop-rest.invariant.left;
     }
+
+pub unit_letter-requires-clause-ready : goal.unit_letter-requires-clause-ready
+unit_letter-requires-clause-ready g c = c.requires.ready
+
+pub unit_letter-requires-clause-vertex : goal.unit_letter-requires-clause-vertex
+unit_letter-requires-clause-vertex g c = c.requires.vertex
+
+pub unit_letter-requires-clause-stands : goal.unit_letter-requires-clause-stands
+unit_letter-requires-clause-stands g c = c.loop-rest.invariant.stands
+
+pub unit_letter-requires-clause-kept : goal.unit_letter-requires-clause-kept
+unit_letter-requires-clause-kept g c = c.loop-rest.invariant.kept
+
+pub returns-in_err-letter-clause-room : goal.returns-in_err-letter-clause-room
+returns-in_err-letter-clause-room g c = c.unit_letter.ensures.room ∙ c.loop-rest.invariant.room
+
+pub returns-in_err-letter-clause-stands : goal.returns-in_err-letter-clause-stands
+returns-in_err-letter-clause-stands g c = c.unit_letter.ensures.stands
+
+pub returns-in_err-letter-clause-kept : goal.returns-in_err-letter-clause-kept
+returns-in_err-letter-clause-kept g c = c.unit_letter.ensures.kept

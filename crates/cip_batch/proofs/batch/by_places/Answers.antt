@@ -1,6 +1,6 @@
-use Rattle.std.proofs.Common.{◌++◌, drop, length, IfSome}
+use Rattle.std.proofs.Common.{◌++◌, drop, length, IfSome, subst, sym}
 use Rattle.std.proofs.lemmas.List.Elements.{All-append, All-drop, All-take}
-use Rattle.cip_batch.specs.Entries.{IsAnswer}
+use Rattle.cip_batch.specs.Entries.{ArePlaced, IsAnswer}
 use Rattle.cip_batch.proofs.batch.by_places.Goals as goal
 
 pub returns-clause-found : goal.returns-clause-found
@@ -12,3 +12,7 @@ returns-clause-found g c =
     All-take (λ s. IfSome s (IsAnswer answer jobs)) before.len (now ++ drop (length now) before.items)
     (All-append (λ s. IfSome s (IsAnswer answer jobs)) now _ c.in_ok-put_each.ensures.found
     (All-drop (λ s. IfSome s (IsAnswer answer jobs)) (length now) before.items c.in_ok-found.ensures))
+
+pub put_each-requires-clause-found : goal.put_each-requires-clause-found
+put_each-requires-clause-found g c κs within =
+    subst (ArePlaced g.J.Job.answer c.args.jobs.now) (sym c.deref_mut.ensures.value) c.in_ok-found.ensures

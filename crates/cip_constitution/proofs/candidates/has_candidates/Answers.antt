@@ -1,4 +1,4 @@
-use Rattle.std.proofs.Common.{rules, ◌<◌, ◌∙◌, sym}
+use Rattle.std.proofs.Common.{rules, ◌<◌, ◌∙◌, sym, arith}
 use Rattle.cip_constitution.proofs.anew.GoingOn.{each_anew}
 use Rattle.cip_constitution.proofs.candidates.has_candidates.Goals as goal
 
@@ -12,3 +12,19 @@ returns-then-unlike_each-clause-anew c none =
     c.args.trial.now.branches.now c.requires.followed setting.rules setting.units.now further
     (c.all_go_on.ensures.elsewhere c.if-all_go_on.true) setting.ligands.now
     (sym c.unlike_each.ensures ∙ c.if-unlike_each.true)
+
+pub all_go_on-requires-clause-grown : goal.all_go_on-requires-clause-grown
+all_go_on-requires-clause-grown c = c.requires.grown
+
+pub all_go_on-requires-clause-keyed : goal.all_go_on-requires-clause-keyed
+all_go_on-requires-clause-keyed c = c.requires.keyed
+
+pub has_candidate_from-requires-clause-grown : goal.has_candidate_from-requires-clause-grown
+has_candidate_from-requires-clause-grown c = c.requires.grown
+
+pub has_candidate_from-requires-clause-keyed : goal.has_candidate_from-requires-clause-keyed
+has_candidate_from-requires-clause-keyed c = c.requires.keyed
+
+pub has_candidate_from-requires-clause-room : goal.has_candidate_from-requires-clause-room
+has_candidate_from-requires-clause-room c =
+    let room = c.requires.room in let kept = c.loop-rest.invariant.room in omega (arith, room, kept)

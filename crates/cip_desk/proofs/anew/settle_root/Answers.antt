@@ -12,7 +12,7 @@ use Rattle.cip_desk.proofs.anew.settle_root.Goals as goal
 
 pub settle-requires-clause-fits : goal.settle-requires-clause-fits
 settle-requires-clause-fits g c =
-    let positions = c.args.setting.now.positions in
+    let positions = c.args.told.now.setting.now.positions in
     let one = started_one c.graph-graph.result.now positions c.start.new.self (c.start.ensures.holds positions)
     c.start.ensures.sphere in
     let bound = c.start.ensures.bound in
@@ -21,44 +21,44 @@ settle-requires-clause-fits g c =
 
 pub settle-requires-clause-root : goal.settle-requires-clause-root
 settle-requires-clause-root g c =
-    let setting = c.args.setting.now in
+    let setting = c.args.told.now.setting.now in
     subst (λ (graph : Graph). c.start.new.self.root < length graph.vertices) (sym c.graph-graph.ensures.value)
     (subst (λ (root : ℕ). root < length setting.graph.vertices) (sym c.start.ensures.root)
-    (root_low setting.graph c.args.root c.args.ligands.now c.graph-graph.ensures.proper.sound c.requires.fit))
+    (root_low setting.graph c.args.told.now.root c.args.told.now.ligands.now c.graph-graph.ensures.proper.sound c.requires.fit))
 
 pub returns-clause-settled : goal.returns-clause-settled
 returns-clause-settled g c =
-    let setting = c.args.setting.now in
+    let setting = c.args.told.now.setting.now in
     subst (λ (t : Setting). SettledAs t c.settle.new.arena c.settle.result)
     (same_setting c.rules.result setting.rules c.graph-graph.result.now setting.graph c.positions.result.now
-    setting.positions c.units.result.now setting.units c.as_slice.result.now c.args.ligands.now c.rules.ensures
+    setting.positions c.units.result.now setting.units c.as_slice.result.now c.args.told.now.ligands.now c.rules.ensures
     c.graph-graph.ensures.value c.positions.ensures c.units.ensures.value c.as_slice.ensures.value)
     c.settle.ensures.settled
 
 pub returns-clause-cost : goal.returns-clause-cost
 returns-clause-cost g c =
-    let setting = c.args.setting.now in
+    let setting = c.args.told.now.setting.now in
     let holds : Holds setting.graph setting.positions c.settle.new.arena = search rules in
     let one = started_one c.graph-graph.result.now setting.positions c.start.new.self
     (c.start.ensures.holds setting.positions) c.start.ensures.sphere in
-    rises setting c.args.ligands.now c.args.root c.settle.new.arena holds (c.settle.ensures.root ∙ c.start.ensures.root)
+    rises setting c.args.told.now.ligands.now c.args.told.now.root c.settle.new.arena holds (c.settle.ensures.root ∙ c.start.ensures.root)
     c.args.arena.now.bound c.args.steps.now c.settle.new.steps (length c.start.new.self.nodes)
     (c.settle.ensures.bound ∙ c.start.ensures.bound) c.settle.ensures.fits one c.settle.ensures.cost
     (subst (λ (t : Setting). c.settle.new.steps + 1 ≤ c.args.steps.now + cost_of t c.settle.new.arena.root)
     (same_setting c.rules.result setting.rules c.graph-graph.result.now setting.graph c.positions.result.now
-    setting.positions c.units.result.now setting.units c.as_slice.result.now c.args.ligands.now c.rules.ensures
+    setting.positions c.units.result.now setting.units c.as_slice.result.now c.args.told.now.ligands.now c.rules.ensures
     c.graph-graph.ensures.value
     c.positions.ensures c.units.ensures.value c.as_slice.ensures.value) c.settle.ensures.lazy)
 
 pub returns-clause-followed : goal.returns-clause-followed
 returns-clause-followed g c is =
-    let setting = c.args.setting.now in
+    let setting = c.args.told.now.setting.now in
     let arena = c.settle.new.arena in
-    let at : arena.root ≡ c.args.root = c.settle.ensures.root ∙ c.start.ensures.root in
-    let settled = subst (SettledAs (settled_by setting c.args.ligands.now) arena) is (returns-clause-settled g c) in
-    let fit = subst (λ (root : ℕ). IsFit setting.graph root c.args.ligands.now) (sym at) c.requires.fit in
+    let at : arena.root ≡ c.args.told.now.root = c.settle.ensures.root ∙ c.start.ensures.root in
+    let settled = subst (SettledAs (settled_by setting c.args.told.now.ligands.now) arena) is (returns-clause-settled g c) in
+    let fit = subst (λ (root : ℕ). IsFit setting.graph root c.args.told.now.ligands.now) (sym at) c.requires.fit in
     let holds : Holds setting.graph setting.positions arena = search rules in
-    let some = some_spheres setting c.args.ligands.now arena holds c.graph-graph.ensures.proper.sound fit
+    let some = some_spheres setting c.args.told.now.ligands.now arena holds c.graph-graph.ensures.proper.sound fit
     c.settle.ensures.fits settled in
     let work = c.settle.new.work in
     subst (λ (positions : List (List ℕ)). AreFollowedOut setting.graph positions arena work) c.positions.ensures

@@ -12,15 +12,15 @@ use Rattle.cip_aux.proofs.Told.{whole_shows}
 use Rattle.cip_inside.proofs.WantedNodes.{all_wanted, on_by, wanted_at}
 use Rattle.cip_inside.proofs.inside.descriptors_inside.Goals as goal
 
-pub descriptors_where-requires-clause-wanted : goal.descriptors_where-requires-clause-wanted
-descriptors_where-requires-clause-wanted g c =
+pub auxiliaries-requires-clause-wanted : goal.auxiliaries-requires-clause-wanted
+auxiliaries-requires-clause-wanted g c =
     let parents = parents_of c.args.whole.now.told in
     subst (AreWanted parents) (sym (c.as_slice.ensures.value ∙ c.in_ok-flags.ensures))
     (all_wanted parents c.len-count.result
     (c.len-count.ensures.len ∙ ap length c.table.ensures ∙ ap (λ all. length (parents_of all)) c.nodes.ensures.told))
 
-pub descriptors_where-requires-clause-kept : goal.descriptors_where-requires-clause-kept
-descriptors_where-requires-clause-kept g c =
+pub auxiliaries-requires-clause-kept : goal.auxiliaries-requires-clause-kept
+auxiliaries-requires-clause-kept g c =
     let sight = sight_of c.args.whole.now in
     let sites = sites_in c.args.units.now in
     subst (λ (kept : Reserved (Option KeptTurn)). AreKept sight sites kept.items) (sym c.in_ok-none.ensures)
@@ -31,16 +31,16 @@ returns-clause-marks g c =
     let whole = c.args.whole.now in
     let sight = sight_of whole in
     let all = c.args.units.now in
-    let marks = c.descriptors_where.new.marks.marks in
+    let marks = c.auxiliaries.new.marks.marks in
     let shows = whole_shows whole c.nodes.ensures.whole in
     let count : c.len-count.result ≡ length sight.nodes =
     c.len-count.ensures.len ∙ ap length c.table.ensures ∙ ap (λ told. length (parents_of told)) c.nodes.ensures.told
     ∙ sym shows.told.len in
     on_by (AreMarked sight all c.as_slice.result.now 0 marks) (marks ≡ map (node_mark sight all) sight.nodes)
-    c.descriptors_where.result
+    c.auxiliaries.result
     (λ are.
     all_marked sight all c.as_slice.result.now marks
     (λ k low. subst (λ (flags : List Bool). flag_at flags k ≡ true)
     (sym (c.as_slice.ensures.value ∙ c.in_ok-flags.ensures))
     (wanted_at c.len-count.result k (omega (arith, low, count)))) are)
-    c.descriptors_where.ensures.marks
+    c.auxiliaries.ensures.marks

@@ -1,9 +1,11 @@
-use Rattle.std.proofs.Common.{◌∙◌, refl, sym, ap, subst}
-use Rattle.cip_aux.specs.Sights.{sight_of}
+use Rattle.std.proofs.Common.{◌≤◌, ◌∙◌, length, refl, sym, ap, subst}
+use Rattle.cip_aux.specs.Sights.{Sight, sight_of}
+use Rattle.cip_digraph.specs.digraph.NodeList.{parents_of}
 use Rattle.cip_ligands.specs.Taking.{AreSame}
-use Rattle.cip_inside.specs.Near.{Nearing}
-use Rattle.cip_inside.specs.OpenLooks.{look_of}
+use Rattle.cip_inside.specs.Near.{AreTops, Nearing}
+use Rattle.cip_inside.specs.OpenLooks.{IsOpen, look_of, looked_at}
 use Rattle.cip_inside.specs.declared.open_looks.OpenLook.{OpenLook}
+use Rattle.cip_inside.proofs.AskedTops.{asked_tops_are}
 use Rattle.cip_inside.proofs.OpenAgain.{open_still, stands_open}
 use Rattle.cip_inside.proofs.keeping.go_on.Goals as goal
 
@@ -13,9 +15,9 @@ configured-found-requires-clause-placed g c =
     c.requires.open c.reopen.new.near _ c.reopen.ensures.near c.whole.ensures c.args.look.now.pairs.items
     refl).constituted.placed
 
-pub returns-clause-early : goal.returns-clause-early
-returns-clause-early g c =
-    c.configured-found.ensures.early c.args.look.now.ligands.items
+pub returns-clause-turns : goal.returns-clause-turns
+returns-clause-turns g c =
+    c.configured-found.ensures.turns c.args.look.now.ligands.items
     (stands_open c.args.near.now.bound c.args.inner.now.sight (sight_of c.whole.result.now) (look_of c.args.look.now)
     c.requires.open c.reopen.new.near _ c.reopen.ensures.near c.whole.ensures _
     (c.as_mut_slice.ensures.value ∙ c.in_ok-pairs.ensures.ok ∙ c.as_slice.ensures))
@@ -29,3 +31,37 @@ returns-clause-open g c =
     (c.swap.ensures.room ∙ ap (λ (n : Nearing). n.bound) c.swap.ensures.own ∙ c.configured-found.ensures.bound
     ∙ ap (λ (n : Nearing). n.bound) c.reopen.ensures.near)
     (ap (λ (l : OpenLook). record (look_of l) { branched = then }) c.reopen.ensures.look)
+
+pub reopen-requires-clause-bound : goal.reopen-requires-clause-bound
+reopen-requires-clause-bound g c =
+    subst (λ (s : Sight). length s.told ≤ c.args.near.now.bound) (sym c.whole.ensures) c.requires.bound
+
+pub reopen-requires-clause-open : goal.reopen-requires-clause-open
+reopen-requires-clause-open g c =
+    subst (λ (s : Sight). IsOpen c.args.near.now.bound s (look_of c.args.look.now)) (sym c.whole.ensures)
+    c.requires.open
+
+pub configured-found-requires-clause-room : goal.configured-found-requires-clause-room
+configured-found-requires-clause-room g c =
+    subst (λ n. length c.args.inner.now.sight.told ≤ n) (sym (ap (λ (n : Nearing). n.bound) c.reopen.ensures.near))
+    c.requires.bound
+
+pub configured-found-requires-clause-ready : goal.configured-found-requires-clause-ready
+configured-found-requires-clause-ready g c = c.requires.ready
+
+pub configured-found-requires-clause-tops : goal.configured-found-requires-clause-tops
+configured-found-requires-clause-tops g c =
+    let look = c.args.look.now in
+    let parents = parents_of c.args.inner.now.sight.told in
+    subst (AreTops parents look.node)
+    (sym (ap (λ (n : Nearing). n.tops) c.reopen.ensures.near
+    ∙ ap (λ (s : Sight). looked_at s (look_of look)) c.whole.ensures))
+    (asked_tops_are parents look.tops.items look.node)
+
+pub returns-in_err-pairs-clause-open : goal.returns-in_err-pairs-clause-open
+returns-in_err-pairs-clause-open g c = c.requires.open
+
+pub returns-clause-near : goal.returns-clause-near
+returns-clause-near g c =
+    ap (λ (n : Nearing). n.bound) c.swap.ensures.own ∙ c.configured-found.ensures.bound
+    ∙ ap (λ (n : Nearing). n.bound) c.reopen.ensures.near

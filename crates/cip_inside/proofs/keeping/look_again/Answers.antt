@@ -3,7 +3,7 @@ use Rattle.std.proofs.lemmas.List.{map-set}
 use Rattle.std.proofs.lemmas.List.Elements.{All-set}
 use Rattle.std.proofs.lemmas.Option.{get_or_from_slice_get, slice_get-get_or, slice_get-map}
 use Rattle.std.specs.Option.{option_map}
-use Rattle.cip_aux.specs.Early.{AreEarly}
+use Rattle.cip_aux.specs.Marking.{AreSeenTurns}
 use Rattle.cip_inside.specs.OpenLooks.{IsOpen, look_of}
 use Rattle.cip_inside.specs.declared.open_looks.OpenLook.{OpenLook}
 use Rattle.cip_inside.proofs.OpenAgain.{at_place}
@@ -20,12 +20,10 @@ go_on-requires-clause-open g c =
     c.requires.open.each (slice_get-map look_of looks c.args.place
     ∙ ap (option_map look_of) (slice_get-get_or looks c.args.place c.index-looks-place.result c.requires.place))
 
-pub returns-clause-early : goal.returns-clause-early
-returns-clause-early g c = λ look at.
-    subst (λ (l : OpenLook). IfOk c.go_on.result
-    (λ found. AreEarly c.args.inner.now l.node found.by_constitution l.ligands.items found.sides.natural.items
-    found.sides.turned.items))
-    (get_or_from_slice_get c.args.looks.now c.args.place look c.index-looks-place.result at) c.go_on.ensures.early
+pub returns-clause-turns : goal.returns-clause-turns
+returns-clause-turns g c = λ look at.
+    subst (λ (l : OpenLook). IfOk c.go_on.result (AreSeenTurns c.args.inner.now l.node l.ligands.items))
+    (get_or_from_slice_get c.args.looks.now c.args.place look c.index-looks-place.result at) c.go_on.ensures.turns
 
 pub returns-clause-open : goal.returns-clause-open
 returns-clause-open g c =

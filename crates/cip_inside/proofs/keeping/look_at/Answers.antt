@@ -1,21 +1,23 @@
-use Rattle.std.proofs.Common.{◌∙◌, ℕ, List, All, length, sym, ap, subst}
+use Rattle.std.proofs.Common.{◌≤◌, ◌∙◌, ℕ, List, All, length, sym, ap, subst}
 use Rattle.std.proofs.lemmas.List.Elements.{All-from_recursion}
-use Rattle.cip_aux.specs.Sights.{Sight}
+use Rattle.cip_aux.specs.Marking.{AreSeenTurns}
+use Rattle.cip_aux.specs.Sights.{IsReal, Sight}
 use Rattle.cip_ligands.specs.declared.asked.Asked.{Asked}
 use Rattle.cip_ligands.specs.Asking.{AreWithin}
 use Rattle.cip_inside.specs.Asking.{asked_pairs}
 use Rattle.cip_inside.specs.Near.{AreConstituted}
+use Rattle.cip_inside.specs.OpenLooks.{AreOpen}
 use Rattle.cip_inside.proofs.AskedSides.{pairs_within}
-use Rattle.cip_inside.proofs.EarlySides.{decided_early, lone_early}
+use Rattle.cip_inside.proofs.SeenTurns.{decided_seen, lone_seen}
 use Rattle.cip_inside.proofs.Narrowed.{constituted_left}
 use Rattle.cip_inside.proofs.keeping.look_at.Goals as goal
 
-pub returns-then-is_empty-clause-early : goal.returns-then-is_empty-clause-early
-returns-then-is_empty-clause-early g c =
+pub returns-then-is_empty-clause-turns : goal.returns-then-is_empty-clause-turns
+returns-then-is_empty-clause-turns g c =
     let inner = c.args.inner.now in
     let asked = c.args.asked.now in
-    c.settled.ensures inner asked.node asked.ligands.now
-    (lone_early inner asked.node asked.ligands.now c.requires.next c.args.near.now.tops c.requires.tops c.args.pairs.now
+    subst (AreSeenTurns inner asked.node asked.ligands.now) (sym c.of.ensures)
+    (lone_seen inner asked.node asked.ligands.now c.requires.next c.args.near.now.tops c.requires.tops c.args.pairs.now
     (ap (λ (ns : List ℕ). length ns) (c.is_empty.ensures.none c.if-is_empty.true)) c.requires.pairs)
 
 pub constitution-requires-clause-within : goal.constitution-requires-clause-within
@@ -26,16 +28,16 @@ constitution-requires-clause-within g c =
     (All-from_recursion (AreWithin (length tops)) (asked_pairs tops ligands)
     (pairs_within tops (c.is_empty.ensures.some c.if-is_empty.false) ligands))
 
-pub returns-then-constitution-clause-early : goal.returns-then-constitution-clause-early
-returns-then-constitution-clause-early g c =
+pub returns-then-constitution-clause-turns : goal.returns-then-constitution-clause-turns
+returns-then-constitution-clause-turns g c =
     let inner = c.args.inner.now in
     let asked = c.args.asked.now in
     let ligands = asked.ligands.now in
     let tops = c.args.near.now.tops in
     let near = c.constitution.new.self in
     let pairs = c.constitution.new.asked in
-    c.settled-then-constitution.ensures inner asked.node ligands
-    (decided_early inner asked.node ligands c.requires.next tops c.requires.tops near.now pairs
+    subst (AreSeenTurns inner asked.node ligands) (sym c.of-then-constitution.ensures)
+    (decided_seen inner asked.node ligands c.requires.next tops c.requires.tops near.now pairs
     (c.is_empty.ensures.some c.if-is_empty.false)
     (subst (λ (ns : List ℕ). AreConstituted inner.sight asked.node ns near.now (asked_pairs tops ligands) pairs)
     c.constitution.ensures.tops
@@ -56,3 +58,29 @@ look_on-requires-clause-left g c =
     (subst (λ (s : Sight). AreConstituted s asked.node near.tops near.now c.args.pairs.now c.constitution.new.asked)
     c.whole.ensures c.constitution.ensures.constituted)
     (sym c.constitution.ensures.all ∙ c.if-constitution.false)
+
+pub constitution-requires-clause-room : goal.constitution-requires-clause-room
+constitution-requires-clause-room g c =
+    subst (λ (s : Sight). length s.told ≤ c.args.near.now.bound) (sym c.whole.ensures) c.requires.open.room
+
+pub constitution-requires-clause-real : goal.constitution-requires-clause-real
+constitution-requires-clause-real g c =
+    subst (λ (s : Sight). IsReal s.nodes c.args.asked.now.node) (sym c.whole.ensures) c.requires.ready.real
+
+pub look_on-requires-clause-tops : goal.look_on-requires-clause-tops
+look_on-requires-clause-tops g c = c.constitution.ensures.tops ∙ c.requires.tops
+
+pub look_on-requires-clause-open : goal.look_on-requires-clause-open
+look_on-requires-clause-open g c =
+    subst (λ n. AreOpen n c.args.inner.now.sight c.args.kept.now) (sym c.constitution.ensures.bound) c.requires.open
+
+pub returns-clause-open : goal.returns-clause-open
+returns-clause-open g c =
+    subst (λ n. AreOpen n c.args.inner.now.sight c.look_on.new.kept) c.constitution.ensures.bound
+    c.look_on.ensures.open
+
+pub returns-clause-turns : goal.returns-clause-turns
+returns-clause-turns g c = c.look_on.ensures.turns
+
+pub returns-clause-near : goal.returns-clause-near
+returns-clause-near g c = c.look_on.ensures.near ∙ c.constitution.ensures.bound

@@ -1,13 +1,14 @@
 use Rattle.std.proofs.Common.{◌≡◌, ◌∙◌, ℕ, List, IfOk, sym, ap, subst, arith}
 use Rattle.std.specs.Prelude.{Some, slice_get}
 use Rattle.std.specs.declared.option.Option.{Option}
-use Rattle.cip_aux.specs.Early.{AreEarly}
 use Rattle.cip_aux.specs.Inner.{Ready}
+use Rattle.cip_aux.specs.Marking.{AreSeenTurns}
 use Rattle.cip_aux.specs.Sights.{IsReal, Sight}
 use Rattle.cip_digraph.specs.digraph.NodeList.{parents_of}
 use Rattle.cip_inside.specs.Narrowing.{LeavesOpen}
-use Rattle.cip_inside.specs.Near.{asked_tops}
+use Rattle.cip_inside.specs.Near.{AreTops, asked_tops}
 use Rattle.cip_inside.specs.OpenLooks.{AreOpen}
+use Rattle.cip_inside.proofs.AskedTops.{asked_tops_are}
 use Rattle.cip_inside.proofs.OpenAgain.{some_at}
 use Rattle.cip_inside.proofs.keeping.look_on.Goals as goal
 
@@ -50,15 +51,44 @@ pub returns-clause-open : goal.returns-clause-open
 returns-clause-open g c =
     subst (λ n. AreOpen n c.args.inner.now.sight c.go_on.new.self) c.in_ok-keep.ensures.near c.go_on.ensures.open
 
-pub returns-clause-early : goal.returns-clause-early
-returns-clause-early g c =
+pub returns-clause-turns : goal.returns-clause-turns
+returns-clause-turns g c =
     let inner = c.args.inner.now in
     let place = c.len-place.ensures in
     let more = c.in_ok-keep.ensures.more in
     let found = some_at c.keep.new.kept c.len-place.result (omega (arith, place, more)) in
     let last = c.in_ok-keep.ensures.last found.0
     (subst (λ n. slice_get c.keep.new.kept n ≡ Some found.0) place found.1) in
-    subst (λ (n : ℕ). IfOk c.go_on.result (λ d. AreEarly inner n d.by_constitution c.args.asked.now.ligands.now
-    d.sides.natural.items d.sides.turned.items)) last.0
-    (subst (λ (ls : List (Option ℕ)). IfOk c.go_on.result (λ d. AreEarly inner found.0.node d.by_constitution ls
-    d.sides.natural.items d.sides.turned.items)) last.1 (c.go_on.ensures.early found.0 found.1))
+    subst (λ (n : ℕ). IfOk c.go_on.result (AreSeenTurns inner n c.args.asked.now.ligands.now)) last.0
+    (subst (λ (ls : List (Option ℕ)). IfOk c.go_on.result (AreSeenTurns inner found.0.node ls)) last.1
+    (c.go_on.ensures.turns found.0 found.1))
+
+pub configured-requires-clause-room : goal.configured-requires-clause-room
+configured-requires-clause-room g c = c.requires.open.room
+
+pub configured-requires-clause-ready : goal.configured-requires-clause-ready
+configured-requires-clause-ready g c = c.requires.ready
+
+pub configured-requires-clause-tops : goal.configured-requires-clause-tops
+configured-requires-clause-tops g c =
+    let asked = c.args.asked.now in
+    let parents = parents_of c.args.inner.now.sight.told in
+    subst (AreTops parents asked.node) (sym c.requires.tops) (asked_tops_are parents asked.ligands.now asked.node)
+
+pub configured-requires-clause-placed : goal.configured-requires-clause-placed
+configured-requires-clause-placed g c = c.requires.left.constituted.placed
+
+pub returns-then-not-has_room-clause-turns : goal.returns-then-not-has_room-clause-turns
+returns-then-not-has_room-clause-turns g c = c.configured.ensures.turns c.args.asked.now.ligands.now c.requires.left
+
+pub returns-then-not-has_room-clause-open : goal.returns-then-not-has_room-clause-open
+returns-then-not-has_room-clause-open g c = c.requires.open
+
+pub returns-then-not-has_room-clause-near : goal.returns-then-not-has_room-clause-near
+returns-then-not-has_room-clause-near g c = c.configured.ensures.bound
+
+pub returns-in_err-keep-clause-near : goal.returns-in_err-keep-clause-near
+returns-in_err-keep-clause-near g c = c.in_err-keep.ensures.near
+
+pub returns-clause-near : goal.returns-clause-near
+returns-clause-near g c = c.go_on.ensures.near ∙ c.in_ok-keep.ensures.near

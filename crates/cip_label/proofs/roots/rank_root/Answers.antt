@@ -6,7 +6,7 @@ use Rattle.cip_label.proofs.roots.rank_root.Goals as goal
 pub returns-in-Known-clause-ranked : goal.returns-in-Known-clause-ranked
 returns-in-Known-clause-ranked g c =
     if_ok _ _ c.ranked_by.result
-    (λ ranked is. is ∙ once_as c.args.setting.now c.args.root c.args.ligands.now
+    (λ ranked is. is ∙ once_as c.args.setting.now c.args.root.at c.args.root.ligands.now
     (g.D.Digraphs.standing c.rank.new.self)
     c.graph-graph.ensures.proper.sound c.requires.fit (g.D.Digraphs.bound c.args.digraphs.now) c.in_ok-rank.field-0
     c.in-Known.is

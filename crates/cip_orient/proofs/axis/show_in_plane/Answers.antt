@@ -1,4 +1,13 @@
+use Rattle.std.proofs.Common.{refl}
+use Rattle.std.proofs.lemmas.List.{length-map}
 use Rattle.cip_orient.proofs.axis.show_in_plane.Goals as goal
+
+pub show_marked-requires-clause-marks : goal.show_marked-requires-clause-marks
+show_marked-requires-clause-marks c = rw (c.as_slice.ensures.value, c.marks_to-marks.ensures, length-map) refl
+
+pub show_marked-requires-clause-other_marks : goal.show_marked-requires-clause-other_marks
+show_marked-requires-clause-other_marks c =
+    rw (c.as_slice-2.ensures.value, c.marks_to-other_marks.ensures, length-map) refl
 
 pub returns : goal.returns
 returns c =

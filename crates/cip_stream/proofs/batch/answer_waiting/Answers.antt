@@ -1,12 +1,25 @@
-use Rattle.std.proofs.Common.{rules, ◌<◌, ◌^◌, ◌++◌, ◌∷◌, [], Err, append_assoc, subst, sym, ap, ◌∙◌}
+use Rattle.std.proofs.Common.{◌≡◌, ◌<◌, ◌^◌, ◌++◌, ◌∷◌, [], Err, append_assoc, arith, length, refl, subst, sym, ap, ◌∙◌}
 use Rattle.std.proofs.lemmas.Result.{err_from_is_err_and}
 use Rattle.cip_frame.specs.Framing.{Framing}
 use Rattle.cip_stream.specs.Batches.{Advances, Answers}
-use Rattle.cip_stream.proofs.Batches.{advances_both, same_next, stopped_both}
+use Rattle.cip_stream.proofs.Batches.{advances_both, none_yet, same_next, stopped_both}
+use Rattle.cip_stream.proofs.Faults.{later_twice, rose_later, stays, told_no_fault}
 use Rattle.cip_stream.proofs.batch.answer_waiting.Goals as goal
 
-pub returns-in_err-take_record-clause-answered : goal.returns-in_err-take_record-clause-answered
-returns-in_err-take_record-clause-answered g c =
+pub loop-next-init : goal.loop-next-init
+loop-next-init g c =
+    let batch = c.args.batch.now in
+    record {
+      so_far = rw c.clear-verdict.ensures (none_yet (g.T.Teller.manner batch.teller) batch.first
+          (batch.records ++ c.args.framer.now.waiting) (g.K.Sink.taken c.args.sink.now));
+      room = c.requires.room;
+      teller = refl;
+      rest = refl;
+      later = stays (g.K.Sink.faults c.args.sink.now);
+    }
+
+pub returns-in_err-take_record : goal.returns-in_err-take_record
+returns-in_err-take_record g c =
     let p = err_from_is_err_and c.from_residual.result c.from_residual.ensures.1 in
     let batch = c.args.batch.now in
     let manner = g.T.Teller.manner batch.teller in
@@ -21,8 +34,14 @@ returns-in_err-take_record-clause-answered g c =
     let answers = subst (λ t. Answers (g.T.Teller.manner t) now.first (now.records ++ bytes ∷ [])
     (Err c.in_err-take_record.field-0.0) (g.K.Sink.taken c.loop-next.sink) (g.K.Sink.taken c.take_record.new.sink))
     c.loop-next.invariant.teller c.in_err-take_record.ensures.answered in
-    rw (p.1, p.2) (stopped_both manner batch.first now.first records (now.records ++ bytes ∷ []) rest
-    c.loop-next.verdict c.in_err-take_record.field-0.0 _ _ _ before answers)
+    rw (p.1, p.2) (record {
+      answered = stopped_both manner batch.first now.first records (now.records ++ bytes ∷ []) rest
+          c.loop-next.verdict c.in_err-take_record.field-0.0 _ _ _ before answers;
+      emptied = tt;
+      teller = c.take_record.ensures.teller ∙ c.loop-next.invariant.teller;
+      fault = λ is. rose_later _ _ _ c.loop-next.invariant.later (c.in_err-take_record.ensures.fault is);
+      later = later_twice _ _ _ c.loop-next.invariant.later c.take_record.ensures.later;
+    })
 
 pub loop-next-preserved : goal.loop-next-preserved
 loop-next-preserved g c =
@@ -46,7 +65,23 @@ loop-next-preserved g c =
       so_far = rw c.and-verdict.ensures so_far;
       room = subst (λ n. n < 2 ^ 64)
           (same_next manner batch.first next.first records (next.records ++ rest) _ _ _ so_far) c.requires.room;
-      teller = search rules;
-      rest = search rules;
-      later = search rules;
+      teller = c.take_record.ensures.teller ∙ c.loop-next.invariant.teller;
+      rest = subst (λ (framer : Framing). c.next.new.self ≡ record framer { waiting = rest })
+          (c.loop-next.invariant.rest) (ap (λ (framer : Framing). record framer { waiting = rest })
+          (sym c.in-Some.ensures.some.1));
+      later = later_twice _ _ _ c.loop-next.invariant.later c.take_record.ensures.later;
     }
+
+pub loop-next-smaller : goal.loop-next-smaller
+loop-next-smaller g c =
+    let taken = ap (λ (framer : Framing). length framer.waiting) c.in-Some.ensures.some.1 in
+    omega (arith, taken)
+
+pub returns-clause-teller : goal.returns-clause-teller
+returns-clause-teller g c = c.loop-next.invariant.teller
+
+pub returns-clause-fault : goal.returns-clause-fault
+returns-clause-fault g c = told_no_fault c.loop-next.verdict
+
+pub returns-clause-later : goal.returns-clause-later
+returns-clause-later g c = c.loop-next.invariant.later

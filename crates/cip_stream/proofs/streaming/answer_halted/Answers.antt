@@ -1,9 +1,15 @@
+use Rattle.cip_stream.proofs.Faults.{ended_limit, ended_read}
+use Rattle.cip_stream.proofs.Halting.{front_room}
 use Rattle.cip_stream.proofs.Tails.{below}
 use Rattle.cip_stream.proofs.streaming.answer_halted.Goals as goal
 
 pub answer_tail-requires-clause-small : goal.answer_tail-requires-clause-small
 answer_tail-requires-clause-small g c κs within =
     below c.args.inflow.now.framer.limit c.finish.result c.requires.limit c.finish.ensures.small
+
+pub answer_tail-requires-clause-room : goal.answer_tail-requires-clause-room
+answer_tail-requires-clause-room g c κs within =
+    front_room c.args.batch.now.first c.args.batch.now.records c.args.inflow.now.framer.waiting c.requires.room
 
 pub returns-in-End-clause-answered : goal.returns-in-End-clause-answered
 returns-in-End-clause-answered g c =
@@ -22,3 +28,14 @@ returns-in-Limit-clause-answered g c = rw c.in-Limit.is (record {
   grew = c.answer_rest.ensures.answered;
   ended = c.ended_by-in-Limit.ensures;
 })
+
+pub returns-in-End-clause-fault : goal.returns-in-End-clause-fault
+returns-in-End-clause-fault g c = c.answer_tail.ensures.fault
+
+pub returns-in-Fault-clause-fault : goal.returns-in-Fault-clause-fault
+returns-in-Fault-clause-fault g c =
+    rw c.ended_by.ensures (ended_read c.answer_batch.result c.answer_batch.ensures.fault)
+
+pub returns-in-Limit-clause-fault : goal.returns-in-Limit-clause-fault
+returns-in-Limit-clause-fault g c =
+    rw c.ended_by-in-Limit.ensures (ended_limit c.answer_rest.result c.answer_rest.ensures.fault)

@@ -1,6 +1,5 @@
-use Rattle.std.proofs.Common.{rules, ◌≡◌, ◌<◌, ◌^◌, ◌++◌, ◌∙◌, arith, subst, sym, ap, Ok, Err}
+use Rattle.std.proofs.Common.{rules, ◌<◌, ◌^◌, ◌++◌, ◌∙◌, arith, subst, sym, Ok, Err}
 use Rattle.std.proofs.lemmas.Result.{err_from_is_err_and}
-use Rattle.cip_frame.specs.Framing.{Framing}
 use Rattle.cip_stream.specs.declared.reading.Turn.TheVariants.{Piece, Last}
 use Rattle.cip_stream.specs.Batches.{Answers}
 use Rattle.cip_stream.specs.Halting.{AnswersHalted}

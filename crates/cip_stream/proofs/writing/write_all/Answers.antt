@@ -1,5 +1,6 @@
 use Rattle.std.proofs.lemmas.Result.{err_from_is_err_and}
 use Rattle.cip_stream.proofs.Batches.{no_memory}
+use Rattle.cip_stream.proofs.Faults.{told_no_fault}
 use Rattle.cip_stream.proofs.writing.write_all.Goals as goal
 
 pub returns-in_err-joined-clause-answered : goal.returns-in_err-joined-clause-answered
@@ -12,6 +13,9 @@ returns-in-Ok-clause-answered g c = λ manner number records is. record {
   holds = c.in-Ok.ensures.told manner number records is;
   written = c.in-Ok.ensures.written manner number records is;
 }
+
+pub returns-in-Ok-clause-fault : goal.returns-in-Ok-clause-fault
+returns-in-Ok-clause-fault g c = told_no_fault c.in-Ok.verdict
 
 pub returns : goal.returns
 returns g c = record {

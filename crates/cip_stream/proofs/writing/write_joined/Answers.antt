@@ -1,6 +1,7 @@
 use Rattle.std.proofs.Common.{rules, ◌≡◌, ◌<◌, ◌+◌, [], length, get_or, subst, ◌∙◌}
 use Rattle.cip_stream.specs.Batches.{telling}
-use Rattle.cip_stream.proofs.Batches.{IsJoined, all_told, all_written, one_joined, stopped_at, stopped_behind, told_here}
+use Rattle.cip_stream.proofs.Batches.{IsJoined, all_told, all_written, none_joined, one_joined, stopped_at, stopped_behind, told_here}
+use Rattle.cip_stream.proofs.Faults.{stays}
 use Rattle.cip_stream.proofs.Growing.{where_refused}
 use Rattle.cip_stream.proofs.writing.write_joined.Goals as goal
 
@@ -15,6 +16,13 @@ returns-in_err-push_text-clause-stopped g c =
     where_refused c.from_residual.result (stopped_at manner number records found k c.one-item.result c.loop-one.verdict
     c.loop-one.joined _ _ _ all within here (c.loop-one.invariant.so_far manner number records all)
     c.in_err-push_text.ensures.prefix)
+
+pub loop-one-init : goal.loop-one-init
+loop-one-init g c = record {
+  so_far = λ manner number records all. rw (c.clear-verdict.ensures, c.requires)
+      (none_joined manner number records (g.K.Sink.taken c.args.sink.now));
+  later = stays (g.K.Sink.faults c.args.sink.now);
+}
 
 pub loop-one-preserved : goal.loop-one-preserved
 loop-one-preserved g c = record {

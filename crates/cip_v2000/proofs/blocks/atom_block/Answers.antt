@@ -1,4 +1,4 @@
-use Rattle.std.proofs.Common.{arith}
+use Rattle.std.proofs.Common.{◌+◌, ◌∙◌, ap, arith}
 use Rattle.std.proofs.lemmas.List.Elements.{All-push}
 use Rattle.std.proofs.lemmas.Result.{err_from_is_err_and}
 use Rattle.cip_text.specs.Slices.{texts}
@@ -15,12 +15,14 @@ returns-in_err-atom-clause-value c =
     c.loop-row.invariant.so_far)
 
 pub loop-row-preserved : goal.loop-row-preserved
-loop-row-preserved c = rw c.in_ok-push.ensures.items (record {
+loop-row-preserved c = rw c.push_reserved.ensures.items (record {
   so_far = row_read (atom_row (texts c.args.lines.now)) _ _ _ _ _ c.loop-row-test.true c.in_ok-atom.ensures.value
       c.loop-row.invariant.so_far;
   there = omega (arith, c.in_ok-atom.ensures.there);
   counted = length-push _ _ _ c.loop-row.invariant.counted;
   range = All-push IsAtomLine _ _ c.loop-row.invariant.range c.in_ok-atom.ensures.range;
+  kept = c.push_reserved.ensures.len ∙ ap (λ n. n + 1) c.loop-row.invariant.kept;
+  room = rw c.push_reserved.ensures.capacity c.loop-row.invariant.room;
 })
 
 pub returns-clause-value : goal.returns-clause-value

@@ -1,4 +1,4 @@
-use Rattle.std.proofs.Common.{◌≡◌, ◌≤◌, ◌+◌, ◌-◌, [], length, All}
+use Rattle.std.proofs.Common.{◌≡◌, ◌≤◌, ◌+◌, ◌-◌, [], length, All, vec_capacity, vec_len}
 use Rattle.cip_text.specs.Slices.{texts}
 use Rattle.cip_v2000.specs.AtomLine.{IsAtomLine}
 use Rattle.cip_v2000.specs.Grammar.{atom_row}
@@ -12,4 +12,6 @@ invariant-loop-row l = record {
   there : 4 + l.row ≤ length l.lines;
   counted : length l.atoms.items ≡ l.row;
   range : All IsAtomLine l.atoms.items;
+  kept : vec_len l.atoms ≡ l.row;
+  room : l.count ≤ vec_capacity l.atoms;
 }

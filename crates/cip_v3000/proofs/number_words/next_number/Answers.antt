@@ -3,8 +3,8 @@ use Rattle.cip_v3000.proofs.number_words.next_number.Goals as goal
 
 pub returns-in-Some-clause-some : goal.returns-in-Some-clause-some
 returns-in-Some-clause-some c =
-    number_next c.args.most c.args.text.now c.in-Some.number c.in-Some.rest.now c.at_most.result c.in-Some.ensures
-    c.at_most.ensures.value c.at_most.ensures.range
+    number_next c.args.most c.args.text.now c.behind_spaces-begun.result.now c.in-Some.number c.in-Some.end
+    c.at_most.result c.behind_spaces-begun.ensures c.in-Some.ensures c.at_most.ensures.value c.at_most.ensures.range
 
 pub returns-clause-some : goal.returns-clause-some
 returns-clause-some c = record {

@@ -1,5 +1,5 @@
 use Rattle.std.proofs.Common.{◌≡◌, false, refl, sym, subst}
-use Rattle.cip_branches.specs.Deciding.{AreFollowed, FlagsOpen}
+use Rattle.cip_branches.specs.Deciding.{AreFollowed, Branched, FlagsOpen}
 use Rattle.cip_branches.proofs.ruled.Open.{open_still}
 use Rattle.cip_branches.proofs.taken.Kept.{followed_kept}
 use Rattle.cip_branches.proofs.deciding.Branches.deepen.Goals as goal
@@ -13,6 +13,16 @@ open_after g c not =
     let stand = c.deepen.ensures.tops not in
     open_still c.self.inside.spheres.ranked.numbers c.deepen.new.self.ranked.numbers c.self.inside.wanted.items
     (λ branch has. stand.each branch (was.chosen.top branch has)) was.chosen.tie
+
+pub deepen-requires-clause-ranked : goal.deepen-requires-clause-ranked
+deepen-requires-clause-ranked g c = (subst AreFollowed (sym c.self.view_is) c.requires.followed).ranked
+
+pub returns-then-deepen-clause-chosen : goal.returns-then-deepen-clause-chosen
+returns-then-deepen-clause-chosen g c =
+    let flags = c.let_go.new.self.wanted in
+    subst (λ (b : Branched). FlagsOpen b.layers.ranked.numbers c.args.self.now.wanted flags) (sym c.let_go.ensures.others)
+    (subst (λ (b : Branched). FlagsOpen c.deepen.new.self.ranked.numbers b.wanted flags) c.self.view_is
+    c.let_go.ensures.chosen)
 
 pub returns-then-deepen-clause-followed : goal.returns-then-deepen-clause-followed
 returns-then-deepen-clause-followed g c =

@@ -1,11 +1,38 @@
 use Rattle.std.proofs.Common.{◌≡◌, ◌+◌, suc, length, arith, ◌∙◌, sym, ap, subst}
 use Rattle.cip_branches.specs.Around.{kids_around}
-use Rattle.cip_branches.specs.Deciding.{AreFollowed}
+use Rattle.cip_branches.specs.Deciding.{AreFollowed, Branched, FlagsOpen}
 use Rattle.cip_rows.specs.Kin.{Kin}
 use Rattle.cip_branches.specs.Layers.{Layers}
+use Rattle.cip_branches.specs.Walking.{MayWalk}
 use Rattle.cip_branches.proofs.walked.Ranked.{first_stays}
 use Rattle.cip_branches.proofs.ruled.Open.{open_again}
 use Rattle.cip_branches.proofs.deciding.Branches.follow.Goals as goal
+
+pub follow-requires-clause-ranked : goal.follow-requires-clause-ranked
+follow-requires-clause-ranked g c = (subst AreFollowed (sym c.self.view_is) c.requires.followed).ranked
+
+pub follow-requires-clause-walk : goal.follow-requires-clause-walk
+follow-requires-clause-walk g c =
+    let was = c.requires.followed in
+    let size = length c.args.around.now.table.now.parents in
+    subst (λ (b : Branched). MayWalk size (kids_around c.args.around.now.table.now.parents c.args.around.now.way.now)
+    c.as_slice.result.now b.first b.last b.layers) (sym c.self.view_is) (record {
+      spheres = was.ranked.spheres;
+      count = was.ranked.count;
+      ends = was.ranked.ends;
+      places = was.places c.as_slice.result.now;
+      within = was.within;
+      nodes = λ p low high. c.requires.nodes.each p high;
+      room = c.requires.room;
+      sphere_room = c.requires.sphere_room;
+    })
+
+pub returns-clause-chosen : goal.returns-clause-chosen
+returns-clause-chosen g c =
+    let flags = c.let_go.new.self.wanted in
+    subst (λ (b : Branched). FlagsOpen b.layers.ranked.numbers c.args.self.now.wanted flags) (sym c.let_go.ensures.others)
+    (subst (λ (b : Branched). FlagsOpen c.follow.new.self.ranked.numbers b.wanted flags) c.self.view_is
+    c.let_go.ensures.chosen)
 
 pub returns-clause-followed : goal.returns-clause-followed
 returns-clause-followed g c =

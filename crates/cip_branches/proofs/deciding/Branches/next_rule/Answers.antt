@@ -1,5 +1,5 @@
 use Rattle.std.proofs.Common.{refl, sym, subst}
-use Rattle.cip_branches.specs.Deciding.{AreFollowed}
+use Rattle.cip_branches.specs.Deciding.{AreFollowed, Branched, FlagsOpen}
 use Rattle.cip_branches.proofs.taken.Kept.{followed_kept}
 use Rattle.cip_branches.proofs.deciding.Branches.next_rule.Goals as goal
 
@@ -11,4 +11,11 @@ returns-clause-followed g c =
     let was = subst AreFollowed (sym c.self.view_is) c.requires.followed in
     rw c.let_go.ensures.others
     (followed_kept _ _ was c.split_first.ensures.split.kept (c.split_first.ensures.ranked _ was.ranked) refl refl
+    c.let_go.ensures.chosen)
+
+pub returns-clause-chosen : goal.returns-clause-chosen
+returns-clause-chosen g c =
+    let flags = c.let_go.new.self.wanted in
+    subst (λ (b : Branched). FlagsOpen b.layers.ranked.numbers c.args.self.now.wanted flags) (sym c.let_go.ensures.others)
+    (subst (λ (b : Branched). FlagsOpen c.split_first.new.self.ranked.numbers b.wanted flags) c.self.view_is
     c.let_go.ensures.chosen)

@@ -4,7 +4,7 @@ use Rattle.cip_rows.specs.Keys.{key_of}
 use Rattle.cip_rows.specs.Kids.{kids_of}
 use Rattle.cip_branches.specs.Turning.{IsInnermost}
 use Rattle.cip_branches.proofs.taken.Even.{deeper_even}
-use Rattle.cip_branches.proofs.refined.Stirred.{first_is}
+use Rattle.cip_branches.proofs.refined.Stirred.{first_is, not_first}
 use Rattle.cip_branches.proofs.taken.Kept.{deeper_is, deeper_ranked, deeper_noted, deeper_steady}
 use Rattle.cip_branches.proofs.refined.Turns.{FoundSphere, found_sphere, read_at}
 use Rattle.cip_branches.proofs.spheres.Spheres.deepen.Goals as goal
@@ -77,3 +77,6 @@ returns-clause-reached g c =
     first.ranked.numbers c.pass.new.self.ranked.numbers
     (subst (λ ns. IsInnermost first.kin.ups first.ranked.rows first.starts c.pass.result c.args.far ns
     first.ranked.numbers c.pass.new.self.ranked.numbers) c.requires.ranked.before c.pass.ensures.inner)
+
+pub returns-clause-tops : goal.returns-clause-tops
+returns-clause-tops g c = λ not. c.pass.ensures.tops (not_first c.pass.result not)

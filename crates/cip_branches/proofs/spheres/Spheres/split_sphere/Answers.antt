@@ -85,6 +85,16 @@ clear_flags-requires-clause-within g c =
     let len = ap (λ (fs : List Bool). length fs) (c.deref_mut-2.ensures.value ∙ set_flags g at) ∙ flags_long g at in
     omega (arith, rows, c.self.invariant.rows_len, len)
 
+pub invariant_of-flags : goal.invariant_of-flags
+invariant_of-flags g c =
+    let at = (goal.at.invariant_of-flags g c).After-flag_classes in
+    let left = with_items_is (with_items c.flags.inside.items c.flag_classes.new.flags) c.clear_flags.new.flags
+    (c.clear_flags.auto.flags ∙ c.deref_mut-2.ensures.len) in
+    let fits : length c.flags.inside.items.items ≤ c.flags.inside.room = c.flags.invariant.1 in
+    let many = c.clear_flags.auto.flags ∙ ap (λ (fs : List Bool). length fs) (c.deref_mut-2.ensures.value
+    ∙ set_flags g at) ∙ c.flag_classes.auto.flags ∙ ap (λ (fs : List Bool). length fs) c.deref_mut.ensures.value in
+    (c.flags.invariant.0, rw left (omega (arith, fits, many)), c.flags.invariant.2)
+
 pub invariant_of-self : goal.invariant_of-self
 invariant_of-self g c =
     let at = (goal.at.invariant_of-self g c).After-flag_classes in

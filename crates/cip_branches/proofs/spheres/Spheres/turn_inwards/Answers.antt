@@ -1,13 +1,15 @@
 use Rattle.std.proofs.Common.{arith, ◌≡◌, ◌≤◌, ℕ, Bool, List, true, false, length, slice_index, ◌∙◌, sym, ap, subst}
 use Rattle.std.specs.Vec.{with_items}
+use Rattle.std.proofs.lemmas.Bool.{false≢true}
 use Rattle.std.proofs.lemmas.List.{with_items_is}
 use Rattle.cip_rows.specs.Kids.{kids_of, AreCalm}
 use Rattle.cip_branches.specs.Layers.{Layers}
 use Rattle.cip_rows.specs.Parting.{FlagHeads, has_flag}
 use Rattle.cip_rows.specs.Reserved.{Reserved}
 use Rattle.cip_rows.specs.Rows.{IsRow, AreClassed}
-use Rattle.cip_rows.specs.Stirring.{KnowParents, TieUnlessStirred, NoFlags}
-use Rattle.cip_branches.proofs.refined.Turned.{Flagged, above_within, flagged, wider}
+use Rattle.cip_rows.specs.Stirring.{IsAbove, KnowParents, TieUnlessStirred, NoFlags}
+use Rattle.cip_branches.proofs.refined.Kept.{kept_itself}
+use Rattle.cip_branches.proofs.refined.Turned.{Flagged, above_within, flagged, none_above, wider}
 use Rattle.cip_branches.proofs.spheres.Spheres.turn_inwards.Goals as goal
 use Rattle.cip_branches.proofs.spheres.Spheres.turn_inwards.Goals.{After-stir_above, After-deref}
 
@@ -38,6 +40,18 @@ flagged_here c =
     (classed c.self.view_is c.requires.classed) (parents c.self.view_is c.requires.parents) c.deref_mut.result.now
     c.stir_above.new.flags c.stir_above.ensures.stirred none tie
 
+-- the flags that were set, as the column holds them
+set_flags : (c : After-stir_above) → (with_items c.flags.inside.items c.stir_above.new.flags).items
+    ≡ c.stir_above.new.flags
+set_flags c = with_items_is c.flags.inside.items c.stir_above.new.flags
+    (c.stir_above.auto.flags ∙ c.deref_mut.ensures.len)
+
+-- what is to be looked at, as it is seen inside
+above : {seen now : Layers} {before : List ℕ} {to past : ℕ} → before ≡ seen.before → seen ≡ now
+    → (number : ℕ) × IsAbove now.kin.ups now.ranked.rows now.before now.ranked.numbers to past number
+    → (number : ℕ) × IsAbove seen.kin.ups seen.ranked.rows before seen.ranked.numbers to past number
+above held view found = rw (held, view) found
+
 -- the flags that are read are those that were set
 read : (c : After-deref) → c.deref.result.now ≡ c.stir_above.new.flags
 read c = c.deref.ensures.value ∙ with_items_is c.flags.inside.items c.stir_above.new.flags
@@ -46,8 +60,11 @@ read c = c.deref.ensures.value ∙ with_items_is c.flags.inside.items c.stir_abo
 within : {seen now : Layers} {past : ℕ} → seen ≡ now → past ≤ length now.ranked.rows → past ≤ length seen.ranked.rows
 within view was = rw view was
 
+as_many : (c : After-stir_above) → length c.stir_above.new.flags ≡ length c.flags.inside.items.items
+as_many c = c.stir_above.auto.flags ∙ ap (λ (fs : List Bool). length fs) c.deref_mut.ensures.value
+
 flags_long : (c : After-stir_above) → length c.stir_above.new.flags ≡ length c.self.inside.family.ups
-flags_long c = c.stir_above.auto.flags ∙ ap (λ (fs : List Bool). length fs) c.deref_mut.ensures.value
+flags_long c = as_many c
     ∙ ap (λ (column : Reserved Bool). length column.items) c.flags.view_is ∙ c.self.invariant.flags_len
 
 pub stir_above-requires-clause-ordered : goal.stir_above-requires-clause-ordered
@@ -90,6 +107,55 @@ returns-then-not-stir_above-clause-ordered c =
     let at = (goal.at.returns-then-not-stir_above-clause-ordered c).After-stir_above in
     rw (sym c.self.view_is)
     ((flagged_here at).stands (c.stir_above.ensures.none c.if-not-stir_above.true))
+
+-- where nothing is looked at, no flag was set
+still : (c : After-stir_above) → c.stir_above.result ≡ false → c.stir_above.new.flags ≡ c.self.inside.flags.items
+still c not = c.stir_above.ensures.none not ∙ c.deref_mut.ensures.value
+    ∙ ap (λ (column : Reserved Bool). column.items) c.flags.view_is
+
+pub returns-then-not-stir_above-clause-looked : goal.returns-then-not-stir_above-clause-looked
+returns-then-not-stir_above-clause-looked c =
+    let none = subst NoFlags (sym (c.deref_mut.ensures.value ∙ ap (λ (column : Reserved Bool). column.items)
+    c.flags.view_is)) c.self.invariant.none in (
+      λ is. absurd (false≢true is),
+      λ found. absurd (none_above c.self.inside.family.ups c.self.inside.order.rows c.as_slice.result.now
+          c.self.inside.order.numbers c.args.to c.args.past c.deref_mut.result.now c.stir_above.new.flags
+          c.stir_above.ensures.stirred none (c.stir_above.ensures.none c.if-not-stir_above.true)
+          (above c.as_slice.ensures c.self.view_is found)),
+    )
+
+pub returns-then-not-stir_above-clause-kept : goal.returns-then-not-stir_above-clause-kept
+returns-then-not-stir_above-clause-kept c =
+    rw (sym c.self.view_is) (kept_itself c.args.from c.args.to c.self.inside.order.rows c.self.inside.order.numbers
+    (classed c.self.view_is c.requires.classed))
+
+pub invariant_of-flags : goal.invariant_of-flags
+invariant_of-flags c =
+    let at = (goal.at.invariant_of-flags c).After-stir_above in
+    let fits : length c.flags.inside.items.items ≤ c.flags.inside.room = c.flags.invariant.1 in
+    let many = as_many at in (c.flags.invariant.0, rw (set_flags at) (omega (arith, fits, many)), c.flags.invariant.2)
+
+pub invariant_of-self : goal.invariant_of-self
+invariant_of-self c =
+    let at = (goal.at.invariant_of-self c).After-stir_above in
+    let was = c.self.invariant in
+    let same = set_flags at ∙ still at c.if-not-stir_above.true in
+    record {
+      few = was.few;
+      fits = was.fits;
+      ranked_room = was.ranked_room;
+      starts_room = was.starts_room;
+      starts_fit = was.starts_fit;
+      before_room = was.before_room;
+      flags_room = ap (λ (column : Reserved Bool). column.room) c.flags.view_is ∙ was.flags_room;
+      sets_room = was.sets_room;
+      rows_len = was.rows_len;
+      numbers_len = was.numbers_len;
+      before_len = was.before_len;
+      flags_len = ap (λ (fs : List Bool). length fs) same ∙ was.flags_len;
+      sets_len = was.sets_len;
+      none = subst NoFlags (sym same) was.none;
+    }
 
 pub refine_sphere-requires-clause-ordered : goal.refine_sphere-requires-clause-ordered
 refine_sphere-requires-clause-ordered c = c.requires.ordered
@@ -134,6 +200,24 @@ refine_sphere-requires-clause-calm c =
     subst (λ (fs : List Bool). AreCalm (kids_of c.self.inside.family)
     (IsRow c.self.inside.order.rows c.args.from c.args.to) (λ number. has_flag fs number ≡ false)
     c.self.inside.order.numbers) (sym (read at.After-deref)) (flagged_here at.After-stir_above).calm
+
+pub invariant_of-flags-2 : goal.invariant_of-flags-2
+invariant_of-flags-2 c =
+    let at = (goal.at.invariant_of-flags-2 c).After-stir_above in
+    let read = c.deref_mut-3.ensures.value ∙ set_flags at in
+    let left = with_items_is (with_items c.flags.inside.items c.stir_above.new.flags) c.clear_flags.new.flags
+    (c.clear_flags.auto.flags ∙ c.deref_mut-3.ensures.len) in
+    let fits : length c.flags.inside.items.items ≤ c.flags.inside.room = c.flags.invariant.1 in
+    let many = c.clear_flags.auto.flags ∙ ap (λ (fs : List Bool). length fs) read ∙ as_many at in
+    (c.flags.invariant.0, rw left (omega (arith, fits, many)), c.flags.invariant.2)
+
+pub invariant_of-sets : goal.invariant_of-sets
+invariant_of-sets c =
+    let sets = with_items_is c.sets.inside.items c.refine_sphere.new.sets
+    (c.refine_sphere.auto.sets ∙ c.deref_mut-2.ensures.len) in
+    let fits : length c.sets.inside.items.items ≤ c.sets.inside.room = c.sets.invariant.1 in
+    let many = c.refine_sphere.auto.sets ∙ ap (λ (ns : List ℕ). length ns) c.deref_mut-2.ensures.value in
+    (c.sets.invariant.0, rw sets (omega (arith, fits, many)), c.sets.invariant.2)
 
 pub invariant_of-self-2 : goal.invariant_of-self-2
 invariant_of-self-2 c =

@@ -1,7 +1,7 @@
 use Rattle.std.proofs.Common.{◌≡◌, ◌∙◌, List, Some, IfOk, slice_get, sym, ap, subst}
 use Rattle.std.proofs.lemmas.Option.{slice_get-map}
 use Rattle.std.specs.Option.{option_map}
-use Rattle.cip_aux.specs.Early.{AreEarly}
+use Rattle.cip_aux.specs.Marking.{AreSeenTurns}
 use Rattle.cip_inside.specs.OpenLooks.{Look, look_of}
 use Rattle.cip_inside.specs.declared.open_looks.OpenLook.{OpenLook}
 use Rattle.cip_inside.proofs.OpenAgain.{made_of}
@@ -15,14 +15,12 @@ look_again-requires-clause-ready g c = λ look at.
     ∙ ap (option_map look_of)
     (subst (λ (ls : List OpenLook). slice_get ls c.args.place ≡ Some look) c.as_mut_slice.ensures.value at)))
 
-pub returns-clause-early : goal.returns-clause-early
-returns-clause-early g c = λ look at.
+pub returns-clause-turns : goal.returns-clause-turns
+returns-clause-turns g c = λ look at.
     let items = c.self.inside.looks.items in
     let found = made_of look_of items c.args.place look
     (subst (λ (ls : List Look). slice_get ls c.args.place ≡ Some look) (sym c.self.view_is) at) in
-    subst (λ (l : Look). IfOk c.look_again.result
-    (λ found. AreEarly c.args.inner.now l.node found.by_constitution l.ligands found.sides.natural.items
-    found.sides.turned.items)) found.2
-    (c.look_again.ensures.early found.0
+    subst (λ (l : Look). IfOk c.look_again.result (AreSeenTurns c.args.inner.now l.node l.ligands)) found.2
+    (c.look_again.ensures.turns found.0
     (subst (λ (ls : List OpenLook). slice_get ls c.args.place ≡ Some found.0) (sym c.as_mut_slice.ensures.value)
     found.1))

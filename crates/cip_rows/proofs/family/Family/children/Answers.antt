@@ -1,6 +1,11 @@
 use Rattle.std.proofs.Common.{arith}
-use Rattle.cip_rows.proofs.FamilyColumn.{kids_within, place_count}
+use Rattle.cip_rows.proofs.FamilyColumn.{kids_within, place_count, place_within}
 use Rattle.cip_rows.proofs.family.Family.children.Goals as goal
+
+pub bounds-as_slice-place : goal.bounds-as_slice-place
+bounds-as_slice-place c =
+    place_within c.self.inside.places c.args.self.now c.self.view_is c.as_slice.result.now c.as_slice.ensures
+    c.args.place c.requires
 
 pub overflow_add-result : goal.overflow_add-result
 overflow_add-result c =

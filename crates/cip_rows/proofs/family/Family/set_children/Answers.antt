@@ -1,7 +1,17 @@
-use Rattle.std.proofs.Common.{◌∙◌, ap}
+use Rattle.std.proofs.Common.{◌∙◌, ap, refl}
 use Rattle.cip_rows.specs.Kin.{Kin, with_children}
-use Rattle.cip_rows.proofs.FamilyColumn.{kids_set, keep_set}
+use Rattle.cip_rows.proofs.FamilyColumn.{kids_set, keep_set, place_within}
 use Rattle.cip_rows.proofs.family.Family.set_children.Goals as goal
+
+pub bounds-as_slice-place : goal.bounds-as_slice-place
+bounds-as_slice-place c =
+    place_within c.self.inside.places c.args.self.now c.self.view_is c.as_slice.result.now c.as_slice.ensures
+    c.args.place c.requires.place
+
+pub set-requires : goal.set-requires
+set-requires c =
+    place_within c.self.inside.places c.args.self.now c.self.view_is c.self.inside.places.items refl c.args.place
+    c.requires.place
 
 pub invariant_of-self : goal.invariant_of-self
 invariant_of-self c = keep_set c.self.inside.places c.set.new.self c.as_slice.result.now c.as_slice.ensures c.args.place

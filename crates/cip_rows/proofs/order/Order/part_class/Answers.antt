@@ -40,6 +40,21 @@ part_rows-requires g c =
       room = omega (arith, ap length same, c.self.invariant.fits, c.self.invariant.offsets_room);
     }
 
+pub invariant_of-rows : goal.invariant_of-rows
+invariant_of-rows g c =
+    let rows = with_items_is c.rows.inside.items c.part_rows.new.rows (c.part_rows.auto.rows ∙ c.deref_mut.ensures.len) in
+    let fits : length c.rows.inside.items.items ≤ c.rows.inside.room = c.rows.invariant.1 in
+    let many = c.part_rows.auto.rows ∙ ap length c.deref_mut.ensures.value in
+    (c.rows.invariant.0, rw rows (omega (arith, fits, many)), c.rows.invariant.2)
+
+pub invariant_of-numbers : goal.invariant_of-numbers
+invariant_of-numbers g c =
+    let numbers = with_items_is c.numbers.inside.items c.part_rows.new.numbers
+    (c.part_rows.auto.numbers ∙ c.deref_mut-2.ensures.len) in
+    let fits : length c.numbers.inside.items.items ≤ c.numbers.inside.room = c.numbers.invariant.1 in
+    let many = c.part_rows.auto.numbers ∙ ap length c.deref_mut-2.ensures.value in
+    (c.numbers.invariant.0, rw numbers (omega (arith, fits, many)), c.numbers.invariant.2)
+
 pub invariant_of-self : goal.invariant_of-self
 invariant_of-self g c =
     let same = c.deref_mut.ensures.value ∙ ap (λ (rows : Reserved ℕ). rows.items) c.rows.view_is in

@@ -19,9 +19,8 @@ returns-then-not-has_label_item c =
 pub returns : goal.returns
 returns c =
     let asked = c.args.self.now in
-    subst (λ (due : Telling Note). IfOk c.tell_lines-2.result (λ told. told ≡ due))
+    subst (λ (due : Telling Note). IfOk c.tell_bare.result (λ told. told ≡ due))
     (bare_is_told asked.labelling asked.task c.args.number c.args.bytes.now)
-    (subst (λ bytes. IfOk c.tell_lines-2.result (λ told. told
-    ≡ told_bare asked.labelling asked.task c.args.number bytes))
-    (c.in_ok-lines-2.ensures ∙ c.deref.ensures.value ∙ c.in_ok-bare.ensures.value
-    ∙ ap without_label_items c.in_ok-lines.ensures) c.tell_lines-2.ensures)
+    (subst (λ bytes. IfOk c.tell_bare.result (λ told. told ≡ told_bare asked.labelling asked.task c.args.number bytes))
+    (c.deref.ensures.value ∙ c.in_ok-bare.ensures.value ∙ ap without_label_items c.in_ok-lines.ensures)
+    c.tell_bare.ensures)

@@ -20,3 +20,9 @@ returns-clause-answered g c =
     ∙ ap (map (λ w. telling (g.T.Teller.manner w.teller.now) w.number w.bytes)) c.deref.ensures.value
     ∙ c.self.invariant ∙ ap (λ b. told_from (g.T.Teller.manner b.teller) b.first b.records) c.self.view_is in
     c.write_all.ensures.answered manner batch.first batch.records told
+
+pub returns-clause-fault : goal.returns-clause-fault
+returns-clause-fault g c = c.write_all.ensures.fault
+
+pub returns-clause-later : goal.returns-clause-later
+returns-clause-later g c = c.write_all.ensures.later

@@ -1,0 +1,26 @@
+use Rattle.std.proofs.Common.{◌++◌, ◌∷◌, [], ◌∙◌, ℕ, ap, map, sym, take}
+use Rattle.std.proofs.lemmas.List.{map_more}
+use Rattle.cip_digraph.specs.graph.Graph.{Graph}
+use Rattle.cip_axis.specs.FurtherOutcomes.{further_outcome}
+use Rattle.cip_answer.specs.FurtherAnswers.{further_answer}
+use Rattle.cip_answer.proofs.further.label_each.Goals as goal
+
+pub loop-unit-preserved : goal.loop-unit-preserved
+loop-unit-preserved g c =
+    let setting = c.args.setting.now in
+    let bound = c.args.labeller.now in
+    let unit = c.unit-item.result in
+    record {
+      so_far = c.in_ok-push.ensures.added
+          ∙ (λ i. c.loop-unit.invariant.so_far i ++ record {
+            name = c.further_name.ensures i;
+            site = c.like.ensures i;
+            drawn = (c.drawn.ensures.value ∙ ap (λ (graph : Graph). graph.drawn) c.graph.ensures.value) i;
+            outcome = (c.in_ok-outcome.ensures.outcome
+                ∙ ap (λ (b : ℕ). further_outcome setting b unit) c.loop-unit.invariant.kept) i;
+          } ∷ [])
+          ∙ ap (λ answer. map (further_answer setting bound) (take c.loop-unit.unit-index c.args.units.now) ++ answer ∷ [])
+          (ap (further_answer setting bound) c.unit-item.is)
+          ∙ sym (map_more (further_answer setting bound) c.args.units.now c.loop-unit.unit-index unit c.loop-unit-test.true);
+      kept = c.in_ok-outcome.ensures.kept ∙ c.loop-unit.invariant.kept;
+    }

@@ -1,0 +1,31 @@
+use Rattle.std.proofs.Common.{◌∙◌, ap, subst, ◌<◌, length}
+use Rattle.cip_digraph.specs.graph.Graph.{Graph}
+use Rattle.cip_answer.specs.Images.{AreFound}
+use Rattle.cip_answer.proofs.UnitLists.{has_room, next_unit}
+use Rattle.cip_answer.proofs.units.label_each.Goals as goal
+
+pub push-requires : goal.push-requires
+push-requires g c =
+    has_room c.args.setting.now c.args.labeller.now c.loop-place.answers c.loop-place.place
+    c.loop-place.invariant.so_far
+    (subst (λ units. c.loop-place.place < length units) c.loop-place.invariant.all c.loop-place-test.true)
+    c.requires.few
+
+pub loop-place-preserved : goal.loop-place-preserved
+loop-place-preserved g c = record {
+  so_far =
+      c.in_ok-push.ensures.added
+      ∙ next_unit c.args.setting.now c.args.labeller.now c.loop-place.labeller c.loop-place.answers
+      c.loop-place.place c.as_slice-units.result.now c.index-units-place.result c.name_of.result c.copy.result
+      c.drawn.result
+      c.in_ok-outcome.outcome c.loop-place.invariant.so_far
+      (subst (λ units. c.loop-place.place < length units) c.loop-place.invariant.all c.loop-place-test.true)
+      c.loop-place.invariant.all c.index-units-place.is c.name_of.ensures c.copy.ensures
+      (c.drawn.ensures.value ∙ ap (λ (graph : Graph). graph.drawn) c.graph.ensures.value) c.loop-place.invariant.kept
+      c.in_ok-outcome.ensures.outcome;
+  all = c.loop-place.invariant.all;
+  kept = c.outcome_of.ensures.kept ∙ c.loop-place.invariant.kept;
+  found =
+      subst (λ bound. AreFound c.args.setting.now bound c.outcome_of.new.images) c.loop-place.invariant.kept
+      c.in_ok-outcome.ensures.found;
+}

@@ -1,0 +1,82 @@
+// The answer to a record.
+ghost use Rattle.std.specs.Prelude.{◌≡◌, ◌<◌, ◌-◌, ◌^◌, IfOk, length};
+ghost use Rattle.std.specs.List.{list_any};
+ghost use Rattle.cip_print.specs.Values.{HasRoom};
+ghost use Rattle.cip_answer.specs.Answers.{
+  answer_without_items,
+  is_flagged,
+  is_over,
+  of_molecule,
+};
+
+use crate::units::label_units;
+use cip_label::{Digraphs, Labeller, Setting};
+use cip_mol::Outcome;
+use cip_molfile::Drawn;
+use cip_print::{Answer, UnitAnswer};
+use cip_rank::Rules;
+use cip_text::RecordLines;
+use std::alloc::{AllocError, Global};
+
+/// The answer to a record that has no label items. Whoever grows and ranks the digraphs: a desk is large, so a program
+/// names one in one place.
+#[tactic(auto, unfolding(crate::specs::Answers::answer_without_items))]
+pub fn label_within<D: Digraphs>(
+    alloc: Global,
+    labeller: &mut Labeller<D>,
+    lines: &RecordLines,
+    rules: Rules,
+) -> Result<Answer, AllocError>
+    requires few { length lines.now < 2 ^ 32 - 1 }
+    ensures answer { IfOk result (λ answer. answer ≡ answer_without_items rules labeller.old lines.now) }
+    ensures room { IfOk result HasRoom }
+    ensures kept { labeller.new ≡ labeller.old }
+{
+    match Drawn::read(alloc, lines.contents())? {
+        Ok(drawn) => {
+            let answer = answer_drawn(alloc, labeller, &drawn, rules);
+            // given back by a call of its own, which is quicker to prove than an end that owns it
+            drop(drawn);
+            answer
+        }
+        Err(fault) => Ok(Answer::Refused(fault)),
+    }
+}
+
+// What is drawn stays with the caller, so that no end of this function gives it back.
+fn answer_drawn<D: Digraphs>(
+    alloc: Global,
+    labeller: &mut Labeller<D>,
+    drawn: &Drawn,
+    rules: Rules,
+) -> Result<Answer, AllocError>
+    ensures answer { IfOk result (λ answer. answer ≡ of_molecule rules labeller.old drawn.now) }
+    ensures room { IfOk result HasRoom }
+    ensures kept { labeller.new ≡ labeller.old }
+{
+    let units = drawn.units().list();
+    let setting = Setting::new(alloc, drawn.graph(), drawn.positions(), units, rules)?;
+    Ok(Answer::Labelled(label_units(alloc, labeller, &setting)?))
+}
+
+/// Whether a record is refused, or a digraph of it is larger than the bound.
+pub fn is_flagged(answer: &Answer) -> bool
+    ensures { result ≡ is_flagged answer.now }
+{
+    match answer {
+        Answer::Labelled(units) => has_over(units.as_slice()),
+        Answer::Refused(_) => true,
+    }
+}
+
+fn has_over(units: &[UnitAnswer]) -> bool
+    ensures { result ≡ list_any (λ unit. is_over unit.outcome) units.now }
+{
+    units.iter().any(|unit| is_over(&unit.outcome))
+}
+
+fn is_over(outcome: &Outcome) -> bool
+    ensures { result ≡ is_over outcome.now }
+{
+    matches!(outcome, Outcome::Over)
+}

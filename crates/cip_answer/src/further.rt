@@ -1,0 +1,149 @@
+// The answer to a record by its further units.
+ghost use Rattle.std.specs.Prelude.{◌≡◌, ◌<◌, ◌-◌, ◌^◌, IfOk, length, map};
+ghost use Rattle.cip_text.specs.Slices.{texts};
+ghost use Rattle.cip_digraph.specs.graph.DrawnGraph.{graph_of};
+ghost use Rattle.cip_axis.specs.FurtherOutcomes.{AreFurtherFit};
+ghost use Rattle.cip_answer.specs.FurtherAnswers.{
+  further_answer,
+  further_answers,
+  further_name,
+  further_of_lines,
+  further_of_molecule,
+};
+
+use cip_axis::{FurtherSite, FurtherUnit, further, label_further, like};
+use cip_label::{Digraphs, Labeller, Setting};
+use cip_molfile::Drawn;
+use cip_print::{Answer, UnitAnswer, UnitAnswers, UnitName};
+use cip_rank::{Rules, Steps};
+use std::alloc::{AllocError, Global};
+use std::marker::Brand;
+use std::sync::ledger::{Blank, Ledger};
+
+/// The answer to the lines of a record that has no label items, by its further units alone.
+#[tactic(auto, unfolding(crate::specs::FurtherAnswers::further_of_lines))]
+pub fn further_of_lines<D: Digraphs>(
+    alloc: Global,
+    labeller: &mut Labeller<D>,
+    lines: &[&[u8]],
+    rules: Rules,
+) -> Result<Answer, AllocError>
+    requires { length lines.now < 2 ^ 32 - 1 }
+    ensures answer { IfOk result (λ answer. answer ≡ further_of_lines rules labeller.old (texts lines.now)) }
+    ensures kept { labeller.new ≡ labeller.old }
+{
+    match Drawn::read(alloc, lines)? {
+        Ok(drawn) => {
+            let answer = answer_drawn(alloc, labeller, &drawn, rules);
+            // given back by a call of its own, which is quicker to prove than an end that owns it
+            drop(drawn);
+            answer
+        }
+        Err(fault) => Ok(Answer::Refused(fault)),
+    }
+}
+
+// What is drawn stays with the caller, so that no end of this function gives it back.
+#[tactic(auto, unfolding(crate::specs::FurtherAnswers::further_of_molecule))]
+fn answer_drawn<D: Digraphs>(
+    alloc: Global,
+    labeller: &mut Labeller<D>,
+    drawn: &Drawn,
+    rules: Rules,
+) -> Result<Answer, AllocError>
+    ensures answer { IfOk result (λ answer. answer ≡ further_of_molecule rules labeller.old drawn.now) }
+    ensures kept { labeller.new ≡ labeller.old }
+{
+    let further = further(alloc, drawn.molecule(), drawn.graph(), drawn.positions())?;
+    let answer = answer_further(alloc, labeller, drawn, further.list(), rules);
+    drop(further);
+    answer
+}
+
+// The further units too stay with the caller.
+fn answer_further<D: Digraphs>(
+    alloc: Global,
+    labeller: &mut Labeller<D>,
+    drawn: &Drawn,
+    further: &[FurtherUnit],
+    rules: Rules,
+) -> Result<Answer, AllocError>
+    requires fit { AreFurtherFit (graph_of drawn.now) further.now }
+    requires few { length further.now < 2 ^ 32 }
+    ensures answer { IfOk result (λ answer. answer ≡ further_answers rules labeller.old drawn.now further.now) }
+    ensures kept { labeller.new ≡ labeller.old }
+{
+    let units = drawn.units().list();
+    let setting = Setting::new(alloc, drawn.graph(), drawn.positions(), units, rules)?;
+    Ok(Answer::Labelled(label_all(alloc, labeller, &setting, further)?))
+}
+
+// Further units, each with its outcome.
+fn label_all<D: Digraphs>(
+    alloc: Global,
+    labeller: &mut Labeller<D>,
+    setting: &Setting<'_>,
+    units: &[FurtherUnit],
+) -> Result<UnitAnswers, AllocError>
+    requires fit { AreFurtherFit setting.now.graph units.now }
+    requires few { length units.now < 2 ^ 32 }
+    ensures answers { IfOk result (λ answers. answers ≡ map (further_answer setting.now labeller.old) units.now) }
+    ensures kept { labeller.new ≡ labeller.old }
+{
+    label_counted::<D, Brand>(alloc, labeller, setting, units, Blank::new(1))
+}
+
+// The same with a counter of steps.
+fn label_counted<D: Digraphs, L: Ledger>(
+    alloc: Global,
+    labeller: &mut Labeller<D>,
+    setting: &Setting<'_>,
+    units: &[FurtherUnit],
+    blank: Blank,
+) -> Result<UnitAnswers, AllocError>
+    requires name { blank.name ≡ L.name }
+    requires parts { blank.parts ≡ L.parts }
+    requires one { 0 < blank.parts }
+    requires fit { AreFurtherFit setting.now.graph units.now }
+    requires few { length units.now < 2 ^ 32 }
+    ensures answers { IfOk result (λ answers. answers ≡ map (further_answer setting.now labeller.old) units.now) }
+    ensures kept { labeller.new ≡ labeller.old }
+{
+    let mut steps = Steps::<L>::open(blank);
+    label_each(alloc, labeller, setting, units, &mut steps)
+}
+
+// The counter stays with the caller, so that no unit gives it back.
+fn label_each<D: Digraphs, L: Ledger>(
+    alloc: Global,
+    labeller: &mut Labeller<D>,
+    setting: &Setting<'_>,
+    units: &[FurtherUnit],
+    steps: &mut Steps<L>,
+) -> Result<UnitAnswers, AllocError>
+    requires fit { AreFurtherFit setting.now.graph units.now }
+    requires few { length units.now < 2 ^ 32 }
+    ensures answers { IfOk result (λ answers. answers ≡ map (further_answer setting.now labeller.old) units.now) }
+    ensures kept { labeller.new ≡ labeller.old }
+{
+    let mut answers = UnitAnswers::new(alloc);
+    for unit in units {
+        let outcome = label_further(alloc, labeller, setting, unit, steps)?;
+        answers.push(UnitAnswer {
+            name: further_name(&unit.site),
+            site: like(&unit.site),
+            drawn: setting.graph().drawn(),
+            outcome,
+        })?;
+    }
+    Ok(answers)
+}
+
+fn further_name(site: &FurtherSite) -> UnitName
+    ensures { result ≡ further_name site.now }
+{
+    match site {
+        FurtherSite::Cumulene { a, b, .. } => UnitName::Cumulene(*a, *b),
+        FurtherSite::Biaryl { a, b, .. } => UnitName::Biaryl(*a, *b),
+    }
+}

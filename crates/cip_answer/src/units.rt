@@ -1,0 +1,84 @@
+// The units of a graph, each with its outcome.
+ghost use Rattle.std.specs.Prelude.{◌≡◌, ◌<◌, ◌-◌, ◌^◌, IfOk, length};
+ghost use Rattle.cip_digraph.specs.rings.Positions.{positions_of};
+ghost use Rattle.cip_answer.specs.Answers.{unit_answers};
+ghost use Rattle.cip_answer.specs.Images.{AreFound};
+
+use crate::images::{Images, outcome_of};
+use cip_label::{Digraphs, Labeller, Setting};
+use cip_print::{UnitAnswer, UnitAnswers, name_of};
+use cip_rank::Steps;
+use std::alloc::{AllocError, Global};
+use std::marker::Brand;
+use std::sync::ledger::{Blank, Ledger};
+
+/// The units of a setting, each with its outcome.
+pub fn label_units<D: Digraphs>(
+    alloc: Global,
+    labeller: &mut Labeller<D>,
+    setting: &Setting<'_>,
+) -> Result<UnitAnswers, AllocError>
+    requires drawn { setting.now.positions ≡ positions_of setting.now.graph }
+    requires few { length setting.now.units < 2 ^ 32 - 1 }
+    ensures answers { IfOk result
+        (λ answers. answers ≡ unit_answers setting.now.rules labeller.old setting.now.graph setting.now.positions
+        setting.now.units) }
+    ensures few { IfOk result (λ answers. length answers < 2 ^ 32 - 1) }
+    ensures kept { labeller.new ≡ labeller.old }
+{
+    label_counted::<D, Brand>(alloc, labeller, setting, Blank::new(1))
+}
+
+// The same with a counter of steps.
+fn label_counted<D: Digraphs, L: Ledger>(
+    alloc: Global,
+    labeller: &mut Labeller<D>,
+    setting: &Setting<'_>,
+    blank: Blank,
+) -> Result<UnitAnswers, AllocError>
+    requires name { blank.name ≡ L.name }
+    requires parts { blank.parts ≡ L.parts }
+    requires one { 0 < blank.parts }
+    requires drawn { setting.now.positions ≡ positions_of setting.now.graph }
+    requires few { length setting.now.units < 2 ^ 32 - 1 }
+    ensures answers { IfOk result
+        (λ answers. answers ≡ unit_answers setting.now.rules labeller.old setting.now.graph setting.now.positions
+        setting.now.units) }
+    ensures few { IfOk result (λ answers. length answers < 2 ^ 32 - 1) }
+    ensures kept { labeller.new ≡ labeller.old }
+{
+    let mut steps = Steps::<L>::open(blank);
+    let mut images = Images::none(alloc);
+    label_each(alloc, labeller, setting, &mut images, &mut steps)
+}
+
+// Counter and images stay with the caller, so that no unit gives them back.
+fn label_each<D: Digraphs, L: Ledger>(
+    alloc: Global,
+    labeller: &mut Labeller<D>,
+    setting: &Setting<'_>,
+    images: &mut Images,
+    steps: &mut Steps<L>,
+) -> Result<UnitAnswers, AllocError>
+    requires drawn { setting.now.positions ≡ positions_of setting.now.graph }
+    requires few { length setting.now.units < 2 ^ 32 - 1 }
+    requires found { AreFound setting.now labeller.old images.old }
+    ensures answers { IfOk result
+        (λ answers. answers ≡ unit_answers setting.now.rules labeller.old setting.now.graph setting.now.positions
+        setting.now.units) }
+    ensures few { IfOk result (λ answers. length answers < 2 ^ 32 - 1) }
+    ensures kept { labeller.new ≡ labeller.old }
+{
+    let mut answers = UnitAnswers::new(alloc);
+    let units = setting.units().as_slice();
+    for (place, unit) in units.iter().enumerate() {
+        let outcome = outcome_of(alloc, labeller, setting, place as u32, images, steps)?;
+        answers.push(UnitAnswer {
+            name: name_of(&unit.site),
+            site: unit.site.copy(),
+            drawn: setting.graph().drawn(),
+            outcome,
+        })?;
+    }
+    Ok(answers)
+}

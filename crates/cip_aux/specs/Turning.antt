@@ -1,0 +1,19 @@
+-- How what is decided between each two ligands turns a sense. Own.
+use Rattle.std.specs.Prelude.{Bool, List, map}
+use Rattle.std.specs.declared.cmp.Ordering.{Ordering}
+use Rattle.std.specs.declared.option.Option.{Option}
+use Rattle.cip_letters.specs.Sides.{found_side}
+use Rattle.cip_letters.specs.TurnsOf.{turns_of}
+use Rattle.cip_ligands.specs.declared.asked.Asked.{Asked}
+use Rattle.cip_aux.specs.declared.viewer.FoundTurns.{FoundTurns}
+
+-- which of two precedes
+abbrev pub side_at : Asked → Option Ordering
+side_at asked = found_side asked.decision
+
+-- the turns by what is decided with R and with S first in the last rule
+abbrev pub found_by : Bool → List Asked → List Asked → FoundTurns
+found_by by_constitution pairs turned = record {
+  turns = turns_of (map side_at pairs) (map side_at turned);
+  by_constitution = by_constitution;
+}

@@ -1,2 +1,0 @@
-pub mod AxesTexts
-pub mod FurtherAnswers

@@ -1,0 +1,29 @@
+use Rattle.std.proofs.Common.{◌≡◌, ℕ, List, None, Option, IfSome, set, subst, sym}
+use Rattle.std.proofs.lemmas.List.Elements.{All-set}
+use Rattle.cip_batch.specs.declared.batch.Entry.{Entry}
+use Rattle.cip_batch.specs.Entries.{ArePlaced, IsAnswer}
+use Rattle.cip_batch.proofs.batch.answer_at.Goals as goal
+use Rattle.cip_batch.proofs.batch.answer_at.Goals.{else-place-found-via-else-place-found, else-place-found-via-then-place-found+in-None-1, else-place-found-via-then-place-found+in-Some+else-entry-place}
+
+-- an answer that was taken out leaves the others at their places
+taken_out : {J X : Type 0} (f : J → X) (jobs : List J) (found : List (Option (Entry X))) (place : ℕ)
+    (left : Option (Entry X)) → left ≡ None → ArePlaced f jobs found → ArePlaced f jobs (set found place left)
+taken_out f jobs found place left none placed =
+    All-set (λ s. IfSome s (IsAnswer f jobs)) found place left
+    (subst (λ s. IfSome s (IsAnswer f jobs)) (sym none) tt) placed
+
+pub returns-clause-found : goal.returns-clause-found
+returns-clause-found g c =
+    taken_out g.J.Job.answer c.args.jobs.now c.args.found.now c.args.place c.take.new.self c.take.ensures.after
+    c.requires.found
+
+pub returns-2-clause-found : goal.returns-2-clause-found
+returns-2-clause-found g c =
+    let taken = λ (left : Option (Entry _)). λ (none : left ≡ None). taken_out g.J.Job.answer c.args.jobs.now
+    c.args.found.now c.args.place left none c.requires.found in
+    elim c.else-place-found.branch [
+      | else-place-found-via-else-place-found w ↦ rw w.found-is c.requires.found
+      | else-place-found-via-then-place-found+in-None-1 w ↦ rw w.found-is (taken w.take.new.self w.take.ensures.after)
+      | else-place-found-via-then-place-found+in-Some+else-entry-place w ↦
+          rw w.found-is (taken w.take.new.self w.take.ensures.after)
+    ]

@@ -1,0 +1,99 @@
+-- The answer to a record in which a centre is to have a letter. Own; a molfile is read as CTfile Formats says.
+use Rattle.std.specs.Prelude.{◌≡◌, ◌≤◌, ◌+◌, ◌-◌, ◌==◌, ℕ, List, false, length, slice_get, Some, Result, Ok, Err, if◌then◌else◌}
+use Rattle.cip_text.specs.Bodies.{body_contents}
+use Rattle.cip_rank.specs.declared.rules.Rules.{Rules}
+use Rattle.cip_mol.specs.CentreLetters.{descriptor_of}
+use Rattle.cip_mol.specs.Drawing.{Drawing}
+use Rattle.cip_mol.specs.declared.centre_letter.CentreLetter.{CentreLetter}
+use Rattle.cip_mol.specs.declared.descriptor.Descriptor.{Descriptor}
+use Rattle.cip_mol.specs.declared.refusal.ReadFault.{ReadFault}
+use Rattle.cip_item.specs.Parts.{without_label_items, has_label_item}
+use Rattle.cip_v2000.specs.Version.{is_v3000}
+use Rattle.cip_print.specs.declared.answer.Answer.{Answer}
+use Rattle.cip_print.specs.declared.answer.Answer.TheVariants as answers
+use Rattle.cip_print.specs.declared.answer.UnitAnswer.{UnitAnswer}
+use Rattle.cip_answer.specs.Answers.{answer_by}
+use Rattle.cip_molfile.specs.Molecules.{read_molecule}
+use Rattle.cip_change.specs.Marking.{with_mark}
+use Rattle.cip_change.specs.SetLetters.{mark_asked, HasLetter}
+use Rattle.cip_change.specs.UnitsBeside.{IsCentreAt}
+use Rattle.cip_change.specs.declared.letter.CentreRefusal.{CentreRefusal}
+use Rattle.cip_change.specs.declared.letter.CentreRefusal.TheVariants as centres
+use Rattle.cip_change.specs.declared.letter.Marked.{Marked}
+use Rattle.cip_change.specs.Answers.{molecule_in}
+use Rattle.cip_change.specs.Changed.{changed_record}
+use Rattle.cip_change.specs.declared.set_answers.SetAnswer.{SetAnswer}
+use Rattle.cip_change.specs.declared.set_answers.SetAnswer.TheVariants.{Written, Refused}
+use Rattle.cip_change.specs.declared.set_answers.SetRefusal.{SetRefusal}
+use Rattle.cip_change.specs.declared.set_answers.SetRefusal.TheVariants as refusals
+
+abbrev pub refusal_of : CentreRefusal → SetRefusal
+refusal_of centres.NoCentre = refusals.NoCentre
+refusal_of centres.ThreeD = refusals.ThreeD
+refusal_of centres.Coincident = refusals.Coincident
+refusal_of centres.NoBond = refusals.NoBond
+refusal_of centres.Over = refusals.Over
+refusal_of centres.Tie = refusals.Tie
+refusal_of (centres.OtherKind small) = refusals.OtherKind small
+
+-- the record of a molecule with the mark that was answered for the centre at an atom
+abbrev pub set_marked : List ℕ → Drawing → ℕ → Result Marked CentreRefusal → SetAnswer
+set_marked bytes molecule atom (Ok marked) =
+    Written (changed_record molecule (with_mark molecule atom marked.neighbour marked.mark).bonds bytes)
+set_marked bytes molecule atom (Err refusal) = Refused (refusal_of refusal)
+
+module _ (rules : Rules) (nodes atom : ℕ) (letter : CentreLetter) where
+  -- atoms are counted from 1 in what is asked, and from 0 in a drawing
+  abbrev pub set_drawn : List ℕ → Drawing → SetAnswer
+  set_drawn bytes molecule =
+      if is_v3000 (body_contents bytes) then Refused refusals.OnlyV2000
+      else if atom == 0 then Refused refusals.NoCentre
+      else set_marked bytes molecule (atom - 1) (mark_asked rules nodes molecule (atom - 1) letter)
+
+  abbrev pub set_read : List ℕ → Result Drawing ReadFault → SetAnswer
+  set_read bytes (Ok molecule) = set_drawn bytes molecule
+  set_read bytes (Err fault) = Refused (refusals.Grammar fault)
+
+  -- the answer to a record without label items
+  unfoldable pub set_without_items : List ℕ → SetAnswer
+  set_without_items bytes = set_read bytes (read_molecule (body_contents bytes))
+
+  abbrev pub set_answer : List ℕ → SetAnswer
+  set_answer bytes = set_without_items (without_label_items bytes)
+
+-- among the units of a record that were answered, the centre at an atom has this letter
+pub record IsLabelledAt (letter : Descriptor) (atom : ℕ) (units : List UnitAnswer) : Type 0 where
+  pub place : ℕ
+  pub unit : UnitAnswer
+  pub there : slice_get units place ≡ Some unit
+  pub centre : IsCentreAt atom unit.site
+  pub has : HasLetter letter unit.outcome
+
+abbrev pub LabelsAt : Descriptor → ℕ → Answer → Type 0
+LabelsAt letter atom (answers.Labelled units) = IsLabelledAt letter atom units
+LabelsAt letter atom (answers.Refused fault) = ⊥
+
+-- what is written is read as the drawing with the mark at the first ligand that can have one, and has no label item;
+-- the answer to it gives the centre the asked letter
+pub record IsSet (rules : Rules) (nodes atom : ℕ) (letter : CentreLetter) (bytes text : List ℕ) : Type 0 where
+  pub molecule : Drawing
+  pub marked : Marked
+  pub before : molecule_in bytes ≡ Ok molecule
+  pub mark : mark_asked rules nodes molecule (atom - 1) letter ≡ Ok marked
+  pub behind : molecule_in text ≡ Ok (with_mark molecule (atom - 1) marked.neighbour marked.mark)
+  pub free : has_label_item text ≡ false
+  pub labels : LabelsAt (descriptor_of letter) (atom - 1) (answer_by rules nodes text)
+
+abbrev pub GivesLetter : Rules → ℕ → ℕ → CentreLetter → List ℕ → SetAnswer → Type 0
+GivesLetter rules nodes atom letter bytes (Written text) = IsSet rules nodes atom letter bytes text
+GivesLetter rules nodes atom letter bytes (Refused refusal) = Unit {0}
+
+-- what is written is little longer than the record
+abbrev pub IsFew : List ℕ → SetAnswer → Type 0
+IsFew bytes (Written text) = length text ≤ length bytes + 65536
+IsFew bytes (Refused refusal) = Unit {0}
+
+abbrev pub SetRecordsAreRead : Type 0
+SetRecordsAreRead =
+    (rules : Rules) (nodes atom : ℕ) (letter : CentreLetter) (bytes : List ℕ) →
+    GivesLetter rules nodes atom letter bytes (set_answer rules nodes atom letter bytes)

@@ -1,0 +1,193 @@
+// The mark that gives a centre the asked letter.
+ghost use Rattle.std.specs.Prelude.{◌≡◌, false, true, IfOk};
+ghost use Rattle.cip_mol.specs.Drawing.{Drawing};
+ghost use Rattle.cip_mol.specs.Points.{is_spatial};
+ghost use Rattle.cip_digraph.specs.graph.DrawnGraph.{graph_of};
+ghost use Rattle.cip_digraph.specs.units.Units.{centre_site};
+ghost use Rattle.cip_change.specs.FoundCentres.{found_at};
+ghost use Rattle.cip_change.specs.Marking.{has_centre, marked, IsBareAt};
+ghost use Rattle.cip_mol.specs.CentreLetters.{asks_small};
+ghost use Rattle.cip_change.specs.SetLetters.{asks_r, by_outcome, is_r, is_small, mark_asked, mark_centre, mark_for, IsGiven};
+ghost use Rattle.cip_change.specs.declared.letter.CentreRefusal.{CentreRefusal};
+ghost use Rattle.cip_mol.specs.declared.molecule.Mark.TheVariants.{Up};
+
+use crate::choosing::{chosen, shows_coincident};
+use crate::finding::{centre_place, find};
+use crate::letter::{CentreRefusal, Marked, Request};
+use crate::marking::{bare, marked};
+use cip_label::{Digraphs, Labeller};
+use cip_mol::{CentreLetter, Descriptor, Mark, Molecule, Outcome, Site};
+use cip_molfile::Drawn;
+use cip_orient::orient;
+use std::alloc::{AllocError, Global};
+
+/// Which mark at which ligand's bond gives the centre at an atom the asked letter, or the first cause why none does.
+pub fn mark_asked<D: Digraphs>(
+    alloc: Global,
+    labeller: &mut Labeller<D>,
+    drawn: &Drawn,
+    request: Request,
+) -> Result<Result<Marked, CentreRefusal>, AllocError>
+    ensures answer { IfOk result (λ answer. answer
+        ≡ mark_asked request.rules labeller.old drawn.now request.atom request.letter) }
+    ensures given { IfOk result (λ answer. IfOk answer
+        (IsGiven request.rules labeller.old drawn.now request.atom request.letter)) }
+    ensures kept { labeller.new ≡ labeller.old }
+{
+    // Reading the bonds tells that they have no fault.
+    let _bonds = drawn.molecule().bonds();
+    answer(alloc, labeller, drawn, request)
+}
+
+#[tactic(auto, unfolding(crate::specs::SetLetters::mark_asked))]
+fn answer<D: Digraphs>(
+    alloc: Global,
+    labeller: &mut Labeller<D>,
+    drawn: &Drawn,
+    request: Request,
+) -> Result<Result<Marked, CentreRefusal>, AllocError>
+    ensures answer { IfOk result (λ answer. answer
+        ≡ mark_asked request.rules labeller.old drawn.now request.atom request.letter) }
+    ensures kept { labeller.new ≡ labeller.old }
+{
+    let units = drawn.units().list();
+    match centre_place(units, request.atom) {
+        Some(place) => mark_centre(
+            alloc,
+            labeller,
+            drawn.molecule(),
+            &units[place].site,
+            request,
+        ),
+        None => Ok(Err(CentreRefusal::NoCentre)),
+    }
+}
+
+fn mark_centre<D: Digraphs>(
+    alloc: Global,
+    labeller: &mut Labeller<D>,
+    molecule: &Molecule,
+    site: &Site,
+    request: Request,
+) -> Result<Result<Marked, CentreRefusal>, AllocError>
+    requires site { site.now ≡ centre_site (graph_of molecule.now) request.atom }
+    requires centre { has_centre molecule.now request.atom ≡ true }
+    ensures answer { IfOk result (λ answer. answer
+        ≡ mark_centre request.rules labeller.old molecule.now request.atom request.letter) }
+    ensures kept { labeller.new ≡ labeller.old }
+{
+    if molecule.is_spatial() {
+        return Ok(Err(CentreRefusal::ThreeD));
+    }
+    let bare = bare(alloc, molecule, request.atom)?;
+    mark_bare(alloc, labeller, &bare, site, request)
+}
+
+// In the drawing without marks, which stays with the caller, so that no end of this function gives it back.
+fn mark_bare<D: Digraphs>(
+    alloc: Global,
+    labeller: &mut Labeller<D>,
+    bare: &Molecule,
+    site: &Site,
+    request: Request,
+) -> Result<Result<Marked, CentreRefusal>, AllocError>
+    requires { (drawing : Drawing) × IsBareAt drawing request.atom bare.now site.now }
+    ensures answer { IfOk result (λ answer. (drawing : Drawing) → IsBareAt drawing request.atom bare.now site.now →
+        answer ≡ mark_centre request.rules labeller.old drawing request.atom request.letter) }
+    ensures kept { labeller.new ≡ labeller.old }
+{
+    if shows_coincident(orient(alloc, bare, site)) {
+        return Ok(Err(CentreRefusal::Coincident));
+    }
+    match chosen(alloc, bare, request.atom, site)? {
+        Some(neighbour) => mark_ligand(alloc, labeller, bare, neighbour, request),
+        None => Ok(Err(CentreRefusal::NoBond)),
+    }
+}
+
+// By what is found with an up mark.
+fn mark_ligand<D: Digraphs>(
+    alloc: Global,
+    labeller: &mut Labeller<D>,
+    bare: &Molecule,
+    neighbour: u32,
+    request: Request,
+) -> Result<Result<Marked, CentreRefusal>, AllocError>
+    requires { has_centre (marked bare.now request.atom neighbour Up) request.atom ≡ true }
+    ensures answer { IfOk result (λ answer. answer
+        ≡ by_outcome request.letter neighbour
+        (found_at request.rules labeller.old (marked bare.now request.atom neighbour Up) request.atom)) }
+    ensures kept { labeller.new ≡ labeller.old }
+{
+    let up = marked(alloc, bare, request.atom, neighbour, Mark::Up)?;
+    let drawn = Drawn::of(alloc, up)?;
+    let answer = mark_drawn(alloc, labeller, &drawn, neighbour, request);
+    // given back by a call of its own, which is quicker to prove than an end that owns it
+    drop(drawn);
+    answer
+}
+
+// What is drawn stays with the caller, so that no end of this function gives it back.
+fn mark_drawn<D: Digraphs>(
+    alloc: Global,
+    labeller: &mut Labeller<D>,
+    drawn: &Drawn,
+    neighbour: u32,
+    request: Request,
+) -> Result<Result<Marked, CentreRefusal>, AllocError>
+    requires { has_centre drawn.now request.atom ≡ true }
+    ensures answer { IfOk result (λ answer. answer
+        ≡ by_outcome request.letter neighbour (found_at request.rules labeller.old drawn.now request.atom)) }
+    ensures kept { labeller.new ≡ labeller.old }
+{
+    let outcome = find(alloc, labeller, drawn, request.atom, request.rules)?;
+    Ok(by_outcome(request.letter, neighbour, &outcome))
+}
+
+fn by_outcome(
+    asked: CentreLetter,
+    neighbour: u32,
+    outcome: &Outcome,
+) -> Result<Marked, CentreRefusal>
+    ensures { result ≡ by_outcome asked neighbour outcome.now }
+{
+    match outcome {
+        Outcome::Label(label) => {
+            let small = is_small(label.letter);
+            if small == asked.is_small() {
+                Ok(Marked {
+                    neighbour,
+                    mark: mark_for(asked, label.letter),
+                })
+            } else {
+                Err(CentreRefusal::OtherKind { small })
+            }
+        }
+        Outcome::Over => Err(CentreRefusal::Over),
+        Outcome::Tie => Err(CentreRefusal::Tie),
+        // A mark at an eligible ligand always shows a sense.
+        Outcome::NoGeometry(_) => Err(CentreRefusal::NoBond),
+    }
+}
+
+fn mark_for(asked: CentreLetter, found: Descriptor) -> Mark
+    ensures { result ≡ mark_for asked found }
+{
+    if is_r(found) == is_r(asked.descriptor()) {
+        Mark::Up
+    } else {
+        Mark::Down
+    }
+}
+
+fn is_small(letter: Descriptor) -> bool
+    ensures { result ≡ is_small letter }
+{
+    matches!(letter, Descriptor::SmallR | Descriptor::SmallS)
+}
+
+fn is_r(letter: Descriptor) -> bool
+    ensures { result ≡ is_r letter }
+{
+    matches!(letter, Descriptor::R | Descriptor::SmallR)
+}

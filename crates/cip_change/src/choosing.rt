@@ -1,0 +1,89 @@
+// Which ligand of a centre is marked.
+ghost use Rattle.std.specs.Prelude.{◌≡◌, length, IfOk};
+ghost use Rattle.std.specs.List.{list_any};
+ghost use Rattle.cip_mol.specs.DrawnLigands.{drawn};
+ghost use Rattle.cip_mol.specs.Sites.{IsSite};
+ghost use Rattle.cip_change.specs.Marking.{first_where, is_eligible, is_free, ligands_of, shows_coincident, shows_reentrant};
+
+use crate::marking::{is_free, marked};
+use cip_mol::{AtMostFour, Bond, Cause, Geometry, Mark, Molecule, Site};
+use cip_orient::{drawn_of, orient};
+use std::alloc::{AllocError, Global};
+
+/// The first of a centre's drawn ligands at whose bond a mark shows a sense. No mark has its narrow end at the centre.
+pub fn chosen(
+    alloc: Global,
+    bare: &Molecule,
+    atom: u32,
+    site: &Site,
+) -> Result<Option<u32>, AllocError>
+    requires { IsSite (length bare.now.atoms) site.now }
+    ensures { IfOk result (λ found. found
+        ≡ first_where (is_eligible bare.now atom site.now) (drawn (length bare.now.atoms) (ligands_of site.now))) }
+{
+    let drawn = drawn_ligands(bare, site);
+    first_eligible(alloc, bare, atom, site, drawn.as_slice())
+}
+
+fn first_eligible(
+    alloc: Global,
+    bare: &Molecule,
+    atom: u32,
+    site: &Site,
+    numbers: &[u32],
+) -> Result<Option<u32>, AllocError>
+    requires { IsSite (length bare.now.atoms) site.now }
+    ensures { IfOk result (λ found. found ≡ first_where (is_eligible bare.now atom site.now) numbers.now) }
+{
+    for number in numbers {
+        if is_eligible(alloc, bare, atom, site, *number)? {
+            return Ok(Some(*number));
+        }
+    }
+    Ok(None)
+}
+
+fn is_eligible(
+    alloc: Global,
+    bare: &Molecule,
+    atom: u32,
+    site: &Site,
+    neighbour: u32,
+) -> Result<bool, AllocError>
+    requires { IsSite (length bare.now.atoms) site.now }
+    ensures { IfOk result (λ found. found ≡ is_eligible bare.now atom site.now neighbour) }
+{
+    if !has_free(bare.bonds(), atom, neighbour) {
+        return Ok(false);
+    }
+    let up = marked(alloc, bare, atom, neighbour, Mark::Up)?;
+    Ok(!shows_reentrant(orient(alloc, &up, site)))
+}
+
+fn has_free(bonds: &[Bond], atom: u32, neighbour: u32) -> bool
+    ensures { result ≡ list_any (is_free atom neighbour) bonds.now }
+{
+    bonds.iter().any(|bond| is_free(*bond, atom, neighbour))
+}
+
+fn shows_reentrant(geometry: Geometry) -> bool
+    ensures { result ≡ shows_reentrant geometry }
+{
+    matches!(geometry, Geometry::Unknown(Cause::Reentrant))
+}
+
+/// Whether two ligands are drawn in one direction, or one at the centre.
+pub fn shows_coincident(geometry: Geometry) -> bool
+    ensures { result ≡ shows_coincident geometry }
+{
+    matches!(geometry, Geometry::Unknown(Cause::Coincident))
+}
+
+fn drawn_ligands(molecule: &Molecule, site: &Site) -> AtMostFour<u32>
+    ensures { result ≡ drawn (length molecule.now.atoms) (ligands_of site.now) }
+{
+    match site {
+        Site::Centre { ligands, .. } => drawn_of(molecule, ligands),
+        _ => AtMostFour::new(),
+    }
+}

@@ -1,0 +1,52 @@
+// A record whose lines are edited.
+ghost use Rattle.std.specs.Prelude.{◌≡◌, ◌≤◌, ◌<◌, ◌^◌, ◌++◌, ◌+◌, List, ℕ, IfOk, OnOk, length};
+ghost use Rattle.cip_text.specs.Lines.{content_of, end_of};
+ghost use Rattle.cip_change.specs.Edits.{Edit, edited};
+
+use cip_text::{split_body_line, without_end};
+use std::alloc::{AllocError, Global};
+
+/// What is written for the lines of a record.
+pub trait LineEdit {
+    /// The content that is written for the content of a line, by the number of the line from 0.
+    ghost edit: { Self → ℕ → List ℕ → List ℕ };
+
+    /// Adds what is written for a line.
+    fn push(
+        &self,
+        alloc: Global,
+        text: &mut Vec<u8>,
+        number: usize,
+        content: &[u8],
+    ) -> Result<(), AllocError>
+        ensures { OnOk result (text.new.items ≡ text.old.items ++ edit self.now number content.now) };
+}
+
+/// A record with its lines before the terminator line edited, one by one; line ends, and all else, stay.
+pub fn edit_record<E: LineEdit>(
+    alloc: Global,
+    edit: &E,
+    bytes: &[u8],
+) -> Result<Vec<u8>, AllocError>
+    ensures { IfOk result (λ text. text.items ≡ edited (E.edit edit.now) bytes.now) }
+{
+    let mut text = Vec::with_capacity(alloc, bytes.len())?;
+    let mut rest = bytes;
+    let mut number = 0;
+    while let Some((line, behind)) = split_body_line(rest) {
+        edit.push(alloc, &mut text, number, without_end(line))?;
+        text.extend_from_slice(line_end(line))?;
+        rest = behind;
+        number += 1;
+    }
+    text.extend_from_slice(rest)?;
+    Ok(text)
+}
+
+// The end of a line.
+#[tactic(auto, using(cip_text::proofs::Contents::content_shorter))]
+fn line_end(line: &[u8]) -> &[u8]
+    ensures { result.now ≡ end_of line.now }
+{
+    &line[without_end(line).len()..]
+}

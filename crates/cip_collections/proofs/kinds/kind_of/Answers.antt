@@ -1,0 +1,35 @@
+use Rattle.std.proofs.Common.{◌∙◌, ap, false, refl, sym, true}
+use Rattle.std.specs.Str.{bytes_eq}
+use Rattle.std.proofs.lemmas.List.{take_rest}
+use Rattle.cip_collections.specs.Names.{racemic_by, relative_by}
+use Rattle.cip_collections.proofs.KindWords.{named}
+use Rattle.cip_collections.proofs.kinds.kind_of.Goals as goal
+
+pub returns-then-eq : goal.returns-then-eq
+returns-then-eq c =
+    named c.args.word.now true _ _
+    (ap (bytes_eq c.args.word.now) (sym c.as_slice.ensures) ∙ sym c.eq.ensures ∙ c.if-eq.true) refl refl
+
+pub returns-then-starts_with : goal.returns-then-starts_with
+returns-then-starts_with c =
+    c.racemic.ensures
+    ∙ ap racemic_by (take_rest c.args.word.now 13)
+    ∙ named c.args.word.now false true _
+    (ap (bytes_eq c.args.word.now) (sym c.as_slice.ensures) ∙ sym c.eq.ensures ∙ c.if-eq.false)
+    (sym c.starts_with.ensures.value ∙ c.if-starts_with.true) refl
+
+pub returns-then-starts_with-2 : goal.returns-then-starts_with-2
+returns-then-starts_with-2 c =
+    c.relative.ensures
+    ∙ ap relative_by (take_rest c.args.word.now 13)
+    ∙ named c.args.word.now false false true
+    (ap (bytes_eq c.args.word.now) (sym c.as_slice.ensures) ∙ sym c.eq.ensures ∙ c.if-eq.false)
+    (sym c.starts_with.ensures.value ∙ c.if-starts_with.false)
+    (sym c.starts_with-2.ensures.value ∙ c.if-starts_with-2.true)
+
+pub returns : goal.returns
+returns c =
+    named c.args.word.now false false false
+    (ap (bytes_eq c.args.word.now) (sym c.as_slice.ensures) ∙ sym c.eq.ensures ∙ c.if-eq.false)
+    (sym c.starts_with.ensures.value ∙ c.if-starts_with.false)
+    (sym c.starts_with-2.ensures.value ∙ c.if-starts_with-2.false)

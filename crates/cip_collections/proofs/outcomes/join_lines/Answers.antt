@@ -1,0 +1,29 @@
+use Rattle.std.proofs.Common.{◌∙◌, ℕ, ap}
+use Rattle.std.proofs.lemmas.List.{take_all}
+use Rattle.cip_collections.specs.Outcomes.{all_lines, lines_of}
+use Rattle.cip_collections.proofs.LinesSoFar.{lines_more}
+use Rattle.cip_collections.proofs.outcomes.join_lines.Goals as goal
+
+pub loop-group-preserved : goal.loop-group-preserved
+loop-group-preserved g c =
+    let bound = c.args.labeller.now in
+    let drawn = c.args.centres.now in
+    let group = c.group-item.result in
+    record {
+      so_far = c.in_ok-push_all.ensures
+          ∙ lines_more c.args.groups.now c.loop-group.group-index group c.loop-group-test.true c.loop-group.lines.items
+          (lines_of bound drawn) c.in_ok-more.more.items c.loop-group.invariant.so_far
+          (c.in_ok-more.ensures.lines
+          ∙ ap (λ (b : ℕ). lines_of b drawn group) c.loop-group.invariant.kept
+          ∙ ap (lines_of bound drawn) c.group-item.is);
+      same = c.in_ok-more.ensures.back ∙ c.loop-group.invariant.same;
+      kept = c.group_lines.ensures.kept ∙ c.loop-group.invariant.kept;
+    }
+
+pub returns : goal.returns
+returns g c = record {
+  lines = c.loop-group.invariant.so_far
+      ∙ ap (all_lines c.args.labeller.now c.args.centres.now)
+      (take_all c.loop-group.group-index c.args.groups.now c.loop-group-test.false);
+  kept = c.loop-group.invariant.kept;
+}

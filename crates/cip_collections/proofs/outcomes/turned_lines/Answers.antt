@@ -1,0 +1,34 @@
+use Rattle.std.proofs.Common.{ap, sym, ◌∙◌, map}
+use Rattle.cip_mol.specs.declared.site.Unit as units
+use Rattle.cip_digraph.specs.units.Inverted.{inverted}
+use Rattle.cip_digraph.specs.units.Units.{sites_of}
+use Rattle.cip_digraph.proofs.reflected.Inversions.{sites_stay}
+use Rattle.cip_label.specs.Settings.{Setting}
+use Rattle.cip_collections.proofs.outcomes.turned_lines.Goals as goal
+
+pub new-requires : goal.new-requires
+new-requires g c = record {
+  sites = ap (map (λ (unit : units.Unit). unit.site))
+      (c.list.ensures ∙ c.requires.turned
+      ∙ ap (λ (s : Setting). inverted c.args.group.now.atoms s.units) (sym c.setting-setting.ensures))
+      ∙ sites_stay c.args.group.now.atoms c.setting-setting.result.now.units
+      ∙ c.graph.ensures.proper.sites
+      ∙ sym (λ i. sites_of (c.graph.ensures.value i) (c.positions.ensures i));
+}
+
+pub atom_lines-requires : goal.atom_lines-requires
+atom_lines-requires g c = record {
+  turned = c.in_ok-turned.ensures
+      ∙ (λ i. record {
+        rules = c.rules.ensures i;
+        graph = c.graph.ensures.value i;
+        positions = c.positions.ensures i;
+        units = (c.list.ensures ∙ c.requires.turned) i;
+      })
+      ∙ ap (λ (s : Setting). record {
+        rules = s.rules;
+        graph = s.graph;
+        positions = s.positions;
+        units = inverted c.args.group.now.atoms c.args.centres.now.units;
+      }) c.setting-setting.ensures;
+}

@@ -1,0 +1,7 @@
+use Rattle.std.proofs.Common.{◌≡◌, ◌++◌, drop, flat_map}
+use Rattle.cip_collections.specs.Texts.{line_text}
+use Rattle.cip_collections.proofs.telling.lines_text.Given as goal
+
+abbrev pub invariant-loop-line : goal.invariant-loop-line
+invariant-loop-line l =
+    l.text.items ++ flat_map line_text (drop l.line-index l.lines) ≡ flat_map line_text l.lines

@@ -1,0 +1,190 @@
+// The atoms of a group line.
+ghost use Rattle.std.specs.Prelude.{◌≡◌, ◌≤◌, ◌++◌, ◌-◌, IfOk, OnOk, drop, length, take};
+ghost use Rattle.std.specs.List.{list_all};
+ghost use Rattle.std.specs.Option.{option_map};
+ghost use Rattle.cip_text.specs.Slices.{texts};
+ghost use Rattle.cip_reading.specs.Fields.{number_stated};
+ghost use Rattle.cip_collections.specs.AtomLists.{is_numeral, is_count, is_counted, inner, with_names, with_parts, names_of, atom_of, atoms_of, all_taken};
+ghost use Rattle.cip_collections.specs.declared.faults.GroupRefusal.TheVariants as refusals;
+ghost use Rattle.cip_collections.specs.Reading.{told_at, Gives};
+
+use crate::faults::{GroupCause, GroupFault, GroupRefusal};
+use cip_reading::{number_stated, spaced_words};
+use cip_text::{NumberFault, has_last, integer};
+use cip_v3000::{Indices, place_named};
+use std::alloc::{AllocError, Global};
+
+/// The names of the atoms in the words of a group line, behind its first one.
+pub fn names_of<'a>(
+    alloc: Global,
+    number: u32,
+    words: &[&'a [u8]],
+) -> Result<Vec<&'a [u8]>, GroupRefusal>
+    ensures { Gives (λ names. texts names.items) result (told_at number (names_of (texts words.now))) }
+{
+    let mut names = Vec::new(alloc);
+    for word in words {
+        push_names(alloc, number, &mut names, word)?;
+    }
+    Ok(names)
+}
+
+/// The atoms of these names, from 0.
+pub fn atoms_of(
+    alloc: Global,
+    number: u32,
+    indices: &Indices,
+    names: &[&[u8]],
+) -> Result<Vec<u32>, GroupRefusal>
+    requires few { length indices.now ≤ 1000000000 }
+    ensures { Gives (λ atoms. atoms.items) result (told_at number (atoms_of indices.now (texts names.now))) }
+{
+    let mut atoms = Vec::new(alloc);
+    for name in names {
+        let atom = atom_of(number, indices, name)?;
+        atoms.push(atom)?;
+    }
+    Ok(atoms)
+}
+
+/// Puts atoms to those that stand in a group line.
+pub fn take_all(number: u32, taken: &mut Indices, atoms: &[u32]) -> Result<(), GroupRefusal>
+    ensures { Gives (λ _. taken.new) result (told_at number (all_taken taken.old atoms.now)) }
+{
+    for atom in atoms {
+        if taken.contains(*atom) {
+            return Err(refused(number, GroupCause::Repeated));
+        }
+        taken.push(*atom)?;
+    }
+    Ok(())
+}
+
+// Puts the names of a word behind the others.
+#[tactic(auto, unfolding(crate::specs::AtomLists::with_names))]
+fn push_names<'a>(
+    alloc: Global,
+    number: u32,
+    names: &mut Vec<&'a [u8]>,
+    word: &'a [u8],
+) -> Result<(), GroupRefusal>
+    ensures { Gives (λ _. texts names.new.items) result
+        (told_at number (with_names (texts names.old.items) word.now)) }
+{
+    if !word.starts_with(b"ATOMS=") {
+        return Ok(());
+    }
+    let Some(text) = inner(word) else {
+        return Err(refused(number, GroupCause::Word));
+    };
+    let parts = spaced_words(alloc, text)?;
+    push_parts(number, names, &parts)
+}
+
+// Puts the names of a list behind the others.
+fn push_parts<'a>(
+    number: u32,
+    names: &mut Vec<&'a [u8]>,
+    parts: &[&'a [u8]],
+) -> Result<(), GroupRefusal>
+    ensures { Gives (λ _. texts names.new.items) result
+        (told_at number (with_parts (texts names.old.items) (texts parts.now))) }
+{
+    if !is_counted(parts) {
+        return Err(refused(number, GroupCause::Word));
+    }
+    push_behind_first(names, parts)?;
+    Ok(())
+}
+
+fn push_behind_first<'a>(names: &mut Vec<&'a [u8]>, parts: &[&'a [u8]]) -> Result<(), AllocError>
+    ensures { OnOk result (texts names.new.items ≡ texts names.old.items ++ drop 1 (texts parts.now)) }
+{
+    if let [_, more @ ..] = parts {
+        names.extend_from_slice(more)?;
+    }
+    Ok(())
+}
+
+fn refused(number: u32, cause: GroupCause) -> GroupRefusal
+    ensures { result ≡ refusals.Fault (record { line = number; cause = cause }) }
+{
+    GroupRefusal::Fault(GroupFault {
+        line: number,
+        cause,
+    })
+}
+
+// What stands in the brackets.
+fn inner(word: &[u8]) -> Option<&[u8]>
+    ensures { option_map (λ text. text.now) result ≡ inner word.now }
+{
+    if !word.starts_with(b"ATOMS=(") || !has_last(word, b')') {
+        return None;
+    }
+    Some(between(word))
+}
+
+// What stands between the first seven bytes and the last one.
+fn between(word: &[u8]) -> &[u8]
+    ensures { result.now ≡ take (length word.now - 8) (drop 7 word.now) }
+{
+    if word.len() < 8 {
+        return &[];
+    }
+    &word[7..word.len() - 1]
+}
+
+// Whether there is a number, and as many numbers behind it as it says.
+fn is_counted(parts: &[&[u8]]) -> bool
+    ensures { result ≡ is_counted (texts parts.now) }
+{
+    match parts {
+        [count, names @ ..] => is_count(names.len(), count) && all_numerals(names),
+        [] => false,
+    }
+}
+
+fn is_count(count: usize, part: &[u8]) -> bool
+    ensures { result ≡ is_count count (number_stated 1000000000 part.now) }
+{
+    match number_stated(1_000_000_000, part) {
+        None => false,
+        Some(number) => number as usize == count,
+    }
+}
+
+fn all_numerals(parts: &[&[u8]]) -> bool
+    ensures { result ≡ list_all is_numeral (texts parts.now) }
+{
+    are_numerals(parts)
+}
+
+fn are_numerals(parts: &[&[u8]]) -> bool
+    ensures { result ≡ list_all (λ part. is_numeral part.now) parts.now }
+{
+    parts.iter().all(|part| is_numeral(part))
+}
+
+// Whether a part is a number, of any size.
+fn is_numeral(part: &[u8]) -> bool
+    ensures { result ≡ is_numeral part.now }
+{
+    match integer(part) {
+        Ok(_) | Err(NumberFault::OutOfRange) => true,
+        Err(NumberFault::Empty | NumberFault::NotANumber) => false,
+    }
+}
+
+fn atom_of(number: u32, indices: &Indices, name: &[u8]) -> Result<u32, GroupFault>
+    requires few { length indices.now ≤ 1000000000 }
+    ensures { result ≡ told_at number (atom_of indices.now name.now) }
+{
+    match place_named(indices, name) {
+        Some(place) => Ok(place),
+        None => Err(GroupFault {
+            line: number,
+            cause: GroupCause::Atom,
+        }),
+    }
+}

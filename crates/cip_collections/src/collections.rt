@@ -1,0 +1,252 @@
+// Collections, line after line.
+ghost use Rattle.std.specs.Prelude.{◌≡◌, ◌≤◌, ◌<◌, ◌-◌, ◌^◌, IfOk, IsOk, Ok, Some, length, map, if◌then◌else◌};
+ghost use Rattle.cip_text.specs.Bodies.{body_contents};
+ghost use Rattle.cip_text.specs.Slices.{texts};
+ghost use Rattle.cip_v3000.specs.declared.frames.FrameLine.TheVariants.{EndTable};
+ghost use Rattle.cip_v3000.specs.Frames.{is_frame};
+ghost use Rattle.cip_v3000.specs.Grammar.{molecule_of, words_in};
+ghost use Rattle.cip_v3000.specs.Joining.{seen};
+ghost use Rattle.cip_v3000.specs.Tables.{seen_table};
+ghost use Rattle.cip_collections.specs.Collections.{nothing, with_atoms, with_kind, with_words, with_joined, ended, groups_from, groups_of, answer_by, IsAnswer};
+ghost use Rattle.cip_collections.specs.Reading.{Gives};
+
+use crate::atom_lists::{atoms_of, names_of, take_all};
+use crate::faults::{GroupCause, GroupFault, GroupRefusal, told_at};
+use crate::groups::{Groups, GroupsAnswer};
+use crate::kinds::{GroupKind, kind_of};
+use cip_mol::{Molecule, ReadRefusal};
+use cip_text::body_contents;
+use cip_v3000::{FrameLine, Indices, JoinedLine, Table, is_frame, read_table, text_of, words};
+use std::alloc::{AllocError, Global};
+
+/// What was read of the lines before: whether a collection is open, the atoms that stand in a group line, the groups.
+#[derive(Drop)]
+pub struct Found {
+    pub inside: bool,
+    pub taken: Indices,
+    pub groups: Groups,
+}
+
+impl Found {
+    // Puts these atoms of a group line to those of its group.
+    fn put(&mut self, number: u32, kind: GroupKind, atoms: Vec<u32>) -> Result<(), GroupRefusal>
+        ensures { Gives (λ _. self.new) result (with_atoms number self.old kind atoms.items) }
+    {
+        take_all(number, &mut self.taken, &atoms)?;
+        self.groups.put_line(kind, number, atoms)?;
+        Ok(())
+    }
+
+    fn into_groups(self) -> Groups
+        ensures { result ≡ self.groups }
+    {
+        self.groups
+    }
+}
+
+/// The groups of a record from which this molecule is read, or the first line with a cause and its first one.
+pub fn read_groups(
+    alloc: Global,
+    bytes: &[u8],
+    molecule: &Molecule,
+) -> Result<GroupsAnswer, AllocError>
+    requires few { length bytes.now < 2 ^ 32 - 1 }
+    requires read { molecule_of (body_contents bytes.now) ≡ Ok molecule.now }
+    ensures { IfOk result (IsAnswer (body_contents bytes.now)) }
+{
+    let lines = body_contents(alloc, bytes)?;
+    lines_answer(alloc, &lines)
+}
+
+// Of the lines of a record, which stay with the caller.
+fn lines_answer(alloc: Global, lines: &[&[u8]]) -> Result<GroupsAnswer, AllocError>
+    requires few { length lines.now < 2 ^ 32 - 1 }
+    requires read { IsOk (molecule_of (texts lines.now)) }
+    ensures { IfOk result (IsAnswer (texts lines.now)) }
+{
+    match read_table(alloc, lines) {
+        Ok(table) => {
+            let answer = table_answer(alloc, &table);
+            // given back by a call of its own, which is quicker to prove than an end that owns it
+            drop(table);
+            answer
+        }
+        Err(ReadRefusal::Fault(_)) => unreachable!(),
+        Err(ReadRefusal::Memory) => Err(AllocError),
+    }
+}
+
+fn table_answer(alloc: Global, table: &Table<'_>) -> Result<GroupsAnswer, AllocError>
+    requires few { length table.now.indices ≤ 1000000000 }
+    ensures { IfOk result (λ answer. answer ≡ answer_by (groups_of (seen_table table.now))) }
+{
+    match groups_of(alloc, table) {
+        Ok(groups) => Ok(GroupsAnswer::Groups(groups)),
+        Err(GroupRefusal::Fault(fault)) => Ok(GroupsAnswer::Refused(fault)),
+        Err(GroupRefusal::Memory) => Err(AllocError),
+    }
+}
+
+/// The groups of a table.
+#[tactic(auto, unfolding(crate::specs::Collections::groups_of))]
+pub fn groups_of(alloc: Global, table: &Table<'_>) -> Result<Groups, GroupRefusal>
+    requires few { length table.now.indices ≤ 1000000000 }
+    ensures { Gives (λ groups. groups) result (groups_of (seen_table table.now)) }
+{
+    groups_from(alloc, &table.indices, table.rest())
+}
+
+fn groups_from(
+    alloc: Global,
+    indices: &Indices,
+    lines: &[JoinedLine<'_>],
+) -> Result<Groups, GroupRefusal>
+    requires few { length indices.now ≤ 1000000000 }
+    ensures { Gives (λ groups. groups) result (groups_from indices.now nothing (map seen lines.now)) }
+{
+    let mut found = nothing(alloc);
+    match read_lines(alloc, indices, lines, &mut found) {
+        Ok(()) => Ok(found.into_groups()),
+        Err(refusal) => {
+            // given back by a call of its own: written out here it takes three times as long to prove
+            drop(found);
+            Err(refusal)
+        }
+    }
+}
+
+// Reads lines up to the end of the table. What is found stays with the caller, so that no line gives it back.
+fn read_lines(
+    alloc: Global,
+    indices: &Indices,
+    lines: &[JoinedLine<'_>],
+    found: &mut Found,
+) -> Result<(), GroupRefusal>
+    requires few { length indices.now ≤ 1000000000 }
+    ensures { Gives (λ _. found.new.groups) result (groups_from indices.now found.old (map seen lines.now)) }
+{
+    for line in lines {
+        if read_line(alloc, indices, line, found)? {
+            return ended(line.number, found);
+        }
+    }
+    Ok(())
+}
+
+// Reads a line behind those before it, and says whether the table ends there.
+fn read_line(
+    alloc: Global,
+    indices: &Indices,
+    line: &JoinedLine<'_>,
+    found: &mut Found,
+) -> Result<bool, GroupRefusal>
+    requires few { length indices.now ≤ 1000000000 }
+    ensures end { IfOk result (λ end. end ≡ is_frame EndTable (words_in (seen line.now))) }
+    ensures found { Gives (λ _. found.new) result (if is_frame EndTable (words_in (seen line.now)) then Ok found.old
+        else with_joined indices.now line.now.number found.old (words_in (seen line.now))) }
+{
+    let text = text_of(alloc, line)?;
+    let words = words(alloc, text.bytes())?;
+    read_line_words(alloc, indices, line.number, found, &words)
+}
+
+fn read_line_words(
+    alloc: Global,
+    indices: &Indices,
+    number: u32,
+    found: &mut Found,
+    words: &[&[u8]],
+) -> Result<bool, GroupRefusal>
+    requires few { length indices.now ≤ 1000000000 }
+    ensures end { IfOk result (λ end. end ≡ is_frame EndTable (texts words.now)) }
+    ensures found { Gives (λ _. found.new) result (if is_frame EndTable (texts words.now) then Ok found.old
+        else with_joined indices.now number found.old (texts words.now)) }
+{
+    if is_frame(FrameLine::EndTable, words) {
+        return Ok(true);
+    }
+    read_joined(alloc, indices, number, found, words)?;
+    Ok(false)
+}
+
+fn nothing(alloc: Global) -> Found
+    ensures { result ≡ nothing }
+{
+    Found {
+        inside: false,
+        taken: Indices::new(alloc),
+        groups: Groups::new(alloc),
+    }
+}
+
+// At the end of the table no collection is open.
+fn ended(number: u32, found: &Found) -> Result<(), GroupRefusal>
+    ensures { Gives (λ _. found.now.groups) result (ended number found.now) }
+{
+    if found.inside {
+        return Err(GroupRefusal::Fault(GroupFault {
+            line: number,
+            cause: GroupCause::Frame,
+        }));
+    }
+    Ok(())
+}
+
+// Reads a line behind those before it; lines outside collections are passed over.
+#[tactic(auto, unfolding(crate::specs::Collections::with_joined))]
+fn read_joined(
+    alloc: Global,
+    indices: &Indices,
+    number: u32,
+    found: &mut Found,
+    words: &[&[u8]],
+) -> Result<(), GroupRefusal>
+    requires few { length indices.now ≤ 1000000000 }
+    ensures { Gives (λ _. found.new) result (with_joined indices.now number found.old (texts words.now)) }
+{
+    if !found.inside {
+        found.inside = is_frame(FrameLine::BeginCollection, words);
+        return Ok(());
+    }
+    if is_frame(FrameLine::EndCollection, words) {
+        found.inside = false;
+        return Ok(());
+    }
+    read_words(alloc, indices, number, found, words)
+}
+
+fn read_words(
+    alloc: Global,
+    indices: &Indices,
+    number: u32,
+    found: &mut Found,
+    words: &[&[u8]],
+) -> Result<(), GroupRefusal>
+    requires few { length indices.now ≤ 1000000000 }
+    ensures { Gives (λ _. found.new) result (with_words indices.now number found.old (texts words.now)) }
+{
+    match words {
+        [] => Ok(()),
+        [name, words @ ..] => match told_at(number, kind_of(name))? {
+            None => Ok(()),
+            Some(kind) => read_kind(alloc, indices, number, found, words, kind),
+        },
+    }
+}
+
+// Puts the atoms of a group line to those of its group.
+fn read_kind(
+    alloc: Global,
+    indices: &Indices,
+    number: u32,
+    found: &mut Found,
+    words: &[&[u8]],
+    kind: GroupKind,
+) -> Result<(), GroupRefusal>
+    requires few { length indices.now ≤ 1000000000 }
+    ensures { Gives (λ _. found.new) result (with_kind indices.now number found.old (texts words.now) (Some kind)) }
+{
+    let names = names_of(alloc, number, words)?;
+    let atoms = atoms_of(alloc, number, indices, &names)?;
+    found.put(number, kind, atoms)
+}

@@ -1,0 +1,90 @@
+// Why the groups of a record aren't read.
+ghost use Rattle.std.specs.Prelude.{◌≡◌};
+ghost use Rattle.cip_collections.specs.declared.faults.GroupRefusal.TheVariants as refusals;
+ghost use Rattle.cip_collections.specs.Reading.{told_at};
+
+use std::alloc::{AllocError, AllocFailed};
+use std::fmt;
+
+/// What is wrong with a line of a collection.
+#[derive(Clone, Copy, Debug)]
+pub enum GroupCause {
+    /// The table ends inside a collection.
+    Frame,
+    /// The number of a group is none from 1 to 1,000,000,000.
+    Name,
+    /// A list of atoms isn't of its form.
+    Word,
+    /// A number in a list of atoms is no atom's index.
+    Atom,
+    /// An atom stands in a group line for the second time.
+    Repeated,
+}
+
+impl fmt::Display for GroupCause {
+    ghost use Rattle.std.specs.Prelude.{Some};
+    ghost use Rattle.cip_collections.specs.Telling.{cause_text};
+
+    ghost output = { λ cause. Some (cause_text cause) };
+
+    fn fmt<W: fmt::Write>(&self, f: &mut fmt::Formatter<W>) -> fmt::Result {
+        f.write_str(match self {
+            GroupCause::Frame => "Frame",
+            GroupCause::Name => "Name",
+            GroupCause::Word => "Word",
+            GroupCause::Atom => "Atom",
+            GroupCause::Repeated => "Repeated",
+        })
+    }
+}
+
+/// The first line at which a cause holds, counted from 1, and the first cause there.
+#[derive(Clone, Copy, Debug)]
+pub struct GroupFault {
+    pub line: u32,
+    pub cause: GroupCause,
+}
+
+/// Why there are no groups: what is wrong with a line, or want of memory.
+#[derive(Clone, Copy)]
+pub enum GroupRefusal {
+    Fault(GroupFault),
+    Memory,
+}
+
+impl From<GroupFault> for GroupRefusal {
+    ghost from_gives = { λ fault refusal. refusal ≡ refusals.Fault fault };
+
+    fn from(fault: GroupFault) -> GroupRefusal {
+        GroupRefusal::Fault(fault)
+    }
+}
+
+impl From<AllocError> for GroupRefusal {
+    ghost from_gives = { λ _ refusal. refusal ≡ refusals.Memory };
+
+    fn from(_error: AllocError) -> GroupRefusal {
+        GroupRefusal::Memory
+    }
+}
+
+impl<T: Drop> From<AllocFailed<T>> for GroupRefusal {
+    ghost from_gives = { λ _ refusal. refusal ≡ refusals.Memory };
+
+    fn from(_failed: AllocFailed<T>) -> GroupRefusal {
+        GroupRefusal::Memory
+    }
+}
+
+/// What was read of a line, with the line's number in its fault.
+pub fn told_at<T: Drop>(number: u32, read: Result<T, GroupCause>) -> Result<T, GroupFault>
+    ensures { result ≡ told_at number read }
+{
+    match read {
+        Ok(row) => Ok(row),
+        Err(cause) => Err(GroupFault {
+            line: number,
+            cause,
+        }),
+    }
+}

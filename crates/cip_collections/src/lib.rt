@@ -1,0 +1,23 @@
+//! The enhanced stereo groups of molfiles of version V3000, and both outcomes of each centre of a group.
+#![tactic(auto)]
+
+mod atom_lists;
+mod collections;
+mod faults;
+mod groups;
+mod kinds;
+mod laws;
+mod names;
+mod outcomes;
+mod places;
+mod telling;
+
+pub use collections::read_groups;
+pub use faults::{GroupCause, GroupFault};
+pub use groups::{Group, Groups, GroupsAnswer, Vertices};
+pub use kinds::GroupKind;
+pub use laws::{
+    both_are_of_one_centre, first_causes_decide, turned_twice_is_drawn, whole_groups_mirror,
+    worked_collections_are_read,
+};
+pub use telling::{GroupText, group_text_within};

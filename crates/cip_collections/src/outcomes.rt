@@ -1,0 +1,189 @@
+// Both outcomes of the centres of groups.
+ghost use Rattle.std.specs.Prelude.{◌≡◌, ◌<◌, ◌^◌, ◌++◌, IfOk, OnOk, length};
+ghost use Rattle.cip_digraph.specs.units.Inverted.{inverted};
+ghost use Rattle.cip_collections.specs.Outcomes.{IsTurned, both_by, outcome_at, turned_at, lines_of, all_lines};
+
+use crate::groups::Group;
+use crate::kinds::GroupKind;
+use crate::places::Centres;
+use cip_digraph::Units;
+use cip_label::{Digraphs, Labeller, Setting};
+use cip_mol::Outcome;
+use cip_rank::Steps;
+use std::alloc::{AllocError, Global};
+use std::marker::Brand;
+use std::sync::ledger::{Blank, Ledger};
+
+/// What is found of a centre: as it is drawn, and with the centres of its group turned.
+#[derive(Drop)]
+pub struct BothOutcomes {
+    pub drawn: Outcome,
+    pub turned: Outcome,
+}
+
+/// An atom of a group; it has no outcomes where it is no centre.
+#[derive(Drop)]
+pub struct GroupLine {
+    pub kind: GroupKind,
+    pub atom: u32,
+    pub outcomes: Option<BothOutcomes>,
+}
+
+/// The atoms of all groups with both outcomes of each.
+pub fn all_lines<D: Digraphs>(
+    alloc: Global,
+    labeller: &mut Labeller<D>,
+    setting: &Setting<'_>,
+    units: &Units,
+    groups: &[Group],
+) -> Result<Vec<GroupLine>, AllocError>
+    requires few { length setting.now.units < 2 ^ 32 }
+    requires same { units.now ≡ setting.now.units }
+    ensures lines { IfOk result (λ lines. lines.items ≡ all_lines labeller.old setting.now groups.now) }
+    ensures kept { labeller.new ≡ labeller.old }
+{
+    let centres = Centres::of(alloc, setting)?;
+    count_lines::<D, Brand>(alloc, labeller, &centres, units, groups, Blank::new(1))
+}
+
+// The same with a counter of steps.
+fn count_lines<D: Digraphs, L: Ledger>(
+    alloc: Global,
+    labeller: &mut Labeller<D>,
+    centres: &Centres<'_>,
+    units: &Units,
+    groups: &[Group],
+    blank: Blank,
+) -> Result<Vec<GroupLine>, AllocError>
+    requires name { blank.name ≡ L.name }
+    requires parts { blank.parts ≡ L.parts }
+    requires one { 0 < blank.parts }
+    requires same { units.now ≡ centres.now.units }
+    ensures lines { IfOk result (λ lines. lines.items ≡ all_lines labeller.old centres.now groups.now) }
+    ensures kept { labeller.new ≡ labeller.old }
+{
+    let mut steps = Steps::<L>::open(blank);
+    let mut turned = units.copy(alloc)?;
+    join_lines(alloc, labeller, centres, &mut turned, groups, &mut steps)
+}
+
+// The same with units that are turned for each group, and back.
+fn join_lines<D: Digraphs, L: Ledger>(
+    alloc: Global,
+    labeller: &mut Labeller<D>,
+    centres: &Centres<'_>,
+    units: &mut Units,
+    groups: &[Group],
+    steps: &mut Steps<L>,
+) -> Result<Vec<GroupLine>, AllocError>
+    requires same { units.old ≡ centres.now.units }
+    ensures lines { IfOk result (λ lines. lines.items ≡ all_lines labeller.old centres.now groups.now) }
+    ensures kept { labeller.new ≡ labeller.old }
+{
+    let mut lines = Vec::new(alloc);
+    for group in groups {
+        let more = group_lines(alloc, labeller, centres, units, group, steps)?;
+        push_all(&mut lines, more)?;
+    }
+    Ok(lines)
+}
+
+fn push_all(lines: &mut Vec<GroupLine>, mut more: Vec<GroupLine>) -> Result<(), AllocError>
+    ensures { OnOk result (lines.new.items ≡ lines.old.items ++ more.items) }
+{
+    lines.append(&mut more)?;
+    Ok(())
+}
+
+// A group without atoms costs no labelling.
+fn group_lines<D: Digraphs, L: Ledger>(
+    alloc: Global,
+    labeller: &mut Labeller<D>,
+    centres: &Centres<'_>,
+    units: &mut Units,
+    group: &Group,
+    steps: &mut Steps<L>,
+) -> Result<Vec<GroupLine>, AllocError>
+    requires same { units.old ≡ centres.now.units }
+    ensures lines { IfOk result (λ lines. lines.items ≡ lines_of labeller.old centres.now group.now) }
+    ensures back { OnOk result (units.new ≡ units.old) }
+    ensures kept { labeller.new ≡ labeller.old }
+{
+    let atoms = group.atoms.as_slice();
+    if atoms.is_empty() {
+        return Ok(Vec::new(alloc));
+    }
+    units.invert(atoms);
+    let lines = turned_lines(alloc, labeller, centres, units, group, steps)?;
+    units.invert(atoms);
+    Ok(lines)
+}
+
+fn turned_lines<D: Digraphs, L: Ledger>(
+    alloc: Global,
+    labeller: &mut Labeller<D>,
+    centres: &Centres<'_>,
+    units: &Units,
+    group: &Group,
+    steps: &mut Steps<L>,
+) -> Result<Vec<GroupLine>, AllocError>
+    requires turned { units.now ≡ inverted group.now.atoms centres.now.units }
+    ensures lines { IfOk result (λ lines. lines.items ≡ lines_of labeller.old centres.now group.now) }
+    ensures kept { labeller.new ≡ labeller.old }
+{
+    let setting = centres.setting();
+    let turned = Setting::new(
+        alloc,
+        setting.graph(),
+        setting.positions(),
+        units.list(),
+        setting.rules(),
+    )?;
+    atom_lines(alloc, labeller, centres, &turned, group, steps)
+}
+
+fn atom_lines<D: Digraphs, L: Ledger>(
+    alloc: Global,
+    labeller: &mut Labeller<D>,
+    centres: &Centres<'_>,
+    turned: &Setting<'_>,
+    group: &Group,
+    steps: &mut Steps<L>,
+) -> Result<Vec<GroupLine>, AllocError>
+    requires turned { turned.now ≡ turned_at group.now.atoms centres.now }
+    ensures lines { IfOk result (λ lines. lines.items ≡ lines_of labeller.old centres.now group.now) }
+    ensures kept { labeller.new ≡ labeller.old }
+{
+    let mut lines = Vec::new(alloc);
+    for atom in group.atoms.as_slice() {
+        let outcomes = both_at(alloc, labeller, centres, turned, *atom, steps)?;
+        lines.push(GroupLine {
+            kind: group.kind,
+            atom: *atom,
+            outcomes,
+        })?;
+    }
+    Ok(lines)
+}
+
+// What is found of the centre at an atom, where there is one.
+fn both_at<D: Digraphs, L: Ledger>(
+    alloc: Global,
+    labeller: &mut Labeller<D>,
+    centres: &Centres<'_>,
+    turned: &Setting<'_>,
+    atom: u32,
+    steps: &mut Steps<L>,
+) -> Result<Option<BothOutcomes>, AllocError>
+    requires turned { IsTurned centres.now turned.now }
+    ensures both { IfOk result (λ found. found
+        ≡ both_by (outcome_at labeller.old centres.now atom) (outcome_at labeller.old turned.now atom)) }
+    ensures kept { labeller.new ≡ labeller.old }
+{
+    let Some(place) = centres.place(atom) else {
+        return Ok(None);
+    };
+    let drawn = labeller.label(alloc, centres.setting(), place, steps)?;
+    let turned = labeller.label(alloc, turned, place, steps)?;
+    Ok(Some(BothOutcomes { drawn, turned }))
+}

@@ -1,0 +1,89 @@
+// Where the centres of a record stand among its units.
+ghost use Rattle.std.specs.Prelude.{◌≡◌, ◌<◌, ◌^◌, ◌∷◌, [], ℕ, IfOk, IfSome, OnOk, length, nat_eq, position};
+ghost use Rattle.indexmap.specs.IndexMap.{get};
+ghost use Rattle.cip_digraph.specs.rings.Alternating.{is_in};
+ghost use Rattle.cip_collections.specs.Outcomes.{is_centre_at};
+ghost use Rattle.cip_collections.specs.Places.{ArePlaces, or_here};
+
+use cip_label::Setting;
+use cip_mol::{Site, Unit};
+use indexmap::IndexMap;
+use std::alloc::{AllocError, Global};
+use std::marker::Model;
+
+/// A setting in which the centre at an atom is found in a table. Contracts see the setting.
+#[derive(Drop)]
+pub struct Centres<'a> {
+    setting: &'a Setting<'a>,
+    places: IndexMap<u32, u32>,
+}
+
+impl<'a> Model for Centres<'a> {
+    ghost use Rattle.cip_label.specs.Settings as settings;
+    ghost use Rattle.cip_collections.specs.Places.{ArePlaces};
+
+    ghost Value = { settings.Setting };
+
+    ghost view = { λ centres. centres.setting.now };
+
+    ghost invariant = { λ centres. ArePlaces centres.places centres.setting.now.units };
+}
+
+impl<'a> Centres<'a> {
+    /// Those of a setting.
+    pub fn of(alloc: Global, setting: &'a Setting<'a>) -> Result<Centres<'a>, AllocError>
+        requires few { length setting.now.units < 2 ^ 32 }
+        ensures { IfOk result (λ centres. centres ≡ setting.now) }
+    {
+        let places = places_of(alloc, setting.units().as_slice())?;
+        Ok(Centres { setting, places })
+    }
+
+    /// The setting itself.
+    pub fn setting(&self) -> &'a Setting<'a>
+        ensures { result.now ≡ self.now }
+    {
+        self.setting
+    }
+
+    /// The place of the centre at an atom, from 0.
+    pub fn place(&self, atom: u32) -> Option<u32>
+        ensures value { result ≡ position (is_centre_at atom) self.now.units }
+        ensures within { IfSome result (λ place. place < length self.now.units) }
+    {
+        self.places.get(&atom).copied()
+    }
+}
+
+fn places_of(alloc: Global, units: &[Unit]) -> Result<IndexMap<u32, u32>, AllocError>
+    requires few { length units.now < 2 ^ 32 }
+    ensures { IfOk result (λ places. ArePlaces places units.now) }
+{
+    let mut places = IndexMap::new(alloc);
+    for (place, unit) in units.iter().enumerate() {
+        note_unit(&mut places, unit, place as u32)?;
+    }
+    Ok(places)
+}
+
+fn note_unit(places: &mut IndexMap<u32, u32>, unit: &Unit, place: u32) -> Result<(), AllocError>
+    ensures { OnOk result ((atom : ℕ) → get nat_eq places.new atom
+        ≡ or_here (get nat_eq places.old atom) (is_centre_at atom unit.now) place) }
+{
+    match unit.site {
+        Site::Centre { at, .. } => note(places, at, place),
+        Site::Bond { .. } | Site::Axis { .. } => Ok(()),
+    }
+}
+
+// The first place of an atom is kept.
+fn note(places: &mut IndexMap<u32, u32>, at: u32, place: u32) -> Result<(), AllocError>
+    ensures { OnOk result ((atom : ℕ) → get nat_eq places.new atom
+        ≡ or_here (get nat_eq places.old atom) (is_in at (atom ∷ [])) place) }
+{
+    if places.contains_key(&at) {
+        return Ok(());
+    }
+    places.insert(at, place)?;
+    Ok(())
+}

@@ -1,0 +1,12 @@
+use Rattle.std.proofs.Common.{arith}
+use Rattle.cip_constitution.proofs.candidates.has_candidate_from.Goals as goal
+
+pub are_candidates-requires-clause-grown : goal.are_candidates-requires-clause-grown
+are_candidates-requires-clause-grown c = c.requires.grown
+
+pub are_candidates-requires-clause-keyed : goal.are_candidates-requires-clause-keyed
+are_candidates-requires-clause-keyed c = c.requires.keyed
+
+pub are_candidates-requires-clause-room : goal.are_candidates-requires-clause-room
+are_candidates-requires-clause-room c =
+    let room = c.requires.room in let kept = c.loop-rest.invariant.room in omega (arith, room, kept)

@@ -1,0 +1,38 @@
+use Rattle.std.proofs.Common.{◌≤◌, ◌∙◌, length, sym, ap, subst}
+use Rattle.cip_aux.specs.Sights.{Sight}
+use Rattle.cip_digraph.specs.digraph.NodeList.{parents_of}
+use Rattle.cip_inside.specs.Near.{Nearing, asked_tops}
+use Rattle.cip_inside.specs.OpenLooks.{AreOpen}
+use Rattle.cip_inside.proofs.keeping.look_first.Goals as goal
+
+pub begin-requires-clause-room : goal.begin-requires-clause-room
+begin-requires-clause-room g c =
+    subst (λ (s : Sight). length s.told ≤ c.args.near.now.bound) (sym c.whole.ensures) c.requires.open.room
+
+pub look_at-found-requires-clause-tops : goal.look_at-found-requires-clause-tops
+look_at-found-requires-clause-tops g c =
+    let asked = c.args.asked.now in
+    ap (λ (n : Nearing). n.tops) c.begin.ensures
+    ∙ ap (λ (s : Sight). asked_tops (parents_of s.told) asked.ligands.now asked.node) c.whole.ensures
+
+pub look_at-found-requires-clause-pairs : goal.look_at-found-requires-clause-pairs
+look_at-found-requires-clause-pairs g c = c.as_mut_slice.ensures.value ∙ c.in_ok-pairs.ensures
+
+pub look_at-found-requires-clause-open : goal.look_at-found-requires-clause-open
+look_at-found-requires-clause-open g c =
+    subst (λ n. AreOpen n c.args.inner.now.sight c.args.kept.now) (sym (ap (λ (n : Nearing). n.bound) c.begin.ensures))
+    c.requires.open
+
+pub returns-in_err-pairs-clause-open : goal.returns-in_err-pairs-clause-open
+returns-in_err-pairs-clause-open g c = c.requires.open
+
+pub returns-clause-turns : goal.returns-clause-turns
+returns-clause-turns g c = c.look_at-found.ensures.turns
+
+pub returns-clause-open : goal.returns-clause-open
+returns-clause-open g c =
+    subst (λ n. AreOpen n c.args.inner.now.sight c.look_at-found.new.kept)
+    (ap (λ (n : Nearing). n.bound) c.begin.ensures) c.look_at-found.ensures.open
+
+pub returns-clause-near : goal.returns-clause-near
+returns-clause-near g c = c.look_at-found.ensures.near ∙ ap (λ (n : Nearing). n.bound) c.begin.ensures

@@ -1,9 +1,0 @@
-pub mod Answers
-pub mod Changed
-pub mod Laws
-pub mod Mirror
-pub mod Rows
-pub mod Columns
-pub mod Edits
-pub mod EditLaws
-pub mod EditedRows

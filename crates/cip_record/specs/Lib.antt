@@ -1,6 +1,0 @@
-pub mod Answers
-pub mod Images
-pub mod Laws
-pub mod Worked
-pub mod WorkedLabels
-pub mod WorkedRecords

@@ -1,0 +1,19 @@
+use Rattle.std.proofs.Common.{◌+◌, ◌∙◌, ap, length}
+use Rattle.std.proofs.lemmas.List.Elements.{All-push}
+use Rattle.cip_mol.specs.Ranges.{IsAtom}
+use Rattle.cip_reading.proofs.Rows.{length-push}
+use Rattle.cip_v2000.specs.Statements.{kept}
+use Rattle.cip_v2000.proofs.Stated.{mapped_more}
+use Rattle.cip_v2000.proofs.statements.keep_all.Goals as goal
+
+pub loop-line-preserved : goal.loop-line-preserved
+loop-line-preserved c = record {
+  so_far = c.push_reserved.ensures.items
+      ∙ mapped_more (kept c.args.charges c.args.isotopes) c.args.lines.now c.loop-line.line-index _ _ _
+      c.loop-line-test.true c.loop-line.invariant.so_far c.keep.ensures.value;
+  counted = ap length c.push_reserved.ensures.items ∙ length-push _ _ _ c.loop-line.invariant.counted;
+  range = rw c.push_reserved.ensures.items
+      (All-push IsAtom _ _ c.loop-line.invariant.range c.keep.ensures.range);
+  kept = c.push_reserved.ensures.len ∙ ap (λ n. n + 1) c.loop-line.invariant.kept;
+  room = rw c.push_reserved.ensures.capacity c.loop-line.invariant.room;
+}
