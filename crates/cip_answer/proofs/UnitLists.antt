@@ -32,6 +32,13 @@ counted : {X Y : Type 0} (f : X → Y) (ys : List Y) (xs : List X) (place : ℕ)
 counted f ys xs place so_far within =
     ap length so_far ∙ length-map (take place xs) f ∙ length-take place xs ∙ grind (arith, common_steps)
 
+-- room is left for one answer more
+pub room_left : {X Y : Type 0} (f : X → Y) (ys : List Y) (xs : List X) (place : ℕ) → ys ≡ map f (take place xs) →
+    place < length xs → length xs < 2 ^ 32 → length ys < 2 ^ 32 - 1
+room_left f ys xs place so_far within few =
+    let same : length ys ≡ place = counted f ys xs place so_far within in
+    omega (arith, same, within, few)
+
 module _ (setting : Setting) (bound : ℕ) where
   abbrev answered : Unit → UnitAnswer
   answered unit = unit_answer setting.rules bound setting.graph setting.positions setting.units unit

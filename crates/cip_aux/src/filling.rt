@@ -15,7 +15,7 @@ use crate::units_at::UnitsAt;
 use crate::viewer::Viewer;
 use crate::whole::Whole;
 use cip_digraph::{NodeKind, Nodes};
-use cip_ligands::Descriptors;
+use cip_letters::Descriptors;
 use cip_mol::Descriptor;
 use std::alloc::{AllocError, Global};
 

@@ -4,7 +4,7 @@ ghost use Rattle.cip_aux.specs.Sights.{sight_of};
 
 use crate::whole::Whole;
 use cip_digraph::Nodes;
-use cip_ligands::Descriptors;
+use cip_letters::Descriptors;
 use std::marker::Model;
 
 /// A node of a whole digraph, and the descriptors of the nodes strictly below it. Those of others don't count.

@@ -6,8 +6,7 @@ ghost use Rattle.cip_letters.specs.TurnsOf.{turns_of};
 ghost use Rattle.cip_aux.specs.Turning.{found_by, side_at};
 
 use crate::viewer::FoundTurns;
-use cip_letters::{Turns, is_odd};
-use cip_ligands::{Asked, are_decided};
+use cip_letters::{Asked, Turns, are_decided, is_odd};
 use std::cmp::Ordering;
 
 // The later one of two ligands precedes.

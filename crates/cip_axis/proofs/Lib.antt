@@ -1,5 +1,6 @@
 mod ChainRings
 mod Chained
+pub mod CrossedChains
 pub mod Drawn
 pub mod FewFurther
 pub mod FurtherFit

@@ -3,7 +3,7 @@ ghost use Rattle.std.specs.Prelude.{◌≡◌, ◌<◌, ◌≤◌, ℕ, List, tr
 ghost use Rattle.std.specs.List.{list_all};
 ghost use Rattle.cip_branches.specs.Deciding.{AreFollowed};
 ghost use Rattle.cip_digraph.specs.graph.Graph.{Graph};
-ghost use Rattle.cip_ligands.specs.Asking.{is_decided};
+ghost use Rattle.cip_letters.specs.Asking.{is_decided};
 ghost use Rattle.cip_ligands.specs.Taking.{AreSame};
 ghost use Rattle.cip_rows.specs.Keys.{AreKeyed};
 ghost use Rattle.cip_rows.specs.Parting.{has_flag};
@@ -12,8 +12,9 @@ ghost use Rattle.cip_constitution.specs.FollowedOut.{AreConstituted, AreFollowed
 use crate::work::Work;
 use cip_arena::Arena;
 use cip_branches::Branches;
+use cip_letters::Asked;
 use cip_ligands::{
-    Asked, ByDistance, ByMass, Marked, Readings, decide_configuration, decide_constitution,
+    ByDistance, ByMass, Marked, Readings, decide_configuration, decide_constitution,
 };
 use cip_rank::Rules;
 

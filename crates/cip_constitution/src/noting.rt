@@ -11,7 +11,8 @@ use crate::standing::number_of;
 use cip_arena::Arena;
 use cip_branches::Branches;
 use cip_digraph::Nodes;
-use cip_ligands::{Asked, note};
+use cip_letters::Asked;
+use cip_ligands::note;
 use cip_mol::{Ligand, Rule};
 
 /// The child of the root that stands for a vertex; the root where there is none.

@@ -1,5 +1,5 @@
 -- How many nodes the first two spheres of a root have.
-use Rattle.std.proofs.Common.{◌≡◌, ◌+◌, ◌-◌, ◌==◌, ◌&&◌, ◌||◌, ◌++◌, ◌∙◌, ℕ, zero, suc, Bool, true, false, cond, List, [], ◌∷◌, flat_map, length, length-append, replicate, refl, sym, ap, arith}
+use Rattle.std.proofs.Common.{◌≡◌, ◌<◌, ◌+◌, ◌-◌, ◌==◌, ◌&&◌, ◌||◌, ◌++◌, ◌∙◌, ℕ, zero, suc, Bool, true, false, cond, List, [], ◌∷◌, drop, drop-cons, flat_map, get_or, length, length-append, replicate, refl, sym, ap, subst, arith}
 use Rattle.std.proofs.lemmas.List.{append-nil, append_assoc}
 use Rattle.std.proofs.lemmas.List.Sums.{sum_by-cons}
 use Rattle.std.specs.List.{sum_by}
@@ -68,6 +68,22 @@ module _ (graph : Graph) (positions : List (List ℕ)) where
       let later = flat_map (edge_children positions root []) edges in
       ap length (flat_append (children graph positions) here later)
       ∙ length-append (flat_map (children graph positions) here) (flat_map (children graph positions) later)
+
+  -- one edge more, of which it is counted what stands beyond
+  pub one_counted : (root i count more whole : ℕ) (edges : List Edge) (none : Edge) → i < length edges
+      → more ≡ length (flat_map (children graph positions) (edge_children positions root [] (get_or edges i none)))
+      → count + length (flat_map (children graph positions) (flat_map (edge_children positions root []) (drop i edges)))
+      ≡ whole
+      → count + more
+      + length (flat_map (children graph positions) (flat_map (edge_children positions root []) (drop (i + 1) edges)))
+      ≡ whole
+  one_counted root i count more whole edges none within is all =
+      let second =
+      λ (es : List Edge). length (flat_map (children graph positions) (flat_map (edge_children positions root []) es)) in
+      let next = ap second (drop-cons edges i none within)
+      ∙ beyond_more root (get_or edges i none) (drop (suc i) edges) in
+      let same : suc i ≡ i + 1 = omega arith in
+      subst (λ k. count + more + second (drop k edges) ≡ whole) same (omega (arith, is, all, next))
 
   pub around_counted : (root : ℕ) → length (digraph graph positions root 2)
       ≡ 1 + length (real_children graph positions root [])

@@ -2,7 +2,7 @@
 ghost use Rattle.std.specs.Prelude.{◌≡◌, IfOk};
 
 use cip_branches::SavedRanks;
-use cip_ligands::Asked;
+use cip_letters::Asked;
 use std::alloc::{AllocError, Global};
 
 /// At most four ligands make so many pairs.

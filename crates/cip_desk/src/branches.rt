@@ -8,7 +8,8 @@ ghost use Rattle.cip_desk.specs.Standing.{StandsOrdered, both_as, by_vertices, f
 use cip_constitution::{Pair, Work};
 use cip_digraph::Decision;
 use cip_label::reversed;
-use cip_ligands::{Asked, Descriptors, Readings};
+use cip_letters::{Asked, Descriptors};
+use cip_ligands::Readings;
 use std::alloc::{AllocError, Global};
 use std::marker::Model;
 

@@ -46,7 +46,6 @@ fn count_beyond(root: &Root<'_>, edge: &Edge) -> u64
 }
 
 /// Whether the digraph of a root has at most so many nodes up to its second sphere.
-#[tactic(auto, using(crate::proofs::Counted::beyond_more, crate::proofs::Counted::around_counted))]
 pub fn are_few(root: &Root<'_>, bound: u32) -> bool
     ensures { result ≡ nat_le (length (digraph root.now.graph.now root.now.positions.now root.now.at 2)) bound }
 {

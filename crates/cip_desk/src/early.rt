@@ -10,7 +10,7 @@ use crate::noting::note_each;
 use crate::root::Root;
 use crate::shown::{Shown, show_all};
 use cip_label::Setting;
-use cip_ligands::{Asked, are_decided};
+use cip_letters::{Asked, are_decided};
 use cip_mol::{Ligand, Ligands};
 use std::alloc::{AllocError, Global};
 use std::marker::Model;
@@ -40,7 +40,7 @@ pub struct Early {
 
 impl Model for Early {
     ghost use Rattle.std.specs.Prelude.{List};
-    ghost use Rattle.cip_ligands.specs.declared.asked.Asked as asked;
+    ghost use Rattle.cip_letters.specs.declared.asked.Asked as asked;
 
     ghost Value = { List asked.Asked };
 

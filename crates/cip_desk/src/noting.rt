@@ -3,7 +3,7 @@ ghost use Rattle.std.specs.Prelude.{◌≡◌, ◌++◌, OnOk};
 ghost use Rattle.cip_desk.specs.Branches.{answer_between, answers_at, answers_of};
 
 use crate::shown::{Shown, tell};
-use cip_ligands::Asked;
+use cip_letters::Asked;
 use std::alloc::AllocError;
 
 fn note_two(one: &Shown, other: &Shown, noted: &mut Vec<Asked>) -> Result<(), AllocError>

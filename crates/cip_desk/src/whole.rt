@@ -13,7 +13,7 @@ ghost use Rattle.cip_constitution.specs.Settling.{SettledAs};
 ghost use Rattle.cip_digraph.specs.digraph.NodeList.{parents_of};
 ghost use Rattle.cip_label.specs.Standing.{RankedAs};
 ghost use Rattle.cip_label.specs.declared.digraphs.Ranking.TheVariants.{Known};
-ghost use Rattle.cip_ligands.specs.Asking.{is_decided};
+ghost use Rattle.cip_letters.specs.Asking.{is_decided};
 ghost use Rattle.cip_ligands.specs.Taking.{AreSame};
 ghost use Rattle.cip_mol.specs.declared.site.Site.{Site as AnySite};
 ghost use Rattle.cip_rows.specs.Keys.{AreKeyed};
@@ -32,7 +32,8 @@ use cip_constitution::{Settled, Work};
 use cip_digraph::Nodes;
 use cip_inside::Sights;
 use cip_label::{Ranking, Setting};
-use cip_ligands::{Descriptors, Readings};
+use cip_letters::Descriptors;
+use cip_ligands::Readings;
 use cip_rank::{Table, both};
 use std::alloc::{AllocError, Global};
 

@@ -14,8 +14,8 @@ use Rattle.cip_digraph.specs.rules.Decisions.{order}
 use Rattle.cip_digraph.specs.rules.Orders.{Seen}
 use Rattle.cip_digraph.specs.declared.decision.Decision.{Decision}
 use Rattle.cip_digraph.proofs.lists.Elements.{all_append, by_recursion}
-use Rattle.cip_ligands.specs.declared.asked.Asked.{Asked}
-use Rattle.cip_ligands.specs.Asking.{AreWithin, with_found}
+use Rattle.cip_letters.specs.declared.asked.Asked.{Asked}
+use Rattle.cip_letters.specs.Asking.{AreWithin, with_found}
 use Rattle.cip_aux.specs.Neighbours.{first_where, neighbours_of, parent_of}
 use Rattle.cip_letters.specs.Sides.{found_side, number_side, pair_sides}
 use Rattle.cip_letters.proofs.OddTurns.{rest_is}

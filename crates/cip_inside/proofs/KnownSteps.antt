@@ -4,10 +4,12 @@ use Rattle.std.proofs.lemmas.Bool.{cases_order}
 use Rattle.std.proofs.lemmas.List.{get_or_append_left, get_or_push, length-append}
 use Rattle.cip_rank.specs.Tree.{spheres_of}
 use Rattle.cip_rows.specs.Parting.{has_flag}
+use Rattle.cip_digraph.specs.declared.nodes.Told.{Told}
 use Rattle.cip_digraph.specs.digraph.NodeList.{parents_of}
 use Rattle.cip_digraph.specs.digraph.View.{apart}
 use Rattle.cip_aux.proofs.PathEnds.{common_low, common_short}
 use Rattle.cip_aux.proofs.Spheres.{sphere_next}
+use Rattle.cip_aux.proofs.WholeTold.{parents_len}
 use Rattle.cip_aux.specs.Sights.{Sight, Shows, IsReal, path_at}
 use Rattle.cip_inside.specs.Keys.{IsFlagged, KnowSteps}
 use Rattle.cip_inside.proofs.Meeting.{comes_first, comes_next, length_is, meets_there, steps_are}
@@ -50,6 +52,26 @@ module _ (sight : Sight) (shows : Shows sight) (from : ℕ) (real : IsReal sight
       let low = common_low (path_at sight.nodes from) (path_at sight.nodes parent) in
       let short = common_short (path_at sight.nodes from) (path_at sight.nodes parent) in
       (up.is_real, omega (arith, both, near, far, above, next, low, short))
+
+-- a table has as many nodes as were told
+pub table_len : (told : List Told) (table : List ℕ) → table ≡ parents_of told → length table ≡ length told
+table_len told table is = ap (λ (ps : List ℕ). length ps) is ∙ parents_len told
+
+-- and the digraph has them
+pub in_table : (sight : Sight) → Shows sight → (table : List ℕ) → table ≡ parents_of sight.told → (node : ℕ)
+    → node < length sight.nodes → node < length table
+in_table sight shows table is node within =
+    let len = shows.told.len in
+    let same = ap (λ (ps : List ℕ). length ps) is in
+    omega (arith, within, len, same)
+
+-- of no nodes
+pub known_none : (sight : Sight) (from : ℕ) → KnowSteps sight from 0 []
+known_none sight from = record {
+  len = refl;
+  each = λ node lt here. absurd (omega (arith, lt));
+  few = λ node lt. absurd (omega (arith, lt));
+}
 
 -- one node more of which the steps are known
 pub known_more : (sight : Sight) (from count next : ℕ) (steps : List ℕ) → KnowSteps sight from count steps

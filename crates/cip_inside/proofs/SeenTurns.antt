@@ -8,8 +8,8 @@ use Rattle.cip_mol.specs.declared.outcome.Rule.TheVariants.{R1a, R1b, R2, R3, R4
 use Rattle.cip_digraph.specs.digraph.NodeList.{parents_of}
 use Rattle.cip_digraph.specs.digraph.Telling.{node_at}
 use Rattle.cip_digraph.specs.rules.Decisions.{order}
-use Rattle.cip_ligands.specs.declared.asked.Asked.{Asked}
-use Rattle.cip_ligands.specs.Asking.{is_decided, with_found}
+use Rattle.cip_letters.specs.declared.asked.Asked.{Asked}
+use Rattle.cip_letters.specs.Asking.{is_decided, with_found}
 use Rattle.cip_ligands.specs.Orders.{decided_in_turn}
 use Rattle.cip_ligands.proofs.RulesGoOn.{order_told}
 use Rattle.cip_aux.specs.Inner.{Inner, AgreesInside}

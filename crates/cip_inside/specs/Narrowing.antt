@@ -6,8 +6,8 @@ use Rattle.cip_aux.specs.Sights.{Sight, seen_sides}
 use Rattle.cip_branches.specs.Deciding.{Branched}
 use Rattle.cip_digraph.specs.rules.Decisions.{order}
 use Rattle.cip_letters.specs.Sides.{pair_sides}
-use Rattle.cip_ligands.specs.Asking.{AreWithin, is_decided, with_found}
-use Rattle.cip_ligands.specs.declared.asked.Asked.{Asked}
+use Rattle.cip_letters.specs.Asking.{AreWithin, is_decided, with_found}
+use Rattle.cip_letters.specs.declared.asked.Asked.{Asked}
 use Rattle.cip_mol.specs.declared.descriptor.Descriptor.{Descriptor}
 use Rattle.cip_aux.specs.Turning.{side_at}
 use Rattle.cip_inside.specs.Asking.{asked_between, asked_of}

@@ -4,8 +4,7 @@ ghost use Rattle.cip_inside.specs.Asking.{asked_between, known, asked_of, asked_
 
 use crate::near::Near;
 use cip_digraph::Decision;
-use cip_letters::MOST_PAIRS;
-use cip_ligands::Asked;
+use cip_letters::{Asked, MOST_PAIRS};
 use cip_mol::Rule;
 use smallvec::SmallVec;
 use std::alloc::{AllocError, Global};

@@ -3,7 +3,7 @@ ghost use Rattle.std.specs.Prelude.{◌≡◌, ◌<◌, ◌≤◌, ◌+◌, ◌^
 ghost use Rattle.std.specs.List.{list_all};
 ghost use Rattle.cip_aux.specs.Sights.{IsReal, sight_of};
 ghost use Rattle.cip_digraph.specs.digraph.NodeList.{parents_of};
-ghost use Rattle.cip_ligands.specs.Asking.{AreWithin, is_decided};
+ghost use Rattle.cip_letters.specs.Asking.{AreWithin, is_decided};
 ghost use Rattle.cip_inside.specs.Keys.{IsFlagged};
 ghost use Rattle.cip_inside.specs.Near.{AreTops, AreConstituted};
 
@@ -13,7 +13,8 @@ use crate::stepping::{SeenFrom, count_steps};
 use cip_aux::Whole;
 use cip_branches::Branches;
 use cip_digraph::Nodes;
-use cip_ligands::{Asked, ByMass, are_decided, decide_constitution};
+use cip_letters::{Asked, are_decided};
+use cip_ligands::{ByMass, decide_constitution};
 use cip_rows::Column;
 
 /// Follows the branches below some neighbours of a node by Rule 1a, as it is seen by these flags of the way there, and

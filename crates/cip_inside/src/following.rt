@@ -3,14 +3,15 @@ ghost use Rattle.std.specs.Prelude.{◌≡◌, ◌<◌, ◌≤◌, ℕ, All, tru
 ghost use Rattle.std.specs.List.{list_any};
 ghost use Rattle.cip_aux.specs.Sights.{IsReal, sight_of};
 ghost use Rattle.cip_digraph.specs.digraph.NodeList.{parents_of};
-ghost use Rattle.cip_ligands.specs.Asking.{AreWithin};
+ghost use Rattle.cip_letters.specs.Asking.{AreWithin};
 ghost use Rattle.cip_inside.specs.Keys.{IsFlagged};
 ghost use Rattle.cip_inside.specs.Near.{AreTops, AreFollowedFrom};
 
 use cip_aux::Whole;
 use cip_branches::{Around, Branches};
 use cip_digraph::Nodes;
-use cip_ligands::{Asked, ByAtom, note};
+use cip_letters::Asked;
+use cip_ligands::{ByAtom, note};
 use cip_mol::Rule;
 
 // Whether some branches tie and go on.

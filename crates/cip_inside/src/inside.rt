@@ -7,7 +7,7 @@ ghost use Rattle.cip_aux.specs.Sights.{sight_of};
 use crate::sights::Sights;
 use cip_aux::{KeptTurns, UnitsAt, Wanted, Whole, auxiliaries};
 use cip_digraph::Nodes;
-use cip_ligands::Descriptors;
+use cip_letters::Descriptors;
 use std::alloc::{AllocError, Global};
 
 fn all_true(alloc: Global, count: u32) -> Result<Vec<bool>, AllocError>

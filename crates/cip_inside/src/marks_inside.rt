@@ -4,7 +4,8 @@ ghost use Rattle.cip_rank.specs.View.{on_way};
 ghost use Rattle.cip_aux.specs.Below.{is_below};
 ghost use Rattle.cip_inside.specs.Marks.{marks_below};
 
-use cip_ligands::{Descriptors, Marked};
+use cip_letters::Descriptors;
+use cip_ligands::Marked;
 use cip_mol::Descriptor;
 use cip_rank::Table;
 use cip_rank::marks::parent_of;

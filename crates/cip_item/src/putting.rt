@@ -34,15 +34,23 @@ pub fn lines_with_item(
 ) -> Result<Vec<u8>, AllocError>
     ensures { IfOk result (λ text. text.items ≡ with_item lines.now values.now) }
 {
-    let end = line_end_for(lines.bytes());
     let room = room_for(values).saturating_add(ITEM_ROOM);
     let mut text = Vec::with_capacity(alloc, lines.bytes().len().saturating_add(room))?;
+    put_record(&mut text, lines, values)?;
+    Ok(text)
+}
+
+// The record with the item in it.
+fn put_record(text: &mut Vec<u8>, lines: &RecordLines, values: &Texts) -> Result<(), AllocError>
+    ensures { OnOk result (text.new.items ≡ text.old.items ++ with_item lines.now values.now) }
+{
+    let end = line_end_for(lines.bytes());
     text.extend_from_slice(lines.body())?;
     text.extend_from_slice(missing_end(end, lines.body()))?;
     text.extend_from_slice(gap(end, lines.contents()))?;
-    put_item(&mut text, end, values)?;
+    put_item(text, end, values)?;
     text.extend_from_slice(lines.closing())?;
-    Ok(text)
+    Ok(())
 }
 
 fn room_for(values: &Texts) -> usize
@@ -57,7 +65,6 @@ fn room_for(values: &Texts) -> usize
     room
 }
 
-#[tactic(auto, using(crate::proofs::Joining::five_joined))]
 fn put_item(text: &mut Vec<u8>, end: &[u8], values: &Texts) -> Result<(), AllocError>
     ensures { OnOk result (text.new.items ≡ text.old.items ++ item end.now values.now) }
 {
@@ -88,7 +95,6 @@ fn put_values(text: &mut Vec<u8>, end: &[u8], values: &Texts) -> Result<(), Allo
     Ok(())
 }
 
-#[tactic(auto, using(crate::proofs::Joining::two_joined))]
 fn put_line(text: &mut Vec<u8>, content: &[u8], end: &[u8]) -> Result<(), AllocError>
     ensures { OnOk result (text.new.items ≡ text.old.items ++ (content.now ++ end.now)) }
 {

@@ -10,3 +10,4 @@ pub mod SiteEnds
 pub mod UnitOutcomes
 pub mod StepsRise
 pub mod FitUnits
+pub mod TurnedRanks

@@ -1,11 +1,8 @@
-pub mod Asking
 pub mod Configuring
 pub mod Counting
 pub mod Deciding
 pub mod Laws
-pub mod MarkColumns
 pub mod Marked
-pub mod Marks
 pub mod Moving
 pub mod NodeKeys
 pub mod Orders

@@ -5,9 +5,9 @@ ghost use Rattle.cip_branches.specs.Deciding.{AreFollowed};
 ghost use Rattle.cip_rows.specs.Keys.{AreKeyed};
 ghost use Rattle.cip_ligands.specs.Taking.{TakesOnce, TakesRule};
 
-use crate::asked::Asked;
 use crate::taking::take_rule;
 use cip_branches::{Branches, SavedRanks};
+use cip_letters::Asked;
 use cip_mol::Rule;
 use cip_rank::Keyed;
 

@@ -1,13 +1,11 @@
 //! What the rules decide between branches, rule after rule.
 #![tactic(auto)]
 
-mod asked;
 mod both_ways;
 mod by_rule;
 mod configuration;
 mod constitution;
 mod counted;
-mod descriptors;
 mod keys;
 mod laws;
 mod mark_keys;
@@ -18,12 +16,10 @@ mod taking;
 mod unmarked;
 mod values;
 
-pub use asked::{Asked, are_decided};
 pub use both_ways::take_both_ways;
 pub use by_rule::{NodeMarks, take_readings_by, take_rule_by};
 pub use configuration::decide_configuration;
 pub use constitution::decide_constitution;
-pub use descriptors::Descriptors;
 pub use keys::{ByAtom, ByDistance, ByMass};
 pub use laws::{decided_pairs_are_ordered, rule_1a_decides, rules_go_on};
 pub use mark_keys::{MarkKeys, mark_value};

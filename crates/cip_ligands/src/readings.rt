@@ -9,8 +9,8 @@ ghost use Rattle.cip_branches.specs.Deciding.{AreFollowed};
 ghost use Rattle.cip_rows.specs.Parting.{has_flag};
 ghost use Rattle.cip_rows.specs.Keys.{AreKeyed};
 ghost use Rattle.cip_branches.specs.Twins.{twins_of, MayDouble};
-ghost use Rattle.cip_ligands.specs.declared.asked.Asked.{Asked as AnyAsked};
-ghost use Rattle.cip_ligands.specs.Asking.{AreWithin, is_decided, with_found};
+ghost use Rattle.cip_letters.specs.declared.asked.Asked.{Asked as AnyAsked};
+ghost use Rattle.cip_letters.specs.Asking.{AreWithin, is_decided, with_found};
 ghost use Rattle.cip_ligands.specs.Deciding.{AreDecidedBy};
 ghost use Rattle.cip_ligands.specs.Marked.{AreMarksOf};
 ghost use Rattle.cip_ligands.specs.Orders.{decided_by};
@@ -18,7 +18,6 @@ ghost use Rattle.cip_ligands.specs.Readings.{twin_of, side_of, is_second, s_high
 ghost use Rattle.cip_ligands.specs.Readings.{reading_key, reading_keys, AreTwinsAside, ComparesReadings, TakesReadings};
 ghost use Rattle.cip_ligands.specs.Taking.{TakesRule};
 
-use crate::asked::{Asked, are_decided};
 use crate::counted::some_count;
 use crate::marked::Marked;
 use crate::noting::note;
@@ -26,6 +25,7 @@ use crate::taking::take_rule;
 use crate::values::{compare_values, like_value};
 use cip_branches::{Branches, SavedRanks};
 use cip_digraph::Decision;
+use cip_letters::{Asked, are_decided};
 use cip_mol::Rule;
 use cip_rank::{Keyed, both};
 use cip_rows::Column;

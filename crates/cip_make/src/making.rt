@@ -42,7 +42,6 @@ fn name_lines(alloc: Global, start: u32, number: u32) -> Result<String, AllocErr
     format!(in alloc; "make {start} {number}\n\n\n")
 }
 
-#[tactic(auto, using(crate::proofs::Texts::longer))]
 fn push_chain_atoms(alloc: Global, text: &mut Vec<u8>, chain: u32) -> Result<(), AllocError>
     requires { chain ≤ 20 }
     ensures { OnOk result (text.new.items ≡ text.old.items ++ chain_atoms chain) }
@@ -78,7 +77,6 @@ fn across(atom: u32) -> i64
     8_660 * i64::from(atom)
 }
 
-#[tactic(auto, using(crate::proofs::Texts::moved))]
 fn push_branch_atoms(
     alloc: Global,
     text: &mut Vec<u8>,
@@ -92,7 +90,6 @@ fn push_branch_atoms(
     Ok(())
 }
 
-#[tactic(auto, using(crate::proofs::Texts::longer))]
 fn push_chain_bonds(alloc: Global, text: &mut Vec<u8>, bonds: u32) -> Result<(), AllocError>
     requires { bonds ≤ 20 }
     ensures { OnOk result (text.new.items ≡ text.old.items ++ chain_bonds bonds) }
@@ -103,7 +100,6 @@ fn push_chain_bonds(alloc: Global, text: &mut Vec<u8>, bonds: u32) -> Result<(),
     Ok(())
 }
 
-#[tactic(auto, using(crate::proofs::Texts::moved))]
 fn push_branch_bonds(
     alloc: Global,
     text: &mut Vec<u8>,

@@ -10,7 +10,6 @@ ghost use Rattle.cip_reading.specs.Usual.{trimmed, unsigned, Spells, ArePlaces, 
 use cip_text::begins_with;
 
 /// The number in three columns, digits behind spaces.
-#[tactic(auto, using(crate::proofs::UsualNumbers::one_digit, crate::proofs::UsualNumbers::two_digits, crate::proofs::UsualNumbers::three_digits))]
 pub fn usual_number(first: u8, second: u8, third: u8) -> Option<u32>
     ensures { IfSome result (λ number. integer_of (trimmed (first ∷ second ∷ third ∷ [])) ≡ Ok (pos number)) }
 {
@@ -38,7 +37,6 @@ pub fn usual_digit(first: u8, second: u8, third: u8) -> Option<u32>
 }
 
 /// Whether ten columns hold a zero with four places.
-#[tactic(auto, using(crate::proofs::PlainZeros::zero_read))]
 pub fn is_plain_zero(columns: &[u8]) -> bool
     requires { length columns.now ≡ 10 }
     ensures { result ≡ true → decimal4_of (trimmed columns.now) ≡ Ok (pos 0) }
@@ -49,7 +47,6 @@ pub fn is_plain_zero(columns: &[u8]) -> bool
     columns[4] == b'0' && columns[5] == b'.'
 }
 
-#[tactic(auto, using(crate::proofs::PlainZeros::four_alike))]
 fn are_all(byte: u8, text: &[u8]) -> bool
     requires { length text.now ≡ 4 }
     ensures { result ≡ true → text.now ≡ replicate 4 byte }

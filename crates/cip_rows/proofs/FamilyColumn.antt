@@ -1,9 +1,10 @@
 -- Places in one column, as the lists of what is known of them.
-use Rattle.std.proofs.Common.{◌≡◌, ◌<◌, ◌≤◌, ◌+◌, ℕ, List, length, map, slice_index, slice_set, refl, sym, ap, ◌∙◌, subst, arith, inl, inr}
+use Rattle.std.proofs.Common.{◌≡◌, ◌<◌, ◌≤◌, ◌+◌, ◌++◌, ◌∷◌, [], ℕ, List, length, map, slice_index, slice_set, refl, sym, ap, ◌∙◌, subst, arith, inl, inr}
 use Rattle.std.specs.List.{slice_index_or}
-use Rattle.std.proofs.lemmas.List.{length-map, length-set, get_or-map, get_or-set_same, get_or-set_other, map-set}
+use Rattle.std.proofs.lemmas.Bool.{cases_lt}
+use Rattle.std.proofs.lemmas.List.{length-append, length-map, length-set, map-append, get_or_append_left, get_or-append-add, get_or-map, get_or-set_same, get_or-set_other, map-set}
 use lib.Seq.{map-set_same}
-use Rattle.cip_rows.specs.Kin.{Kin, IsFamily, KeepKin, kin_of, with_children}
+use Rattle.cip_rows.specs.Kin.{Kin, IsFamily, KeepKin, kin_of, with_children, with_place}
 use Rattle.cip_rows.specs.Reserved.{Reserved}
 use Rattle.cip_rows.specs.declared.place.Place.{Place}
 use Rattle.cip_rows.proofs.Cases.{cases_same}
@@ -106,4 +107,54 @@ module _ (places now : Reserved Place) (lent : List Place) (lent_is : lent ≡ p
         fits = omega (arith, room, len, held);
         family = subst IsFamily (sym kids_set) (family_with (kin_of places) keep.family at first count
             (omega (arith, lt, same)) (omega (arith, fits, same)));
+      }
+
+-- a family with one place more, which has no children yet
+family_pushed : (node branch up : ℕ) (kin : Kin) → IsFamily kin → IsFamily (with_place node branch up kin)
+family_pushed node branch up kin is =
+    let ups = length-append kin.ups (up ∷ []) in
+    let longer : (ns : List ℕ) (n : ℕ) → length ns ≡ length kin.ups → length (ns ++ n ∷ []) ≡ length (kin.ups ++ up ∷ []) =
+    λ ns n same. let more = length-append ns (n ∷ []) in omega (arith, more, same, ups) in
+    record {
+      nodes_len = longer kin.nodes node is.nodes_len;
+      branches_len = longer kin.branches branch is.branches_len;
+      firsts_len = longer kin.firsts 0 is.firsts_len;
+      counts_len = longer kin.counts 0 is.counts_len;
+      within = λ p h. elim (cases_lt p (length kin.ups)) [
+        | inl before ↦
+            let firsts = is.firsts_len in
+            let counts = is.counts_len in
+            let start = get_or_append_left kin.firsts (0 ∷ []) 0 p (omega (arith, before, firsts)) in
+            let some = get_or_append_left kin.counts (0 ∷ []) 0 p (omega (arith, before, counts)) in
+            let within = is.within p before in
+            omega (arith, start, some, within, ups)
+        | inr behind ↦
+            let last : p ≡ length kin.ups = omega (arith, h, ups, behind) in
+            let start = ap (slice_index (kin.firsts ++ 0 ∷ [])) (last ∙ sym is.firsts_len) ∙ last_is kin.firsts in
+            let some = ap (slice_index (kin.counts ++ 0 ∷ [])) (last ∙ sym is.counts_len) ∙ last_is kin.counts in
+            omega (arith, start, some)
+      ];
+    }
+  where
+    last_is : (ns : List ℕ) → slice_index (ns ++ 0 ∷ []) (length ns) ≡ 0
+    last_is ns = let none : length ns ≡ length ns + 0 = omega arith in
+        ap (slice_index (ns ++ 0 ∷ [])) none ∙ get_or-append-add ns (0 ∷ []) 0 0
+
+module _ (places now : Reserved Place) (node branch up : ℕ) (is : now ≡ record places {
+  items = places.items ++ record { node = node; branch = branch; up = up; first = 0; count = 0 } ∷ [];
+}) where
+  pub kin_pushed : kin_of now ≡ with_place node branch up (kin_of places)
+  kin_pushed = ap kin_of is ∙ simp map-append
+
+  pub keep_pushed : KeepKin places → (kin : Kin) → kin_of places ≡ kin → length kin.ups < kin.room → KeepKin now
+  keep_pushed keep kin kin_is lt =
+      let room = ap (λ (r : Reserved Place). r.room) is in
+      let len = ap (λ (r : Reserved Place). length r.items) is ∙ length-append places.items _ in
+      let few = keep.few in
+      let count = place_count places kin kin_is in
+      let same = ap (λ (k : Kin). k.room) kin_is in
+      record {
+        few = omega (arith, room, few);
+        fits = omega (arith, room, len, lt, count, same);
+        family = subst IsFamily (sym kin_pushed) (family_pushed node branch up (kin_of places) keep.family);
       }

@@ -1,4 +1,6 @@
+pub mod AssignedRows
 pub mod Cases
+pub mod ClassInRows
 pub mod ClassInSphere
 pub mod FamilyColumn
 pub mod PartedAlike

@@ -174,3 +174,12 @@ as_before kids ups rows before numbers from to old new place told stirs calm sha
           (ap (λ n. is_shared rows numbers n from) here ∙ shared) in
           absurd (not_both (has_flag new (slice_index numbers place)) (ap (has_flag new) (sym here) ∙ has) calm)
     ]) (kids place) told
+
+-- before the first row
+pub none_stirred : (ups rows before numbers : List ℕ) (from : ℕ) (flags : List Bool)
+    → StirsAbove ups rows before numbers from from flags flags
+none_stirred ups rows before numbers from flags = record {
+  each = λ k low high differs shared. absurd (omega (arith, low, high));
+  only = λ number set. inl set;
+  stay = λ number set. set;
+}

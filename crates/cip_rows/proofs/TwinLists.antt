@@ -1,11 +1,16 @@
 -- Lists of places and their twins, and what stands in them.
-use Rattle.std.proofs.Common.{◌≡◌, ◌<◌, ◌≤◌, ◌+◌, ◌-◌, ◌++◌, ◌∷◌, ◌⊎◌, [], ℕ, zero, suc, List, length, map, take, get_or, slice_index, refl, sym, ap, ◌∙◌, arith, inl, inr}
+use Rattle.std.proofs.Common.{◌≡◌, ◌<◌, ◌≤◌, ◌+◌, ◌-◌, ◌++◌, ◌∷◌, ◌^◌, ◌⊎◌, [], ℕ, zero, suc, List, length, map, take, get_or, slice_index, refl, sym, ap, ◌∙◌, arith, inl, inr}
 use Rattle.std.proofs.lemmas.Bool.{cases_lt}
 use Rattle.std.proofs.lemmas.Bool.Decides.{nat_tests}
 use Rattle.std.proofs.lemmas.List.{length-append, length-map, get_or-map, get_or_append_left, get_or-append-add}
 use Rattle.std.specs.List.{range_with_len}
 use Rattle.cip_rows.specs.Twins.{moved_on, twin_place, twins_from, halves, twice, pairs}
 use Rattle.cip_rows.specs.declared.place.Place.{Place}
+
+-- where the doubles of so many find room, they are few
+pub doubles_few : {count len room bound : ℕ} → count ≡ len → len + len ≤ bound → room ≡ bound → room < 2 ^ 32
+    → count + count < 2 ^ 32
+doubles_few is fits same few = omega (arith, is, fits, same, few)
 
 pub pairs_more : (count : ℕ) (places : List ℕ) (i d : ℕ) → i < length places
     → pairs count (take (i + 1) places)

@@ -1,10 +1,14 @@
 -- What a turn of reading brings.
-use Rattle.std.proofs.Common.{◌≡◌, ◌≤◌, ◌<◌, ◌+◌, ◌-◌, ◌++◌, ℕ, List, Option, length, take, drop, min, get_or, sym, ◌∙◌, ap, arith, subst}
+use Rattle.std.proofs.Common.{◌≡◌, ◌≤◌, ◌<◌, ◌+◌, ◌-◌, ◌++◌, ℕ, List, Option, Result, Ok, length, take, drop, min, get_or, sym, ◌∙◌, ap, arith, subst}
 use Rattle.std.proofs.lemmas.List.{take-append-drop, length-append, length-drop, length-take, take_more, take-take, take-append-le}
 use Rattle.std.proofs.lemmas.Grind.{common_steps}
 use Rattle.std.specs.Io.KnownBytes.{Consumes}
 use Rattle.cip_frame.specs.Framing.{Framing, Holds, Passed}
-use Rattle.cip_stream.specs.Reading.{Feeds, Overfeeds, Overflows}
+use Rattle.cip_stream.specs.declared.reading.Halt.TheVariants.{Fault, Limit}
+use Rattle.cip_stream.specs.declared.reading.Turn.{Turn}
+use Rattle.cip_stream.specs.declared.reading.Turn.TheVariants.{Piece, Last}
+use Rattle.cip_stream.specs.declared.stop.Stop.{Stop}
+use Rattle.cip_stream.specs.Reading.{Feeds, Overfeeds, Overflows, TakesAtMost}
 
 -- the framer takes these bytes
 abbrev pub IsFed : List ℕ → Framing → Framing → Type 0
@@ -17,6 +21,18 @@ IsOverfed bytes old new = (given : List (List ℕ)) (before : List ℕ) → Hold
 
 taken_length : (n : ℕ) (piece : List ℕ) → n ≤ length piece → length (take n piece) ≡ n
 taken_length n piece within = length-take n piece ∙ grind (arith, common_steps)
+
+-- no more than was asked for came
+pub took : (count room : ℕ) (piece : List ℕ) (left rest : Option (List ℕ)) → count ≤ room + 1
+    → Consumes left rest (take count piece) → TakesAtMost (room + 1) left rest
+took count room piece left rest few taken = record {
+  bytes = take count piece;
+  few = omega (arith, length-take count piece, few);
+  taken = taken;
+}
+
+pub less_room : (room count : ℕ) → 0 < count → count ≤ room → room - count < room
+less_room room count some few = omega arith
 
 -- what was put in front of a piece is still there
 pub kept : (left rest : Option (List ℕ)) (count n : ℕ) (given more : List ℕ) → Consumes left rest (take count given)
@@ -83,3 +99,11 @@ as_many n given items all =
     ≡ length given + (length items - length given) = length-append given (drop (length given) items)
     ∙ ap (λ k. length given + k) (length-drop (length given) items) in
     rw (length-take n (given ++ drop (length given) items), long) (grind (arith, common_steps))
+
+-- what is no fault of the source
+
+pub piece_no_fault : {P : Type 0} (count : ℕ) → ◌≡◌ {A = Result Turn Stop} (Ok (Piece count)) (Ok (Last Fault)) → P
+piece_no_fault count is = cc
+
+pub limit_no_fault : {P : Type 0} → ◌≡◌ {A = Result Turn Stop} (Ok (Last Limit)) (Ok (Last Fault)) → P
+limit_no_fault is = cc

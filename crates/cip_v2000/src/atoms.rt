@@ -46,7 +46,6 @@ pub fn atom_in(line: &[u8]) -> Result<AtomLine, ReadCause>
 }
 
 // The symbol in columns 32 to 34. Most programs begin it in the first of them, some end it in the last.
-#[tactic(auto, using(crate::proofs::QuietFields::first_alone, crate::proofs::QuietFields::last_alone, crate::proofs::QuietFields::first_two))]
 fn symbol(line: &[u8]) -> &[u8]
     ensures { result.now ≡ field 32 34 line.now }
 {
@@ -67,7 +66,6 @@ fn symbol(line: &[u8]) -> &[u8]
 }
 
 // The mass difference in columns 35 and 36, which is 0 in nearly every line.
-#[tactic(auto, using(crate::proofs::QuietFields::no_difference))]
 fn mass_difference(line: &[u8]) -> Option<i8>
     ensures value { result ≡ signed_in 3 4 (field 35 36 line.now) }
     ensures range { IfSome result (λ difference. unsigned_abs difference ≤ 4) }

@@ -10,7 +10,7 @@ use cip_arena::{Arena, Grown};
 use cip_aux::{UnitsAt, Whole};
 use cip_digraph::Nodes;
 use cip_inside::{Sights, descriptors_inside};
-use cip_ligands::Descriptors;
+use cip_letters::Descriptors;
 use cip_mol::{Molecule, Unit};
 use cip_rank::{Rules, Steps};
 use cip_unit::units;

@@ -10,6 +10,14 @@ use Rattle.cip_rows.specs.Twins.{twice, twin_kin, twin_ranked}
 use Rattle.cip_rows.proofs.TwinLists.{halves_length, pairs_length}
 use Rattle.cip_rows.proofs.TwinPlaces.{no_flags}
 
+-- places and their twins have twice as many numbers
+pub twin_numbers_long : (room count : ℕ) (was : Ranked) → length (twin_ranked room count was).numbers
+    ≡ length was.numbers + length was.numbers
+twin_numbers_long room count was =
+    let half : length (map (twice count) was.numbers) ≡ length was.numbers = simp length-map in
+    let both = length-append (map (twice count) was.numbers) (map (twice count) was.numbers) in
+    omega (arith, half, both)
+
 module _ (kin : Kin) (ranked : Ranked) (starts before : Reserved ℕ) (flags : Reserved Bool) (sets : Reserved ℕ)
     (room count : ℕ) (was : Kin) (was_ranked : Ranked) (kin_is : kin ≡ twin_kin room was)
     (ranked_is : ranked ≡ twin_ranked room (length was_ranked.numbers) was_ranked) (fits : count + count ≤ room)

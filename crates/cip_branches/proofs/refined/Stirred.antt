@@ -39,6 +39,11 @@ module _ (ups starts before now : List ℕ) (u : ℕ) (rows numbers new_rows new
 pub not_first : (t : ℕ) → nat_eq t 0 ≡ false → 0 < t
 not_first t not = grind (arith, nat_tests)
 
+-- numbers that stay stir nothing
+pub none_stirred : {ups rows starts : List ℕ} {far : ℕ} {before start : List ℕ}
+    → AreStirred ups rows starts 0 far before start before → ⊥
+none_stirred all = (all.each 0 (omega arith) (omega arith)).differs refl
+
 pub first_is : (ups rows starts : List ℕ) (t far : ℕ) (before start now : List ℕ)
     → IsInnermost ups rows starts t far before start now
     → (nat_eq t 0 ≡ true) ↔ AreStirred ups rows starts 0 far before start now

@@ -1,5 +1,5 @@
 -- Spheres stay ranked where a later rule begins in the first one, and where it is taken one sphere further.
-use Rattle.std.proofs.Common.{◌≡◌, ◌≢◌, ◌<◌, ◌-◌, ℕ, ℤ, suc, Bool, List, length, slice_index, refl, sym, ap, ◌∙◌, subst, arith, inl, inr}
+use Rattle.std.proofs.Common.{◌≡◌, ◌≢◌, ◌<◌, ◌≤◌, ◌-◌, ℕ, ℤ, suc, Bool, List, length, slice_index, refl, sym, ap, ◌∙◌, subst, arith, inl, inr}
 use Rattle.std.specs.declared.cmp.Ordering.TheVariants.{Equal}
 use Rattle.std.specs.Ordering.{nat_cmp, int_cmp, then_cmp, on}
 use Rattle.std.proofs.lemmas.Cmp.{tied_itself, nat_cmp_total}
@@ -9,7 +9,7 @@ use Rattle.cip_rank.proofs.RestOnTies.{both_tie}
 use Rattle.cip_rank.proofs.Descending.{all_by}
 use Rattle.cip_rank.proofs.NumberedNodes.{equal_is}
 use Rattle.cip_rank.proofs.Parts.{map_alike}
-use Rattle.cip_branches.specs.Deciding.{Branched, AreFollowed, FlagsOpen}
+use Rattle.cip_branches.specs.Deciding.{Branched, AreFollowed, FlagsOpen, KeepBranches}
 use Rattle.cip_branches.specs.Following.{AreRanked}
 use Rattle.cip_rows.specs.Kids.{kids_of, kid_set}
 use Rattle.cip_rows.specs.Kin.{Kin}
@@ -18,6 +18,7 @@ use Rattle.cip_rows.specs.Parting.{KeepsSphere, has_flag}
 use Rattle.cip_branches.specs.Passing.{AreNotedBut, AreSteadyButNew, Passes}
 use Rattle.cip_rows.specs.Keys.{key_of}
 use Rattle.cip_rows.specs.Ranked.{Ranked}
+use Rattle.cip_rows.specs.Reserved.{Reserved}
 use Rattle.cip_branches.specs.Refining.{AreNext, AreSteady}
 use Rattle.cip_rows.specs.Rows.{OrdersPlaces}
 use Rattle.cip_branches.specs.Taking.{KeepsPlaces, SplitsFirst, Deepens}
@@ -183,6 +184,16 @@ last_kept old new kept flags first last lasts = record {
 
     known : (p : ℕ) → p < length new.kin.ups → p < length old.kin.ups
     known p lt = subst (λ (k : Kin). p < length k.ups) kept.kin lt
+
+-- where the places stay, each of them has its entries still
+pub columns_kept : {old new : Layers} {wanted opens : Reserved Bool} → new.kin ≡ old.kin
+    → KeepBranches old wanted opens → KeepBranches new wanted opens
+columns_kept {wanted = wanted} same was = record {
+  wanted_room = was.wanted_room ∙ sym (ap (λ (k : Kin). k.room) same);
+  opens_room = was.opens_room ∙ sym (ap (λ (k : Kin). k.room) same);
+  tops = subst (λ (k : Kin). length wanted.items ≤ length k.ups) (sym same) was.tops;
+  opens_len = was.opens_len;
+}
 
 pub followed_kept : (old new : Branched) → AreFollowed old → KeepsPlaces old.layers new.layers
     → AreRanked new.layers old.last → new.first ≡ old.first → new.last ≡ old.last

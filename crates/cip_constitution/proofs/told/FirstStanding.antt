@@ -1,9 +1,14 @@
 -- The first of a range of nodes that stands for a vertex.
-use Rattle.std.proofs.Common.{◌≡◌, ◌<◌, ◌+◌, ◌-◌, ℕ, suc, true, false, cond, List, Some, ap, ◌∙◌, arith}
+use Rattle.std.proofs.Common.{◌≡◌, ◌<◌, ◌+◌, ◌-◌, ℕ, suc, true, false, cond, List, length, Some, ap, ◌∙◌, arith}
 use Rattle.std.specs.List.{range_with_len}
+use Rattle.std.proofs.lemmas.List.{length-map}
 use Rattle.cip_digraph.specs.declared.nodes.Told.{Told}
-use Rattle.cip_digraph.specs.digraph.NodeList.{told_at}
+use Rattle.cip_digraph.specs.digraph.NodeList.{told_at, parents_of}
 use Rattle.cip_constitution.specs.Standing.{stands_told, first_standing}
+
+-- there are as many parents as nodes
+pub as_many : (all : List Told) (parents : List ℕ) → parents ≡ parents_of all → length parents ≡ length all
+as_many all parents are = ap (λ (ps : List ℕ). length ps) are ∙ simp length-map
 
 pub passed_over : (all : List Told) (vertex node past : ℕ) → node < past → stands_told vertex (told_at all node) ≡ false
     → first_standing all vertex (range_with_len node (past - node)) ≡ first_standing all vertex

@@ -1,8 +1,9 @@
 use Rattle.std.proofs.Common.{◌++◌, ◌∷◌, [], ◌∙◌, ℕ, ap, map, sym, take}
-use Rattle.std.proofs.lemmas.List.{map_more}
+use Rattle.std.proofs.lemmas.List.{map_more, take_all}
 use Rattle.cip_digraph.specs.graph.Graph.{Graph}
 use Rattle.cip_axis.specs.FurtherOutcomes.{further_outcome}
 use Rattle.cip_answer.specs.FurtherAnswers.{further_answer}
+use Rattle.cip_answer.proofs.UnitLists.{room_left}
 use Rattle.cip_answer.proofs.further.label_each.Goals as goal
 
 pub loop-unit-preserved : goal.loop-unit-preserved
@@ -24,3 +25,14 @@ loop-unit-preserved g c =
           ∙ sym (map_more (further_answer setting bound) c.args.units.now c.loop-unit.unit-index unit c.loop-unit-test.true);
       kept = c.in_ok-outcome.ensures.kept ∙ c.loop-unit.invariant.kept;
     }
+
+pub push-requires : goal.push-requires
+push-requires g c =
+    room_left (further_answer c.args.setting.now c.args.labeller.now) c.loop-unit.answers c.args.units.now
+    c.loop-unit.unit-index c.loop-unit.invariant.so_far c.loop-unit-test.true c.requires.few
+
+pub returns-clause-answers : goal.returns-clause-answers
+returns-clause-answers g c =
+    c.loop-unit.invariant.so_far
+    ∙ ap (map (further_answer c.args.setting.now c.args.labeller.now))
+    (take_all c.loop-unit.unit-index c.args.units.now c.loop-unit-test.false)

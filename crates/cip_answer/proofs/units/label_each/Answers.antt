@@ -1,7 +1,9 @@
-use Rattle.std.proofs.Common.{◌∙◌, ap, subst, ◌<◌, length}
+use Rattle.std.proofs.Common.{◌∙◌, ap, map, subst, ◌<◌, ◌≤◌, length}
+use Rattle.std.proofs.lemmas.List.{take_all}
 use Rattle.cip_digraph.specs.graph.Graph.{Graph}
+use Rattle.cip_answer.specs.Answers.{unit_answer}
 use Rattle.cip_answer.specs.Images.{AreFound}
-use Rattle.cip_answer.proofs.UnitLists.{has_room, next_unit}
+use Rattle.cip_answer.proofs.UnitLists.{few_answers, has_room, next_unit}
 use Rattle.cip_answer.proofs.units.label_each.Goals as goal
 
 pub push-requires : goal.push-requires
@@ -29,3 +31,25 @@ loop-place-preserved g c = record {
       subst (λ bound. AreFound c.args.setting.now bound c.outcome_of.new.images) c.loop-place.invariant.kept
       c.in_ok-outcome.ensures.found;
 }
+
+pub outcome_of-requires-clause-place : goal.outcome_of-requires-clause-place
+outcome_of-requires-clause-place g c =
+    subst (λ units. c.loop-place.place < length units) c.loop-place.invariant.all c.loop-place-test.true
+
+pub returns-clause-answers : goal.returns-clause-answers
+returns-clause-answers g c =
+    let setting = c.args.setting.now in
+    c.loop-place.invariant.so_far
+    ∙ ap (map (unit_answer setting.rules c.args.labeller.now setting.graph setting.positions setting.units))
+    (take_all c.loop-place.place setting.units
+    (subst (λ units. length units ≤ c.loop-place.place) c.loop-place.invariant.all c.loop-place-test.false))
+
+pub returns-clause-few : goal.returns-clause-few
+returns-clause-few g c =
+    let setting = c.args.setting.now in
+    few_answers setting c.args.labeller.now c.loop-place.answers
+    (c.loop-place.invariant.so_far
+    ∙ ap (map (unit_answer setting.rules c.args.labeller.now setting.graph setting.positions setting.units))
+    (take_all c.loop-place.place setting.units
+    (subst (λ units. length units ≤ c.loop-place.place) c.loop-place.invariant.all c.loop-place-test.false)))
+    c.requires.few

@@ -1,8 +1,9 @@
-use Rattle.std.proofs.Common.{◌∙◌, sym, ap, subst, [], ◌∷◌}
+use Rattle.std.proofs.Common.{◌∙◌, refl, sym, ap, subst, [], ◌∷◌}
 use Rattle.cip_digraph.specs.digraph.NodeList.{parents_of}
 use Rattle.cip_digraph.specs.units.Ends.{end_at}
 use Rattle.std.specs.Prelude.{option_to_list}
 use Rattle.cip_aux.specs.declared.viewer.FoundTurns.{FoundTurns}
+use Rattle.cip_aux.specs.Inner.{Ready}
 use Rattle.cip_aux.specs.Joining.{far_number}
 use Rattle.cip_aux.specs.Marking.{AreRootTurns, AreEndTurns}
 use Rattle.cip_aux.specs.Neighbours.{shape_at}
@@ -62,3 +63,42 @@ returns-clause-turns g c =
     (subst (λ n. AreRootTurns inner n one.by_constitution ends.near.ligands.now one.turns) c.from-node.ensures
     c.in_ok-one.ensures.turns)
     c.in_ok-two.ensures.turns)
+
+pub returns-in_default-clause-room : goal.returns-in_default-clause-room
+returns-in_default-clause-room g c = refl
+
+pub returns-in_default-clause-stands : goal.returns-in_default-clause-stands
+returns-in_default-clause-stands g c = c.requires.stands
+
+pub turns_at-requires-clause-ready : goal.turns_at-requires-clause-ready
+turns_at-requires-clause-ready g c = subst (Ready c.args.inner.now) (sym c.from-node.ensures) c.requires.ready
+
+pub turns_at-requires-clause-stands : goal.turns_at-requires-clause-stands
+turns_at-requires-clause-stands g c = c.requires.stands
+
+pub returns-in_err-one-clause-room : goal.returns-in_err-one-clause-room
+returns-in_err-one-clause-room g c = c.turns_at.ensures.room
+
+pub returns-in_err-one-clause-stands : goal.returns-in_err-one-clause-stands
+returns-in_err-one-clause-stands g c = c.turns_at.ensures.stands
+
+pub returns-then-is_none-clause-room : goal.returns-then-is_none-clause-room
+returns-then-is_none-clause-room g c = c.turns_at.ensures.room
+
+pub returns-then-is_none-clause-stands : goal.returns-then-is_none-clause-stands
+returns-then-is_none-clause-stands g c = c.turns_at.ensures.stands
+
+pub turns_at-requires-2-clause-stands : goal.turns_at-requires-2-clause-stands
+turns_at-requires-2-clause-stands g c = c.turns_at.ensures.stands
+
+pub returns-in_err-two-clause-room : goal.returns-in_err-two-clause-room
+returns-in_err-two-clause-room g c = c.turns_at-2.ensures.room ∙ c.turns_at.ensures.room
+
+pub returns-in_err-two-clause-stands : goal.returns-in_err-two-clause-stands
+returns-in_err-two-clause-stands g c = c.turns_at-2.ensures.stands
+
+pub returns-clause-room : goal.returns-clause-room
+returns-clause-room g c = c.turns_at-2.ensures.room ∙ c.turns_at.ensures.room
+
+pub returns-clause-stands : goal.returns-clause-stands
+returns-clause-stands g c = c.turns_at-2.ensures.stands

@@ -1,11 +1,12 @@
-use Rattle.std.proofs.Common.{◌≡◌, ◌<◌, ◌-◌, ◌+◌, ◌∙◌, sym, ap, subst, arith, length, slice_set}
-use Rattle.cip_ligands.specs.Marks.{Marks}
+use Rattle.std.proofs.Common.{◌≡◌, ◌<◌, ◌-◌, ◌+◌, ◌∙◌, refl, sym, ap, subst, arith, length, slice_set}
+use Rattle.cip_letters.specs.Marks.{Marks}
 use Rattle.cip_digraph.specs.digraph.NodeList.{parents_of}
 use Rattle.cip_aux.specs.Marking.{AreMarked}
 use Rattle.cip_aux.specs.Sights.{sight_of}
-use Rattle.cip_aux.proofs.NodeMarks.{one_more}
+use Rattle.cip_aux.proofs.NodeMarks.{none_yet, one_more}
 use Rattle.cip_aux.proofs.SitesJoin.{units_join}
 use Rattle.cip_aux.proofs.Told.{whole_shows}
+use Rattle.cip_aux.proofs.WholeTold.{parents_len}
 use Rattle.cip_aux.proofs.filling.auxiliaries.Goals as goal
 
 pub wanted_mark-requires-clause-shows : goal.wanted_mark-requires-clause-shows
@@ -78,3 +79,68 @@ returns-in_err-mark-clause-stands g c = c.wanted_mark.ensures.stands
 
 pub returns-in_err-mark-clause-kept : goal.returns-in_err-mark-clause-kept
 returns-in_err-mark-clause-kept g c = c.wanted_mark.ensures.kept
+
+pub clear-requires : goal.clear-requires
+clear-requires g c =
+    let many : c.len-count.result ≡ length c.args.whole.now.told =
+    c.len-count.ensures.len ∙ ap length c.table.ensures ∙ ap (λ all. length (parents_of all)) c.nodes.ensures.told
+    ∙ parents_len c.args.whole.now.told in
+    let bound = c.requires.bound in
+    omega (arith, many, bound)
+
+pub loop-done-init : goal.loop-done-init
+loop-done-init g c =
+    let sight = sight_of c.args.whole.now in
+    let all = c.args.wanted.now.units.now in
+    let flags = c.args.wanted.now.flags.now in
+    let shows = whole_shows c.args.whole.now c.nodes.ensures.whole in
+    let many : c.len-count.result ≡ length sight.nodes =
+    c.len-count.ensures.len ∙ ap length c.table.ensures ∙ ap (λ all. length (parents_of all)) c.nodes.ensures.told
+    ∙ sym shows.told.len in
+    record {
+      room = refl;
+      stands = c.requires.stands;
+      bound = ap (λ (marks : Marks). marks.bound) c.clear.ensures;
+      kept = c.requires.kept;
+      kept_room = refl;
+      marks = subst (AreMarked sight all flags (c.len-count.result - 0))
+          (sym (ap (λ (marks : Marks). marks.marks) c.clear.ensures)) (none_yet sight all flags c.len-count.result many);
+    }
+
+pub set-requires : goal.set-requires
+set-requires g c =
+    let sight = sight_of c.args.whole.now in
+    let shows = whole_shows c.args.whole.now c.nodes.ensures.whole in
+    let many : c.len-count.result ≡ length sight.nodes =
+    c.len-count.ensures.len ∙ ap length c.table.ensures ∙ ap (λ all. length (parents_of all)) c.nodes.ensures.told
+    ∙ sym shows.told.len in
+    let len = c.loop-done.invariant.marks.len in
+    omega (arith, many, len, c.loop-done-test.true)
+
+pub returns-in_err-mark-clause-bound : goal.returns-in_err-mark-clause-bound
+returns-in_err-mark-clause-bound g c = c.loop-done.invariant.bound
+
+pub returns-in_err-mark-clause-kept_room : goal.returns-in_err-mark-clause-kept_room
+returns-in_err-mark-clause-kept_room g c = c.wanted_mark.ensures.kept_room ∙ c.loop-done.invariant.kept_room
+
+pub returns-clause-room : goal.returns-clause-room
+returns-clause-room g c = c.loop-done.invariant.room
+
+pub returns-clause-stands : goal.returns-clause-stands
+returns-clause-stands g c = c.loop-done.invariant.stands
+
+pub returns-clause-bound : goal.returns-clause-bound
+returns-clause-bound g c = c.loop-done.invariant.bound
+
+pub returns-clause-kept : goal.returns-clause-kept
+returns-clause-kept g c = c.loop-done.invariant.kept
+
+pub returns-clause-kept_room : goal.returns-clause-kept_room
+returns-clause-kept_room g c = c.loop-done.invariant.kept_room
+
+pub returns-clause-marks : goal.returns-clause-marks
+returns-clause-marks g c =
+    let wanted = c.args.wanted.now in
+    let none : c.len-count.result - c.loop-done.done ≡ 0 = omega (arith, c.loop-done-test.false) in
+    subst (λ k. AreMarked (sight_of c.args.whole.now) wanted.units.now wanted.flags.now k c.loop-done.marks.marks) none
+    c.loop-done.invariant.marks

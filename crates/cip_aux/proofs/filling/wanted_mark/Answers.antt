@@ -1,8 +1,9 @@
-use Rattle.std.proofs.Common.{◌≡◌, ◌∙◌, sym, ap, subst, cond, None}
+use Rattle.std.proofs.Common.{◌≡◌, ◌<◌, ◌∙◌, length, refl, sym, ap, subst, cond, None}
 use Rattle.cip_digraph.specs.digraph.Telling.{node_at}
 use Rattle.cip_aux.specs.Inner.{Inner}
-use Rattle.cip_aux.specs.Marking.{AreInner, node_mark, flag_at}
-use Rattle.cip_aux.specs.Sights.{sight_of}
+use Rattle.cip_aux.specs.KeptTurns.{AreKept, sites_in}
+use Rattle.cip_aux.specs.Marking.{AreInner, UnitsJoin, node_mark, flag_at}
+use Rattle.cip_aux.specs.Sights.{Shows, sight_of}
 use Rattle.cip_aux.proofs.NodeMarks.{inner_marked, ok_by}
 use Rattle.cip_aux.proofs.filling.wanted_mark.Goals as goal
 
@@ -31,3 +32,57 @@ returns-clause-mark g c =
     e ∙ ap (λ (of : Inner). node_mark of.sight all (node_at of.sight.nodes of.from)) c.new-inner.ensures
     ∙ sym (ap (λ b. cond b found None) (sym c.is_at.ensures ∙ c.if-not-is_at.false)))
     c.mark_of.ensures.mark
+
+pub mark_of-requires-clause-shows : goal.mark_of-requires-clause-shows
+mark_of-requires-clause-shows g c =
+    subst (λ (inner : Inner). Shows inner.sight) (sym c.new-inner.ensures) c.requires.shows
+
+pub mark_of-requires-clause-within : goal.mark_of-requires-clause-within
+mark_of-requires-clause-within g c =
+    subst (λ (inner : Inner). inner.from < length inner.sight.nodes) (sym c.new-inner.ensures) c.requires.within
+
+pub mark_of-requires-clause-joined : goal.mark_of-requires-clause-joined
+mark_of-requires-clause-joined g c =
+    subst (λ (inner : Inner). UnitsJoin inner.sight c.args.wanted.now.units.now) (sym c.new-inner.ensures)
+    c.requires.joined
+
+pub mark_of-requires-clause-stands : goal.mark_of-requires-clause-stands
+mark_of-requires-clause-stands g c =
+    subst (λ (inner : Inner). g.V.Viewer.stands c.args.viewer.now inner.sight) (sym c.new-inner.ensures)
+    c.requires.stands
+
+pub mark_of-requires-clause-kept : goal.mark_of-requires-clause-kept
+mark_of-requires-clause-kept g c =
+    subst (λ (inner : Inner). AreKept inner.sight (sites_in c.args.wanted.now.units.now) c.args.kept.now.items)
+    (sym c.new-inner.ensures) c.requires.kept
+
+pub returns-clause-room : goal.returns-clause-room
+returns-clause-room g c = c.mark_of.ensures.room
+
+pub returns-clause-stands : goal.returns-clause-stands
+returns-clause-stands g c =
+    subst (λ (inner : Inner). g.V.Viewer.stands c.mark_of.new.viewer inner.sight) c.new-inner.ensures
+    c.mark_of.ensures.stands
+
+pub returns-clause-kept : goal.returns-clause-kept
+returns-clause-kept g c =
+    subst (λ (inner : Inner). AreKept inner.sight (sites_in c.args.wanted.now.units.now) c.mark_of.new.kept.items)
+    c.new-inner.ensures c.mark_of.ensures.kept
+
+pub returns-clause-kept_room : goal.returns-clause-kept_room
+returns-clause-kept_room g c = c.mark_of.ensures.kept_room
+
+pub returns-then-not-is_at-clause-room : goal.returns-then-not-is_at-clause-room
+returns-then-not-is_at-clause-room g c = refl
+
+pub returns-then-not-is_at-clause-stands : goal.returns-then-not-is_at-clause-stands
+returns-then-not-is_at-clause-stands g c = c.requires.stands
+
+pub returns-then-not-is_at-clause-kept : goal.returns-then-not-is_at-clause-kept
+returns-then-not-is_at-clause-kept g c = c.requires.kept
+
+pub returns-then-not-is_at-clause-mark : goal.returns-then-not-is_at-clause-mark
+returns-then-not-is_at-clause-mark g c =
+    let sight = sight_of c.args.whole.now in
+    let found = node_mark sight c.args.wanted.now.units.now (node_at sight.nodes c.args.behind.now.node) in
+    sym (ap (λ b. cond b found None) (sym c.is_at.ensures ∙ c.if-not-is_at.true))

@@ -52,3 +52,31 @@ returns-in_err-letter-clause-stands g c = c.unit_letter.ensures.stands
 
 pub returns-in_err-letter-clause-kept : goal.returns-in_err-letter-clause-kept
 returns-in_err-letter-clause-kept g c = c.unit_letter.ensures.kept
+
+pub returns-in_err-letter-clause-kept_room : goal.returns-in_err-letter-clause-kept_room
+returns-in_err-letter-clause-kept_room g c =
+    c.unit_letter.ensures.kept_room ∙ c.loop-rest.invariant.kept_room
+
+pub returns-clause-room : goal.returns-clause-room
+returns-clause-room g c = c.loop-rest.invariant.room
+
+pub returns-clause-stands : goal.returns-clause-stands
+returns-clause-stands g c = c.loop-rest.invariant.stands
+
+pub returns-clause-kept : goal.returns-clause-kept
+returns-clause-kept g c = c.loop-rest.invariant.kept
+
+pub returns-clause-kept_room : goal.returns-clause-kept_room
+returns-clause-kept_room g c = c.loop-rest.invariant.kept_room
+
+pub returns-in-Some-clause-room : goal.returns-in-Some-clause-room
+returns-in-Some-clause-room g c = c.unit_letter.ensures.room ∙ c.loop-rest.invariant.room
+
+pub returns-in-Some-clause-stands : goal.returns-in-Some-clause-stands
+returns-in-Some-clause-stands g c = c.unit_letter.ensures.stands
+
+pub returns-in-Some-clause-kept : goal.returns-in-Some-clause-kept
+returns-in-Some-clause-kept g c = c.unit_letter.ensures.kept
+
+pub returns-in-Some-clause-kept_room : goal.returns-in-Some-clause-kept_room
+returns-in-Some-clause-kept_room g c = c.unit_letter.ensures.kept_room ∙ c.loop-rest.invariant.kept_room

@@ -1,4 +1,4 @@
-use Rattle.std.proofs.Common.{◌∙◌, ap, subst, true}
+use Rattle.std.proofs.Common.{◌∙◌, ap, subst, true, false}
 use Rattle.cip_mol.specs.Ends.{between_in, between_of}
 use Rattle.cip_mol.specs.declared.site.Unit as units
 use Rattle.cip_digraph.specs.rules.Auxiliary.{nearer_first}
@@ -30,3 +30,47 @@ returns-then-found-clause-kept g c =
     (subst (λ b. AreEndTurns inner inner.from b (between_in c.ends-ends.result)
     (nearer_first here.vertex (ends_in c.ends-ends.result)) found.turns) c.if-found.true c.in_ok-found.ensures.turns))
     c.requires.kept c.keep.ensures.none c.keep.ensures.some
+
+pub unit_turns-requires-clause-ready : goal.unit_turns-requires-clause-ready
+unit_turns-requires-clause-ready g c = c.requires.ready
+
+pub unit_turns-requires-clause-vertex : goal.unit_turns-requires-clause-vertex
+unit_turns-requires-clause-vertex g c = c.requires.vertex
+
+pub unit_turns-requires-clause-stands : goal.unit_turns-requires-clause-stands
+unit_turns-requires-clause-stands g c = c.requires.stands
+
+pub returns-in_err-found-clause-room : goal.returns-in_err-found-clause-room
+returns-in_err-found-clause-room g c = c.unit_turns.ensures.room
+
+pub returns-in_err-found-clause-stands : goal.returns-in_err-found-clause-stands
+returns-in_err-found-clause-stands g c = c.unit_turns.ensures.stands
+
+pub returns-in_err-found-clause-kept : goal.returns-in_err-found-clause-kept
+returns-in_err-found-clause-kept g c = c.requires.kept
+
+pub returns-then-found-clause-room : goal.returns-then-found-clause-room
+returns-then-found-clause-room g c = c.unit_turns.ensures.room
+
+pub returns-then-found-clause-stands : goal.returns-then-found-clause-stands
+returns-then-found-clause-stands g c = c.unit_turns.ensures.stands
+
+pub returns-else-found-clause-room : goal.returns-else-found-clause-room
+returns-else-found-clause-room g c = c.unit_turns.ensures.room
+
+pub returns-else-found-clause-stands : goal.returns-else-found-clause-stands
+returns-else-found-clause-stands g c = c.unit_turns.ensures.stands
+
+pub returns-else-found-clause-kept : goal.returns-else-found-clause-kept
+returns-else-found-clause-kept g c = c.requires.kept
+
+pub returns-else-found-clause-turns : goal.returns-else-found-clause-turns
+returns-else-found-clause-turns g c =
+    let inner = c.args.inner.now in
+    let here = c.args.here.now in
+    let found = c.in_ok-found.found in
+    let site = ap (λ (unit : units.Unit). unit.site) c.unit.ensures in
+    lent_turns inner here.vertex false found.turns c.ends-ends.result (unit_at here.units.now here.place).site
+    (c.ends-ends.ensures.site ∙ site) (c.ends-ends.ensures.between ∙ ap between_of site)
+    (subst (λ b. AreEndTurns inner inner.from b (between_in c.ends-ends.result)
+    (nearer_first here.vertex (ends_in c.ends-ends.result)) found.turns) c.if-found.false c.in_ok-found.ensures.turns)

@@ -1,18 +1,26 @@
-use Rattle.std.proofs.Common.{◌≡◌, ◌∙◌, ◌<◌, ◌++◌, ap, arith, length, subst, sym, true}
+use Rattle.std.proofs.Common.{◌≡◌, ◌∙◌, ◌<◌, ◌≤◌, ◌++◌, List, ℕ, ap, arith, length, subst, sym, true}
 use Rattle.std.specs.List.{All, AllByRecursion}
 use Rattle.std.proofs.lemmas.List.{append-nil}
 use Rattle.std.proofs.lemmas.List.Elements.{All-from_recursion}
 use Rattle.cip_mol.specs.Sites.{IsSite}
+use Rattle.cip_digraph.specs.graph.Graph.{edges_at}
 use Rattle.cip_ring.specs.AnyRings.{is_in_ring}
-use Rattle.cip_axis.specs.Cumulenes.{any_bond, is_cumulene}
+use Rattle.cip_axis.specs.Cumulenes.{any_bond, first_atom, is_cumulene, last_atom}
 use Rattle.cip_axis.specs.Further.{cumulene_site}
 use Rattle.cip_axis.specs.Likeness.{like}
 use Rattle.cip_axis.specs.Listing.{first_in_ring}
 use Rattle.cip_axis.proofs.ChainRings.{chain_rings}
 use Rattle.cip_axis.proofs.Chained.{short_none}
 use Rattle.cip_axis.proofs.Drawn.{chain_below, chain_short}
-use Rattle.cip_axis.proofs.Sited.{cumulene_shown}
+use Rattle.cip_axis.proofs.Sited.{at_most, axis_end_parts, cumulene_parts, cumulene_shown}
 use Rattle.cip_axis.proofs.cumulenes.push_over.Goals as goal
+use Rattle.cip_axis.proofs.cumulenes.push_over.Goals.{After-deref-then-branch}
+
+-- the chain is a cumulene where the unit is made
+is_unit : (c : After-deref-then-branch) → is_cumulene c.args.source.now.graph.now c.in_ok-chain.chain.items ≡ true
+is_unit c =
+    ap (is_cumulene c.args.source.now.graph.now) (sym c.deref.ensures.value) ∙ sym c.in_ok-is_cumulene.ensures
+    ∙ c.if-branch.true
 
 pub returns-then-not-leads_on : goal.returns-then-not-leads_on
 returns-then-not-leads_on c =
@@ -32,6 +40,28 @@ is_cumulene-requires c =
           (chain_rings graph c.requires.source.sound c.requires.source.leads c.args.a c.args.next c.requires.within c.requires.next);
     }
 
+pub cumulene_unit-unit-requires-clause-some : goal.cumulene_unit-unit-requires-clause-some
+cumulene_unit-unit-requires-clause-some c =
+    let is = is_unit (goal.at.cumulene_unit-unit-requires-clause-some c).After-deref-then-branch in
+    let long = (cumulene_parts c.args.source.now.graph.now c.in_ok-chain.chain.items is).long in
+    subst (λ (chain : List ℕ). 1 ≤ length chain) (sym c.deref-then-branch.ensures.value) (omega (arith, long))
+
+pub cumulene_unit-unit-requires-clause-first : goal.cumulene_unit-unit-requires-clause-first
+cumulene_unit-unit-requires-clause-first c =
+    let graph = c.args.source.now.graph.now in
+    let items = c.in_ok-chain.chain.items in
+    let is = is_unit (goal.at.cumulene_unit-unit-requires-clause-first c).After-deref-then-branch in
+    subst (λ chain. length (edges_at graph (first_atom chain)) ≤ 3) (sym c.deref-then-branch.ensures.value)
+    (at_most (axis_end_parts graph items (first_atom items) (cumulene_parts graph items is).first).three)
+
+pub cumulene_unit-unit-requires-clause-last : goal.cumulene_unit-unit-requires-clause-last
+cumulene_unit-unit-requires-clause-last c =
+    let graph = c.args.source.now.graph.now in
+    let items = c.in_ok-chain.chain.items in
+    let is = is_unit (goal.at.cumulene_unit-unit-requires-clause-last c).After-deref-then-branch in
+    subst (λ chain. length (edges_at graph (last_atom chain)) ≤ 3) (sym c.deref-then-branch.ensures.value)
+    (at_most (axis_end_parts graph items (last_atom items) (cumulene_parts graph items is).last).three)
+
 pub cumulene_unit-unit-requires-clause-shown : goal.cumulene_unit-unit-requires-clause-shown
 cumulene_unit-unit-requires-clause-shown c =
     let source = c.args.source.now in
@@ -40,8 +70,7 @@ cumulene_unit-unit-requires-clause-shown c =
     let below : AllByRecursion (λ atom. atom < graph.drawn) items =
     subst (AllByRecursion (λ atom. atom < graph.drawn)) (sym c.in_ok-chain.ensures)
     (chain_below graph c.requires.source.leads c.args.a c.args.next c.requires.within c.requires.next) in
-    let is : is_cumulene graph items ≡ true =
-    ap (is_cumulene graph) (sym c.deref.ensures.value) ∙ sym c.in_ok-is_cumulene.ensures ∙ c.if-branch.true in
+    let is = is_unit (goal.at.cumulene_unit-unit-requires-clause-shown c).After-deref-then-branch in
     subst (λ chain. IsSite (length source.molecule.now.atoms) (like (cumulene_site graph chain)))
     (sym c.deref-then-branch.ensures.value)
     (cumulene_shown graph _ items c.requires.source.drawn below is)

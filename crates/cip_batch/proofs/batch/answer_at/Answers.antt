@@ -1,5 +1,5 @@
-use Rattle.std.proofs.Common.{◌≡◌, ℕ, List, None, Option, IfSome, set, subst, sym}
-use Rattle.std.proofs.lemmas.List.Elements.{All-set}
+use Rattle.std.proofs.Common.{◌≡◌, ◌<◌, ◌∙◌, ℕ, List, None, Some, Option, IfSome, get_or, length, set, slice_index_or, subst, sym}
+use Rattle.std.proofs.lemmas.List.Elements.{All-get_or, All-set}
 use Rattle.cip_batch.specs.declared.batch.Entry.{Entry}
 use Rattle.cip_batch.specs.Entries.{ArePlaced, IsAnswer}
 use Rattle.cip_batch.proofs.batch.answer_at.Goals as goal
@@ -11,6 +11,15 @@ taken_out : {J X : Type 0} (f : J → X) (jobs : List J) (found : List (Option (
 taken_out f jobs found place left none placed =
     All-set (λ s. IfSome s (IsAnswer f jobs)) found place left
     (subst (λ s. IfSome s (IsAnswer f jobs)) (sym none) tt) placed
+
+-- an entry that was found at its place answers the job there
+found_there : {J X : Type 0} (f : J → X) (jobs : List J) (found : List (Option (Entry X))) (place : ℕ)
+    (given : Option (Entry X)) (entry : Entry X) → place < length found → get_or found place given ≡ Some entry
+    → entry.place ≡ place → ArePlaced f jobs found → (d : J) → entry.answer ≡ f (slice_index_or jobs place d)
+found_there f jobs found place given entry within is here placed d =
+    subst (λ p. entry.answer ≡ f (slice_index_or jobs p d)) here
+    (subst (λ s. IfSome s (IsAnswer f jobs)) is
+    (All-get_or (λ s. IfSome s (IsAnswer f jobs)) found place given within placed) d)
 
 pub returns-clause-found : goal.returns-clause-found
 returns-clause-found g c =
@@ -27,3 +36,8 @@ returns-2-clause-found g c =
       | else-place-found-via-then-place-found+in-Some+else-entry-place w ↦
           rw w.found-is (taken w.take.new.self w.take.ensures.after)
     ]
+
+pub returns-clause-answer : goal.returns-clause-answer
+returns-clause-answer g c =
+    found_there g.J.Job.answer c.args.jobs.now c.args.found.now c.args.place c.index-found-place.result c.in-Some.entry
+    c.if-place-found.true (sym c.take.ensures.value ∙ c.in-Some.is) c.if-entry-place.true c.requires.found

@@ -1,4 +1,5 @@
-use Rattle.std.proofs.Common.{◌++◌, ◌∷◌, [], ◌∙◌, ap}
+use Rattle.std.proofs.Common.{◌++◌, ◌∷◌, [], ◌∙◌, ap, arith}
+use Rattle.std.proofs.lemmas.Grind.{common_steps}
 use Rattle.cip_batch.proofs.InOrder.{one_more}
 use Rattle.cip_batch.proofs.batch.complete.Goals as goal
 
@@ -10,3 +11,6 @@ loop-place-preserved g c = record {
       ∙ one_more g.J.Job.answer c.args.jobs.now c.loop-place.place c.in_ok-answer_at.field-0 c.loop-place-test.true
       c.in_ok-answer_at.ensures.answer;
 }
+
+pub returns : goal.returns
+returns g c = grind (arith, common_steps)

@@ -1,4 +1,4 @@
-use Rattle.std.proofs.Common.{◌<◌, ◌+◌, ◌∙◌, ap, length, length-append, subst}
+use Rattle.std.proofs.Common.{arith, ◌<◌, ◌+◌, ◌∙◌, ap, length, length-append, subst}
 use Rattle.std.proofs.lemmas.List.{length-set}
 use Rattle.std.proofs.lemmas.List.Elements.{All-push, All-same}
 use Rattle.cip_batch.proofs.batch.deal.Goals as goal
@@ -15,3 +15,9 @@ loop-job-preserved g c =
       each = All-same (λ load. load < c.args.workers) _ _ c.in_ok-push.ensures.items
           (All-push (λ load. load < c.args.workers) c.loop-job.owners.items owner c.loop-job.invariant.each within);
     }
+
+pub returns-clause-each : goal.returns-clause-each
+returns-clause-each g c = c.loop-job.invariant.each
+
+pub returns-clause-all : goal.returns-clause-all
+returns-clause-all g c = omega arith

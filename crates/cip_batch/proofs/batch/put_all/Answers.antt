@@ -24,3 +24,10 @@ put-requires g c =
         ),
       ),
     )
+
+pub loop-entry-init : goal.loop-entry-init
+loop-entry-init g c = record {
+  entries = All-same (IsAnswer g.J.Job.answer c.args.jobs.now) _ _ c.into_iter-entry-iterator.ensures.into_iter_gives.0
+      c.requires.entries;
+  found = c.requires.found;
+}

@@ -1,6 +1,7 @@
 use Rattle.std.proofs.Common.{arith, ◌∙◌, [], subst, sym, IfOk}
 use Rattle.std.proofs.lemmas.List.{length-set}
 use Rattle.std.proofs.lemmas.List.Elements.{All-get_or, All-nil, All-same, All-set}
+use Rattle.std.proofs.lemmas.Grind.{common_steps}
 use Rattle.cip_batch.specs.Entries.{AreAnswers, IsAnswer}
 use Rattle.cip_batch.proofs.batch.put_each.Goals as goal
 
@@ -33,3 +34,6 @@ put_all-requires g c =
         ),
       ),
     )
+
+pub returns-in_err-entries-clause-workers : goal.returns-in_err-entries-clause-workers
+returns-in_err-entries-clause-workers g c = grind (arith, common_steps)

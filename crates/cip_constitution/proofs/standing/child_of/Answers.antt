@@ -1,8 +1,23 @@
 use Rattle.std.proofs.Common.{◌≡◌, ◌-◌, ◌∙◌, ap, sym, arith}
 use Rattle.std.specs.List.{range_with_len}
 use Rattle.cip_constitution.specs.Standing.{first_standing}
-use Rattle.cip_constitution.proofs.told.FirstStanding.{found_here, passed_over}
+use Rattle.cip_constitution.proofs.told.FirstStanding.{as_many, found_here, passed_over}
 use Rattle.cip_constitution.proofs.standing.child_of.Goals as goal
+
+pub children-first-requires : goal.children-first-requires
+children-first-requires g c =
+    let many = as_many (g.N.Nodes.nodes c.args.nodes.now) c.table.result.now.parents c.table.ensures in
+    omega (arith, many, c.requires)
+
+pub is_of-requires : goal.is_of-requires
+is_of-requires g c =
+    let many = as_many (g.N.Nodes.nodes c.args.nodes.now) c.table.result.now.parents c.table.ensures in
+    omega (arith, many, c.children-first.ensures.within, c.loop-node-test.true)
+
+pub returns-then-is_of-clause-within : goal.returns-then-is_of-clause-within
+returns-then-is_of-clause-within g c =
+    let many = as_many (g.N.Nodes.nodes c.args.nodes.now) c.table.result.now.parents c.table.ensures in
+    omega (arith, many, c.children-first.ensures.within, c.loop-node-test.true)
 
 pub returns-then-is_of-clause-number : goal.returns-then-is_of-clause-number
 returns-then-is_of-clause-number g c =

@@ -1,6 +1,6 @@
 use Rattle.std.proofs.Common.{List, sym, ap, ◌∙◌, subst}
 use Rattle.cip_label.specs.declared.digraphs.Ranking.TheVariants.{Known}
-use Rattle.cip_ligands.specs.declared.asked.Asked.{Asked}
+use Rattle.cip_letters.specs.declared.asked.Asked.{Asked}
 use Rattle.cip_desk.specs.Keeping.{StandsAnyway, kept_of}
 use Rattle.cip_desk.specs.Standing.{both_as}
 use Rattle.cip_desk.proofs.Anyway.{ordered_anyway}

@@ -64,3 +64,6 @@ returns-clause-followed g c is =
     subst (λ (positions : List (List ℕ)). AreFollowedOut setting.graph positions arena work) c.positions.ensures
     (subst (λ (graph : Graph). AreFollowedOut graph c.positions.result.now arena work) c.graph-graph.ensures.value
     (c.settle.ensures.whole is some))
+
+pub returns-clause-bound : goal.returns-clause-bound
+returns-clause-bound g c = c.settle.ensures.bound ∙ c.start.ensures.bound

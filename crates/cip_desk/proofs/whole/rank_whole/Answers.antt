@@ -4,7 +4,7 @@ use Rattle.cip_constitution.specs.declared.pairs.Pair.{Pair}
 use Rattle.cip_rank.specs.declared.rules.Rules.{Rules}
 use Rattle.cip_label.specs.Standing.{RankedAs}
 use Rattle.cip_label.specs.declared.digraphs.Ranking.TheVariants.{Known}
-use Rattle.cip_ligands.specs.declared.asked.Asked.{Asked}
+use Rattle.cip_letters.specs.declared.asked.Asked.{Asked}
 use Rattle.cip_desk.specs.Keeping.{StandsAnyway, kept_of}
 use Rattle.cip_desk.specs.Standing.{Standing, both_as, standing_of}
 use Rattle.cip_desk.specs.declared.aside.Aside.{Aside}
@@ -61,3 +61,44 @@ returns-clause-found c =
     (subst (λ (pairs : List Pair). AreConstituted setting.rules setting.graph setting.positions arena pairs
     trying.branched trying.noted) are constituted)
     (sym c.constitute.ensures.all ∙ c.if-constitute.false) c.rank_open.ensures.turns
+
+pub set_aside-requires-clause-room : goal.set_aside-requires-clause-room
+set_aside-requires-clause-room c = c.requires.room
+
+pub rank_open-requires-clause-rooted : goal.rank_open-requires-clause-rooted
+rank_open-requires-clause-rooted c = c.requires.rooted
+
+pub rank_open-requires-clause-settled : goal.rank_open-requires-clause-settled
+rank_open-requires-clause-settled c = c.requires.settled
+
+pub rank_open-requires-clause-constituted : goal.rank_open-requires-clause-constituted
+rank_open-requires-clause-constituted c =
+    let setting = c.args.rooted.now.setting.now in
+    let trying = c.constitute.new.self in
+    subst (λ (rules : Rules). AreConstituted rules setting.graph setting.positions c.args.rooted.now.arena.now
+    trying.pairs trying.branched trying.noted) c.rules.ensures
+    (c.constitute.ensures.constituted setting.graph setting.positions c.requires.followed)
+
+pub rank_open-requires-clause-undone : goal.rank_open-requires-clause-undone
+rank_open-requires-clause-undone c = sym c.constitute.ensures.all ∙ c.if-constitute.false
+
+pub rank_open-requires-clause-pairs : goal.rank_open-requires-clause-pairs
+rank_open-requires-clause-pairs c = c.constitute.ensures.pairs ∙ c.requires.pairs
+
+pub rank_open-requires-clause-room : goal.rank_open-requires-clause-room
+rank_open-requires-clause-room c = c.set_aside.ensures.room
+
+pub rank_open-requires-clause-turns : goal.rank_open-requires-clause-turns
+rank_open-requires-clause-turns c = c.set_aside.ensures.turns
+
+pub returns-in_err-set_aside-clause-room : goal.returns-in_err-set_aside-clause-room
+returns-in_err-set_aside-clause-room c = c.set_aside.ensures.room
+
+pub returns-in_err-rank_open-clause-room : goal.returns-in_err-rank_open-clause-room
+returns-in_err-rank_open-clause-room c = c.rank_open.ensures.room
+
+pub returns-clause-ranking : goal.returns-clause-ranking
+returns-clause-ranking c = c.in_ok-rank_open.ensures.ranked
+
+pub returns-clause-room : goal.returns-clause-room
+returns-clause-room c = c.rank_open.ensures.room

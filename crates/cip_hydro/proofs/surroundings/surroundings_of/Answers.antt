@@ -1,8 +1,14 @@
-use Rattle.std.proofs.Common.{◌+◌, ◌∙◌, ap}
+use Rattle.std.proofs.Common.{◌≡◌, ◌<◌, ◌≤◌, ◌+◌, ◌∙◌, ℕ, List, ap, arith, length, map, subst}
+use Rattle.std.specs.List.{range_with_len}
 use Rattle.std.proofs.lemmas.List.Elements.{All-push}
+use Rattle.cip_mol.specs.declared.molecule.Atom.{Atom}
 use Rattle.cip_hydro.specs.Carriers.{HasFew}
+use Rattle.cip_hydro.specs.Surroundings.{surroundings_at}
 use Rattle.cip_hydro.proofs.Drawn.{around_next}
 use Rattle.cip_hydro.proofs.surroundings.surroundings_of.Goals as goal
+
+all_read : (a n : ℕ) → n ≤ a → a ≤ n → a ≡ n
+all_read a n past within = omega (arith, past, within)
 
 pub loop-atom-preserved : goal.loop-atom-preserved
 loop-atom-preserved c = record {
@@ -13,3 +19,16 @@ loop-atom-preserved c = record {
   count = c.push_reserved.ensures.len ∙ ap (λ n. n + 1) c.loop-atom.invariant.count;
   room = rw c.push_reserved.ensures.capacity c.loop-atom.invariant.room;
 }
+
+pub surroundings_at-requires : goal.surroundings_at-requires
+surroundings_at-requires c =
+    subst (λ (atoms : List Atom). c.loop-atom.atom < length atoms) c.atoms-count.ensures.value c.loop-atom-test.true
+
+pub returns-clause-value : goal.returns-clause-value
+returns-clause-value c =
+    c.loop-atom.invariant.value
+    ∙ ap (λ n. map (surroundings_at c.args.molecule.now) (range_with_len 0 n))
+    (all_read c.loop-atom.atom _ c.loop-atom-test.false c.loop-atom.auto.atom-end ∙ ap length c.atoms-count.ensures.value)
+
+pub returns-clause-few : goal.returns-clause-few
+returns-clause-few c = c.loop-atom.invariant.few

@@ -1,4 +1,4 @@
-use Rattle.std.proofs.Common.{◌∙◌, List, length, sym, ap, subst}
+use Rattle.std.proofs.Common.{◌∙◌, ℕ, List, length, sym, ap, subst, arith}
 use Rattle.std.specs.declared.option.Option.{Option}
 use Rattle.cip_rows.specs.Keys.{AreKeyed}
 use Rattle.cip_mol.specs.declared.descriptor.Descriptor.{Descriptor}
@@ -6,6 +6,7 @@ use Rattle.cip_digraph.specs.digraph.NodeList.{parents_of}
 use Rattle.cip_digraph.specs.digraph.Telling.{node_at}
 use Rattle.cip_ligands.specs.Marked.{AreMarksOf}
 use Rattle.cip_aux.specs.Sights.{Sight}
+use Rattle.cip_aux.proofs.WholeTold.{parents_len}
 use Rattle.cip_inside.specs.Marks.{marks_below}
 use Rattle.cip_inside.specs.Near.{marked_by}
 use Rattle.cip_inside.proofs.Configured.{counted_are, counted_keyed, marks_are}
@@ -41,3 +42,56 @@ returns-clause-ordered g c = λ begin mark within is undone agrees.
     (subst (λ (marks : List (Option Descriptor)). AreMarksOf (node_at inner.sight.nodes) (marked_by mark) marks
     near.now) (sym (λ i. marks_below (parents i) (c.from.ensures i) (c.marks-2.ensures i)))
     (counted_are inner c.args.node c.requires.ready near.tops near.now c.requires.placed mark agrees))
+
+pub configuration-requires-clause-followed : goal.configuration-requires-clause-followed
+configuration-requires-clause-followed g c = c.requires.placed.followed
+
+pub configuration-requires-clause-keyed : goal.configuration-requires-clause-keyed
+configuration-requires-clause-keyed g c =
+    let ready = c.requires.ready in
+    subst (λ n. AreKeyed n c.args.near.now.now.layers.kin)
+    (sym (ap (λ (marks : List (Option Descriptor)). length marks) c.marks.ensures ∙ ready.marks ∙ ready.shows.told.len
+    ∙ parents_len c.args.inner.now.sight.told)) c.requires.placed.keyed
+
+pub configuration-requires-clause-room : goal.configuration-requires-clause-room
+configuration-requires-clause-room g c =
+    let few = c.requires.placed.few in
+    let room = c.requires.room in
+    omega (arith, few, room)
+
+pub configuration-requires-clause-len : goal.configuration-requires-clause-len
+configuration-requires-clause-len g c = c.requires.len
+
+pub returns-then-all_inside-clause-same : goal.returns-then-all_inside-clause-same
+returns-then-all_inside-clause-same g c = c.configuration.ensures.same
+
+pub returns-then-all_inside-clause-bound : goal.returns-then-all_inside-clause-bound
+returns-then-all_inside-clause-bound g c = c.configuration.ensures.bound
+
+pub invariant_of-marks : goal.invariant_of-marks
+invariant_of-marks g c =
+    let ready = c.requires.ready in
+    let parents = c.table-table.ensures
+    ∙ ap parents_of (c.nodes.ensures.told ∙ ap (λ (s : Sight). s.told) c.whole.ensures) in
+    record {
+      len = ap (λ (marks : List (Option Descriptor)). length marks) c.marks-2.ensures ∙ ready.marks
+          ∙ ready.shows.told.len ∙ sym (ap (λ (ps : List ℕ). length ps) parents);
+    }
+
+pub configuration-requires-2-clause-followed : goal.configuration-requires-2-clause-followed
+configuration-requires-2-clause-followed g c = c.requires.placed.followed
+
+pub configuration-requires-2-clause-room : goal.configuration-requires-2-clause-room
+configuration-requires-2-clause-room g c =
+    let few = c.requires.placed.few in
+    let room = c.requires.room in
+    omega (arith, few, room)
+
+pub configuration-requires-2-clause-len : goal.configuration-requires-2-clause-len
+configuration-requires-2-clause-len g c = c.requires.len
+
+pub returns-clause-same : goal.returns-clause-same
+returns-clause-same g c = c.configuration-2.ensures.same
+
+pub returns-clause-bound : goal.returns-clause-bound
+returns-clause-bound g c = c.configuration-2.ensures.bound

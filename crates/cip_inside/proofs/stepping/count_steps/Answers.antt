@@ -3,7 +3,7 @@ use Rattle.cip_rows.specs.Reserved.{Reserved}
 use Rattle.cip_aux.specs.Sights.{IsReal, path_at, sight_of}
 use Rattle.cip_digraph.specs.digraph.View.{apart}
 use Rattle.cip_inside.specs.Keys.{KnowSteps}
-use Rattle.cip_inside.proofs.KnownSteps.{known_more}
+use Rattle.cip_inside.proofs.KnownSteps.{known_more, known_none}
 use Rattle.cip_inside.proofs.stepping.count_steps.Goals as goal
 
 pub loop-preserved : goal.loop-preserved
@@ -25,3 +25,34 @@ loop-preserved g c =
       count = ap (λ (s : Reserved ℕ). length s.items) pushed ∙ more.len ∙ ap (λ n. n + 1) one;
       room = ap (λ (s : Reserved ℕ). s.room) pushed ∙ c.loop.invariant.room;
     }
+
+pub loop-init : goal.loop-init
+loop-init g c =
+    let sight = sight_of c.args.whole.now in
+    let from = c.args.from.now.node in
+    record {
+      known = subst (λ (s : Reserved ℕ). KnowSteps sight from (length s.items) s.items) (sym c.clear.ensures)
+          (known_none sight from);
+      count = ap (λ (s : Reserved ℕ). length s.items) c.clear.ensures;
+      room = ap (λ (s : Reserved ℕ). s.room) c.clear.ensures;
+    }
+
+pub next_steps-next-requires-clause-real : goal.next_steps-next-requires-clause-real
+next_steps-next-requires-clause-real g c = c.requires.real
+
+pub next_steps-next-requires-clause-way : goal.next_steps-next-requires-clause-way
+next_steps-next-requires-clause-way g c = c.requires.way
+
+pub next_steps-next-requires-clause-known : goal.next_steps-next-requires-clause-known
+next_steps-next-requires-clause-known g c =
+    subst (λ (ns : List ℕ). KnowSteps (sight_of c.args.whole.now) c.args.from.now.node (length ns) ns)
+    (sym c.as_slice.ensures) c.loop.invariant.known
+
+pub next_steps-next-requires-clause-few : goal.next_steps-next-requires-clause-few
+next_steps-next-requires-clause-few g c = c.requires.few
+
+pub returns-clause-known : goal.returns-clause-known
+returns-clause-known g c = c.loop.invariant.known
+
+pub returns-clause-room : goal.returns-clause-room
+returns-clause-room g c = c.loop.invariant.room

@@ -3,7 +3,7 @@ use Rattle.cip_rank.specs.Tree.{spheres_of}
 use Rattle.cip_digraph.specs.digraph.NodeList.{parents_of}
 use Rattle.cip_aux.specs.Sights.{IsReal, sight_of}
 use Rattle.cip_aux.proofs.Told.{whole_shows}
-use Rattle.cip_inside.proofs.KnownSteps.{apart_from, off_way_is, on_way_is}
+use Rattle.cip_inside.proofs.KnownSteps.{apart_from, in_table, off_way_is, on_way_is, table_len}
 use Rattle.cip_inside.proofs.stepping.next_steps.Goals as goal
 
 pub returns-then-is_off-clause-steps : goal.returns-then-is_off-clause-steps
@@ -40,3 +40,67 @@ returns-else-is_off-clause-steps g c = λ here.
     c.saturating_sub.ensures ∙ (λ i. one i - other i)
     ∙ on_way_is sight shows from.node c.requires.real from.way.now c.requires.way node here
     (c.is_off.ensures.on c.if-is_off.false)
+
+pub overflow_cast-node : goal.overflow_cast-node
+overflow_cast-node g c =
+    let within = c.requires.within in
+    let few = c.requires.few in
+    omega (arith, within, few)
+
+pub parent_of-requires-clause-node : goal.parent_of-requires-clause-node
+parent_of-requires-clause-node g c =
+    let within = c.requires.within in
+    let len = table_len c.args.whole.now.told c.table-table.result.now.parents
+    (c.table-table.ensures ∙ ap parents_of c.nodes-nodes.ensures.told) in
+    omega (arith, within, len)
+
+pub parent_of-requires-clause-some : goal.parent_of-requires-clause-some
+parent_of-requires-clause-some g c = c.is_off.ensures.some c.if-is_off.true
+
+pub overflow_cast-result : goal.overflow_cast-result
+overflow_cast-result g c =
+    let earlier = c.parent_of.ensures.earlier in
+    let within = c.requires.within in
+    let few = c.requires.few in
+    omega (arith, earlier, within, few)
+
+pub bounds-known-parent_of : goal.bounds-known-parent_of
+bounds-known-parent_of g c = c.parent_of.ensures.earlier
+
+pub overflow_add-result : goal.overflow_add-result
+overflow_add-result g c =
+    let earlier = c.parent_of.ensures.earlier in
+    let known = c.requires.known.few c.parent_of.result earlier in
+    let within = c.requires.within in
+    let few = c.requires.few in
+    omega (arith, earlier, known, within, few)
+
+pub sphere-requires : goal.sphere-requires
+sphere-requires g c =
+    let whole = c.args.whole.now in
+    in_table (sight_of whole) (whole_shows whole c.nodes-nodes.ensures.whole) c.table-table.result.now.parents
+    (c.table-table.ensures ∙ ap parents_of c.nodes-nodes.ensures.told) c.args.from.now.node c.requires.real.within
+
+pub sphere-requires-else-is_off : goal.sphere-requires-else-is_off
+sphere-requires-else-is_off g c =
+    let within = c.requires.within in
+    let len = table_len c.args.whole.now.told c.table-table.result.now.parents
+    (c.table-table.ensures ∙ ap parents_of c.nodes-nodes.ensures.told) in
+    omega (arith, within, len)
+
+pub returns-then-is_off-clause-few : goal.returns-then-is_off-clause-few
+returns-then-is_off-clause-few g c =
+    let earlier = c.parent_of.ensures.earlier in
+    let known = c.requires.known.few c.parent_of.result earlier in
+    omega (arith, earlier, known)
+
+pub returns-else-is_off-clause-few : goal.returns-else-is_off-clause-few
+returns-else-is_off-clause-few g c =
+    let whole = c.args.whole.now in
+    let parents = c.table-table.ensures ∙ ap parents_of c.nodes-nodes.ensures.told in
+    let inside = in_table (sight_of whole) (whole_shows whole c.nodes-nodes.ensures.whole)
+    c.table-table.result.now.parents parents c.args.from.now.node c.requires.real.within in
+    let len = table_len whole.told c.table-table.result.now.parents parents in
+    let low = c.sphere.ensures.low in
+    let sub = c.saturating_sub.ensures in
+    omega (arith, inside, len, low, sub)

@@ -1,6 +1,6 @@
 use Rattle.std.proofs.Common.{ap, ◌∙◌, arith}
 use Rattle.std.specs.List.{slice_set}
-use Rattle.cip_ligands.specs.Asking.{found_between, with_found}
+use Rattle.cip_letters.specs.Asking.{found_between, with_found}
 use Rattle.cip_ligands.proofs.Noted.{mapped_more}
 use Rattle.cip_ligands.proofs.noting.note.Goals as goal
 

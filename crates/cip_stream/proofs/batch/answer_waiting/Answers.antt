@@ -1,4 +1,5 @@
 use Rattle.std.proofs.Common.{◌≡◌, ◌<◌, ◌^◌, ◌++◌, ◌∷◌, [], Err, append_assoc, arith, length, refl, subst, sym, ap, ◌∙◌}
+use Rattle.std.proofs.lemmas.Grind.{common_steps}
 use Rattle.std.proofs.lemmas.Result.{err_from_is_err_and}
 use Rattle.cip_frame.specs.Framing.{Framing}
 use Rattle.cip_stream.specs.Batches.{Advances, Answers}
@@ -85,3 +86,6 @@ returns-clause-fault g c = told_no_fault c.loop-next.verdict
 
 pub returns-clause-later : goal.returns-clause-later
 returns-clause-later g c = c.loop-next.invariant.later
+
+pub take_record-requires-clause-room : goal.take_record-requires-clause-room
+take_record-requires-clause-room g c = grind (arith, common_steps)

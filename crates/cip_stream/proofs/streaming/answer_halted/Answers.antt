@@ -1,3 +1,5 @@
+use Rattle.std.proofs.Common.{arith}
+use Rattle.std.proofs.lemmas.Grind.{common_steps}
 use Rattle.cip_stream.proofs.Faults.{ended_limit, ended_read}
 use Rattle.cip_stream.proofs.Halting.{front_room}
 use Rattle.cip_stream.proofs.Tails.{below}
@@ -39,3 +41,6 @@ returns-in-Fault-clause-fault g c =
 pub returns-in-Limit-clause-fault : goal.returns-in-Limit-clause-fault
 returns-in-Limit-clause-fault g c =
     rw c.ended_by-in-Limit.ensures (ended_limit c.answer_rest.result c.answer_rest.ensures.fault)
+
+pub answer_batch-requires-clause-room : goal.answer_batch-requires-clause-room
+answer_batch-requires-clause-room g c κs within = grind (arith, common_steps)

@@ -6,9 +6,10 @@ use Rattle.cip_stream.specs.Halting.{AnswersHalted}
 use Rattle.cip_stream.specs.Reading.{Brings}
 use Rattle.cip_stream.specs.Verdicts.{clear}
 use Rattle.cip_stream.proofs.Ending.{bounded}
+use Rattle.cip_stream.proofs.Faults.{later_twice}
 use Rattle.cip_stream.proofs.Halting.{failed, halted, room_halted, stopped}
 use Rattle.cip_stream.proofs.Progressing.{Progress, begun, fed_piece, room_fed, turned}
-use Rattle.cip_stream.proofs.Turning.{as_many}
+use Rattle.cip_stream.proofs.Turning.{as_many, less_room}
 use Rattle.cip_stream.proofs.streaming.answer_pieces.Goals as goal
 
 -- at the first turn
@@ -92,8 +93,9 @@ loop-count-preserved g c =
           (rw c.loop-count.invariant.teller at c.in_ok-answer_waiting-in-Piece.ensures.answered)
           c.in_ok-answer_waiting-in-Piece.ensures.emptied);
       teller = c.in_ok-answer_waiting-in-Piece.ensures.teller ∙ c.loop-count.invariant.teller;
-      source_later = search rules;
-      sink_later = search rules;
+      source_later = later_twice _ _ _ c.loop-count.invariant.source_later c.feed_next.ensures.later;
+      sink_later = later_twice _ _ _ c.loop-count.invariant.sink_later
+          c.in_ok-answer_waiting-in-Piece.ensures.later;
       piece = subst (λ n. 0 < n)
           (sym (as_many c.loop-count.inflow.piece.len c.feed_next.new.piece c.loop-count.inflow.piece.items
           (omega (arith, c.loop-count.inflow.piece.ok)))) c.loop-count.invariant.piece;
@@ -128,3 +130,23 @@ returns-in-Last-clause-answered g c =
     (subst (λ t. AnswersHalted (g.T.Teller.manner t) c.in-Last.halt c.loop-count.batch.first c.loop-count.batch.records
     c.feed_next.new.framer c.answer_halted.result (g.K.Sink.taken c.loop-count.sink)
     (g.K.Sink.taken c.answer_halted.new.sink)) c.loop-count.invariant.teller c.answer_halted.ensures.answered))
+
+-- fewer bytes to come
+
+pub overflow_sub-room : goal.overflow_sub-room
+overflow_sub-room g c =
+    let came : Brings c.loop-count.room (Ok (Piece c.in-Piece.count)) (g.S.Source.left c.loop-count.source)
+    (g.S.Source.left c.feed_next.new.source) c.loop-count.inflow.framer c.feed_next.new.framer =
+    subst (λ turn. Brings c.loop-count.room (Ok turn) (g.S.Source.left c.loop-count.source)
+    (g.S.Source.left c.feed_next.new.source) c.loop-count.inflow.framer c.feed_next.new.framer) c.in-Piece.is
+    c.in_ok-count.ensures.brought in
+    came.few
+
+pub loop-count-smaller : goal.loop-count-smaller
+loop-count-smaller g c =
+    let came : Brings c.loop-count.room (Ok (Piece c.in-Piece.count)) (g.S.Source.left c.loop-count.source)
+    (g.S.Source.left c.feed_next.new.source) c.loop-count.inflow.framer c.feed_next.new.framer =
+    subst (λ turn. Brings c.loop-count.room (Ok turn) (g.S.Source.left c.loop-count.source)
+    (g.S.Source.left c.feed_next.new.source) c.loop-count.inflow.framer c.feed_next.new.framer) c.in-Piece.is
+    c.in_ok-count.ensures.brought in
+    less_room c.loop-count.room c.in-Piece.count came.some came.few

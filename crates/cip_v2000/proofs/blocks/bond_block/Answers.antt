@@ -1,11 +1,26 @@
-use Rattle.std.proofs.Common.{arith}
+use Rattle.std.proofs.Common.{◌≡◌, ◌≤◌, ◌+◌, ◌-◌, ℕ, List, [], All, Result, ap, arith, length}
 use Rattle.std.proofs.lemmas.List.Elements.{All-push}
 use Rattle.std.proofs.lemmas.Result.{err_from_is_err_and}
 use Rattle.cip_text.specs.Slices.{texts}
 use Rattle.cip_mol.specs.Ranges.{IsBond}
+use Rattle.cip_mol.specs.declared.molecule.Bond.{Bond}
+use Rattle.cip_reading.specs.Reading.{in_turn}
 use Rattle.cip_v2000.specs.Grammar.{bond_row}
 use Rattle.cip_reading.proofs.Rows.{row_read, row_refused, rows_read, length-push}
 use Rattle.cip_v2000.proofs.blocks.bond_block.Goals as goal
+
+-- no row was read yet
+none_read : {A E : Type 0} (read : List A → ℕ → Result A E) (rows : List A) (count : ℕ) → rows ≡ []
+    → in_turn read rows (count - 0) 0 ≡ in_turn read [] count 0
+none_read read rows count none =
+    let all : count - 0 ≡ count = omega arith in
+    λ i. in_turn read (none i) (all i) 0
+
+none_passed : (n m : ℕ) → n ≤ m → n + 0 ≤ m
+none_passed n m within = omega (arith, within)
+
+none_in : (bonds : List Bond) → bonds ≡ [] → All IsBond bonds
+none_in bonds none k d within = absurd (let e : length bonds ≡ 0 = ap length none in omega (arith, within, e))
 
 pub returns-in_err-bond-clause-value : goal.returns-in_err-bond-clause-value
 returns-in_err-bond-clause-value c =
@@ -27,3 +42,14 @@ loop-row-preserved c = rw c.in_ok-push.ensures.added (record {
 pub returns-clause-value : goal.returns-clause-value
 returns-clause-value c = rows_read (bond_row (texts c.args.lines.now) c.args.atoms) _ _ _ _ c.loop-row-test.false
     c.loop-row.invariant.so_far
+
+pub loop-row-init : goal.loop-row-init
+loop-row-init c =
+    record {
+      so_far = none_read (bond_row (texts c.args.lines.now) c.args.atoms) c.in_ok-bonds.bonds.bonds c.args.count
+          (λ i. (c.in_ok-bonds.ensures i).bonds);
+      among = λ i. (c.in_ok-bonds.ensures i).atoms;
+      there = none_passed (4 + c.args.atoms) (length c.args.lines.now) c.requires.there;
+      counted = λ i. length (c.in_ok-bonds.ensures i).bonds;
+      range = none_in c.in_ok-bonds.bonds.bonds (λ i. (c.in_ok-bonds.ensures i).bonds);
+    }

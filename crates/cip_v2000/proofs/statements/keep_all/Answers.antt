@@ -1,4 +1,5 @@
-use Rattle.std.proofs.Common.{◌+◌, ◌∙◌, ap, length}
+use Rattle.std.proofs.Common.{◌+◌, ◌∙◌, ap, length, map}
+use Rattle.std.proofs.lemmas.List.{take_all}
 use Rattle.std.proofs.lemmas.List.Elements.{All-push}
 use Rattle.cip_mol.specs.Ranges.{IsAtom}
 use Rattle.cip_reading.proofs.Rows.{length-push}
@@ -17,3 +18,9 @@ loop-line-preserved c = record {
   kept = c.push_reserved.ensures.len ∙ ap (λ n. n + 1) c.loop-line.invariant.kept;
   room = rw c.push_reserved.ensures.capacity c.loop-line.invariant.room;
 }
+
+pub returns-clause-value : goal.returns-clause-value
+returns-clause-value c =
+    c.loop-line.invariant.so_far
+    ∙ ap (map (kept c.args.charges c.args.isotopes))
+    (take_all c.loop-line.line-index c.args.lines.now c.loop-line-test.false)

@@ -1,4 +1,5 @@
-use Rattle.std.proofs.Common.{◌∙◌}
+use Rattle.std.proofs.Common.{◌∙◌, ap, fold}
+use Rattle.std.proofs.lemmas.List.{take_all}
 use Rattle.cip_v2000.specs.Statements.{with_pair}
 use Rattle.cip_v2000.proofs.Stated.{folded_more}
 use Rattle.cip_v2000.proofs.statements.with_pairs.Goals as goal
@@ -10,3 +11,9 @@ loop-pair-preserved c = record {
   counted = c.state.ensures.counted ∙ c.loop-pair.invariant.counted;
   range = c.state.ensures.range;
 }
+
+pub returns-clause-value : goal.returns-clause-value
+returns-clause-value c =
+    c.loop-pair.invariant.so_far
+    ∙ ap (fold with_pair c.args.atoms.items)
+    (take_all c.loop-pair.pair-index c.args.pairs.now c.loop-pair-test.false)

@@ -1,8 +1,38 @@
-use Rattle.std.proofs.Common.{Bool, length, true, ◌∙◌, sym, ap, arith}
+use Rattle.std.proofs.Common.{Bool, List, length, replicate, true, ◌∙◌, sym, ap, subst, arith}
 use Rattle.std.proofs.lemmas.List.{length-replicate}
 use Rattle.cip_rows.specs.Reserved.{Reserved}
+use Rattle.cip_branches.specs.Deciding.{Branched, FlagsOpen}
+use Rattle.cip_branches.specs.Following.{Begins}
 use Rattle.cip_branches.proofs.ruled.Open.{flag_within, open_again}
 use Rattle.cip_branches.proofs.deciding.Branches.begin.Goals as goal
+
+pub invariant_of-self : goal.invariant_of-self
+invariant_of-self g c =
+    let room = sym c.begin.ensures.room in
+    let wanted = ap (λ (column : Reserved Bool). length column.items) c.fill-2.ensures
+    ∙ length-replicate c.len-count.result true in
+    let opens = ap (λ (column : Reserved Bool). length column.items) c.fill.ensures
+    ∙ length-replicate c.len-count.result true in
+    record {
+      wanted_room = ap (λ (column : Reserved Bool). column.room) c.fill-2.ensures ∙ c.self.invariant.wanted_room ∙ room;
+      opens_room = ap (λ (column : Reserved Bool). column.room) c.fill.ensures ∙ c.self.invariant.opens_room ∙ room;
+      tops = omega (arith, wanted, c.len-count.ensures.count);
+      opens_len = opens ∙ sym wanted;
+    }
+
+pub returns-clause-begun : goal.returns-clause-begun
+returns-clause-begun g c =
+    subst (λ (b : Branched). Begins c.args.tops.now (g.K.Keyed.key c.args.keys.now) b.layers)
+    (sym c.let_go.ensures.others) c.begin.ensures.begun
+
+pub returns-clause-chosen : goal.returns-clause-chosen
+returns-clause-chosen g c =
+    let flags = c.let_go.new.self.wanted in
+    let all = ap (λ (column : Reserved Bool). column.items) c.fill-2.ensures
+    ∙ ap (λ n. replicate n true) (c.len-count.ensures.count ∙ c.begin.ensures.begun.count) in
+    subst (λ (b : Branched). FlagsOpen b.layers.ranked.numbers (replicate (length c.args.tops.now) true) flags)
+    (sym c.let_go.ensures.others)
+    (subst (λ (bs : List Bool). FlagsOpen c.begin.new.self.ranked.numbers bs flags) all c.let_go.ensures.chosen)
 
 pub returns-clause-followed : goal.returns-clause-followed
 returns-clause-followed g c =

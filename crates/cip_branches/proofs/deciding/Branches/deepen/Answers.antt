@@ -1,7 +1,8 @@
 use Rattle.std.proofs.Common.{◌≡◌, false, refl, sym, subst}
 use Rattle.cip_branches.specs.Deciding.{AreFollowed, Branched, FlagsOpen}
+use Rattle.cip_branches.specs.Taking.{Deepens}
 use Rattle.cip_branches.proofs.ruled.Open.{open_still}
-use Rattle.cip_branches.proofs.taken.Kept.{followed_kept}
+use Rattle.cip_branches.proofs.taken.Kept.{columns_kept, followed_kept}
 use Rattle.cip_branches.proofs.deciding.Branches.deepen.Goals as goal
 use Rattle.cip_branches.proofs.deciding.Branches.deepen.Goals.{After-deepen}
 
@@ -16,6 +17,23 @@ open_after g c not =
 
 pub deepen-requires-clause-ranked : goal.deepen-requires-clause-ranked
 deepen-requires-clause-ranked g c = (subst AreFollowed (sym c.self.view_is) c.requires.followed).ranked
+
+pub invariant_of-self : goal.invariant_of-self
+invariant_of-self g c = columns_kept c.deepen.ensures.deeper.kept.kin c.self.invariant
+
+pub invariant_of-self-else-deepen : goal.invariant_of-self-else-deepen
+invariant_of-self-else-deepen g c = columns_kept c.deepen.ensures.deeper.kept.kin c.self.invariant
+
+pub returns-then-deepen-clause-deeper : goal.returns-then-deepen-clause-deeper
+returns-then-deepen-clause-deeper g c =
+    let keys = g.K.Keyed.key c.args.keys.now in
+    subst (λ (b : Branched). Deepens c.args.self.now.layers c.args.far keys b.layers) (sym c.let_go.ensures.others)
+    (subst (λ (b : Branched). Deepens b.layers c.args.far keys c.deepen.new.self) c.self.view_is c.deepen.ensures.deeper)
+
+pub returns-else-deepen-clause-deeper : goal.returns-else-deepen-clause-deeper
+returns-else-deepen-clause-deeper g c =
+    let keys = g.K.Keyed.key c.args.keys.now in
+    subst (λ (b : Branched). Deepens b.layers c.args.far keys c.deepen.new.self) c.self.view_is c.deepen.ensures.deeper
 
 pub returns-then-deepen-clause-chosen : goal.returns-then-deepen-clause-chosen
 returns-then-deepen-clause-chosen g c =

@@ -1,7 +1,83 @@
-use Rattle.std.proofs.Common.{rules, sym, subst}
-use Rattle.cip_branches.specs.Deciding.{AreFollowed}
+use Rattle.std.proofs.Common.{rules, ◌≤◌, Bool, false, List, length, sym, ap, ◌∙◌, subst, arith}
+use Rattle.std.proofs.lemmas.List.{length-replicate}
+use Rattle.cip_rows.specs.Kin.{Kin}
+use Rattle.cip_rows.specs.Reserved.{Reserved}
+use Rattle.cip_rows.proofs.TwinLists.{halves_length}
+use Rattle.cip_branches.specs.Deciding.{AreFollowed, Branched}
+use Rattle.cip_branches.proofs.doubled.Flags.{twin_wanted_len}
 use Rattle.cip_branches.proofs.doubled.Ranks.{twins_followed}
 use Rattle.cip_branches.proofs.deciding.Branches.fill_twins.Goals as goal
+use Rattle.cip_branches.proofs.deciding.Branches.fill_twins.Goals.{After-as_slice}
+
+-- no more branches than places are doubled
+held : (c : After-as_slice) → length c.as_slice.result.now ≤ c.len-count.result
+held c =
+    let seen = ap (λ (b : Branched). length b.layers.kin.ups) c.from.view_is in
+    let lent = ap (λ (bs : List Bool). length bs) c.as_slice.ensures in
+    omega (arith, seen, lent, c.len-count.ensures.count, c.from.invariant.tops)
+
+pub write_wanted-requires-clause-tops : goal.write_wanted-requires-clause-tops
+write_wanted-requires-clause-tops c = held (goal.at.write_wanted-requires-clause-tops c).After-as_slice
+
+pub write_wanted-requires-clause-room : goal.write_wanted-requires-clause-room
+write_wanted-requires-clause-room c =
+    let few = held (goal.at.write_wanted-requires-clause-room c).After-as_slice in
+    let room = ap (λ (b : Branched). b.layers.kin.room) c.self.view_is in
+    omega (arith, few, room, c.len-count.ensures.count, c.requires.room, c.self.invariant.wanted_room)
+
+pub fill-requires : goal.fill-requires
+fill-requires c =
+    let few = held (goal.at.fill-requires c).After-as_slice in
+    let long = ap (λ (r : Reserved Bool). length r.items) c.write_wanted.ensures
+    ∙ twin_wanted_len c.len-count.result c.as_slice.result.now few in
+    let room = ap (λ (b : Branched). b.layers.kin.room) c.self.view_is in
+    omega (
+      arith,
+      few,
+      long,
+      room,
+      c.len-branches.ensures.count,
+      c.len-count.ensures.count,
+      c.requires.room,
+      c.self.invariant.opens_room,
+    )
+
+pub overflow_add-self : goal.overflow_add-self
+overflow_add-self c =
+    let wanted = ap (λ (r : Reserved Bool). r.room) c.write_wanted.ensures in
+    let room = ap (λ (b : Branched). b.layers.kin.room) c.self.view_is in
+    omega (
+      arith,
+      wanted,
+      room,
+      c.len-branches.ensures.few,
+      c.len-count.ensures.count,
+      c.requires.room,
+      c.self.invariant.wanted_room,
+    )
+
+pub invariant_of-self : goal.invariant_of-self
+invariant_of-self c =
+    let few = held (goal.at.invariant_of-self c).After-as_slice in
+    let from = c.from.inside.spheres.kin in
+    let room = sym (ap (λ (k : Kin). k.room) c.write_twins.ensures.kin) in
+    let ups = ap (λ (k : Kin). length k.ups) c.write_twins.ensures.kin ∙ halves_length (length from.ups) from.ups in
+    let seen = ap (λ (b : Branched). length b.layers.kin.ups) c.from.view_is in
+    let wanted = ap (λ (r : Reserved Bool). length r.items) c.write_wanted.ensures
+    ∙ twin_wanted_len c.len-count.result c.as_slice.result.now few in
+    record {
+      wanted_room = ap (λ (r : Reserved Bool). r.room) c.write_wanted.ensures ∙ c.self.invariant.wanted_room ∙ room;
+      opens_room = ap (λ (r : Reserved Bool). r.room) c.fill.ensures ∙ c.self.invariant.opens_room ∙ room;
+      tops = omega (arith, few, ups, seen, wanted, c.len-count.ensures.count);
+      opens_len = ap (λ (r : Reserved Bool). length r.items) c.fill.ensures
+          ∙ length-replicate c.len-branches.result false ∙ c.len-branches.ensures.count;
+    }
+
+pub returns-clause-few : goal.returns-clause-few
+returns-clause-few c =
+    let wanted = ap (λ (r : Reserved Bool). r.room) c.write_wanted.ensures in
+    let room = ap (λ (b : Branched). b.layers.kin.room) c.self.view_is in
+    omega (arith, wanted, room, c.len-branches.ensures.few, c.requires.room, c.self.invariant.wanted_room)
 
 pub returns-clause-twins : goal.returns-clause-twins
 returns-clause-twins c = search rules

@@ -1,7 +1,8 @@
-use Rattle.std.proofs.Common.{◌≡◌, ◌+◌, suc, length, arith, ◌∙◌, sym, ap, subst}
+use Rattle.std.proofs.Common.{◌≡◌, ◌+◌, suc, Bool, List, length, arith, ◌∙◌, sym, ap, subst}
 use Rattle.cip_branches.specs.Around.{kids_around}
 use Rattle.cip_branches.specs.Deciding.{AreFollowed, Branched, FlagsOpen}
 use Rattle.cip_rows.specs.Kin.{Kin}
+use Rattle.cip_branches.specs.Following.{Follows}
 use Rattle.cip_branches.specs.Layers.{Layers}
 use Rattle.cip_branches.specs.Walking.{MayWalk}
 use Rattle.cip_branches.proofs.walked.Ranked.{first_stays}
@@ -26,6 +27,59 @@ follow-requires-clause-walk g c =
       room = c.requires.room;
       sphere_room = c.requires.sphere_room;
     })
+
+pub overflow_add-self : goal.overflow_add-self
+overflow_add-self g c =
+    let last = ap (λ (b : Branched). b.last) c.self.view_is in
+    let room = ap (λ (b : Branched). b.layers.kin.room) c.self.view_is in
+    omega (arith, last, room, c.requires.sphere_room, c.len-known.ensures.few)
+
+pub invariant_of-self : goal.invariant_of-self
+invariant_of-self g c =
+    let follows = c.follow.ensures.followed in
+    let was = c.self.invariant in
+    let grows = follows.walked.walks.grows in
+    let kin = follows.kin ∙ ap (λ (s : Layers). s.kin) follows.walked.ended in
+    let ups = ap (λ (k : Kin). length k.ups) kin in
+    let room = sym (ap (λ (k : Kin). k.room) kin ∙ grows.kin_room) in
+    let more = grows.more in
+    let tops = was.tops in
+    record {
+      wanted_room = was.wanted_room ∙ room;
+      opens_room = was.opens_room ∙ room;
+      tops = omega (arith, tops, more, ups);
+      opens_len = was.opens_len;
+    }
+
+pub returns-clause-walked : goal.returns-clause-walked
+returns-clause-walked g c =
+    let size = length c.args.around.now.table.now.parents in
+    let kids_at = kids_around c.args.around.now.table.now.parents c.args.around.now.way.now in
+    let keys = g.K.Keyed.key c.args.keys.now in
+    let old = c.args.self.now in
+    let inside = c.self.inside in
+    subst (λ (b : Branched). Follows old.layers old.first old.last size kids_at old.wanted keys b.layers)
+    (sym c.let_go.ensures.others)
+    (subst (λ (b : Branched). Follows b.layers b.first b.last size kids_at b.wanted keys c.follow.new.self) c.self.view_is
+    (subst (λ (bs : List Bool). Follows inside.spheres inside.first inside.last size kids_at bs keys c.follow.new.self)
+    c.as_slice.ensures c.follow.ensures.followed))
+
+pub returns-clause-first : goal.returns-clause-first
+returns-clause-first g c =
+    ap (λ (b : Branched). b.first) c.let_go.ensures.others ∙ c.len-known.ensures.count
+    ∙ ap (λ (b : Branched). length b.layers.kin.ups) c.self.view_is
+
+pub returns-clause-last : goal.returns-clause-last
+returns-clause-last g c =
+    let next : c.self.inside.last + 1 ≡ suc c.self.inside.last = omega arith in
+    ap (λ (b : Branched). b.last) c.let_go.ensures.others ∙ next ∙ ap (λ (b : Branched). suc b.last) c.self.view_is
+
+pub returns-clause-room : goal.returns-clause-room
+returns-clause-room g c =
+    let follows = c.follow.ensures.followed in
+    ap (λ (b : Branched). b.layers.kin.room) c.let_go.ensures.others
+    ∙ ap (λ (k : Kin). k.room) (follows.kin ∙ ap (λ (s : Layers). s.kin) follows.walked.ended)
+    ∙ follows.walked.walks.grows.kin_room ∙ ap (λ (b : Branched). b.layers.kin.room) c.self.view_is
 
 pub returns-clause-chosen : goal.returns-clause-chosen
 returns-clause-chosen g c =

@@ -1,5 +1,6 @@
 use Rattle.std.proofs.Common.{refl, sym, subst}
 use Rattle.cip_branches.specs.Deciding.{AreFollowed, Branched, FlagsOpen}
+use Rattle.cip_branches.specs.Taking.{SplitsFirst}
 use Rattle.cip_branches.proofs.taken.Kept.{followed_kept}
 use Rattle.cip_branches.proofs.deciding.Branches.next_rule.Goals as goal
 
@@ -12,6 +13,12 @@ returns-clause-followed g c =
     rw c.let_go.ensures.others
     (followed_kept _ _ was c.split_first.ensures.split.kept (c.split_first.ensures.ranked _ was.ranked) refl refl
     c.let_go.ensures.chosen)
+
+pub returns-clause-split : goal.returns-clause-split
+returns-clause-split g c =
+    let keys = g.K.Keyed.key c.args.keys.now in
+    subst (λ (b : Branched). SplitsFirst c.args.self.now.layers keys b.layers) (sym c.let_go.ensures.others)
+    (subst (λ (b : Branched). SplitsFirst b.layers keys c.split_first.new.self) c.self.view_is c.split_first.ensures.split)
 
 pub returns-clause-chosen : goal.returns-clause-chosen
 returns-clause-chosen g c =

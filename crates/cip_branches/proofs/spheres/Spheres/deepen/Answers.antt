@@ -1,10 +1,11 @@
 use Rattle.std.proofs.Common.{◌≡◌, ◌+◌, suc, slice_index, subst, arith}
 use Rattle.std.specs.Ordering.{int_cmp, on}
+use Rattle.std.proofs.lemmas.Bool.{false≢true}
 use Rattle.cip_rows.specs.Keys.{key_of}
 use Rattle.cip_rows.specs.Kids.{kids_of}
 use Rattle.cip_branches.specs.Turning.{IsInnermost}
 use Rattle.cip_branches.proofs.taken.Even.{deeper_even}
-use Rattle.cip_branches.proofs.refined.Stirred.{first_is, not_first}
+use Rattle.cip_branches.proofs.refined.Stirred.{first_is, none_stirred, not_first}
 use Rattle.cip_branches.proofs.taken.Kept.{deeper_is, deeper_ranked, deeper_noted, deeper_steady}
 use Rattle.cip_branches.proofs.refined.Turns.{FoundSphere, found_sphere, read_at}
 use Rattle.cip_branches.proofs.spheres.Spheres.deepen.Goals as goal
@@ -54,6 +55,9 @@ returns-then-stands_by-clause-deeper g c =
     let alike = c.stands_by.ensures.0 c.if-stands_by.true in
     deeper_even all c.args.last c.requires.ranked c.args.far c.requires.far keys
     (rw (from_is g at, to_is g at) alike)
+
+pub returns-then-stands_by-clause-reached : goal.returns-then-stands_by-clause-reached
+returns-then-stands_by-clause-reached g c = (λ is. absurd (false≢true is), λ all. absurd (none_stirred all))
 
 pub returns-clause-deeper : goal.returns-clause-deeper
 returns-clause-deeper g c =

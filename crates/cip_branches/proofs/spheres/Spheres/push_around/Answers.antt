@@ -19,6 +19,15 @@ around_is c on =
     ap (λ b. cond b (kept_off way (children_of parents c.args.node) ++ parent_list parents c.args.node)
     (children_of parents c.args.node)) (sym c.is_set.ensures ∙ on)
 
+pub push_off-requires-clause-room : goal.push_off-requires-clause-room
+push_off-requires-clause-room c =
+    let parents = c.args.around.now.table.now.parents in
+    let off = kept_off c.args.around.now.way.now (children_of parents c.args.node) in
+    let up = parent_list parents c.args.node in
+    let kids = around_is (goal.at.push_off-requires-clause-room c).After-is_set c.if-is_set.true in
+    let many = ap (λ (ns : List ℕ). length ns) kids ∙ length-append off up in
+    omega (arith, many, c.requires.room)
+
 pub push_parent-requires-clause-room : goal.push_parent-requires-clause-room
 push_parent-requires-clause-room c =
     let parents = c.args.around.now.table.now.parents in

@@ -1,4 +1,4 @@
-use Rattle.std.proofs.Common.{arith, ◌≡◌, ◌≤◌, ℕ, Bool, List, true, false, length, slice_index, ◌∙◌, sym, ap, subst}
+use Rattle.std.proofs.Common.{arith, ◌≡◌, ◌≤◌, ℕ, Bool, List, true, false, length, slice_index, ◌∙◌, refl, sym, ap, subst}
 use Rattle.std.specs.Vec.{with_items}
 use Rattle.std.proofs.lemmas.Bool.{false≢true}
 use Rattle.std.proofs.lemmas.List.{with_items_is}
@@ -51,6 +51,11 @@ above : {seen now : Layers} {before : List ℕ} {to past : ℕ} → before ≡ s
     → (number : ℕ) × IsAbove now.kin.ups now.ranked.rows now.before now.ranked.numbers to past number
     → (number : ℕ) × IsAbove seen.kin.ups seen.ranked.rows before seen.ranked.numbers to past number
 above held view found = rw (held, view) found
+
+seen_above : {seen now : Layers} {before : List ℕ} {to past : ℕ} → before ≡ seen.before → seen ≡ now
+    → (number : ℕ) × IsAbove seen.kin.ups seen.ranked.rows before seen.ranked.numbers to past number
+    → (number : ℕ) × IsAbove now.kin.ups now.ranked.rows now.before now.ranked.numbers to past number
+seen_above held view found = rw (sym view, sym held) found
 
 -- the flags that are read are those that were set
 read : (c : After-deref) → c.deref.result.now ≡ c.stir_above.new.flags
@@ -128,6 +133,9 @@ pub returns-then-not-stir_above-clause-kept : goal.returns-then-not-stir_above-c
 returns-then-not-stir_above-clause-kept c =
     rw (sym c.self.view_is) (kept_itself c.args.from c.args.to c.self.inside.order.rows c.self.inside.order.numbers
     (classed c.self.view_is c.requires.classed))
+
+pub returns-then-not-stir_above-clause-room : goal.returns-then-not-stir_above-clause-room
+returns-then-not-stir_above-clause-room c = ap (λ (s : Layers). s.ranked.room) c.self.view_is
 
 pub invariant_of-flags : goal.invariant_of-flags
 invariant_of-flags c =
@@ -259,6 +267,15 @@ invariant_of-self-2 c =
 pub returns-clause-ordered : goal.returns-clause-ordered
 returns-clause-ordered c =
     rw (sym c.self.view_is) c.refine_sphere.ensures.ordered
+
+pub returns-clause-looked : goal.returns-clause-looked
+returns-clause-looked c = (
+  λ is. seen_above c.as_slice.ensures c.self.view_is (c.stir_above.ensures.some c.if-not-stir_above.false),
+  λ found. refl,
+)
+
+pub returns-clause-still : goal.returns-clause-still
+returns-clause-still c = λ not. absurd (false≢true (sym not))
 
 pub clear_flags-requires-clause-ordered : goal.clear_flags-requires-clause-ordered
 clear_flags-requires-clause-ordered c = c.requires.ordered

@@ -1,8 +1,26 @@
-use Rattle.std.proofs.Common.{◌≡◌, ◌-◌, length, slice_index, arith, ◌∙◌, ap}
+use Rattle.std.proofs.Common.{◌≡◌, ◌<◌, ◌-◌, length, slice_index, arith, ◌∙◌, sym, ap, subst}
 use Rattle.cip_branches.specs.Around.{kids_around}
 use Rattle.cip_branches.specs.Layers.{Layers}
 use Rattle.cip_branches.proofs.walked.Pushed.{places_more, kids_walked}
 use Rattle.cip_branches.proofs.spheres.Spheres.walk_place.Goals as goal
+use Rattle.cip_branches.proofs.spheres.Spheres.walk_place.Goals.{After-node-node}
+
+-- what is asked about the node at the place is known of the node that is read
+read : (c : After-node-node) → c.node-node.result ≡ slice_index c.args.self.now.kin.nodes c.args.place
+read c = c.node-node.ensures ∙ ap (λ (s : Layers). slice_index s.kin.nodes c.args.place) c.self.view_is
+
+pub push_around-requires-clause-node : goal.push_around-requires-clause-node
+push_around-requires-clause-node c =
+    subst (λ node. node < length c.args.around.now.table.now.parents)
+    (sym (read (goal.at.push_around-requires-clause-node c).After-node-node)) c.requires.node
+
+pub push_around-requires-clause-room : goal.push_around-requires-clause-room
+push_around-requires-clause-room c =
+    let kids_at = kids_around c.args.around.now.table.now.parents c.args.around.now.way.now in
+    let same = ap (λ node. length (kids_at node)) (read (goal.at.push_around-requires-clause-room c).After-node-node) in
+    let ups = ap (λ (s : Layers). length s.kin.ups) c.self.view_is in
+    let room = ap (λ (s : Layers). s.kin.room) c.self.view_is in
+    omega (arith, same, ups, room, c.requires.room)
 
 pub overflow_sub-count : goal.overflow_sub-count
 overflow_sub-count c =

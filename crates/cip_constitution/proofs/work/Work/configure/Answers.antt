@@ -1,15 +1,38 @@
 use Rattle.std.proofs.Common.{rules, ◌≡◌, ◌++◌, List, take, drop, length, sym, ap, ◌∙◌, subst}
 use Rattle.std.proofs.Math.Seq.{take-append_seam}
+use Rattle.cip_branches.specs.Deciding.{AreFollowed}
 use Rattle.cip_constitution.specs.Following.{Trying}
 use Rattle.cip_rows.specs.Kin.{Kin}
+use Rattle.cip_ligands.specs.Taking.{AreSame}
 use Rattle.cip_ligands.specs.Deciding.{AreDecidedBy}
 use Rattle.cip_ligands.specs.Marked.{AreMarksOf}
 use Rattle.cip_ligands.specs.Orders.{rules_before}
-use Rattle.cip_ligands.specs.declared.asked.Asked.{Asked}
+use Rattle.cip_letters.specs.declared.asked.Asked.{Asked}
 use Rattle.cip_digraph.specs.rules.Orders.{rule_2}
 use Rattle.cip_mol.specs.declared.outcome.Rule.TheVariants.{R3}
 use Rattle.std.specs.Prelude.{true}
 use Rattle.cip_constitution.proofs.work.Work.configure.Goals as goal
+
+pub decide_configuration-requires-clause-followed : goal.decide_configuration-requires-clause-followed
+decide_configuration-requires-clause-followed g c =
+    subst (λ (t : Trying). AreFollowed t.branched) (sym c.self.view_is) c.requires.followed
+
+pub returns-clause-same : goal.returns-clause-same
+returns-clause-same g c =
+    subst (λ (t : Trying). AreSame t.branched c.decide_configuration.new.branches) c.self.view_is
+    c.decide_configuration.ensures.same
+
+pub returns-clause-len : goal.returns-clause-len
+returns-clause-len g c =
+    let new = c.decide_configuration.new.asked in
+    let rest = drop (length new) c.self.inside.noted.items in
+    let len : c.self.inside.noted.len ≡ length new = search rules in
+    let asked = λ (all : List Asked). length all in
+    ap asked (ap (λ n. take n (new ++ rest)) len ∙ take-append_seam new rest) ∙ c.decide_configuration.auto.asked
+    ∙ ap asked c.as_mut_slice-noted.ensures.value ∙ ap (λ (t : Trying). length t.noted) c.self.view_is
+
+pub returns-clause-bound : goal.returns-clause-bound
+returns-clause-bound g c = ap (λ (t : Trying). t.bound) c.self.view_is
 
 pub returns-clause-ordered : goal.returns-clause-ordered
 returns-clause-ordered g c =

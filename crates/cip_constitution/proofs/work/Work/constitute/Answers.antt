@@ -1,15 +1,33 @@
 use Rattle.std.proofs.Common.{rules, ◌≡◌, ◌++◌, ◌∷◌, [], true, List, take, drop, length, sym, ap, ◌∙◌, subst}
+use Rattle.std.specs.List.{list_all}
 use Rattle.std.proofs.Math.Seq.{take-append_seam}
+use Rattle.cip_branches.specs.Deciding.{AreFollowed}
 use Rattle.cip_branches.specs.Standing.{node_in}
 use Rattle.cip_rows.specs.Kin.{Kin}
 use Rattle.cip_constitution.specs.FollowedOut.{AreConstituted, AreFollowedOut, seen_with}
 use Rattle.cip_constitution.specs.Following.{Trying, named}
 use Rattle.cip_constitution.proofs.followed.Ends.{begin, begin_within, constituted, count}
 use Rattle.cip_digraph.specs.rules.Orders.{rule_1a}
+use Rattle.cip_letters.specs.Asking.{is_decided}
 use Rattle.cip_ligands.specs.Deciding.{AreDecidedBy}
 use Rattle.cip_mol.specs.declared.outcome.Rule.TheVariants.{R1a}
-use Rattle.cip_ligands.specs.declared.asked.Asked.{Asked}
+use Rattle.cip_letters.specs.declared.asked.Asked.{Asked}
 use Rattle.cip_constitution.proofs.work.Work.constitute.Goals as goal
+
+pub decide_constitution-requires-clause-followed : goal.decide_constitution-requires-clause-followed
+decide_constitution-requires-clause-followed c =
+    subst (λ (t : Trying). AreFollowed t.branched) (sym c.self.view_is) c.requires.followed.2.follows.followed
+
+pub returns-clause-all : goal.returns-clause-all
+returns-clause-all c =
+    let new = c.decide_constitution.new.asked in
+    let rest = drop (length new) c.self.inside.noted.items in
+    let len : c.self.inside.noted.len ≡ length new = search rules in
+    c.decide_constitution.ensures.all
+    ∙ sym (ap (list_all is_decided) (ap (λ n. take n (new ++ rest)) len ∙ take-append_seam new rest))
+
+pub returns-clause-bound : goal.returns-clause-bound
+returns-clause-bound c = ap (λ (t : Trying). t.bound) c.self.view_is
 
 pub returns-clause-constituted : goal.returns-clause-constituted
 returns-clause-constituted c g positions followed =

@@ -1,5 +1,6 @@
 use Rattle.std.proofs.Common.{◌≡◌, ◌-◌, length, sym, ap, ◌∙◌, subst, arith}
 use Rattle.cip_branches.specs.Deciding.{Branched, AreFollowed}
+use Rattle.cip_rows.specs.Keys.{AreKeyed}
 use Rattle.cip_rows.specs.Kin.{Kin}
 use Rattle.cip_branches.specs.Saving.{Saved, restored}
 use Rattle.cip_digraph.specs.rules.EarlyOrder.{seen_at}
@@ -19,6 +20,24 @@ has_candidates-found-requires-clause-followed c =
     let a = c.args.arena.now in
     subst (λ (w : Trying). FollowsTo (told c.args.setting.now) a a.sphere w.branched) (sym c.self.view_is)
     c.requires.followed
+
+pub take_both-requires-clause-followed : goal.take_both-requires-clause-followed
+take_both-requires-clause-followed c =
+    subst (λ (w : Trying). AreFollowed w.branched) (sym c.self.view_is) c.requires.followed.followed
+
+pub take_both-requires-clause-keyed : goal.take_both-requires-clause-keyed
+take_both-requires-clause-keyed c =
+    let a = c.args.arena.now in
+    let follows = subst (λ (w : Trying). FollowsTo (told c.args.setting.now) a a.sphere w.branched)
+    (sym c.self.view_is) c.requires.followed in
+    subst (λ n. AreKeyed n c.self.inside.branches.layers.kin) (sym c.requires.grown.holds.tells.len) follows.keyed
+
+pub alike_each-alike-requires-clause-room : goal.alike_each-alike-requires-clause-room
+alike_each-alike-requires-clause-room c =
+    let bound = ap (λ (w : Trying). w.bound) c.self.view_is in
+    let held = c.self.invariant.under in
+    let wide = c.has_candidates-found.ensures.room in
+    omega (arith, bound, held, wide, c.requires.grown.fits, c.requires.room)
 
 pub invariant_of-self : goal.invariant_of-self
 invariant_of-self c =

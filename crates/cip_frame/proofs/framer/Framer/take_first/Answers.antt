@@ -1,4 +1,5 @@
-use Rattle.std.proofs.Common.{◌≡◌, ◌++◌, true, Err, ap}
+use Rattle.std.proofs.Common.{arith, ◌≡◌, ◌++◌, true, Err, ap}
+use Rattle.std.proofs.lemmas.Grind.{common_steps}
 use Rattle.cip_text.specs.Lines.{lines_of}
 use Rattle.cip_frame.specs.declared.fault.FrameFault.TheVariants.{RecordTooLong}
 use Rattle.cip_frame.specs.Taking.{is_line}
@@ -27,3 +28,6 @@ returns-clause-taken c =
     let is : is_line line ≡ true = first_is_line c.args.bytes.now line (lines_of behind) c.in-Some.ensures.lines in
     rw (← c.in-Some.ensures.joined) (ahead_line c.args.self.now (line ++ behind) c.args.self.now line behind
     c.take_line.new.self is (ahead_first c.args.self.now (line ++ behind)) c.in_default-take_line.ensures.taken)
+
+pub returns-clause-fewer : goal.returns-clause-fewer
+returns-clause-fewer c = grind (arith, common_steps)

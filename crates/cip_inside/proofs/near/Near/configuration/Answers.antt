@@ -1,5 +1,6 @@
-use Rattle.std.proofs.Common.{◌≡◌, ◌∷◌, [], true, length, sym, ap, subst}
-use Rattle.cip_branches.specs.Deciding.{Branched}
+use Rattle.std.proofs.Common.{◌≡◌, ◌∷◌, [], true, length, sym, ap, subst, arith}
+use Rattle.cip_branches.specs.Deciding.{AreFollowed, Branched}
+use Rattle.cip_rows.specs.Keys.{AreKeyed}
 use Rattle.cip_branches.specs.Standing.{node_in}
 use Rattle.cip_digraph.specs.digraph.Telling.{node_at}
 use Rattle.cip_digraph.specs.rules.Orders.{rule_2}
@@ -23,3 +24,26 @@ returns-clause-decided g c = λ sight node begin mark within is undone marks.
     (subst (λ (b : Branched). AreDecidedBy seen true named (node_in named old) count begin (R1a ∷ R1b ∷ R2 ∷ [])
     (rule_2 seen seen.height) b c.args.asked.now) (sym now_is) ((is.decided mark).stands undone))
     (subst (AreMarksOf named (marked_by mark) (g.M.Marked.marks c.args.marks.now)) (sym now_is) marks))
+
+pub decide_configuration-requires-clause-followed : goal.decide_configuration-requires-clause-followed
+decide_configuration-requires-clause-followed g c =
+    subst AreFollowed (sym (ap (λ (near : Nearing). near.now) c.self.view_is)) c.requires.followed
+
+pub decide_configuration-requires-clause-keyed : goal.decide_configuration-requires-clause-keyed
+decide_configuration-requires-clause-keyed g c =
+    subst (λ (b : Branched). AreKeyed (length (g.M.Marked.marks c.args.marks.now)) b.layers.kin)
+    (sym (ap (λ (near : Nearing). near.now) c.self.view_is)) c.requires.keyed
+
+pub decide_configuration-requires-clause-room : goal.decide_configuration-requires-clause-room
+decide_configuration-requires-clause-room g c =
+    let ups = ap (λ (near : Nearing). length near.now.layers.kin.ups) c.self.view_is in
+    let bound = ap (λ (near : Nearing). near.bound) c.self.view_is in
+    let readings = c.self.invariant.readings in
+    let room = c.requires.room in
+    omega (arith, ups, bound, readings, room)
+
+pub returns-clause-tops : goal.returns-clause-tops
+returns-clause-tops g c = ap (λ (near : Nearing). near.tops) c.self.view_is
+
+pub returns-clause-bound : goal.returns-clause-bound
+returns-clause-bound g c = ap (λ (near : Nearing). near.bound) c.self.view_is

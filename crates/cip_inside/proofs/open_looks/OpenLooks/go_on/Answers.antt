@@ -1,8 +1,9 @@
-use Rattle.std.proofs.Common.{◌≡◌, ◌∙◌, List, Some, IfOk, slice_get, sym, ap, subst}
+use Rattle.std.proofs.Common.{◌≡◌, ◌<◌, ◌∙◌, List, Some, IfOk, length, map, slice_get, sym, ap, subst}
+use Rattle.std.proofs.lemmas.List.{length-map}
 use Rattle.std.proofs.lemmas.Option.{slice_get-map}
 use Rattle.std.specs.Option.{option_map}
 use Rattle.cip_aux.specs.Marking.{AreSeenTurns}
-use Rattle.cip_inside.specs.OpenLooks.{Look, look_of}
+use Rattle.cip_inside.specs.OpenLooks.{AreOpen, Look, look_of}
 use Rattle.cip_inside.specs.declared.open_looks.OpenLook.{OpenLook}
 use Rattle.cip_inside.proofs.OpenAgain.{made_of}
 use Rattle.cip_inside.proofs.open_looks.OpenLooks.go_on.Goals as goal
@@ -24,3 +25,17 @@ returns-clause-turns g c = λ look at.
     (c.look_again.ensures.turns found.0
     (subst (λ (ls : List OpenLook). slice_get ls c.args.place ≡ Some found.0) (sym c.as_mut_slice.ensures.value)
     found.1))
+
+pub look_again-requires-clause-place : goal.look_again-requires-clause-place
+look_again-requires-clause-place g c =
+    subst (λ n. c.args.place < n)
+    (sym (ap (λ (ls : List Look). length ls) c.self.view_is) ∙ length-map c.self.inside.looks.items look_of
+    ∙ sym (ap (λ (ls : List OpenLook). length ls) c.as_mut_slice.ensures.value)) c.requires.place
+
+pub look_again-requires-clause-open : goal.look_again-requires-clause-open
+look_again-requires-clause-open g c =
+    subst (AreOpen c.args.near.now.bound c.args.inner.now.sight)
+    (sym (ap (map look_of) c.as_mut_slice.ensures.value ∙ c.self.view_is)) c.requires.open
+
+pub returns-clause-near : goal.returns-clause-near
+returns-clause-near g c = c.look_again.ensures.near

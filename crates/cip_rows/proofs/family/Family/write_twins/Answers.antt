@@ -4,9 +4,33 @@ use Rattle.cip_rows.specs.Reserved.{Reserved}
 use Rattle.cip_rows.specs.Twins.{twin_kin}
 use Rattle.cip_rows.specs.declared.place.Place.{Place}
 use Rattle.cip_rows.proofs.FamilyColumn.{place_count}
-use Rattle.cip_rows.proofs.TwinLists.{twins_length}
+use Rattle.cip_rows.proofs.TwinLists.{doubles_few, twins_length}
 use Rattle.cip_rows.proofs.TwinPlaces.{first_pushed, both_pushed, both_are_twins, keep_twins}
 use Rattle.cip_rows.proofs.family.Family.write_twins.Goals as goal
+
+pub push_moved-requires-clause-twice : goal.push_moved-requires-clause-twice
+push_moved-requires-clause-twice c =
+    doubles_few c.len-count.ensures.count c.requires (ap (λ (k : Kin). k.room) c.self.view_is) c.self.invariant.few
+
+pub push_moved-requires-clause-room : goal.push_moved-requires-clause-room
+push_moved-requires-clause-room c =
+    let cleared = ap (λ (r : Reserved Place). length r.items) c.clear.ensures in
+    let room = ap (λ (r : Reserved Place). r.room) c.clear.ensures in
+    let places = ap (λ (xs : List Place). length xs) c.as_slice-places.ensures in
+    let count = c.len-count.ensures.count
+    ∙ place_count c.from.inside.places c.args.from.now c.from.view_is in
+    let same = ap (λ (k : Kin). k.room) c.self.view_is in
+    let is = c.len-count.ensures.count in
+    let fits = c.requires in
+    omega (arith, cleared, room, places, count, same, is, fits)
+
+pub push_moved-requires-2-clause-few : goal.push_moved-requires-2-clause-few
+push_moved-requires-2-clause-few c =
+    doubles_few c.len-count.ensures.count c.requires (ap (λ (k : Kin). k.room) c.self.view_is) c.self.invariant.few
+
+pub push_moved-requires-2-clause-twice : goal.push_moved-requires-2-clause-twice
+push_moved-requires-2-clause-twice c =
+    doubles_few c.len-count.ensures.count c.requires (ap (λ (k : Kin). k.room) c.self.view_is) c.self.invariant.few
 
 pub push_moved-requires-2-clause-room : goal.push_moved-requires-2-clause-room
 push_moved-requires-2-clause-room c =

@@ -1,4 +1,5 @@
-use Rattle.std.proofs.Common.{rules, ◌≡◌, ◌+◌, length, map, subst, sym, ap}
+use Rattle.std.proofs.Common.{arith, rules, ◌≡◌, ◌+◌, length, map, subst, sym, ap}
+use Rattle.std.proofs.lemmas.Grind.{common_steps}
 use Rattle.cip_stream.specs.Batches.{told_from, telling}
 use Rattle.cip_stream.proofs.Batches.{told_pushed}
 use Rattle.cip_stream.proofs.batch.Batch.push.Goals as goal
@@ -13,3 +14,9 @@ invariant_of-self-2 g c =
     (told_pushed manner c.self.inside.first (λ w. telling (g.T.Teller.manner w.teller.now) w.number w.bytes)
     (λ w. w.bytes) c.self.inside.waiting.items _ c.self.invariant
     (ap (λ n. telling manner n c.args.bytes) number))
+
+pub returns-clause-pushed : goal.returns-clause-pushed
+returns-clause-pushed g c = grind (arith, common_steps)
+
+pub overflow_add-number : goal.overflow_add-number
+overflow_add-number g c = grind (arith, common_steps)

@@ -14,11 +14,11 @@ pub struct Descriptors {
 }
 
 impl Model for Descriptors {
-    ghost use Rattle.cip_ligands.specs.Marks.{Marks};
+    ghost use Rattle.cip_letters.specs.Marks.{Marks};
 
     ghost Value = { Marks };
 
-    ghost use Rattle.cip_ligands.specs.MarkColumns.{marks_of, HaveRoom};
+    ghost use Rattle.cip_letters.specs.MarkColumns.{marks_of, HaveRoom};
 
     ghost view = { marks_of };
 

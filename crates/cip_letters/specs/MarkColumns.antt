@@ -1,7 +1,7 @@
 -- The column of descriptors, and the room that it keeps. Own.
 use Rattle.std.specs.Prelude.{◌<◌, ◌≤◌, ◌^◌, length, vec_capacity}
-use Rattle.cip_ligands.specs.Marks.{Marks}
-use Rattle.cip_ligands.specs.declared.descriptors.Descriptors.TheInside.{Inside}
+use Rattle.cip_letters.specs.Marks.{Marks}
+use Rattle.cip_letters.specs.declared.descriptors.Descriptors.TheInside.{Inside}
 
 abbrev pub marks_of : Inside → Marks
 marks_of columns = record { bound = columns.bound; marks = columns.marks.items }

@@ -1,7 +1,7 @@
 // Pairs of branches that are asked about, and what is decided between them.
 ghost use Rattle.std.specs.Prelude.{◌≡◌};
 ghost use Rattle.std.specs.List.{list_all};
-ghost use Rattle.cip_ligands.specs.Asking.{is_decided};
+ghost use Rattle.cip_letters.specs.Asking.{is_decided};
 
 use cip_digraph::Decision;
 

@@ -7,7 +7,7 @@ use Rattle.cip_rank.specs.Ranking.{by_number}
 use Rattle.cip_mol.specs.declared.outcome.Rule.{Rule}
 use Rattle.cip_digraph.specs.rules.Decisions.{Difference}
 use Rattle.cip_digraph.specs.declared.decision.Decision.{Decision}
-use Rattle.cip_ligands.specs.declared.asked.Asked.{Asked}
+use Rattle.cip_letters.specs.declared.asked.Asked.{Asked}
 
 abbrev pub is_decided : Asked → Bool
 is_decided asked = elim asked.decision as (λ _. Bool) [ None ↦ false | Some found ↦ true ]
