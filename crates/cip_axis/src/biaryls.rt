@@ -55,9 +55,10 @@ fn push_biaryl(
 {
     if is_biaryl(alloc, source.graph, source.positions, a, edge, reached)? {
         let unit = biaryl_unit(source.molecule, source.graph, a, edge.other_end(a));
-        units.push(unit)?;
+        units.push(unit)
+    } else {
+        Ok(())
     }
-    Ok(())
 }
 
 fn biaryl_unit(molecule: &Molecule, graph: &Graph, a: u32, b: u32) -> FurtherUnit

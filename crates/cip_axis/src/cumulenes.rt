@@ -32,9 +32,10 @@ pub fn push_cumulenes(
     ensures { OnOk result (units.new ≡ units.old ++ cumulenes_of source.now.molecule.now source.now.graph.now a) }
 {
     if source.graph.edges_at(a).len() == 3 {
-        push_from(alloc, source, a, reached, units)?;
+        push_from(alloc, source, a, reached, units)
+    } else {
+        Ok(())
     }
-    Ok(())
 }
 
 // Along each of its double bonds.
@@ -84,9 +85,10 @@ fn push_over(
     let chain = chain_over(alloc, source.graph, a, next)?;
     if is_cumulene(source.graph, &chain, reached)? {
         let unit = cumulene_unit(source.molecule, source.graph, &chain);
-        units.push(unit)?;
+        units.push(unit)
+    } else {
+        Ok(())
     }
-    Ok(())
 }
 
 fn is_cumulene(graph: &Graph, chain: &[u32], reached: &mut VertexSet) -> Result<bool, AllocError>

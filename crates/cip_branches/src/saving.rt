@@ -4,6 +4,7 @@ ghost use Rattle.cip_branches.specs.Saving.{restored, saved_of};
 
 use crate::deciding::Branches;
 use crate::spheres::Spheres;
+use cip_rank::both_of;
 use cip_rows::Column;
 use std::alloc::{AllocError, Global};
 use std::marker::Model;
@@ -36,10 +37,12 @@ impl SavedRanks {
     pub fn reserve(alloc: Global, room: u32) -> Result<SavedRanks, AllocError>
         ensures { IfOk result (λ saved. saved ≡ record { room = room; rows = []; numbers = []; wanted = [] }) }
     {
+        let ranks = both_of(Column::reserve(alloc, room), Column::reserve(alloc, room));
+        let ((rows, numbers), wanted) = both_of(ranks, Column::reserve(alloc, room))?;
         Ok(SavedRanks {
-            rows: Column::reserve(alloc, room)?,
-            numbers: Column::reserve(alloc, room)?,
-            wanted: Column::reserve(alloc, room)?,
+            rows,
+            numbers,
+            wanted,
         })
     }
 }

@@ -1,7 +1,7 @@
 // All columns of branches.
 ghost use Rattle.std.specs.Prelude.{◌≡◌, ◌<◌, ◌≤◌, ◌+◌, ◌^◌, [], IfOk, length, slice_index};
 
-use cip_rank::both;
+use cip_rank::both_of;
 use cip_rows::{Column, Family, Order};
 use std::alloc::{AllocError, Global};
 use std::marker::Model;
@@ -48,9 +48,12 @@ impl Spheres {
           before = [];
         }) }
     {
-        let places = both(Family::reserve(alloc, room)?, Order::reserve(alloc, room))?;
-        let (places, starts) = both(places, Column::reserve(alloc, room + 1))?;
-        let ((family, order), (before, flags, sets)) = both(places, reserve_columns(alloc, room))?;
+        let places = both_of(Family::reserve(alloc, room), Order::reserve(alloc, room));
+        let columns = both_of(
+            Column::reserve(alloc, room + 1),
+            reserve_columns(alloc, room),
+        );
+        let ((family, order), (starts, ((before, flags), sets))) = both_of(places, columns)?;
         Ok(Spheres {
             family,
             order,
@@ -76,12 +79,11 @@ impl Spheres {
 fn reserve_columns(
     alloc: Global,
     room: u32,
-) -> Result<(Column<u32>, Column<bool>, Column<u32>), AllocError>
-    ensures before { IfOk result (λ columns. columns.0 ≡ record { room = room; items = [] }) }
-    ensures flags { IfOk result (λ columns. columns.1 ≡ record { room = room; items = [] }) }
-    ensures sets { IfOk result (λ columns. columns.2 ≡ record { room = room; items = [] }) }
+) -> Result<((Column<u32>, Column<bool>), Column<u32>), AllocError>
+    ensures before { IfOk result (λ columns. columns.0.0 ≡ record { room = room; items = [] }) }
+    ensures flags { IfOk result (λ columns. columns.0.1 ≡ record { room = room; items = [] }) }
+    ensures sets { IfOk result (λ columns. columns.1 ≡ record { room = room; items = [] }) }
 {
-    let columns = both(Column::reserve(alloc, room)?, Column::reserve(alloc, room))?;
-    let ((before, flags), sets) = both(columns, Column::reserve(alloc, room))?;
-    Ok((before, flags, sets))
+    let columns = both_of(Column::reserve(alloc, room), Column::reserve(alloc, room));
+    both_of(columns, Column::reserve(alloc, room))
 }

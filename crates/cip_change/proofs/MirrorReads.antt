@@ -159,20 +159,3 @@ pub few_of : {E : Type 0} (bytes : List ℕ) (result : Result MirrorAnswer E)
     → IfOk result (λ answer. answer ≡ answer_without_items bytes) → IfOk result (λ answer. IsFew bytes answer)
 few_of bytes result is =
     IfOk-weaker result _ (IsFew bytes) (λ answer e. subst (IsFew bytes) (sym e) (mirror_few bytes)) is
-
-pub reads_of : {E : Type 0} (bytes bare : List ℕ) (result : Result MirrorAnswer E) → bare ≡ without_label_items bytes
-    → IfOk result (λ answer. answer ≡ answer_without_items bare) → IfOk result (λ answer. GivesReflected bytes answer)
-reads_of bytes bare result same is =
-    IfOk-weaker result _ (GivesReflected bytes)
-    (λ answer e. subst (GivesReflected bytes) (sym (e ∙ ap answer_without_items same)) (mirror_reads bytes)) is
-
-fewer : (bytes bare : List ℕ) (answer : MirrorAnswer) → length bare ≤ length bytes → IsFew bare answer
-    → IsFew bytes answer
-fewer bytes bare (Written text) le few = omega (arith, le, few)
-fewer bytes bare (Refused refusal) le few = tt
-
-pub few_with_items : {E : Type 0} (bytes bare : List ℕ) (result : Result MirrorAnswer E)
-    → length bare ≤ length bytes → IfOk result (λ answer. IsFew bare answer)
-    → IfOk result (λ answer. IsFew bytes answer)
-few_with_items bytes bare result le is =
-    IfOk-weaker result (IsFew bare) (IsFew bytes) (λ answer few. fewer bytes bare answer le few) is

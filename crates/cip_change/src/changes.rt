@@ -47,9 +47,9 @@ impl<'a> LineEdit for Change<'a> {
         let atoms = self.molecule.atoms().len();
         let bonds = self.molecule.bonds();
         if number < 4 {
-            text.extend_from_slice(content)?;
+            text.extend_from_slice(content)
         } else if number < 4 + atoms {
-            text.extend_from_slice(content)?;
+            text.extend_from_slice(content)
         } else if number < 4 + atoms + bonds.len() {
             let place = number - (4 + atoms);
             push_changed(
@@ -58,11 +58,10 @@ impl<'a> LineEdit for Change<'a> {
                 bond_at(bonds, place),
                 bond_at(self.bonds, place),
                 content,
-            )?;
+            )
         } else {
-            text.extend_from_slice(content)?;
+            text.extend_from_slice(content)
         }
-        Ok(())
     }
 }
 
@@ -87,7 +86,7 @@ fn push_changed(
 {
     match (old, new) {
         (Some(old), Some(new)) => push_changed_line(alloc, text, old, new, line),
-        _ => Ok(text.extend_from_slice(line)?),
+        _ => text.extend_from_slice(line),
     }
 }
 
@@ -101,12 +100,11 @@ fn push_changed_line(
     ensures { OnOk result (text.new.items ≡ text.old.items ++ changed_line old new line.now) }
 {
     if are_drawn_alike(old, new) {
-        text.extend_from_slice(line)?;
+        text.extend_from_slice(line)
     } else {
         let written = with_bond(alloc, new, line)?;
-        text.extend_from_slice(&written)?;
+        text.extend_from_slice(&written)
     }
-    Ok(())
 }
 
 // A bond line with its ends and its stereo field written anew.
@@ -124,8 +122,13 @@ fn with_bond(alloc: Global, bond: Bond, line: &[u8]) -> Result<Vec<u8>, AllocErr
     )
 }
 
-// A line with a number in the three columns from one on.
-fn with_number(alloc: Global, first: usize, number: u64, line: &[u8]) -> Result<Vec<u8>, AllocError>
+/// A line with a number in the three columns from one on.
+pub(crate) fn with_number(
+    alloc: Global,
+    first: usize,
+    number: u64,
+    line: &[u8],
+) -> Result<Vec<u8>, AllocError>
     requires begins { 1 ≤ first }
     requires few { first ≤ 10 }
     ensures { IfOk result (λ written. written.items ≡ with_columns first (first + 2) (decimal number) line.now) }

@@ -14,7 +14,7 @@ pub struct Request {
 }
 
 /// Why no mark gives a centre the asked letter.
-#[derive(Clone, Copy, PartialEq, Eq)]
+#[derive(Clone, Copy)]
 pub enum CentreRefusal {
     /// No centre stands at the atom.
     NoCentre,

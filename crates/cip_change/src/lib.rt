@@ -29,7 +29,7 @@ pub use mark_laws::{
     marks_keep_ranks, senses_turn_letters, set_records_are_read, worked_marks_are_answered,
 };
 pub use marking::with_mark;
-pub use mirror::{mirror_lines, mirror_record};
+pub use mirror::mirror_lines;
 pub use mirror_answers::{MirrorAnswer, MirrorRefusal};
 pub use set_answers::{SetAnswer, SetRefusal};
 pub use setting::set_within;

@@ -1,9 +1,14 @@
 // The rows of the two blocks of a V2000 record, and how those of the mirror image are written.
 ghost use Rattle.std.specs.Prelude.{◌≡◌, ◌≤◌, ◌<◌, ◌++◌, ℕ, List, length, IfOk, OnOk};
 ghost use Rattle.cip_mol.specs.Drawing.{Drawing};
+ghost use Rattle.cip_reading.specs.Fields.{number_in};
+ghost use Rattle.cip_text.specs.Columns.{field};
+ghost use Rattle.cip_text.specs.Writing.{coordinate};
+ghost use Rattle.cip_change.specs.Columns.{with_columns};
 ghost use Rattle.cip_change.specs.Edits.{Edit};
 ghost use Rattle.cip_change.specs.Mirror.{mirrored_atom_line, mirrored_bond_line, other_mark, other_code, with_mark, mirror_edit};
 
+use crate::changes::with_number;
 use crate::{LineEdit, with_columns};
 use cip_mol::Molecule;
 use cip_reading::number;
@@ -29,15 +34,14 @@ impl<'a> LineEdit for Mirror<'a> {
         let atoms = self.molecule.atoms().len();
         let bonds = self.molecule.bonds().len();
         if number < 4 {
-            text.extend_from_slice(content)?;
+            text.extend_from_slice(content)
         } else if number < 4 + atoms {
-            push_atom_line(alloc, text, content)?;
+            push_atom_line(alloc, text, content)
         } else if number < 4 + atoms + bonds {
-            push_bond_line(alloc, text, content)?;
+            push_bond_line(alloc, text, content)
         } else {
-            text.extend_from_slice(content)?;
+            text.extend_from_slice(content)
         }
-        Ok(())
     }
 }
 
@@ -48,13 +52,19 @@ fn push_atom_line(alloc: Global, text: &mut Vec<u8>, line: &[u8]) -> Result<(), 
 {
     match decimal4(columns(line, 21, 30)) {
         Ok(z) if z != 0 => {
-            let negated = coordinate(alloc, -z)?;
-            let written = with_columns(alloc, 21, 30, negated.as_bytes(), line)?;
-            text.extend_from_slice(&written)?;
+            let written = with_height(alloc, -z, line)?;
+            text.extend_from_slice(&written)
         }
-        _ => text.extend_from_slice(line)?,
+        _ => text.extend_from_slice(line),
     }
-    Ok(())
+}
+
+// The line of an atom with another z.
+fn with_height(alloc: Global, z: i64, line: &[u8]) -> Result<Vec<u8>, AllocError>
+    ensures { IfOk result (λ written. written.items ≡ with_columns 21 30 (coordinate z) line.now) }
+{
+    let text = coordinate(alloc, z)?;
+    with_columns(alloc, 21, 30, text.as_bytes(), line)
 }
 
 // Adds the line of a mirrored bond.
@@ -62,18 +72,23 @@ fn push_atom_line(alloc: Global, text: &mut Vec<u8>, line: &[u8]) -> Result<(), 
 fn push_bond_line(alloc: Global, text: &mut Vec<u8>, line: &[u8]) -> Result<(), AllocError>
     ensures { OnOk result (text.new.items ≡ text.old.items ++ mirrored_bond_line line.now) }
 {
-    match other_mark(
+    match mirrored_code(line) {
+        Some(code) => {
+            let written = with_number(alloc, 10, u64::from(code), line)?;
+            text.extend_from_slice(&written)
+        }
+        None => text.extend_from_slice(line),
+    }
+}
+
+// The stereo field that the mirrored bond of a line has, where it has another one.
+fn mirrored_code(line: &[u8]) -> Option<u32>
+    ensures { result ≡ other_mark (number_in 3 (field 7 9 line.now)) (number_in 6 (field 10 12 line.now)) }
+{
+    other_mark(
         number(3, columns(line, 7, 9)),
         number(6, columns(line, 10, 12)),
-    ) {
-        Some(code) => {
-            let mark = format!(in alloc; "{code}")?;
-            let written = with_columns(alloc, 10, 12, mark.as_bytes(), line)?;
-            text.extend_from_slice(&written)?;
-        }
-        None => text.extend_from_slice(line)?,
-    }
-    Ok(())
+    )
 }
 
 // The stereo field of the other mark, where the bond is single and marked up or down.

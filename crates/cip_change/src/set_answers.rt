@@ -12,7 +12,7 @@ pub enum SetAnswer {
 }
 
 /// Why no record is written in which a centre has the asked letter.
-#[derive(Clone, Copy, Debug, PartialEq, Eq)]
+#[derive(Clone, Copy)]
 pub enum SetRefusal {
     /// The record gives no molecule.
     Grammar(ReadFault),

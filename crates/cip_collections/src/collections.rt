@@ -1,23 +1,20 @@
 // Collections, line after line.
-ghost use Rattle.std.specs.Prelude.{◌≡◌, ◌≤◌, ◌<◌, ◌-◌, ◌^◌, IfOk, IsOk, Ok, Some, length, map, if◌then◌else◌};
-ghost use Rattle.cip_text.specs.Bodies.{body_contents};
+ghost use Rattle.std.specs.Prelude.{◌≡◌, ◌≤◌, IfOk, Ok, Some, length, map, if◌then◌else◌};
 ghost use Rattle.cip_text.specs.Slices.{texts};
 ghost use Rattle.cip_v3000.specs.declared.frames.FrameLine.TheVariants.{EndTable};
 ghost use Rattle.cip_v3000.specs.Frames.{is_frame};
-ghost use Rattle.cip_v3000.specs.Grammar.{molecule_of, words_in};
+ghost use Rattle.cip_v3000.specs.Grammar.{words_in};
 ghost use Rattle.cip_v3000.specs.Joining.{seen};
 ghost use Rattle.cip_v3000.specs.Tables.{seen_table};
-ghost use Rattle.cip_collections.specs.Collections.{nothing, with_atoms, with_kind, with_words, with_joined, ended, groups_from, groups_of, answer_by, IsAnswer};
+ghost use Rattle.cip_collections.specs.Collections.{nothing, with_atoms, with_kind, with_words, with_joined, ended, groups_from, groups_of};
 ghost use Rattle.cip_collections.specs.Reading.{Gives};
 
 use crate::atom_lists::{atoms_of, names_of, take_all};
 use crate::faults::{GroupCause, GroupFault, GroupRefusal, told_at};
-use crate::groups::{Groups, GroupsAnswer};
+use crate::groups::Groups;
 use crate::kinds::{GroupKind, kind_of};
-use cip_mol::{Molecule, ReadRefusal};
-use cip_text::body_contents;
-use cip_v3000::{FrameLine, Indices, JoinedLine, Table, is_frame, read_table, text_of, words};
-use std::alloc::{AllocError, Global};
+use cip_v3000::{FrameLine, Indices, JoinedLine, Table, is_frame, text_of, words};
+use std::alloc::Global;
 
 /// What was read of the lines before: whether a collection is open, the atoms that stand in a group line, the groups.
 #[derive(Drop)]
@@ -41,49 +38,6 @@ impl Found {
         ensures { result ≡ self.groups }
     {
         self.groups
-    }
-}
-
-/// The groups of a record from which this molecule is read, or the first line with a cause and its first one.
-pub fn read_groups(
-    alloc: Global,
-    bytes: &[u8],
-    molecule: &Molecule,
-) -> Result<GroupsAnswer, AllocError>
-    requires few { length bytes.now < 2 ^ 32 - 1 }
-    requires read { molecule_of (body_contents bytes.now) ≡ Ok molecule.now }
-    ensures { IfOk result (IsAnswer (body_contents bytes.now)) }
-{
-    let lines = body_contents(alloc, bytes)?;
-    lines_answer(alloc, &lines)
-}
-
-// Of the lines of a record, which stay with the caller.
-fn lines_answer(alloc: Global, lines: &[&[u8]]) -> Result<GroupsAnswer, AllocError>
-    requires few { length lines.now < 2 ^ 32 - 1 }
-    requires read { IsOk (molecule_of (texts lines.now)) }
-    ensures { IfOk result (IsAnswer (texts lines.now)) }
-{
-    match read_table(alloc, lines) {
-        Ok(table) => {
-            let answer = table_answer(alloc, &table);
-            // given back by a call of its own, which is quicker to prove than an end that owns it
-            drop(table);
-            answer
-        }
-        Err(ReadRefusal::Fault(_)) => unreachable!(),
-        Err(ReadRefusal::Memory) => Err(AllocError),
-    }
-}
-
-fn table_answer(alloc: Global, table: &Table<'_>) -> Result<GroupsAnswer, AllocError>
-    requires few { length table.now.indices ≤ 1000000000 }
-    ensures { IfOk result (λ answer. answer ≡ answer_by (groups_of (seen_table table.now))) }
-{
-    match groups_of(alloc, table) {
-        Ok(groups) => Ok(GroupsAnswer::Groups(groups)),
-        Err(GroupRefusal::Fault(fault)) => Ok(GroupsAnswer::Refused(fault)),
-        Err(GroupRefusal::Memory) => Err(AllocError),
     }
 }
 

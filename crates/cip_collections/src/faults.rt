@@ -7,7 +7,7 @@ use std::alloc::{AllocError, AllocFailed};
 use std::fmt;
 
 /// What is wrong with a line of a collection.
-#[derive(Clone, Copy, Debug)]
+#[derive(Clone, Copy)]
 pub enum GroupCause {
     /// The table ends inside a collection.
     Frame,
@@ -39,7 +39,7 @@ impl fmt::Display for GroupCause {
 }
 
 /// The first line at which a cause holds, counted from 1, and the first cause there.
-#[derive(Clone, Copy, Debug)]
+#[derive(Clone, Copy)]
 pub struct GroupFault {
     pub line: u32,
     pub cause: GroupCause,

@@ -10,7 +10,7 @@ use std::fmt;
 const GREATEST: u32 = 1_000_000_000;
 
 /// What a group is: its centres are as they are drawn, or a mixture of both stereoisomers, or one of the two.
-#[derive(Clone, Copy, Debug, PartialEq, Eq, Hash)]
+#[derive(Clone, Copy, PartialEq, Eq, Hash)]
 pub enum GroupKind {
     Absolute,
     Racemic(u32),

@@ -12,8 +12,8 @@ mod outcomes;
 mod places;
 mod telling;
 
-pub use collections::read_groups;
-pub use faults::{GroupCause, GroupFault};
+pub use collections::groups_of;
+pub use faults::{GroupCause, GroupFault, GroupRefusal};
 pub use groups::{Group, Groups, GroupsAnswer, Vertices};
 pub use kinds::GroupKind;
 pub use laws::{

@@ -1,5 +1,5 @@
 // Both outcomes of the centres of groups.
-ghost use Rattle.std.specs.Prelude.{◌≡◌, ◌<◌, ◌^◌, ◌++◌, IfOk, OnOk, length};
+ghost use Rattle.std.specs.Prelude.{◌≡◌, ◌<◌, ◌^◌, ◌++◌, [], IfOk, OnOk, length};
 ghost use Rattle.cip_digraph.specs.units.Inverted.{inverted};
 ghost use Rattle.cip_collections.specs.Outcomes.{IsTurned, both_by, outcome_at, turned_at, lines_of, all_lines};
 
@@ -27,6 +27,13 @@ pub struct GroupLine {
     pub kind: GroupKind,
     pub atom: u32,
     pub outcomes: Option<BothOutcomes>,
+}
+
+// The lines of the groups so far, with a counter of steps. Callers lend both, so that no line gives them back.
+#[derive(Drop)]
+struct Told<L: Ledger> {
+    lines: Vec<GroupLine>,
+    steps: Steps<L>,
 }
 
 /// The atoms of all groups with both outcomes of each.
@@ -62,61 +69,60 @@ fn count_lines<D: Digraphs, L: Ledger>(
     ensures lines { IfOk result (λ lines. lines.items ≡ all_lines labeller.old centres.now groups.now) }
     ensures kept { labeller.new ≡ labeller.old }
 {
-    let mut steps = Steps::<L>::open(blank);
     let mut turned = units.copy(alloc)?;
-    join_lines(alloc, labeller, centres, &mut turned, groups, &mut steps)
+    let mut told = Told {
+        lines: Vec::new(alloc),
+        steps: Steps::<L>::open(blank),
+    };
+    match join_lines(alloc, labeller, centres, &mut turned, groups, &mut told) {
+        Ok(()) => Ok(told.lines),
+        Err(error) => Err(error),
+    }
 }
 
-// The same with units that are turned for each group, and back.
+// The same behind no lines, with units that are turned for each group, and back.
 fn join_lines<D: Digraphs, L: Ledger>(
     alloc: Global,
     labeller: &mut Labeller<D>,
     centres: &Centres<'_>,
     units: &mut Units,
     groups: &[Group],
-    steps: &mut Steps<L>,
-) -> Result<Vec<GroupLine>, AllocError>
+    told: &mut Told<L>,
+) -> Result<(), AllocError>
     requires same { units.old ≡ centres.now.units }
-    ensures lines { IfOk result (λ lines. lines.items ≡ all_lines labeller.old centres.now groups.now) }
+    requires none { told.old.lines.items ≡ [] }
+    ensures lines { OnOk result (told.new.lines.items ≡ all_lines labeller.old centres.now groups.now) }
     ensures kept { labeller.new ≡ labeller.old }
 {
-    let mut lines = Vec::new(alloc);
     for group in groups {
-        let more = group_lines(alloc, labeller, centres, units, group, steps)?;
-        push_all(&mut lines, more)?;
+        group_lines(alloc, labeller, centres, units, group, told)?;
     }
-    Ok(lines)
-}
-
-fn push_all(lines: &mut Vec<GroupLine>, mut more: Vec<GroupLine>) -> Result<(), AllocError>
-    ensures { OnOk result (lines.new.items ≡ lines.old.items ++ more.items) }
-{
-    lines.append(&mut more)?;
     Ok(())
 }
 
-// A group without atoms costs no labelling.
+// Puts the lines of a group behind those before it. A group without atoms costs no labelling.
 fn group_lines<D: Digraphs, L: Ledger>(
     alloc: Global,
     labeller: &mut Labeller<D>,
     centres: &Centres<'_>,
     units: &mut Units,
     group: &Group,
-    steps: &mut Steps<L>,
-) -> Result<Vec<GroupLine>, AllocError>
+    told: &mut Told<L>,
+) -> Result<(), AllocError>
     requires same { units.old ≡ centres.now.units }
-    ensures lines { IfOk result (λ lines. lines.items ≡ lines_of labeller.old centres.now group.now) }
+    ensures lines { OnOk result (told.new.lines.items
+        ≡ told.old.lines.items ++ lines_of labeller.old centres.now group.now) }
     ensures back { OnOk result (units.new ≡ units.old) }
     ensures kept { labeller.new ≡ labeller.old }
 {
     let atoms = group.atoms.as_slice();
     if atoms.is_empty() {
-        return Ok(Vec::new(alloc));
+        return Ok(());
     }
     units.invert(atoms);
-    let lines = turned_lines(alloc, labeller, centres, units, group, steps)?;
+    turned_lines(alloc, labeller, centres, units, group, told)?;
     units.invert(atoms);
-    Ok(lines)
+    Ok(())
 }
 
 fn turned_lines<D: Digraphs, L: Ledger>(
@@ -125,10 +131,11 @@ fn turned_lines<D: Digraphs, L: Ledger>(
     centres: &Centres<'_>,
     units: &Units,
     group: &Group,
-    steps: &mut Steps<L>,
-) -> Result<Vec<GroupLine>, AllocError>
+    told: &mut Told<L>,
+) -> Result<(), AllocError>
     requires turned { units.now ≡ inverted group.now.atoms centres.now.units }
-    ensures lines { IfOk result (λ lines. lines.items ≡ lines_of labeller.old centres.now group.now) }
+    ensures lines { OnOk result (told.new.lines.items
+        ≡ told.old.lines.items ++ lines_of labeller.old centres.now group.now) }
     ensures kept { labeller.new ≡ labeller.old }
 {
     let setting = centres.setting();
@@ -139,7 +146,7 @@ fn turned_lines<D: Digraphs, L: Ledger>(
         units.list(),
         setting.rules(),
     )?;
-    atom_lines(alloc, labeller, centres, &turned, group, steps)
+    atom_lines(alloc, labeller, centres, &turned, group, told)
 }
 
 fn atom_lines<D: Digraphs, L: Ledger>(
@@ -148,22 +155,22 @@ fn atom_lines<D: Digraphs, L: Ledger>(
     centres: &Centres<'_>,
     turned: &Setting<'_>,
     group: &Group,
-    steps: &mut Steps<L>,
-) -> Result<Vec<GroupLine>, AllocError>
+    told: &mut Told<L>,
+) -> Result<(), AllocError>
     requires turned { turned.now ≡ turned_at group.now.atoms centres.now }
-    ensures lines { IfOk result (λ lines. lines.items ≡ lines_of labeller.old centres.now group.now) }
+    ensures lines { OnOk result (told.new.lines.items
+        ≡ told.old.lines.items ++ lines_of labeller.old centres.now group.now) }
     ensures kept { labeller.new ≡ labeller.old }
 {
-    let mut lines = Vec::new(alloc);
     for atom in group.atoms.as_slice() {
-        let outcomes = both_at(alloc, labeller, centres, turned, *atom, steps)?;
-        lines.push(GroupLine {
+        let outcomes = both_at(alloc, labeller, centres, turned, *atom, &mut told.steps)?;
+        told.lines.push(GroupLine {
             kind: group.kind,
             atom: *atom,
             outcomes,
         })?;
     }
-    Ok(lines)
+    Ok(())
 }
 
 // What is found of the centre at an atom, where there is one.

@@ -19,7 +19,7 @@ use cip_arena::Arena;
 use cip_branches::{Branches, SavedRanks};
 use cip_letters::Asked;
 use cip_mol::Ligands;
-use cip_rank::both;
+use cip_rank::both_of;
 use cip_rows::Column;
 use std::alloc::{AllocError, Global};
 use std::marker::Model;
@@ -66,13 +66,15 @@ impl Work {
           noted = [];
         }) }
     {
-        let under = Vec::with_capacity(alloc, bound as usize)?;
-        let columns = both(under, reserve_pairs(alloc))?;
-        let columns = both(columns, reserve_branches(alloc, bound))?;
-        let (((under, (pairs, noted)), (branches, tops)), saved) = both(
-            columns,
+        let nodes = both_of(
+            Vec::with_capacity(alloc, bound as usize),
+            reserve_pairs(alloc),
+        );
+        let places = both_of(
+            reserve_branches(alloc, bound),
             SavedRanks::reserve(alloc, place_count(bound)),
-        )?;
+        );
+        let ((under, (pairs, noted)), ((branches, tops), saved)) = both_of(nodes, places)?;
         Ok(Work {
             bound,
             branches,
@@ -185,8 +187,10 @@ fn reserve_pairs(alloc: Global) -> Result<(Vec<Pair>, Vec<Asked>), AllocError>
     ensures pairs { IfOk result (λ both. (both.0.items ≡ []) × (6 ≤ vec_capacity both.0)) }
     ensures noted { IfOk result (λ both. (both.1.items ≡ []) × (6 ≤ vec_capacity both.1)) }
 {
-    let pairs = Vec::with_capacity(alloc, MOST_PAIRS)?;
-    both(pairs, Vec::with_capacity(alloc, MOST_PAIRS))
+    both_of(
+        Vec::with_capacity(alloc, MOST_PAIRS),
+        Vec::with_capacity(alloc, MOST_PAIRS),
+    )
 }
 
 // The branches of the root's children, and a column of these.
@@ -194,6 +198,8 @@ fn reserve_branches(alloc: Global, bound: u32) -> Result<(Branches, Column<u32>)
     ensures branches { IfOk result (λ both. both.0 ≡ no_branches (bound - 1)) }
     ensures tops { IfOk result (λ both. both.1.room ≡ bound) }
 {
-    let branches = Branches::reserve(alloc, place_count(bound))?;
-    both(branches, Column::reserve(alloc, bound))
+    both_of(
+        Branches::reserve(alloc, place_count(bound)),
+        Column::reserve(alloc, bound),
+    )
 }

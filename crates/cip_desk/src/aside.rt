@@ -3,6 +3,7 @@ ghost use Rattle.std.specs.Prelude.{◌≡◌, IfOk};
 
 use cip_branches::SavedRanks;
 use cip_letters::Asked;
+use cip_rank::both_of;
 use std::alloc::{AllocError, Global};
 
 /// At most four ligands make so many pairs.
@@ -21,9 +22,10 @@ impl Aside {
     pub fn reserve(alloc: Global, places: u32) -> Result<Aside, AllocError>
         ensures { IfOk result (λ aside. aside.ranks.room ≡ places) }
     {
-        Ok(Aside {
-            ranks: SavedRanks::reserve(alloc, places)?,
-            noted: Vec::with_capacity(alloc, MOST_PAIRS)?,
-        })
+        let (ranks, noted) = both_of(
+            SavedRanks::reserve(alloc, places),
+            Vec::with_capacity(alloc, MOST_PAIRS),
+        )?;
+        Ok(Aside { ranks, noted })
     }
 }

@@ -16,7 +16,7 @@ use crate::whole::{Tables, is_costly};
 use cip_arena::Arena;
 use cip_constitution::Work;
 use cip_label::Ranking;
-use cip_rank::{Steps, both};
+use cip_rank::{Steps, both, both_of};
 use std::alloc::{AllocError, Global};
 use std::sync::ledger::Ledger;
 
@@ -35,7 +35,7 @@ impl Bench {
         requires { nodes < 2 ^ 31 }
         ensures { IfOk result (IsReady nodes) }
     {
-        let growing = both(Arena::reserve(alloc, nodes)?, Work::reserve(alloc, nodes))?;
+        let growing = both_of(Arena::reserve(alloc, nodes), Work::reserve(alloc, nodes))?;
         let ((arena, work), tables) = both(growing, Tables::reserve(alloc, nodes))?;
         Ok(Bench {
             arena,

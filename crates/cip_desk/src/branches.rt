@@ -10,6 +10,7 @@ use cip_digraph::Decision;
 use cip_label::reversed;
 use cip_letters::{Asked, Descriptors};
 use cip_ligands::Readings;
+use cip_rank::both_of;
 use std::alloc::{AllocError, Global};
 use std::marker::Model;
 
@@ -41,11 +42,16 @@ impl Branches {
     pub fn reserve(alloc: Global) -> Result<Branches, AllocError>
         ensures { IfOk result (λ made. made ≡ record { natural = []; turned = [] }) }
     {
+        let named = both_of(
+            Vec::with_capacity(alloc, MOST_PAIRS),
+            Vec::with_capacity(alloc, MOST_PAIRS),
+        );
+        let ((natural, turned), numbered) = both_of(named, Vec::with_capacity(alloc, MOST_PAIRS))?;
         Ok(Branches {
-            natural: Vec::with_capacity(alloc, MOST_PAIRS)?,
-            turned: Vec::with_capacity(alloc, MOST_PAIRS)?,
+            natural,
+            turned,
             both_ways: false,
-            numbered: Vec::with_capacity(alloc, MOST_PAIRS)?,
+            numbered,
         })
     }
 

@@ -7,12 +7,15 @@ use crate::branches::Branches;
 use crate::early::{Early, RootedLigands};
 use crate::told_early::rank_early;
 use cip_digraph::Decision;
-use cip_label::{Digraphs, Ranking, Setting};
+use cip_label::{Digraphs, Labeller, Ranking, Setting};
 use cip_mol::Ligands;
-use cip_rank::{Steps, both};
+use cip_rank::{Steps, both, both_of};
 use std::alloc::{AllocError, Global};
 use std::marker::Model;
 use std::sync::ledger::Ledger;
+
+/// Memory in which records are labelled, one after the other.
+pub type RecordLabeller = Labeller<Desk>;
 
 /// Reserved memory for a digraph and its ranking.
 #[derive(Drop)]
@@ -44,7 +47,7 @@ impl Digraphs for Desk {
     ghost standing = { λ desk. standing_of desk.standing };
 
     fn reserve(alloc: Global, nodes: u32) -> Result<Desk, AllocError> {
-        let telling = both(Branches::reserve(alloc)?, Early::reserve(alloc))?;
+        let telling = both_of(Branches::reserve(alloc), Early::reserve(alloc))?;
         let ((branches, early), bench) = both(telling, Bench::reserve(alloc, nodes))?;
         Ok(Desk {
             bound: nodes,

@@ -12,6 +12,7 @@ use crate::shown::{Shown, show_all};
 use cip_label::Setting;
 use cip_letters::{Asked, are_decided};
 use cip_mol::{Ligand, Ligands};
+use cip_rank::both_of;
 use std::alloc::{AllocError, Global};
 use std::marker::Model;
 
@@ -52,10 +53,11 @@ impl Early {
     pub fn reserve(alloc: Global) -> Result<Early, AllocError>
         ensures { IfOk result (λ early. early ≡ []) }
     {
-        Ok(Early {
-            shown: Vec::with_capacity(alloc, MOST_LIGANDS)?,
-            noted: Vec::with_capacity(alloc, MOST_PAIRS)?,
-        })
+        let (shown, noted) = both_of(
+            Vec::with_capacity(alloc, MOST_LIGANDS),
+            Vec::with_capacity(alloc, MOST_PAIRS),
+        )?;
+        Ok(Early { shown, noted })
     }
 
     /// Whether two spheres of at most `bound` nodes tell each two ligands apart; then it's noted what is decided

@@ -6,7 +6,7 @@ use crate::early::RootedLigands;
 use cip_digraph::{Graph, Positions};
 use cip_label::Setting;
 use cip_mol::{Ligand, Ligands, copy_ligands};
-use cip_rank::{Rules, both};
+use cip_rank::{Rules, both_of};
 use std::alloc::{AllocError, Global};
 
 /// A root with its ligands, in which graph it stands, and by which wording it was ranked.
@@ -25,8 +25,8 @@ impl KeptRoot {
         ensures { IfOk result (λ kept. kept ≡ kept_of told.now.setting.now told.now.root told.now.ligands.now) }
     {
         let setting = told.setting;
-        let (graph, positions) = both(
-            setting.graph().copy(alloc)?,
+        let (graph, positions) = both_of(
+            setting.graph().copy(alloc),
             setting.positions().copy(alloc),
         )?;
         Ok(KeptRoot {

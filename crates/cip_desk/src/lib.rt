@@ -8,7 +8,6 @@ mod branches;
 mod counting;
 mod desk;
 mod early;
-mod errand;
 mod kept_root;
 mod keys;
 mod memo;
@@ -20,5 +19,4 @@ mod shown;
 mod told_early;
 mod whole;
 
-pub use desk::Desk;
-pub use errand::{Errand, RecordLabeller, run_once};
+pub use desk::{Desk, RecordLabeller};

@@ -6,6 +6,7 @@ use crate::early::RootedLigands;
 use crate::kept_root::KeptRoot;
 use cip_label::Ranking;
 use std::alloc::{AllocError, Global};
+use std::mem;
 
 /// How far what was found of a root rests on the senses of units.
 #[derive(Clone, Copy)]
@@ -58,7 +59,9 @@ impl Memo {
             ≡ Some (kept_of told.now.setting.now told.now.root told.now.ligands.now)) }
         ensures same { OnErr result (self.new ≡ self.old) }
     {
-        self.root = Some(KeptRoot::of(alloc, told)?);
+        let kept = KeptRoot::of(alloc, told)?;
+        // what was kept before is let go by a call: written out here, column by column, it costs more to prove
+        drop(mem::replace(&mut self.root, Some(kept)));
         self.found = Some(found);
         Ok(())
     }

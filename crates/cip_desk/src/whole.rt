@@ -34,7 +34,7 @@ use cip_inside::Sights;
 use cip_label::{Ranking, Setting};
 use cip_letters::Descriptors;
 use cip_ligands::Readings;
-use cip_rank::{Table, both};
+use cip_rank::{Table, both, both_of};
 use std::alloc::{AllocError, Global};
 
 /// So many nodes have the digraphs that cost much to follow and to look into, or only to grow.
@@ -63,10 +63,10 @@ impl Tables {
         requires { nodes < 2 ^ 31 }
         ensures { IfOk result (HasRoom nodes) }
     {
-        let tables = both(reserve_looks(alloc, nodes)?, reserve_kept(alloc, nodes))?;
-        let (((sights, marks), (turns, aside)), readings) = both(
+        let tables = both_of(reserve_read(alloc, nodes), reserve_kept(alloc, nodes))?;
+        let (((marks, readings), (turns, aside)), sights) = both(
             tables,
-            Readings::reserve(alloc, nodes),
+            Sights::reserve(alloc, nodes),
         )?;
         Ok(Tables {
             sights,
@@ -78,14 +78,14 @@ impl Tables {
     }
 }
 
-fn reserve_looks(alloc: Global, nodes: u32) -> Result<(Sights, Descriptors), AllocError>
+fn reserve_read(alloc: Global, nodes: u32) -> Result<(Descriptors, Readings), AllocError>
     requires { nodes < 2 ^ 31 }
-    ensures sights { IfOk result (λ both. nodes ≤ both.0.bound) }
-    ensures marks { IfOk result (λ both. nodes ≤ both.1.bound) }
+    ensures marks { IfOk result (λ both. nodes ≤ both.0.bound) }
+    ensures readings { IfOk result (λ both. nodes ≤ both.1.bound) }
 {
-    both(
-        Sights::reserve(alloc, nodes)?,
+    both_of(
         Descriptors::reserve(alloc, nodes),
+        Readings::reserve(alloc, nodes),
     )
 }
 
@@ -93,8 +93,8 @@ fn reserve_kept(alloc: Global, nodes: u32) -> Result<(KeptTurns, Aside), AllocEr
     ensures turns { IfOk result (λ both. nodes ≤ both.0.room) }
     ensures aside { IfOk result (λ both. nodes ≤ both.1.ranks.room) }
 {
-    both(
-        KeptTurns::reserve(alloc, nodes)?,
+    both_of(
+        KeptTurns::reserve(alloc, nodes),
         Aside::reserve(alloc, nodes),
     )
 }

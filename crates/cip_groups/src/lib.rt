@@ -1,10 +1,11 @@
-//! The call that tells of the stereo groups of a single record, in memory of its own, beside those that read groups.
+//! The calls for the stereo groups of a single record: what is told of them, and the groups alone.
 #![tactic(auto)]
 
+mod reading;
 mod telling;
 
 pub use cip_collections::{
     Group, GroupCause, GroupFault, GroupKind, GroupText, Groups, GroupsAnswer, Vertices,
-    read_groups,
 };
+pub use reading::read_groups;
 pub use telling::group_text;

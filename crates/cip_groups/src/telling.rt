@@ -3,9 +3,9 @@ ghost use Rattle.std.specs.Prelude.{◌≡◌, ◌≤◌, ◌<◌, ◌-◌, ◌^
 ghost use Rattle.cip_collections.specs.Texts.{told_of, told_without_items, with_number};
 
 use cip_collections::{GroupText, group_text_within};
-use cip_desk::{Errand, run_once};
 use cip_label::{Digraphs, Labeller};
 use cip_rank::Rules;
+use cip_record::{Errand, run_once};
 use cip_text::RecordLines;
 use std::alloc::{AllocError, Global};
 

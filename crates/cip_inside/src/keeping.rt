@@ -23,7 +23,7 @@ use cip_aux::{FoundTurns, Inner, Whole};
 use cip_branches::SavedRanks;
 use cip_digraph::Nodes;
 use cip_letters::{Asked, MOST_PAIRS};
-use cip_rank::both;
+use cip_rank::{both, both_of};
 use smallvec::SmallVec;
 use std::alloc::{AllocError, Global};
 
@@ -186,16 +186,16 @@ fn taken(
     let looked = both(
         tops,
         SmallVec::<Option<u32>, MOST_LIGANDS>::from_slice(alloc, asked.ligands),
-    )?;
-    let looked = both(
+    );
+    let looked = both_of(
         looked,
         SmallVec::<Asked, MOST_PAIRS>::from_slice(alloc, pairs),
-    )?;
-    let looked = both(looked, SavedRanks::reserve(alloc, near.len()))?;
-    let ((((tops, ligands), pairs), mut ranks), mut branches) = both(
-        looked,
+    );
+    let places = both_of(
+        SavedRanks::reserve(alloc, near.len()),
         kept.blank(alloc, near.room()),
-    )?;
+    );
+    let (((tops, ligands), pairs), (mut ranks, mut branches)) = both_of(looked, places)?;
     near.save(&mut ranks);
     near.swap(&mut branches);
     Ok(OpenLook {

@@ -27,7 +27,7 @@ use cip_branches::{Branches, SavedRanks};
 use cip_digraph::Nodes;
 use cip_letters::Asked;
 use cip_ligands::{Marked, Readings, decide_configuration};
-use cip_rank::both;
+use cip_rank::both_of;
 use cip_rank::marks::{cover, mark_way, take_off};
 use cip_rows::Column;
 use std::alloc::{AllocError, Global};
@@ -67,11 +67,16 @@ impl Near {
         requires { bound < 2 ^ 31 }
         ensures { IfOk result (λ near. near.bound ≡ bound) }
     {
-        let way = Vec::with_capacity(alloc, bound as usize)?;
-        let columns = both(way, Column::reserve(alloc, bound + 1))?;
-        let columns = both(columns, Column::reserve(alloc, bound))?;
-        let columns = both(columns, Branches::reserve(alloc, bound))?;
-        let ((((way, tops), steps), branches), readings) = both(
+        let nodes = both_of(
+            Vec::with_capacity(alloc, bound as usize),
+            Column::reserve(alloc, bound),
+        );
+        let places = both_of(
+            Column::reserve(alloc, bound + 1),
+            Branches::reserve(alloc, bound),
+        );
+        let columns = both_of(nodes, places);
+        let (((way, steps), (tops, branches)), readings) = both_of(
             columns,
             Readings::reserve(alloc, bound),
         )?;

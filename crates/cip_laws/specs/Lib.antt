@@ -22,3 +22,4 @@ pub mod WorkedLabels
 pub mod WorkedNumberings
 pub mod WorkedRecords
 pub mod WorkedRenumbering
+pub mod runs

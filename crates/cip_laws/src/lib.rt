@@ -1,5 +1,6 @@
-//! What another numbering, a mirror and ties do to labels, and to the answers to records; what is read of records; the
-//! tables that definitions and code share, written out once more. No part of the program stands on them.
+//! What another numbering, a mirror and ties do to labels, and to the answers to records; what is read of records; what
+//! runs that are done leave behind; the tables that definitions and code share, written out once more. No part of the
+//! program stands on them.
 #![tactic(auto)]
 
 mod biaryls;
@@ -10,6 +11,7 @@ mod records;
 mod reflection;
 mod renumbering;
 mod rings;
+mod runs;
 mod tables;
 mod ties;
 mod worked;
@@ -32,6 +34,11 @@ pub use renumbering::{
     worked_molecules_are_renumbered, worked_renumbering_is_labelled,
 };
 pub use rings::delocalised_atoms_lie_in_rings;
+pub use runs::{
+    annotating_repeats, items_come_out, parts_add_up, records_come_back, runs_complete,
+    runs_repeat, streams_repeat, worked_records_are_given, worked_streams_are_given,
+    workers_change_nothing,
+};
 pub use tables::{elements_are_written, help_is_written};
 pub use ties::{lone_pairs_tie_with_nothing, ties_are_same_trees};
 pub use worked::{worked_further_is_labelled, worked_records_have_labels};

@@ -1,6 +1,7 @@
 // Made records.
 ghost use Rattle.std.specs.Prelude.{◌≡◌, ◌<◌, ◌≤◌, ◌+◌, ◌-◌, ◌^◌, ◌++◌, IfOk, OnOk, length, string_bytes};
-ghost use Rattle.cip_make.specs.Made.{name_lines, across, chain_atom, chain_atoms, branch_atom, branch_atoms, chain_bonds, branch_bonds, made};
+ghost use Rattle.cip_make.specs.Lines.{counts_line};
+ghost use Rattle.cip_make.specs.Made.{name_lines, across, chain_atom, chain_atoms, branch_atom, branch_atoms, chain_bonds, branch_bonds, record_text, made};
 
 use crate::chain::{Branch, Element, Stereo, branches};
 use crate::lines::{atom_line, bond_line, counts_line};
@@ -26,14 +27,37 @@ fn made(alloc: Global, start: u32, number: u32) -> Result<Vec<u8>, AllocError>
     let chain = 4 + generator.next_word() % 17;
     let branches = branches(alloc, &mut generator, chain)?;
     let mut text = name_lines(alloc, start, number)?.into_bytes();
-    let atoms = chain + branches.len() as u32;
-    text.extend_from_slice(&counts_line(alloc, atoms, atoms - 1)?)?;
-    push_chain_atoms(alloc, &mut text, chain)?;
-    push_branch_atoms(alloc, &mut text, &branches)?;
-    push_chain_bonds(alloc, &mut text, chain - 1)?;
-    push_branch_bonds(alloc, &mut text, chain, &branches)?;
-    text.extend_from_slice(b"M  END\n$$$$\n")?;
+    push_table(alloc, &mut text, chain, &branches)?;
     Ok(text)
+}
+
+// Adds what follows the name lines. Text and branches are lent: seven ends that give them back are long to prove.
+fn push_table(
+    alloc: Global,
+    text: &mut Vec<u8>,
+    chain: u32,
+    branches: &[Branch],
+) -> Result<(), AllocError>
+    requires some { 1 ≤ chain }
+    requires most { chain ≤ 20 }
+    requires few { length branches.now ≤ 20 }
+    ensures { OnOk result (text.new.items ≡ record_text text.old.items chain branches.now) }
+{
+    push_counts(alloc, text, chain + branches.len() as u32)?;
+    push_chain_atoms(alloc, text, chain)?;
+    push_branch_atoms(alloc, text, branches)?;
+    push_chain_bonds(alloc, text, chain - 1)?;
+    push_branch_bonds(alloc, text, chain, branches)?;
+    text.extend_from_slice(b"M  END\n$$$$\n")?;
+    Ok(())
+}
+
+// Adds the counts line of a chain with what it carries: a bond fewer than atoms.
+fn push_counts(alloc: Global, text: &mut Vec<u8>, atoms: u32) -> Result<(), AllocError>
+    requires { 1 ≤ atoms }
+    ensures { OnOk result (text.new.items ≡ text.old.items ++ counts_line atoms (atoms - 1)) }
+{
+    text.extend_from_slice(&counts_line(alloc, atoms, atoms - 1)?)
 }
 
 fn name_lines(alloc: Global, start: u32, number: u32) -> Result<String, AllocError>

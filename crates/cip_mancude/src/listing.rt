@@ -67,16 +67,16 @@ fn set_positions(
     requires below { AreListedBelow alternation.now vertex positions.old }
     ensures { OnOk result (positions.new ≡ slice_set positions.old vertex (positions_at alternation.now vertex)) }
 {
-    if let Some(partner) = alternation.partner(vertex) {
-        set_list(
+    match alternation.partner(vertex) {
+        Some(partner) => set_list(
             alloc,
             alternation,
             Double { vertex, partner },
             reached,
             positions,
-        )?;
+        ),
+        None => Ok(()),
     }
-    Ok(())
 }
 
 // Most vertices don't alternate: what makes a list stands aside, so that passing them over takes few steps.

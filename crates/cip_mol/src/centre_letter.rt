@@ -5,7 +5,7 @@ ghost use Rattle.cip_mol.specs.CentreLetters.{asks_small, descriptor_of};
 use crate::descriptor::Descriptor;
 
 /// A descriptor of a centre: `SmallR` is written r. IUPAC 2013, P-91.
-#[derive(Clone, Copy, Debug, PartialEq, Eq)]
+#[derive(Clone, Copy, PartialEq, Eq)]
 pub enum CentreLetter {
     R,
     S,

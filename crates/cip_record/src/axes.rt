@@ -2,8 +2,8 @@
 ghost use Rattle.std.specs.Prelude.{◌≡◌, ◌≤◌, ◌<◌, ◌-◌, ◌^◌, IfOk, length};
 ghost use Rattle.cip_answer.specs.AxesTexts.{are_axes_flagged, axes_of, axes_without_items, is_flagged_without_items};
 
+use crate::errand::{Errand, run_once};
 use cip_answer::{AxesText, axes_text_within};
-use cip_desk::{Errand, run_once};
 use cip_label::{Digraphs, Labeller};
 use cip_rank::Rules;
 use cip_text::RecordLines;

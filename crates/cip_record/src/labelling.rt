@@ -3,8 +3,8 @@ ghost use Rattle.std.specs.Prelude.{◌≡◌, ◌≤◌, ◌<◌, ◌-◌, ◌^
 ghost use Rattle.cip_print.specs.Values.{HasRoom};
 ghost use Rattle.cip_answer.specs.Answers.{answer_by, answer_without_items};
 
+use crate::errand::{Errand, run_once};
 use cip_answer::label_within;
-use cip_desk::{Errand, run_once};
 use cip_label::{Digraphs, Labeller};
 use cip_print::Answer;
 use cip_rank::Rules;

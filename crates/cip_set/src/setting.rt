@@ -3,10 +3,10 @@ ghost use Rattle.std.specs.Prelude.{◌≡◌, ◌≤◌, ◌<◌, ◌-◌, ◌^
 ghost use Rattle.cip_change.specs.SetAnswers.{set_answer, set_without_items, GivesLetter, IsFew};
 
 use cip_change::{SetAnswer, set_within};
-use cip_desk::{Errand, run_once};
 use cip_label::{Digraphs, Labeller};
 use cip_mol::CentreLetter;
 use cip_rank::Rules;
+use cip_record::{Errand, run_once};
 use cip_text::RecordLines;
 use std::alloc::{AllocError, Global};
 

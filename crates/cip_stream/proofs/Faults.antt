@@ -6,6 +6,7 @@ use Rattle.cip_stream.specs.declared.stop.Stop.{Stop}
 use Rattle.cip_stream.specs.declared.stop.Stop.TheVariants as stops
 use Rattle.cip_stream.specs.declared.verdict.Verdict.{Verdict}
 use Rattle.cip_stream.specs.Halting.{ended_by}
+use Rattle.cip_stream.specs.Verdicts.{joined_result}
 
 pub stays : (count : ℕ) → count ≤ count
 stays count = omega arith
@@ -41,3 +42,9 @@ pub ended_limit : {N P : Type 0} (answered : Result (Verdict N) Stop) → (IsErr
     → IsErrOf (ended_by stops.Limit answered) stops.WriteFault → P
 ended_limit (Ok verdict) fault is = absurd (cc)
 ended_limit (Err stop) fault is = fault is
+
+-- records that were answered before blame nothing
+pub joined_fault : {N P : Type 0} (verdict : Verdict N) (behind : Result (Verdict N) Stop) (stop : Stop)
+    → (IsErrOf behind stop → P) → IsErrOf (joined_result verdict behind) stop → P
+joined_fault verdict (Ok told) stop fault is = absurd (cc)
+joined_fault verdict (Err cause) stop fault is = fault is

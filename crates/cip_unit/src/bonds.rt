@@ -91,9 +91,10 @@ fn push_bond(
             first: end_ligands(sketch.graph, &unit, a),
             second: end_ligands(sketch.graph, &unit, b),
         };
-        push_unit(sketch.molecule, site, units)?;
+        push_unit(sketch.molecule, site, units)
+    } else {
+        Ok(())
     }
-    Ok(())
 }
 
 fn is_bond_unit(

@@ -27,9 +27,10 @@ pub fn push_centre(
     ensures { OnOk result (units.new ≡ units.old ++ units_at molecule.now (centre_sites graph.now atom)) }
 {
     if is_centre(graph, atom) {
-        push_site(molecule, graph, atom, units)?;
+        push_site(molecule, graph, atom, units)
+    } else {
+        Ok(())
     }
-    Ok(())
 }
 
 // Most atoms are no centre: what makes a site stands aside, so that looking for them takes few steps.

@@ -14,6 +14,5 @@ pub fn push_unit(molecule: &Molecule, site: Site, units: &mut Units) -> Result<(
     ensures { OnOk result (units.new ≡ units.old ++ units_at molecule.now (site ∷ [])) }
 {
     let geometry = orient_ends(molecule, &site.ends());
-    units.push(Unit { site, geometry })?;
-    Ok(())
+    units.push(Unit { site, geometry })
 }

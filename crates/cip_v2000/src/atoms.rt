@@ -27,10 +27,18 @@ pub fn atom_in(line: &[u8]) -> Result<AtomLine, ReadCause>
     let x = coordinate_at(line, 1)?;
     let y = coordinate_at(line, 11)?;
     let z = height_at(line, 21)?;
-    let element = number_of(symbol(line)).ok_or(ReadCause::Symbol)?;
-    let difference = mass_difference(line).ok_or(ReadCause::AtomField)?;
-    let code = digit_at(7, line, 37).ok_or(ReadCause::AtomField)?;
-    let valence = digit_at(15, line, 49).ok_or(ReadCause::AtomField)?;
+    let Some(element) = number_of(symbol(line)) else {
+        return Err(ReadCause::Symbol);
+    };
+    let Some(difference) = mass_difference(line) else {
+        return Err(ReadCause::AtomField);
+    };
+    let Some(code) = digit_at(7, line, 37) else {
+        return Err(ReadCause::AtomField);
+    };
+    let Some(valence) = digit_at(15, line, 49) else {
+        return Err(ReadCause::AtomField);
+    };
     let atom = Atom {
         z: element.z,
         isotope: isotope(element, difference),

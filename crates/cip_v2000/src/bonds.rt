@@ -16,10 +16,18 @@ pub fn bond_in(atoms: u32, before: &BondList, line: &[u8]) -> Result<Bond, ReadC
     ensures range { IfOk result IsBond }
     ensures free { IfOk result (IsFree before.now) }
 {
-    let a = place_at(atoms, line, 1).ok_or(ReadCause::BondEnd)?;
-    let b = place_at(atoms, line, 4).ok_or(ReadCause::BondEnd)?;
-    let order = order(digit_at(3, line, 7)).ok_or(ReadCause::BondType)?;
-    let mark = mark(order, digit_at(6, line, 10)).ok_or(ReadCause::BondMark)?;
+    let Some(a) = place_at(atoms, line, 1) else {
+        return Err(ReadCause::BondEnd);
+    };
+    let Some(b) = place_at(atoms, line, 4) else {
+        return Err(ReadCause::BondEnd);
+    };
+    let Some(order) = order(digit_at(3, line, 7)) else {
+        return Err(ReadCause::BondType);
+    };
+    let Some(mark) = mark(order, digit_at(6, line, 10)) else {
+        return Err(ReadCause::BondMark);
+    };
     checked(before, Bond { a, b, order, mark })
 }
 

@@ -23,7 +23,11 @@ pub fn counts_in(line: &[u8]) -> Result<CountsLine, ReadCause>
     if !is_v2000(line) {
         return Err(ReadCause::Version);
     }
-    let atoms = number(999, columns(line, 1, 3)).ok_or(ReadCause::Counts)?;
-    let bonds = number(999, columns(line, 4, 6)).ok_or(ReadCause::Counts)?;
+    let Some(atoms) = number(999, columns(line, 1, 3)) else {
+        return Err(ReadCause::Counts);
+    };
+    let Some(bonds) = number(999, columns(line, 4, 6)) else {
+        return Err(ReadCause::Counts);
+    };
     Ok(CountsLine { atoms, bonds })
 }

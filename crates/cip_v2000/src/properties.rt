@@ -39,7 +39,9 @@ pub fn push_stated(
     let [count, words @ ..] = words.as_slice() else {
         return Err(ReadRefusal::Fault(fault));
     };
-    let last = place_named(8, count).ok_or(fault)?;
+    let Some(last) = place_named(8, count) else {
+        return Err(ReadRefusal::Fault(fault));
+    };
     push_pairs(pairs, fault, property, atoms, last + 1, words)
 }
 

@@ -46,7 +46,9 @@ pub fn atom_in(known: &Indices, text: &[u8]) -> Result<AtomLine, ReadCause>
     ensures value { result ≡ atom_of known.now (words_of text.now) }
     ensures range { IfOk result (IsAtomLine known.now) }
 {
-    let words = atom_words(text).ok_or(ReadCause::Frame)?;
+    let Some(words) = atom_words(text) else {
+        return Err(ReadCause::Frame);
+    };
     let index = new_index(known, words.index)?;
     let atom = atom_by(&words)?;
     Ok(AtomLine { index, atom })
@@ -56,10 +58,18 @@ fn atom_words(text: &[u8]) -> Option<AtomWords<'_>>
     ensures some { IfSome result (AreAtomWords (words_of text.now)) }
     ensures none { IsNone result → nat_lt 5 (length (words_of text.now)) ≡ false }
 {
-    let (index, rest) = next_number(GREATEST, text)?;
-    let (symbol, rest) = next_word(rest)?;
-    let (at, rest) = next_point(rest)?;
-    let (mapping, keys) = next_word(rest)?;
+    let Some((index, rest)) = next_number(GREATEST, text) else {
+        return None;
+    };
+    let Some((symbol, rest)) = next_word(rest) else {
+        return None;
+    };
+    let Some((at, rest)) = next_point(rest) else {
+        return None;
+    };
+    let Some((mapping, keys)) = next_word(rest) else {
+        return None;
+    };
     Some(AtomWords {
         index,
         symbol,
@@ -77,7 +87,9 @@ fn atom_by(words: &AtomWords<'_>) -> Result<Atom, ReadCause>
         (words_of words.now.keys.now) }
     ensures range { IfOk result IsAtom }
 {
-    let element = number_of(words.symbol).ok_or(ReadCause::Symbol)?;
+    let Some(element) = number_of(words.symbol) else {
+        return Err(ReadCause::Symbol);
+    };
     let at = words.at?;
     if !is_number(words.mapping) {
         return Err(ReadCause::KeyValue);

@@ -114,8 +114,8 @@ pub fn has_bond_block(
 pub fn no_bonds(alloc: Global, atoms: &Indices) -> Result<BondBlock, AllocError>
     ensures { IfOk result (HasNoBonds (length atoms.now)) }
 {
-    let indices = Indices::new(alloc);
     let bonds = BondList::new(alloc, atoms.len())?;
+    let indices = Indices::new(alloc);
     Ok(BondBlock { indices, bonds })
 }
 
@@ -218,8 +218,7 @@ fn read_framed(
         joined,
         place + 1 + count as usize,
         FrameLine::EndBonds,
-    )?;
-    Ok(())
+    )
 }
 
 // Reads so many bond lines, from this place on, into a block that has no bonds.

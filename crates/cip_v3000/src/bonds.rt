@@ -45,7 +45,9 @@ pub fn bond_in(
     ensures value { result ≡ bond_of atoms.now known.now before.now.bonds (words_of text.now) }
     ensures range { IfOk result (IsBondLine known.now before.now) }
 {
-    let words = bond_words(text).ok_or(ReadCause::Frame)?;
+    let Some(words) = bond_words(text) else {
+        return Err(ReadCause::Frame);
+    };
     let index = new_index(known, words.index)?;
     let drawn = bond_by(atoms, &words)?;
     let bond = checked(before, drawn)?;
@@ -56,10 +58,18 @@ fn bond_words(text: &[u8]) -> Option<BondWords<'_>>
     ensures some { IfSome result (AreBondWords (words_of text.now)) }
     ensures none { IsNone result → nat_lt 3 (length (words_of text.now)) ≡ false }
 {
-    let (index, rest) = next_number(GREATEST, text)?;
-    let (order, rest) = next_number(3, rest)?;
-    let (a, rest) = next_number(GREATEST, rest)?;
-    let (b, keys) = next_number(GREATEST, rest)?;
+    let Some((index, rest)) = next_number(GREATEST, text) else {
+        return None;
+    };
+    let Some((order, rest)) = next_number(3, rest) else {
+        return None;
+    };
+    let Some((a, rest)) = next_number(GREATEST, rest) else {
+        return None;
+    };
+    let Some((b, keys)) = next_number(GREATEST, rest) else {
+        return None;
+    };
     Some(BondWords {
         index,
         order,
@@ -77,9 +87,15 @@ fn bond_by(atoms: &Indices, words: &BondWords<'_>) -> Result<Bond, ReadCause>
     ensures value { result ≡ bond_by atoms.now words.now.order words.now.a words.now.b (words_of words.now.keys.now) }
     ensures range { IfOk result IsBond }
 {
-    let order = order(words.order).ok_or(ReadCause::BondType)?;
-    let a = place_of(atoms, words.a).ok_or(ReadCause::BondEnd)?;
-    let b = place_of(atoms, words.b).ok_or(ReadCause::BondEnd)?;
+    let Some(order) = order(words.order) else {
+        return Err(ReadCause::BondType);
+    };
+    let Some(a) = place_of(atoms, words.a) else {
+        return Err(ReadCause::BondEnd);
+    };
+    let Some(b) = place_of(atoms, words.b) else {
+        return Err(ReadCause::BondEnd);
+    };
     let mark = mark_in(order, words.keys)?;
     Ok(Bond { a, b, order, mark })
 }
@@ -125,7 +141,9 @@ fn with_mark(order: u8, mark: Mark, word: &[u8]) -> Result<Mark, ReadCause>
     ensures value { result ≡ with_mark order mark word.now }
     ensures range { IfOk result (IsMark order) }
 {
-    let (key, value) = key_and_value(word).ok_or(ReadCause::KeyValue)?;
+    let Some((key, value)) = key_and_value(word) else {
+        return Err(ReadCause::KeyValue);
+    };
     marked(order, mark, key, value)
 }
 

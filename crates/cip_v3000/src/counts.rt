@@ -22,8 +22,12 @@ pub fn counts_in(words: &[&[u8]]) -> Result<CountsLine, ReadCause>
     if !is_counts(words) {
         return Err(ReadCause::Frame);
     }
-    let atoms = count_at(16_384, 1, words).ok_or(ReadCause::Counts)?;
-    let bonds = count_at(32_768, 2, words).ok_or(ReadCause::Counts)?;
+    let Some(atoms) = count_at(16_384, 1, words) else {
+        return Err(ReadCause::Counts);
+    };
+    let Some(bonds) = count_at(32_768, 2, words) else {
+        return Err(ReadCause::Counts);
+    };
     Ok(CountsLine { atoms, bonds })
 }
 

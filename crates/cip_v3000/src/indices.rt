@@ -101,9 +101,8 @@ pub fn new_index(known: &Indices, index: Option<u32>) -> Result<u32, ReadCause>
     ensures value { result ≡ unless_known known.now index }
     ensures fresh { IfOk result (λ index. list_any (nat_eq index) known.now ≡ false) }
 {
-    let index = index.ok_or(ReadCause::Index)?;
-    if index == 0 || known.contains(index) {
-        return Err(ReadCause::Index);
+    match index {
+        Some(index) if index > 0 && !known.contains(index) => Ok(index),
+        _ => Err(ReadCause::Index),
     }
-    Ok(index)
 }

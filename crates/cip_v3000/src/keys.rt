@@ -38,7 +38,9 @@ fn with_key(keys: AtomKeys, word: &[u8]) -> Result<AtomKeys, ReadCause>
     ensures value { result ≡ with_key keys word.now }
     ensures range { IfOk result AreKeys }
 {
-    let (key, value) = key_and_value(word).ok_or(ReadCause::KeyValue)?;
+    let Some((key, value)) = key_and_value(word) else {
+        return Err(ReadCause::KeyValue);
+    };
     with_value(keys, key, value)
 }
 
@@ -50,13 +52,25 @@ fn with_value(keys: AtomKeys, key: &[u8], value: &[u8]) -> Result<AtomKeys, Read
 {
     let mut keys = keys;
     if key == b"CHG".as_slice() {
-        keys.charge = signed_stated(15, 15, value).ok_or(ReadCause::KeyValue)?;
+        let Some(charge) = signed_stated(15, 15, value) else {
+            return Err(ReadCause::KeyValue);
+        };
+        keys.charge = charge;
     } else if key == b"RAD".as_slice() {
-        keys.radical = number_stated(3, value).ok_or(ReadCause::KeyValue)? as u8;
+        let Some(radical) = number_stated(3, value) else {
+            return Err(ReadCause::KeyValue);
+        };
+        keys.radical = radical as u8;
     } else if key == b"MASS".as_slice() {
-        keys.mass = number_stated(400, value).ok_or(ReadCause::KeyValue)? as u16;
+        let Some(mass) = number_stated(400, value) else {
+            return Err(ReadCause::KeyValue);
+        };
+        keys.mass = mass as u16;
     } else if key == b"VAL".as_slice() {
-        keys.valence_mark = valence(signed_stated(1, 14, value).ok_or(ReadCause::KeyValue)?);
+        let Some(stated) = signed_stated(1, 14, value) else {
+            return Err(ReadCause::KeyValue);
+        };
+        keys.valence_mark = valence(stated);
     }
     Ok(keys)
 }

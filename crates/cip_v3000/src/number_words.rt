@@ -46,9 +46,15 @@ pub fn next_point(text: &[u8]) -> Option<(Result<Vec3, ReadCause>, &[u8])>
     ensures some { IfSome result (λ p. HavePoint (words_of text.now) p.0 (words_of p.1.now)) }
     ensures none { IsNone result → nat_lt 2 (length (words_of text.now)) ≡ false }
 {
-    let (x, rest) = next_coordinate(text)?;
-    let (y, rest) = next_coordinate(rest)?;
-    let (z, rest) = next_coordinate(rest)?;
+    let Some((x, rest)) = next_coordinate(text) else {
+        return None;
+    };
+    let Some((y, rest)) = next_coordinate(rest) else {
+        return None;
+    };
+    let Some((z, rest)) = next_coordinate(rest) else {
+        return None;
+    };
     Some((point(x, y, z), rest))
 }
 

@@ -1,9 +1,10 @@
-use Rattle.std.proofs.Common.{◌++◌, ◌∷◌, [], ◌∙◌, ℕ, ap, map, sym, take}
+use Rattle.std.proofs.Common.{◌++◌, ◌∷◌, [], ◌∙◌, ℕ, ap, map, sym, take, arith}
 use Rattle.std.proofs.lemmas.List.{map_more, take_all}
 use Rattle.cip_digraph.specs.graph.Graph.{Graph}
 use Rattle.cip_axis.specs.FurtherOutcomes.{further_outcome}
 use Rattle.cip_answer.specs.FurtherAnswers.{further_answer}
 use Rattle.cip_answer.proofs.UnitLists.{room_left}
+use Rattle.std.proofs.lemmas.Grind.{common_steps}
 use Rattle.cip_answer.proofs.further.label_each.Goals as goal
 
 pub loop-unit-preserved : goal.loop-unit-preserved
@@ -36,3 +37,9 @@ returns-clause-answers g c =
     c.loop-unit.invariant.so_far
     ∙ ap (map (further_answer c.args.setting.now c.args.labeller.now))
     (take_all c.loop-unit.unit-index c.args.units.now c.loop-unit-test.false)
+
+pub returns-in_err-push-clause-kept : goal.returns-in_err-push-clause-kept
+returns-in_err-push-clause-kept g c = grind (arith, common_steps)
+
+pub label_further-requires : goal.label_further-requires
+label_further-requires g c = grind (arith, common_steps)

@@ -1,9 +1,10 @@
-use Rattle.std.proofs.Common.{◌∙◌, ap, map, subst, ◌<◌, ◌≤◌, length}
+use Rattle.std.proofs.Common.{◌∙◌, ap, map, subst, ◌<◌, ◌≤◌, length, arith}
 use Rattle.std.proofs.lemmas.List.{take_all}
 use Rattle.cip_digraph.specs.graph.Graph.{Graph}
 use Rattle.cip_answer.specs.Answers.{unit_answer}
 use Rattle.cip_answer.specs.Images.{AreFound}
 use Rattle.cip_answer.proofs.UnitLists.{few_answers, has_room, next_unit}
+use Rattle.std.proofs.lemmas.Grind.{common_steps}
 use Rattle.cip_answer.proofs.units.label_each.Goals as goal
 
 pub push-requires : goal.push-requires
@@ -53,3 +54,9 @@ returns-clause-few g c =
     (take_all c.loop-place.place setting.units
     (subst (λ units. length units ≤ c.loop-place.place) c.loop-place.invariant.all c.loop-place-test.false)))
     c.requires.few
+
+pub loop-place-init : goal.loop-place-init
+loop-place-init g c = grind (arith, common_steps)
+
+pub returns-in_err-outcome-clause-kept : goal.returns-in_err-outcome-clause-kept
+returns-in_err-outcome-clause-kept g c = grind (arith, common_steps)

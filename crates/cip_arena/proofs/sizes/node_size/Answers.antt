@@ -1,6 +1,7 @@
 use Rattle.std.proofs.Common.{◌≡◌, length, ap, arith}
 use Rattle.cip_digraph.specs.declared.graph.Edge.{Edge}
 use Rattle.cip_arena.proofs.Few.{few_at}
+use Rattle.std.proofs.lemmas.Grind.{common_steps}
 use Rattle.cip_arena.proofs.sizes.node_size.Goals as goal
 
 pub overflow_add-size : goal.overflow_add-size
@@ -27,3 +28,12 @@ returns-clause-small c =
     c.edges_at-edge-items.ensures.value in
     let small = c.loop-edge.invariant.small in
     omega (arith, few, same, small, c.edges_at-edge-items.ensures.range.few_edges, c.loop-edge.auto)
+
+pub returns-clause-size : goal.returns-clause-size
+returns-clause-size c = grind (arith, common_steps)
+
+pub loop-edge-preserved : goal.loop-edge-preserved
+loop-edge-preserved c = grind (arith, common_steps)
+
+pub edge_size-size-requires-clause-earlier : goal.edge_size-size-requires-clause-earlier
+edge_size-size-requires-clause-earlier c = grind (arith, common_steps)

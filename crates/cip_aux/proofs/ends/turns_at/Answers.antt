@@ -32,3 +32,15 @@ returns-clause-turns g c =
     (ready_turns inner node c.requires.ready c.args.ligands.now)
     (subst (λ (ligands : List (Option ℕ)). IfOk c.look.result (AreSeenTurns inner node ligands)) numbers
     c.look.ensures.turns)
+
+pub look-requires-clause-ready : goal.look-requires-clause-ready
+look-requires-clause-ready g c = c.requires.ready
+
+pub look-requires-clause-stands : goal.look-requires-clause-stands
+look-requires-clause-stands g c = c.requires.stands
+
+pub returns-clause-stands : goal.returns-clause-stands
+returns-clause-stands g c = c.look.ensures.stands
+
+pub returns-clause-room : goal.returns-clause-room
+returns-clause-room g c = c.look.ensures.room

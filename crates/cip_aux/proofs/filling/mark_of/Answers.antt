@@ -1,4 +1,4 @@
-use Rattle.std.proofs.Common.{◌≡◌, ◌∙◌, sym, ap, subst, None}
+use Rattle.std.proofs.Common.{◌≡◌, ◌∙◌, sym, ap, subst, None, refl}
 use Rattle.std.specs.declared.option.Option.{Option}
 use Rattle.cip_mol.specs.declared.descriptor.Descriptor.{Descriptor}
 use Rattle.cip_digraph.specs.digraph.NodeList.{told_at}
@@ -51,3 +51,39 @@ returns-clause-mark g c =
     (some_number inner.from (λ h. c.if-node-eq0.false (c.from-node.ensures ∙ h)))
     atom.0 c.requires.below first)
     c.first_letter.ensures.letter
+
+pub first_letter-requires-clause-joined : goal.first_letter-requires-clause-joined
+first_letter-requires-clause-joined g c = c.requires.joined
+
+pub first_letter-requires-clause-kept : goal.first_letter-requires-clause-kept
+first_letter-requires-clause-kept g c = c.requires.kept
+
+pub first_letter-requires-clause-stands : goal.first_letter-requires-clause-stands
+first_letter-requires-clause-stands g c = c.requires.stands
+
+pub returns-clause-stands : goal.returns-clause-stands
+returns-clause-stands g c = c.first_letter.ensures.stands
+
+pub returns-clause-room : goal.returns-clause-room
+returns-clause-room g c = c.first_letter.ensures.room
+
+pub returns-clause-kept_room : goal.returns-clause-kept_room
+returns-clause-kept_room g c = c.first_letter.ensures.kept_room
+
+pub returns-clause-kept : goal.returns-clause-kept
+returns-clause-kept g c = c.first_letter.ensures.kept
+
+pub returns-then-node-eq0-clause-kept_room : goal.returns-then-node-eq0-clause-kept_room
+returns-then-node-eq0-clause-kept_room g c = refl
+
+pub returns-then-node-eq0-clause-kept : goal.returns-then-node-eq0-clause-kept
+returns-then-node-eq0-clause-kept g c = c.requires.kept
+
+pub returns-then-node-eq0-clause-stands : goal.returns-then-node-eq0-clause-stands
+returns-then-node-eq0-clause-stands g c = c.requires.stands
+
+pub returns-in_default-clause-stands : goal.returns-in_default-clause-stands
+returns-in_default-clause-stands g c = c.requires.stands
+
+pub returns-in_default-clause-kept : goal.returns-in_default-clause-kept
+returns-in_default-clause-kept g c = c.requires.kept

@@ -1,4 +1,5 @@
-use Rattle.std.proofs.Common.{rules, ◌<◌, ◌∙◌, refl, subst, length}
+use Rattle.std.proofs.Common.{rules, ◌<◌, ◌∙◌, refl, subst, length, arith}
+use Rattle.std.proofs.lemmas.Grind.{common_steps}
 use Rattle.cip_aux.specs.Marking.{IsUnitLetter}
 use Rattle.cip_aux.specs.UnitsAt.{unit_at}
 use Rattle.cip_letters.proofs.OddTurns.{all_rest}
@@ -80,3 +81,6 @@ returns-in-Some-clause-kept g c = c.unit_letter.ensures.kept
 
 pub returns-in-Some-clause-kept_room : goal.returns-in-Some-clause-kept_room
 returns-in-Some-clause-kept_room g c = c.unit_letter.ensures.kept_room ∙ c.loop-rest.invariant.kept_room
+
+pub returns-clause-letter : goal.returns-clause-letter
+returns-clause-letter g c = grind (arith, common_steps)

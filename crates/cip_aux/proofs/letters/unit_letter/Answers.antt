@@ -20,3 +20,48 @@ returns-in_ok-turns-in-Known-clause-letter g c =
     (known_letter inner inner.from c.requires.ready unit sense here.vertex turns
     (sym (ap (λ (of : units.Unit). of.geometry) same) ∙ c.in-Known.is) c.requires.vertex
     c.in_ok-turns-in-Known.ensures.turns)
+
+pub turns_here-requires-clause-stands : goal.turns_here-requires-clause-stands
+turns_here-requires-clause-stands g c = c.requires.stands
+
+pub turns_here-requires-clause-ready : goal.turns_here-requires-clause-ready
+turns_here-requires-clause-ready g c = c.requires.ready
+
+pub turns_here-requires-clause-vertex : goal.turns_here-requires-clause-vertex
+turns_here-requires-clause-vertex g c = c.requires.vertex
+
+pub turns_here-requires-clause-kept : goal.turns_here-requires-clause-kept
+turns_here-requires-clause-kept g c = c.requires.kept
+
+pub turns_here-requires-clause-joined : goal.turns_here-requires-clause-joined
+turns_here-requires-clause-joined g c = c.requires.joined
+
+pub turns_here-requires-clause-low : goal.turns_here-requires-clause-low
+turns_here-requires-clause-low g c = c.requires.low
+
+pub returns-in_ok-turns-in-Known-clause-kept_room : goal.returns-in_ok-turns-in-Known-clause-kept_room
+returns-in_ok-turns-in-Known-clause-kept_room g c = c.turns_here.ensures.kept_room
+
+pub returns-in_err-turns-in-Known-clause-kept_room : goal.returns-in_err-turns-in-Known-clause-kept_room
+returns-in_err-turns-in-Known-clause-kept_room g c = c.turns_here.ensures.kept_room
+
+pub returns-in_err-turns-in-Known-clause-stands : goal.returns-in_err-turns-in-Known-clause-stands
+returns-in_err-turns-in-Known-clause-stands g c = c.turns_here.ensures.stands
+
+pub returns-in_ok-turns-in-Known-clause-stands : goal.returns-in_ok-turns-in-Known-clause-stands
+returns-in_ok-turns-in-Known-clause-stands g c = c.turns_here.ensures.stands
+
+pub returns-in_err-turns-in-Known-clause-kept : goal.returns-in_err-turns-in-Known-clause-kept
+returns-in_err-turns-in-Known-clause-kept g c = c.turns_here.ensures.kept
+
+pub returns-in_err-turns-in-Known-clause-room : goal.returns-in_err-turns-in-Known-clause-room
+returns-in_err-turns-in-Known-clause-room g c = c.turns_here.ensures.room
+
+pub returns-in_ok-turns-in-Known-clause-kept : goal.returns-in_ok-turns-in-Known-clause-kept
+returns-in_ok-turns-in-Known-clause-kept g c = c.turns_here.ensures.kept
+
+pub returns-in_ok-turns-in-Known-clause-room : goal.returns-in_ok-turns-in-Known-clause-room
+returns-in_ok-turns-in-Known-clause-room g c = c.turns_here.ensures.room
+
+pub returns-in-Unknown-clause-kept : goal.returns-in-Unknown-clause-kept
+returns-in-Unknown-clause-kept g c = c.requires.kept

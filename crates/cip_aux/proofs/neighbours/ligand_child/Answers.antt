@@ -1,4 +1,5 @@
-use Rattle.std.proofs.Common.{◌∙◌, sym, rules}
+use Rattle.std.proofs.Common.{◌∙◌, sym, rules, arith}
+use Rattle.std.proofs.lemmas.Grind.{common_steps}
 use Rattle.cip_digraph.specs.rules.Auxiliary.{stands_for}
 use Rattle.cip_aux.specs.Neighbours.{shape_at}
 use Rattle.cip_aux.proofs.FoundFirst.{first_passed}
@@ -13,3 +14,9 @@ loop-child-preserved g c = record {
       (search rules) (sym c.is_ligand.ensures ∙ c.if-is_ligand.false)
       ∙ c.loop-child.invariant.left;
 }
+
+pub children-first-requires : goal.children-first-requires
+children-first-requires g c = grind (arith, common_steps)
+
+pub loop-child-init : goal.loop-child-init
+loop-child-init g c = grind (arith, common_steps)

@@ -20,3 +20,6 @@ returns-in-None g c =
     ∙ sym (first_behind (λ number. stands_for c.args.vertex (shape_at all number))
     (children_of (parents_of all) c.args.node) (parent_of (parents_of all) c.args.node)
     (sym c.ligand_child.ensures ∙ c.in-None.is))
+
+pub ligand_parent-requires-clause-within : goal.ligand_parent-requires-clause-within
+ligand_parent-requires-clause-within g c = c.requires.within

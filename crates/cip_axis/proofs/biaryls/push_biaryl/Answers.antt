@@ -1,4 +1,5 @@
-use Rattle.std.proofs.Common.{◌≡◌, ◌≤◌, ◌∙◌, ◌∷◌, ◌++◌, [], ap, arith, length, subst, sym, true}
+use Rattle.std.proofs.Common.{◌≡◌, ◌≤◌, ◌∙◌, ◌∷◌, ◌++◌, [], ap, length, subst, sym, true}
+use Rattle.std.proofs.lemmas.Result.{on_ok_weaker}
 use Rattle.cip_mol.specs.Sites.{IsSite}
 use Rattle.cip_digraph.specs.graph.Graph.{edges_at, other_end}
 use Rattle.cip_unit.proofs.Kept.{one_is}
@@ -34,15 +35,17 @@ biaryl_unit-unit-requires-clause-second c =
     let three = (biaryl_parts source.graph.now source.positions.now c.args.a c.args.edge.now is).second.three in
     subst (λ b. length (edges_at source.graph.now b) ≤ 3) (sym c.other_end.ensures) (at_most three)
 
-pub returns-in_ok-push : goal.returns-in_ok-push
-returns-in_ok-push c =
+pub returns-then-branch : goal.returns-then-branch
+returns-then-branch c =
     let source = c.args.source.now in
     let graph = source.graph.now in
     let a = c.args.a in
     let edge = c.args.edge.now in
     let is : is_biaryl graph source.positions.now a edge ≡ true = sym c.in_ok-is_biaryl.ensures ∙ c.if-branch.true in
-    c.in_ok-push.ensures.added
+    on_ok_weaker c.push.result
+    (λ so_far. so_far
     ∙ ap (λ more. c.args.units.now ++ more)
     (ap (λ u. u ∷ []) (c.biaryl_unit-unit.ensures ∙ ap (biaryl_unit source.molecule.now graph a) c.other_end.ensures)
     ∙ one_is (is_biaryl graph source.positions.now a edge)
-    (biaryl_unit source.molecule.now graph a (other_end a edge)) is)
+    (biaryl_unit source.molecule.now graph a (other_end a edge)) is))
+    c.push.ensures.added

@@ -1,9 +1,10 @@
-use Rattle.std.proofs.Common.{◌≡◌, ◌∙◌, List, ap, length, map, subst, sym}
+use Rattle.std.proofs.Common.{◌≡◌, ◌∙◌, List, ap, length, map, subst, sym, arith}
 use Rattle.cip_mol.specs.Bonds.{IsSound}
 use Rattle.cip_mol.specs.Ranges.{IsInRange}
 use Rattle.cip_mol.specs.declared.molecule.Bond.{Bond}
 use Rattle.cip_change.specs.Marking.{marked_to}
 use Rattle.cip_change.proofs.SetSound.{range_marked, sound_marked}
+use Rattle.std.proofs.lemmas.Grind.{common_steps}
 use Rattle.cip_change.proofs.marking.marked.Goals as goal
 
 pub with_bonds-requires : goal.with_bonds-requires
@@ -20,3 +21,6 @@ with_bonds-requires c =
           subst (λ (bonds : List Bond). IsSound (length molecule.atoms) bonds) (sym is)
           (sound_marked c.args.atom c.args.neighbour c.args.mark molecule c.bonds.ensures.sound);
     }
+
+pub returns : goal.returns
+returns c = grind (arith, common_steps)

@@ -1,7 +1,8 @@
-use Rattle.std.proofs.Common.{◌∙◌, ap, false, refl, sym, true}
+use Rattle.std.proofs.Common.{arith, ◌∙◌, ap, false, refl, sym, true}
+use Rattle.std.proofs.lemmas.Grind.{common_steps}
 use Rattle.std.specs.Str.{bytes_eq}
 use Rattle.std.proofs.lemmas.List.{take_rest}
-use Rattle.cip_collections.specs.Names.{racemic_by, relative_by}
+use Rattle.cip_collections.specs.Names.{kind_of, racemic_by, relative_by}
 use Rattle.cip_collections.proofs.KindWords.{named}
 use Rattle.cip_collections.proofs.kinds.kind_of.Goals as goal
 
@@ -33,3 +34,19 @@ returns c =
     (ap (bytes_eq c.args.word.now) (sym c.as_slice.ensures) ∙ sym c.eq.ensures ∙ c.if-eq.false)
     (sym c.starts_with.ensures.value ∙ c.if-starts_with.false)
     (sym c.starts_with-2.ensures.value ∙ c.if-starts_with-2.false)
+
+pub slice_bounds-relative-count : goal.slice_bounds-relative-count
+unfolding kind_of
+slice_bounds-relative-count c = grind (arith, common_steps)
+
+pub slice_bounds-relative-start : goal.slice_bounds-relative-start
+unfolding kind_of
+slice_bounds-relative-start c = grind (arith, common_steps)
+
+pub slice_bounds-racemic-count : goal.slice_bounds-racemic-count
+unfolding kind_of
+slice_bounds-racemic-count c = grind (arith, common_steps)
+
+pub slice_bounds-racemic-start : goal.slice_bounds-racemic-start
+unfolding kind_of
+slice_bounds-racemic-start c = grind (arith, common_steps)

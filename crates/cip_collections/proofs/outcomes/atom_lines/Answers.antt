@@ -1,7 +1,7 @@
-use Rattle.std.proofs.Common.{◌∙◌, ◌<◌, ◌≤◌, ℕ, List, ap, get_or, length, map, subst}
+use Rattle.std.proofs.Common.{◌∙◌, ◌<◌, ◌≤◌, ◌++◌, ℕ, List, ap, get_or, length, map, subst}
 use Rattle.std.proofs.lemmas.List.{take_all}
 use Rattle.cip_collections.specs.Outcomes.{line_of}
-use Rattle.cip_collections.proofs.LinesSoFar.{both_found, line_more}
+use Rattle.cip_collections.proofs.LinesSoFar.{both_found, line_behind}
 use Rattle.cip_collections.proofs.outcomes.atom_lines.Goals as goal
 
 pub loop-atom-preserved : goal.loop-atom-preserved
@@ -14,9 +14,9 @@ loop-atom-preserved g c =
     let outcomes = c.in_ok-outcomes.outcomes in
     record {
       so_far = c.in_ok-push.ensures.items
-          ∙ line_more group.atoms place 0
+          ∙ line_behind c.args.told.now.lines.items group.atoms place 0
           (subst (λ (atoms : List ℕ). place < length atoms) c.as_slice-atom-items.ensures c.loop-atom-test.true)
-          c.loop-atom.lines.items (line_of bound drawn group)
+          c.loop-atom.told.lines.items (line_of bound drawn group)
           (record { kind = group.kind; atom = atom; outcomes = outcomes })
           c.loop-atom.invariant.so_far
           ((λ i. record {
@@ -26,13 +26,14 @@ loop-atom-preserved g c =
                 c.in_ok-outcomes.ensures.both c.loop-atom.invariant.kept c.requires.turned i;
           })
           ∙ ap (λ (atoms : List ℕ). line_of bound drawn group (get_or atoms place 0)) c.as_slice-atom-items.ensures);
-      kept = c.both_at.ensures.kept ∙ c.loop-atom.invariant.kept;
+      kept = c.in_ok-outcomes.ensures.kept ∙ c.loop-atom.invariant.kept;
     }
 
 pub returns : goal.returns
 returns g c = record {
   lines = c.loop-atom.invariant.so_far
-      ∙ ap (map (line_of c.args.labeller.now c.args.centres.now c.args.group.now))
+      ∙ ap (λ (atoms : List ℕ). c.args.told.now.lines.items
+      ++ map (line_of c.args.labeller.now c.args.centres.now c.args.group.now) atoms)
       (take_all c.loop-atom.atom-index c.args.group.now.atoms
       (subst (λ (atoms : List ℕ). length atoms ≤ c.loop-atom.atom-index) c.as_slice-atom-items.ensures
       c.loop-atom-test.false));

@@ -2,8 +2,15 @@ use Rattle.std.proofs.Common.{◌≡◌, ◌∙◌, ℕ, Some, ap, sym, slice_ge
 use Rattle.std.specs.List.{position}
 use Rattle.cip_label.specs.Settings.{Setting, outcome_in}
 use Rattle.cip_collections.specs.Outcomes.{is_centre_at, both_by, outcome_at}
-use Rattle.cip_collections.proofs.PlacedCentres.{found_placed, none_placed, place_stays}
+use Rattle.cip_collections.proofs.PlacedCentres.{found_placed, none_placed, place_stays, place_within}
 use Rattle.cip_collections.proofs.outcomes.both_at.Goals as goal
+
+pub label-requires-2 : goal.label-requires-2
+label-requires-2 g c = record {
+  place = place_within (is_centre_at c.args.atom) c.args.turned.now.units c.in-Some.place (c.in-Some.ensures.value
+      ∙ sym (place_stays c.requires.turned.0 c.args.atom c.args.centres.now.units)
+      ∙ ap (λ (s : Setting). position (is_centre_at c.args.atom) s.units) (sym c.requires.turned.1));
+}
 
 pub returns-in_default-clause-both : goal.returns-in_default-clause-both
 returns-in_default-clause-both g c =

@@ -16,3 +16,6 @@ returns-in-Some-clause-closed c =
     branch_closed s.rules s.graph.now s.positions.now s.units.now c.args.trial.now.arena.now grown.holds grown.some
     grown.sound c.args.ligand.now c.in-Some.top (sym c.in-Some.ensures.number) c.is_closed.result
     c.is_closed.ensures.closed c.is_closed.ensures.opened
+
+pub returns-in-Some-clause-room : goal.returns-in-Some-clause-room
+returns-in-Some-clause-room c = c.is_closed.ensures.room

@@ -1,4 +1,5 @@
 use Rattle.std.proofs.Common.{rules, ◌<◌, ◌∙◌, sym, arith}
+use Rattle.std.proofs.lemmas.Grind.{common_steps}
 use Rattle.cip_constitution.proofs.anew.GoingOn.{each_anew}
 use Rattle.cip_constitution.proofs.candidates.has_candidates.Goals as goal
 
@@ -28,3 +29,9 @@ has_candidate_from-requires-clause-keyed c = c.requires.keyed
 pub has_candidate_from-requires-clause-room : goal.has_candidate_from-requires-clause-room
 has_candidate_from-requires-clause-room c =
     let room = c.requires.room in let kept = c.loop-rest.invariant.room in omega (arith, room, kept)
+
+pub loop-rest-preserved : goal.loop-rest-preserved
+loop-rest-preserved c = grind (arith, common_steps)
+
+pub returns-clause-anew : goal.returns-clause-anew
+returns-clause-anew c = grind (arith, common_steps)

@@ -1,4 +1,5 @@
-use Rattle.std.proofs.Common.{◌≡◌, ◌<◌, ◌+◌, ℕ, Bool, true, false, [], ◌∷◌, ◌++◌, length, sym, ap, ◌∙◌}
+use Rattle.std.proofs.Common.{◌≡◌, ◌<◌, ◌+◌, ℕ, Bool, true, false, [], ◌∷◌, ◌++◌, length, sym, ap, ◌∙◌, arith}
+use Rattle.std.proofs.lemmas.Grind.{common_steps}
 use Rattle.std.proofs.Common.{subst, arith, inl, inr, length-append}
 use Rattle.std.proofs.Math.Seq.{get_or-append_seam}
 use Rattle.std.specs.Prelude.{slice_index_or}
@@ -68,3 +69,6 @@ loop-node-preserved c =
 pub returns-clause-closed : goal.returns-clause-closed
 returns-clause-closed c e node lt under = c.loop-node.invariant.none node
     (omega (arith, lt, c.loop-node-test.false, c.len-node-end.ensures.len)) under
+
+pub is_under_by-is_below-requires-clause-within : goal.is_under_by-is_below-requires-clause-within
+is_under_by-is_below-requires-clause-within c = grind (arith, common_steps)

@@ -1,4 +1,5 @@
 use Rattle.std.proofs.Common.{◌<◌, ◌+◌, ◌-◌, ℕ, List, [], length, arith, sym, subst}
+use Rattle.std.proofs.lemmas.Grind.{common_steps}
 use Rattle.cip_branches.specs.Around.{kids_around}
 use Rattle.cip_branches.specs.Following.{Follows}
 use Rattle.cip_branches.specs.Walking.{kids_left}
@@ -53,3 +54,6 @@ returns-clause-followed c setting grown followed =
     (atoms_of a.nodes) new.layers)
     c.table.ensures c.follow.ensures.walked) c.follow.ensures.followed c.follow.ensures.first c.follow.ensures.last
     c.follow.ensures.chosen
+
+pub follow-requires-clause-keyed : goal.follow-requires-clause-keyed
+follow-requires-clause-keyed c = grind (arith, common_steps)

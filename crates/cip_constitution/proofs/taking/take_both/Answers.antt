@@ -1,4 +1,6 @@
+use Rattle.std.proofs.Common.{sym, subst, length}
 use Rattle.cip_mol.specs.declared.outcome.Rule.TheVariants.{R1b, R2}
+use Rattle.cip_rows.specs.Keys.{AreKeyed}
 use Rattle.cip_constitution.proofs.taking.take_both.Goals as goal
 
 pub returns-clause-taken : goal.returns-clause-taken
@@ -7,3 +9,16 @@ returns-clause-taken c = record {
   distances = c.take_whole.ensures.whole R1b;
   masses = c.take_whole-2.ensures.whole R2;
 }
+
+pub take_whole-requires-2-clause-keyed : goal.take_whole-requires-2-clause-keyed
+take_whole-requires-2-clause-keyed c =
+    subst (AreKeyed (length c.args.arena.now.nodes)) (sym c.take_whole.ensures.kin) c.requires.keyed
+
+pub take_whole-requires-clause-keyed : goal.take_whole-requires-clause-keyed
+take_whole-requires-clause-keyed c = c.requires.keyed
+
+pub take_whole-requires-clause-followed : goal.take_whole-requires-clause-followed
+take_whole-requires-clause-followed c = c.requires.followed
+
+pub returns-clause-saved : goal.returns-clause-saved
+returns-clause-saved c = c.save.ensures.saved

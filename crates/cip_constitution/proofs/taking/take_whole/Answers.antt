@@ -57,3 +57,6 @@ returns-clause-whole g c = λ rule.
       };
       reached = at;
     }
+
+pub next_rule-requires-clause-keyed : goal.next_rule-requires-clause-keyed
+next_rule-requires-clause-keyed g c = c.requires.keyed

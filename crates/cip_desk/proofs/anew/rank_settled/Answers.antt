@@ -1,4 +1,4 @@
-use Rattle.std.proofs.Common.{sym, subst}
+use Rattle.std.proofs.Common.{sym, subst, refl}
 use Rattle.cip_constitution.specs.Settling.{SettledAs}
 use Rattle.cip_label.specs.Standing.{RankedAs}
 use Rattle.cip_label.specs.declared.digraphs.Ranking.TheVariants.{Known}
@@ -47,3 +47,18 @@ returns-in_ok-rank_ordered-in-Ordered-clause-ranking c =
     subst (λ (s : Standing). RankedAs rooted.setting.now rooted.arena.now.bound rooted.root rooted.ligands.now
     (standing_of s) Known) (sym c.in_ok-rank_ordered-in-Ordered.ensures.standing)
     (c.in_ok-rank_ordered-in-Ordered.ensures.told.each rooted.setting.now.units c.args.rooted.now.proper.sites)
+
+pub rank_whole-requires-clause-followed : goal.rank_whole-requires-clause-followed
+rank_whole-requires-clause-followed c = c.requires.followed c.in-Whole.is
+
+pub rank_ordered-requires-clause-noted : goal.rank_ordered-requires-clause-noted
+rank_ordered-requires-clause-noted c = c.requires.noted c.in-Ordered.is
+
+pub returns-in-Whole-clause-ranking : goal.returns-in-Whole-clause-ranking
+returns-in-Whole-clause-ranking c = c.rank_whole.ensures.ranking
+
+pub returns-in-Whole-clause-found : goal.returns-in-Whole-clause-found
+returns-in-Whole-clause-found c = c.rank_whole.ensures.found
+
+pub returns-in_ok-rank_ordered-in-Ordered-clause-work : goal.returns-in_ok-rank_ordered-in-Ordered-clause-work
+returns-in_ok-rank_ordered-in-Ordered-clause-work c = refl

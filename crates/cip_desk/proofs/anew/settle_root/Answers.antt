@@ -1,4 +1,4 @@
-use Rattle.std.proofs.Common.{rules, ◌≡◌, List, ◌<◌, ◌≤◌, ◌+◌, ◌∙◌, ℕ, sym, subst, length, arith}
+use Rattle.std.proofs.Common.{◌≡◌, List, ◌<◌, ◌≤◌, ◌+◌, ◌∙◌, ℕ, sym, subst, length, arith}
 use Rattle.cip_arena.specs.Growth.{Holds}
 use Rattle.cip_constitution.specs.FollowedOut.{AreFollowedOut}
 use Rattle.cip_constitution.specs.Settling.{Setting, SettledAs, cost_of}
@@ -35,10 +35,26 @@ returns-clause-settled g c =
     c.graph-graph.ensures.value c.positions.ensures c.units.ensures.value c.as_slice.ensures.value)
     c.settle.ensures.settled
 
+pub settle-requires-clause-holds : goal.settle-requires-clause-holds
+settle-requires-clause-holds g c = c.start.ensures.holds c.positions.result.now
+
+pub returns-clause-rooted : goal.returns-clause-rooted
+returns-clause-rooted g c =
+    let setting = c.args.told.now.setting.now in
+    let arena = c.settle.new.arena in
+    record {
+      holds = subst (λ (positions : List (List ℕ)). Holds setting.graph positions arena) c.positions.ensures
+          (subst (λ (graph : Graph). Holds graph c.positions.result.now arena) c.graph-graph.ensures.value
+          c.settle.ensures.holds);
+      at = c.settle.ensures.root ∙ c.start.ensures.root;
+      fit = c.requires.fit;
+      fits = c.settle.ensures.fits;
+    }
+
 pub returns-clause-cost : goal.returns-clause-cost
 returns-clause-cost g c =
     let setting = c.args.told.now.setting.now in
-    let holds : Holds setting.graph setting.positions c.settle.new.arena = search rules in
+    let holds = (returns-clause-rooted g c).holds in
     let one = started_one c.graph-graph.result.now setting.positions c.start.new.self
     (c.start.ensures.holds setting.positions) c.start.ensures.sphere in
     rises setting c.args.told.now.ligands.now c.args.told.now.root c.settle.new.arena holds (c.settle.ensures.root ∙ c.start.ensures.root)
@@ -57,7 +73,7 @@ returns-clause-followed g c is =
     let at : arena.root ≡ c.args.told.now.root = c.settle.ensures.root ∙ c.start.ensures.root in
     let settled = subst (SettledAs (settled_by setting c.args.told.now.ligands.now) arena) is (returns-clause-settled g c) in
     let fit = subst (λ (root : ℕ). IsFit setting.graph root c.args.told.now.ligands.now) (sym at) c.requires.fit in
-    let holds : Holds setting.graph setting.positions arena = search rules in
+    let holds = (returns-clause-rooted g c).holds in
     let some = some_spheres setting c.args.told.now.ligands.now arena holds c.graph-graph.ensures.proper.sound fit
     c.settle.ensures.fits settled in
     let work = c.settle.new.work in

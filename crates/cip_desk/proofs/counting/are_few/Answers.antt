@@ -1,4 +1,5 @@
 use Rattle.std.proofs.Common.{◌+◌, ◌∙◌, [], List, flat_map, length, sym, ap, arith}
+use Rattle.std.proofs.lemmas.Grind.{common_steps}
 use Rattle.cip_digraph.specs.declared.graph.Edge.{Edge}
 use Rattle.cip_digraph.specs.digraph.Digraph.{children, edge_children}
 use Rattle.cip_digraph.specs.graph.Graph.{edges_at}
@@ -43,3 +44,6 @@ loop-edge-preserved c =
           let more = c.count_beyond-count.ensures.small in
           omega (arith, few, fits, more);
     }
+
+pub returns : goal.returns
+returns c = grind (arith, common_steps)

@@ -1,4 +1,5 @@
 use Rattle.std.proofs.Common.{◌≡◌, ◌∙◌, List, length, ap, arith}
+use Rattle.std.proofs.lemmas.Grind.{common_steps}
 use Rattle.std.proofs.lemmas.List.{take_all}
 use Rattle.std.specs.List.{sum_by}
 use Rattle.cip_arena.proofs.Few.{few_at}
@@ -43,3 +44,6 @@ returns-clause-count c =
     (omega (arith, c.loop-edge-test.false, c.loop-edge.auto))
     ∙ c.edges_at-edge-items.ensures.value)
     ∙ below_counted root.graph.now root.positions.now c.args.vertex up
+
+pub loop-edge-preserved : goal.loop-edge-preserved
+loop-edge-preserved c = grind (arith, common_steps)

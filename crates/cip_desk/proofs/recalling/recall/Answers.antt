@@ -16,3 +16,14 @@ returns-in_ok-take_named-in-Told-clause-ranking c =
     (subst (λ bound. StandsAnyway kept bound noted c.in-Told.ranking) c.requires.ready.room.arena found)
     (c.in_ok-take_named-in-Told.ensures.natural ∙ c.as_slice.ensures.value)
     (c.in_ok-take_named-in-Told.ensures.turned ∙ c.as_slice.ensures.value)
+
+pub reopen-requires-clause-stands : goal.reopen-requires-clause-stands
+reopen-requires-clause-stands c =
+    let told = c.args.told.now in
+    let bench = c.args.bench.now in
+    let kept = kept_of told.setting.now told.root told.ligands.now in
+    subst (FoundAs kept bench.arena bench.work bench.tables) c.in-Open.is
+    (found_kept bench c.args.found kept c.requires.found c.requires.root c.requires.ready.kept)
+
+pub reopen-requires-clause-fit : goal.reopen-requires-clause-fit
+reopen-requires-clause-fit c = c.requires.fit

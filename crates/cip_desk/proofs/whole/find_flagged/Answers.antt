@@ -49,3 +49,6 @@ returns-clause-marks c =
     (λ are. subst (λ (whole : Whole). AreMarked (sight_of whole) c.args.rooted.now.setting.now.units flags 0 marks)
     c.whole_of-whole.ensures
     (subst (λ (us : List units.Unit). AreMarked (sight_of c.whole_of-whole.result) us flags 0 marks) all are))
+
+pub returns-in_err-units-clause-room : goal.returns-in_err-units-clause-room
+returns-in_err-units-clause-room c = c.requires.room

@@ -1,4 +1,5 @@
-use Rattle.std.proofs.Common.{rules, ◌≡◌, ◌++◌, Bool, List, take, drop, length, ap, ◌∙◌, subst}
+use Rattle.std.proofs.Common.{rules, ◌≡◌, ◌++◌, Bool, List, take, drop, length, ap, ◌∙◌, subst, arith}
+use Rattle.std.proofs.lemmas.Grind.{common_steps}
 use Rattle.std.proofs.Math.Seq.{take-append_seam}
 use Rattle.cip_aux.specs.Marking.{AreMarked}
 use Rattle.cip_aux.specs.Sights.{sight_of}
@@ -22,3 +23,30 @@ returns-clause-marks c =
     (λ are. have_marks setting arena c.requires.rooted.holds work.pairs work.branched work.noted
     c.requires.constituted flags marks c.flag_nodes.ensures.flagged
     (subst (λ (fs : List Bool). AreMarked (sight_of (whole_at setting arena)) setting.units fs 0 marks) wanted are))
+
+pub flag_nodes-requires-clause-len : goal.flag_nodes-requires-clause-len
+flag_nodes-requires-clause-len c = grind (arith, common_steps)
+
+pub find_flagged-found-requires-clause-below : goal.find_flagged-found-requires-clause-below
+find_flagged-found-requires-clause-below c = grind (arith, common_steps)
+
+pub find_flagged-found-requires-clause-settled : goal.find_flagged-found-requires-clause-settled
+find_flagged-found-requires-clause-settled c = c.requires.settled
+
+pub find_flagged-found-requires-clause-room : goal.find_flagged-found-requires-clause-room
+find_flagged-found-requires-clause-room c = c.requires.room
+
+pub find_flagged-found-requires-clause-rooted : goal.find_flagged-found-requires-clause-rooted
+find_flagged-found-requires-clause-rooted c = c.requires.rooted
+
+pub find_flagged-found-requires-clause-turns : goal.find_flagged-found-requires-clause-turns
+find_flagged-found-requires-clause-turns c = c.requires.turns
+
+pub returns-clause-aside : goal.returns-clause-aside
+returns-clause-aside c = c.find_flagged-found.ensures.aside
+
+pub returns-clause-turns : goal.returns-clause-turns
+returns-clause-turns c = c.find_flagged-found.ensures.turns
+
+pub returns-clause-room : goal.returns-clause-room
+returns-clause-room c = c.find_flagged-found.ensures.room

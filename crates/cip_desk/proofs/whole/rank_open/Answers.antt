@@ -4,6 +4,7 @@ use Rattle.cip_label.specs.Standing.{RankedAs}
 use Rattle.cip_label.specs.declared.digraphs.Ranking.TheVariants.{Known}
 use Rattle.cip_desk.specs.Standing.{standing_of}
 use Rattle.cip_desk.proofs.KnownRoots.{late_ranked, on_ok}
+use Rattle.cip_rows.specs.Keys.{AreKeyed}
 use Rattle.cip_desk.proofs.whole.rank_open.Goals as goal
 
 pub returns-clause-ranked : goal.returns-clause-ranked
@@ -20,3 +21,26 @@ returns-clause-ranked c =
     (late_ranked setting ligands arena c.requires.rooted.holds c.args.rooted.now.proper.sound fit
     c.requires.rooted.fits c.requires.settled c.args.work.now c.requires.pairs c.requires.constituted
     c.requires.undone c.find_marks.new.tables.marks.marks c.in_ok-find_marks.ensures.marks standing ordered))
+
+pub configure-requires-clause-keyed : goal.configure-requires-clause-keyed
+configure-requires-clause-keyed c =
+    subst (λ n. AreKeyed n c.args.work.now.branched.layers.kin) (sym c.in_ok-find_marks.ensures.marks.len)
+    c.requires.constituted.keyed
+
+pub returns-clause-pairs : goal.returns-clause-pairs
+returns-clause-pairs c = c.configure.ensures.pairs
+
+pub returns-clause-work : goal.returns-clause-work
+returns-clause-work c = c.configure.ensures.work
+
+pub returns-clause-same : goal.returns-clause-same
+returns-clause-same c = c.configure.ensures.same
+
+pub returns-clause-len : goal.returns-clause-len
+returns-clause-len c = c.configure.ensures.len
+
+pub returns-clause-aside : goal.returns-clause-aside
+returns-clause-aside c = c.find_marks.ensures.aside
+
+pub returns-clause-turns : goal.returns-clause-turns
+returns-clause-turns c = c.find_marks.ensures.turns

@@ -1,4 +1,4 @@
-use Rattle.std.proofs.Common.{◌∙◌, List, length, sym, ap, subst}
+use Rattle.std.proofs.Common.{◌∙◌, List, length, sym, ap, subst, arith}
 use Rattle.cip_rows.specs.Kin.{Kin}
 use Rattle.cip_rows.specs.Keys.{AreKeyed}
 use Rattle.cip_branches.specs.Standing.{node_in, AreKeysOf}
@@ -54,3 +54,36 @@ returns-clause-constituted g c =
 
 pub returns-clause-room : goal.returns-clause-room
 returns-clause-room g c = ap (λ (k : Kin). k.room) c.decide_constitution.ensures.kin ∙ c.follow_all.ensures.room
+
+pub follow_all-requires-clause-within : goal.follow_all-requires-clause-within
+follow_all-requires-clause-within g c = c.requires.within
+
+pub count_steps-requires-clause-few : goal.count_steps-requires-clause-few
+count_steps-requires-clause-few g c = omega (arith, c.requires.room, c.requires.few)
+
+pub count_steps-requires-clause-room : goal.count_steps-requires-clause-room
+count_steps-requires-clause-room g c = c.requires.steps_room
+
+pub returns-clause-steps_room : goal.returns-clause-steps_room
+returns-clause-steps_room g c = c.count_steps.ensures.room
+
+pub returns-clause-all : goal.returns-clause-all
+returns-clause-all g c = c.decide_constitution.ensures.all
+
+pub count_steps-requires-clause-way : goal.count_steps-requires-clause-way
+count_steps-requires-clause-way g c = c.requires.way
+
+pub follow_all-requires-clause-way : goal.follow_all-requires-clause-way
+follow_all-requires-clause-way g c = c.requires.way
+
+pub count_steps-requires-clause-real : goal.count_steps-requires-clause-real
+count_steps-requires-clause-real g c = c.requires.real
+
+pub follow_all-requires-clause-tops : goal.follow_all-requires-clause-tops
+follow_all-requires-clause-tops g c = c.requires.tops
+
+pub follow_all-requires-clause-room : goal.follow_all-requires-clause-room
+follow_all-requires-clause-room g c = c.requires.room
+
+pub follow_all-requires-clause-real : goal.follow_all-requires-clause-real
+follow_all-requires-clause-real g c = c.requires.real

@@ -1,4 +1,5 @@
 use Rattle.std.proofs.Common.{◌≡◌, ◌<◌, ◌+◌, ◌-◌, ℕ, List, length, map, slice_index, arith, ◌∙◌, sym, ap, subst}
+use Rattle.std.proofs.lemmas.Grind.{common_steps}
 use Rattle.cip_branches.specs.Around.{kids_around}
 use Rattle.cip_branches.specs.Following.{Begins, Follows}
 use Rattle.cip_branches.specs.Walking.{kids_left}
@@ -133,3 +134,9 @@ returns-clause-followed g c =
     c.requires.real c.args.way.now c.requires.way.each tops c.loop-keys.branches c.loop-keys.invariant.around
     c.args.asked.now c.loop-keys.asked (by_recursion (AreWithin (length tops)) c.args.asked.now c.requires.within)
     (c.goes_on.ensures.ended c.loop-keys-test.false) c.loop-keys.invariant.noted
+
+pub follow-requires-clause-nodes : goal.follow-requires-clause-nodes
+follow-requires-clause-nodes g c = grind (arith, common_steps)
+
+pub follow-requires-clause-keyed : goal.follow-requires-clause-keyed
+follow-requires-clause-keyed g c = grind (arith, common_steps)

@@ -1,4 +1,4 @@
-use Rattle.std.proofs.Common.{◌≡◌, ◌∙◌, ap, sym, subst, arith, true, Bool, List, length, map}
+use Rattle.std.proofs.Common.{◌≡◌, ◌∙◌, ap, sym, subst, arith, true, Bool, List, length, map, rules}
 use Rattle.cip_digraph.specs.digraph.NodeList.{parents_of}
 use Rattle.std.specs.declared.option.Option.{Option}
 use Rattle.cip_rows.specs.Reserved.{Reserved}
@@ -10,6 +10,8 @@ use Rattle.cip_aux.proofs.Keeping.{none_kept}
 use Rattle.cip_aux.proofs.NodeMarks.{all_marked}
 use Rattle.cip_aux.proofs.Told.{whole_shows}
 use Rattle.cip_inside.proofs.WantedNodes.{all_wanted, on_by, wanted_at}
+use Rattle.cip_inside.specs.OpenLooks.{AreOpen}
+use Rattle.cip_inside.specs.Room.{Room}
 use Rattle.cip_inside.proofs.inside.descriptors_inside.Goals as goal
 
 pub auxiliaries-requires-clause-wanted : goal.auxiliaries-requires-clause-wanted
@@ -44,3 +46,20 @@ returns-clause-marks g c =
     (sym (c.as_slice.ensures.value ∙ c.in_ok-flags.ensures))
     (wanted_at c.len-count.result k (omega (arith, low, count)))) are)
     c.auxiliaries.ensures.marks
+
+pub auxiliaries-requires-clause-stands : goal.auxiliaries-requires-clause-stands
+auxiliaries-requires-clause-stands g c =
+    subst (λ (room : Room). AreOpen room.bound (sight_of c.args.whole.now) room.looks) (sym c.begin.ensures) (record
+    { room = c.requires.room; each = search rules })
+
+pub returns-clause-room : goal.returns-clause-room
+returns-clause-room g c = c.auxiliaries.ensures.room ∙ ap (λ (room : Room). room.bound) c.begin.ensures
+
+pub auxiliaries-requires-clause-sites : goal.auxiliaries-requires-clause-sites
+auxiliaries-requires-clause-sites g c = c.requires.sites
+
+pub auxiliaries-requires-clause-bound : goal.auxiliaries-requires-clause-bound
+auxiliaries-requires-clause-bound g c = c.requires.bound
+
+pub returns-clause-bound : goal.returns-clause-bound
+returns-clause-bound g c = c.auxiliaries.ensures.bound

@@ -1,6 +1,7 @@
-use Rattle.std.proofs.Common.{sym, subst}
+use Rattle.std.proofs.Common.{sym, subst, ap, ◌∙◌, List, length}
 use Rattle.cip_aux.specs.Marking.{AreSeenTurns}
 use Rattle.cip_inside.proofs.SeenTurns.{ordered_seen}
+use Rattle.cip_letters.specs.declared.asked.Asked.{Asked}
 use Rattle.cip_inside.proofs.keeping.configured.Goals as goal
 
 pub returns-clause-turns : goal.returns-clause-turns
@@ -10,3 +11,25 @@ returns-clause-turns g c = λ ligands left.
     (ordered_seen inner c.args.node c.args.near.now.tops left.asked ligands left.tell c.configure.new.pairs
     c.configure.new.turned (λ mark agrees.
     c.configure.ensures.ordered left.asked mark left.within left.constituted left.undone agrees))
+
+pub configure-requires-clause-len : goal.configure-requires-clause-len
+configure-requires-clause-len g c =
+    ap (λ (pairs : List Asked). length pairs) (c.as_mut_slice-others.ensures.value ∙ c.in_ok-turned.ensures.ok)
+
+pub configure-requires-clause-placed : goal.configure-requires-clause-placed
+configure-requires-clause-placed g c = c.requires.placed
+
+pub configure-requires-clause-ready : goal.configure-requires-clause-ready
+configure-requires-clause-ready g c = c.requires.ready
+
+pub configure-requires-clause-room : goal.configure-requires-clause-room
+configure-requires-clause-room g c = c.requires.room
+
+pub configure-requires-clause-tops : goal.configure-requires-clause-tops
+configure-requires-clause-tops g c = c.requires.tops
+
+pub returns-clause-bound : goal.returns-clause-bound
+returns-clause-bound g c = c.configure.ensures.bound
+
+pub returns-clause-same : goal.returns-clause-same
+returns-clause-same g c = c.configure.ensures.same

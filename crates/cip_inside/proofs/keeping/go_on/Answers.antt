@@ -1,4 +1,5 @@
-use Rattle.std.proofs.Common.{◌≤◌, ◌∙◌, length, refl, sym, ap, subst}
+use Rattle.std.proofs.Common.{◌≤◌, ◌∙◌, length, refl, sym, ap, subst, arith}
+use Rattle.std.proofs.lemmas.Grind.{common_steps}
 use Rattle.cip_aux.specs.Sights.{Sight, sight_of}
 use Rattle.cip_digraph.specs.digraph.NodeList.{parents_of}
 use Rattle.cip_ligands.specs.Taking.{AreSame}
@@ -65,3 +66,6 @@ pub returns-clause-near : goal.returns-clause-near
 returns-clause-near g c =
     ap (λ (n : Nearing). n.bound) c.swap.ensures.own ∙ c.configured-found.ensures.bound
     ∙ ap (λ (n : Nearing). n.bound) c.reopen.ensures.near
+
+pub reopen-requires-clause-node : goal.reopen-requires-clause-node
+reopen-requires-clause-node g c = grind (arith, common_steps)

@@ -42,3 +42,15 @@ returns-clause-last g c =
     → (l.node ≡ asked.node) × (l.ligands ≡ asked.ligands.now))) c.in_ok-look.ensures.kept
     (last_is c.push.result c.taken.new.kept c.push.new.self (look_of c.in_ok-look.look) asked.node asked.ligands.now
     c.push.ensures.added c.in_ok-look.ensures.node c.in_ok-look.ensures.ligands)
+
+pub narrowed-requires-clause-left : goal.narrowed-requires-clause-left
+narrowed-requires-clause-left g c = c.requires.left
+
+pub narrowed-requires-clause-real : goal.narrowed-requires-clause-real
+narrowed-requires-clause-real g c = c.requires.real
+
+pub narrowed-requires-clause-tops : goal.narrowed-requires-clause-tops
+narrowed-requires-clause-tops g c = c.requires.tops
+
+pub narrowed-requires-clause-node : goal.narrowed-requires-clause-node
+narrowed-requires-clause-node g c = c.requires.node

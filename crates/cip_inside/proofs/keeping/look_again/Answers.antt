@@ -35,3 +35,6 @@ returns-clause-open g c =
           (All-set open_look (map look_of looks) c.args.place (look_of c.go_on.new.look) c.go_on.ensures.open
           c.requires.open.each);
     }
+
+pub returns-clause-near : goal.returns-clause-near
+returns-clause-near g c = c.go_on.ensures.near

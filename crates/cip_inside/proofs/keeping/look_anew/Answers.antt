@@ -1,9 +1,10 @@
-use Rattle.std.proofs.Common.{◌∙◌, ℕ, List, ap}
+use Rattle.std.proofs.Common.{◌∙◌, ℕ, List, ap, sym, subst, length, ◌≤◌}
 use Rattle.std.specs.declared.option.Option.{Option}
 use Rattle.cip_aux.specs.Sights.{sight_of}
 use Rattle.cip_digraph.specs.digraph.NodeList.{parents_of}
-use Rattle.cip_inside.specs.Near.{Nearing, asked_tops}
+use Rattle.cip_inside.specs.Near.{Nearing, asked_tops, AreTops}
 use Rattle.cip_inside.proofs.Narrowed.{narrowed_open, narrowed_within}
+use Rattle.cip_inside.proofs.AskedTops.{asked_tops_are}
 use Rattle.cip_inside.proofs.keeping.look_anew.Goals as goal
 
 pub constitution-requires-clause-within : goal.constitution-requires-clause-within
@@ -28,3 +29,24 @@ returns-clause-left g c =
     ∙ ap (λ (ls : List (Option ℕ)). asked_tops (parents_of sight.told) ls asked.node) c.requires.chosen)
     c.move_all.ensures c.constitution.new.self.tops c.constitution.new.self.now c.constitution.new.asked
     c.constitution.ensures.tops c.constitution.ensures.constituted
+
+pub returns-clause-bound : goal.returns-clause-bound
+returns-clause-bound g c = c.constitution.ensures.bound ∙ ap (λ (near : Nearing). near.bound) c.begin.ensures
+
+pub constitution-requires-clause-room : goal.constitution-requires-clause-room
+constitution-requires-clause-room g c =
+    subst (λ (near : Nearing). length c.args.whole.now.told ≤ near.bound) (sym c.begin.ensures) c.requires.room
+
+pub constitution-requires-clause-tops : goal.constitution-requires-clause-tops
+constitution-requires-clause-tops g c =
+    subst (λ (near : Nearing). AreTops (parents_of c.args.whole.now.told) c.args.asked.now.node near.tops) (sym
+    c.begin.ensures) (asked_tops_are (parents_of c.args.whole.now.told) c.args.chosen.now c.args.asked.now.node)
+
+pub begin-requires-clause-room : goal.begin-requires-clause-room
+begin-requires-clause-room g c = c.requires.room
+
+pub constitution-requires-clause-real : goal.constitution-requires-clause-real
+constitution-requires-clause-real g c = c.requires.real
+
+pub begin-requires-clause-node : goal.begin-requires-clause-node
+begin-requires-clause-node g c = c.requires.node

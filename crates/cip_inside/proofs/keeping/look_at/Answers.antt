@@ -5,11 +5,13 @@ use Rattle.cip_aux.specs.Sights.{IsReal, Sight}
 use Rattle.cip_letters.specs.declared.asked.Asked.{Asked}
 use Rattle.cip_letters.specs.Asking.{AreWithin}
 use Rattle.cip_inside.specs.Asking.{asked_pairs}
-use Rattle.cip_inside.specs.Near.{AreConstituted}
+use Rattle.cip_inside.specs.Near.{AreConstituted, AreTops}
 use Rattle.cip_inside.specs.OpenLooks.{AreOpen}
 use Rattle.cip_inside.proofs.AskedSides.{pairs_within}
 use Rattle.cip_inside.proofs.SeenTurns.{decided_seen, lone_seen}
 use Rattle.cip_inside.proofs.Narrowed.{constituted_left}
+use Rattle.cip_inside.proofs.AskedTops.{asked_tops_are}
+use Rattle.cip_digraph.specs.digraph.NodeList.{parents_of}
 use Rattle.cip_inside.proofs.keeping.look_at.Goals as goal
 
 pub returns-then-is_empty-clause-turns : goal.returns-then-is_empty-clause-turns
@@ -84,3 +86,17 @@ returns-clause-turns g c = c.look_on.ensures.turns
 
 pub returns-clause-near : goal.returns-clause-near
 returns-clause-near g c = c.look_on.ensures.near ∙ c.constitution.ensures.bound
+
+pub constitution-requires-clause-tops : goal.constitution-requires-clause-tops
+constitution-requires-clause-tops g c =
+    let asked = c.args.asked.now in
+    let parents = parents_of c.args.inner.now.sight.told in
+    subst (λ (s : Sight). AreTops (parents_of s.told) asked.node c.args.near.now.tops) (sym c.whole.ensures)
+    (subst (AreTops parents asked.node) (sym c.requires.tops)
+    (asked_tops_are parents asked.ligands.now asked.node))
+
+pub returns-then-constitution-clause-open : goal.returns-then-constitution-clause-open
+returns-then-constitution-clause-open g c = c.requires.open
+
+pub look_on-requires-clause-ready : goal.look_on-requires-clause-ready
+look_on-requires-clause-ready g c = c.requires.ready

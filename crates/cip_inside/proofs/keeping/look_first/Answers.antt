@@ -1,4 +1,5 @@
-use Rattle.std.proofs.Common.{◌≤◌, ◌∙◌, length, sym, ap, subst}
+use Rattle.std.proofs.Common.{◌≤◌, ◌∙◌, length, sym, ap, subst, arith}
+use Rattle.std.proofs.lemmas.Grind.{common_steps}
 use Rattle.cip_aux.specs.Sights.{Sight}
 use Rattle.cip_digraph.specs.digraph.NodeList.{parents_of}
 use Rattle.cip_inside.specs.Near.{Nearing, asked_tops}
@@ -36,3 +37,12 @@ returns-clause-open g c =
 
 pub returns-clause-near : goal.returns-clause-near
 returns-clause-near g c = c.look_at-found.ensures.near ∙ ap (λ (n : Nearing). n.bound) c.begin.ensures
+
+pub begin-requires-clause-node : goal.begin-requires-clause-node
+begin-requires-clause-node g c = grind (arith, common_steps)
+
+pub look_at-found-requires-clause-next : goal.look_at-found-requires-clause-next
+look_at-found-requires-clause-next g c = c.requires.next
+
+pub look_at-found-requires-clause-ready : goal.look_at-found-requires-clause-ready
+look_at-found-requires-clause-ready g c = c.requires.ready

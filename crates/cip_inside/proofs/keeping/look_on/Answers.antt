@@ -1,4 +1,5 @@
 use Rattle.std.proofs.Common.{◌≡◌, ◌∙◌, ℕ, List, IfOk, sym, ap, subst, arith}
+use Rattle.std.proofs.lemmas.Grind.{common_steps}
 use Rattle.std.specs.Prelude.{Some, slice_get}
 use Rattle.std.specs.declared.option.Option.{Option}
 use Rattle.cip_aux.specs.Inner.{Ready}
@@ -92,3 +93,9 @@ returns-in_err-keep-clause-near g c = c.in_err-keep.ensures.near
 
 pub returns-clause-near : goal.returns-clause-near
 returns-clause-near g c = c.go_on.ensures.near ∙ c.in_ok-keep.ensures.near
+
+pub keep-requires-clause-node : goal.keep-requires-clause-node
+keep-requires-clause-node g c = grind (arith, common_steps)
+
+pub go_on-requires-clause-place : goal.go_on-requires-clause-place
+go_on-requires-clause-place g c = omega (arith, c.len-place.ensures, c.in_ok-keep.ensures.more)

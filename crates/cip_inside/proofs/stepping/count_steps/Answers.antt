@@ -1,4 +1,5 @@
 use Rattle.std.proofs.Common.{◌≡◌, ◌+◌, ◌++◌, ◌∷◌, [], ◌∙◌, ℕ, List, length, sym, ap, subst, arith}
+use Rattle.std.proofs.lemmas.Grind.{common_steps}
 use Rattle.cip_rows.specs.Reserved.{Reserved}
 use Rattle.cip_aux.specs.Sights.{IsReal, path_at, sight_of}
 use Rattle.cip_digraph.specs.digraph.View.{apart}
@@ -56,3 +57,9 @@ returns-clause-known g c = c.loop.invariant.known
 
 pub returns-clause-room : goal.returns-clause-room
 returns-clause-room g c = c.loop.invariant.room
+
+pub next_steps-next-requires-clause-within : goal.next_steps-next-requires-clause-within
+next_steps-next-requires-clause-within g c = grind (arith, common_steps)
+
+pub push-requires : goal.push-requires
+push-requires g c = grind (arith, common_steps)

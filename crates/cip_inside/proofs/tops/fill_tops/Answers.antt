@@ -68,3 +68,6 @@ returns-then-node-gt0 c =
     ∙ ap (λ (ns : List ℕ). filled (filter test ns ++ filter test (parent ∷ [])) c.args.tops.now) kids
     ∙ ap (λ (ns : List ℕ). filled ns c.args.tops.now) (with_parent test parents (children_of parents c.args.node)
     c.args.node parent c.if-node-gt0.true c.parent_of.ensures.parent)
+
+pub parent_of-requires-clause-node : goal.parent_of-requires-clause-node
+parent_of-requires-clause-node c = c.requires.node

@@ -1,9 +1,10 @@
-use Rattle.std.proofs.Common.{◌≡◌, IfOk, subst}
+use Rattle.std.proofs.Common.{◌≡◌, IfOk, subst, arith}
 use Rattle.cip_digraph.specs.units.Ends.{ends_of}
 use Rattle.cip_label.specs.Settings.{known_in}
 use Rattle.cip_label.specs.Steps.{Rises}
 use Rattle.cip_label.proofs.StepsRise.{known_rises, unknown_rises}
 use Rattle.cip_label.proofs.UnitOutcomes.{known_at, unknown_at}
+use Rattle.std.proofs.lemmas.Grind.{common_steps}
 use Rattle.cip_label.proofs.labels.label.Goals as goal
 
 pub returns-in-Unknown-clause-outcome : goal.returns-in-Unknown-clause-outcome
@@ -34,3 +35,6 @@ returns-in-Known-clause-cost g c = λ u at.
     c.label_ends.new.steps c.unit-unit.ensures.at c.in-Known.is at
     (subst (λ site. Rises c.args.setting.now bound (ends_of site) c.args.steps.now c.label_ends.new.steps)
     c.ends.ensures.site c.label_ends.ensures.cost)
+
+pub label_ends-requires-clause-fit : goal.label_ends-requires-clause-fit
+label_ends-requires-clause-fit g c = grind (arith, common_steps)

@@ -1,10 +1,11 @@
-use Rattle.std.proofs.Common.{◌∙◌, ◌∷◌, [], ap}
+use Rattle.std.proofs.Common.{◌∙◌, ◌∷◌, [], ap, arith}
 use Rattle.cip_mol.specs.Ends.{as_site}
 use Rattle.cip_letters.specs.LentEnds.{as_end}
 use Rattle.cip_label.specs.Labelling.{of_one}
 use Rattle.cip_label.proofs.KnownOutcomes.{are_ranked, fit_together, known_by_one, known_by_two}
 use Rattle.cip_label.proofs.SiteEnds.{few_together, first_fit, one_end, second_fit, two_ends}
 use Rattle.cip_label.proofs.StepsRise.{both, in_site, one_of_two}
+use Rattle.std.proofs.lemmas.Grind.{common_steps}
 use Rattle.cip_label.proofs.labels.label_ends.Goals as goal
 
 pub rank_root-requires-clause-fit : goal.rank_root-requires-clause-fit
@@ -82,3 +83,6 @@ returns-in_ok-far-in-Two-clause-cost g c =
     (as_end c.in-Two.two.near) (as_end c.in-Two.two.far) (two_ends _ _ c.in-Two.two c.in-Two.is)
     c.args.steps.now c.rank_root-in-Two.new.steps c.rank_behind.new.steps _ c.rank_root-in-Two.ensures.kept
     c.rank_root-in-Two.ensures.cost c.rank_behind.ensures.cost
+
+pub returns-in_ok-far-in-Two-clause-kept : goal.returns-in_ok-far-in-Two-clause-kept
+returns-in_ok-far-in-Two-clause-kept g c = grind (arith, common_steps)

@@ -71,3 +71,9 @@ returns-clause-kin g c =
 
 pub returns-clause-room : goal.returns-clause-room
 returns-clause-room g c = ap (λ (s : Saved). s.room) c.save.ensures.saved
+
+pub take_rule-requires-clause-keyed : goal.take_rule-requires-clause-keyed
+take_rule-requires-clause-keyed g c = c.requires.keyed
+
+pub take_rule-requires-clause-followed : goal.take_rule-requires-clause-followed
+take_rule-requires-clause-followed g c = c.requires.followed

@@ -27,3 +27,6 @@ returns-clause-found g c =
           ∙ none_asked (decided_by seen true R4b (node_in (g.M.NodeMarks.named marks) from)) c.args.asked.now
           (subst (λ n. AllByRecursion (AreWithin n) c.args.asked.now) no_branch r.within)
     ]
+
+pub take_both-requires-clause-keyed : goal.take_both-requires-clause-keyed
+take_both-requires-clause-keyed g c = c.requires.keyed

@@ -25,3 +25,9 @@ returns-clause-stands g c undone =
     stands_after (g.K.NodeKeys.children keys) (g.K.NodeKeys.named keys) (g.K.NodeKeys.earlier keys) r.total
     (g.K.NodeKeys.node_key keys) begin r.stands r.ended (g.K.Keyed.key keys) r.same c.args.rule c.args.asked.now
     c.take_rule.new.asked c.take_rule.new.branches taken begin.last (omega arith) reached
+
+pub take_rule-requires-clause-keyed : goal.take_rule-requires-clause-keyed
+take_rule-requires-clause-keyed g c = c.requires.keyed
+
+pub returns-clause-followed : goal.returns-clause-followed
+returns-clause-followed g c = c.take_rule.ensures.followed

@@ -1,7 +1,9 @@
-use Rattle.std.proofs.Common.{[], ◌∷◌, refl, sym, ◌∙◌}
+use Rattle.std.proofs.Common.{[], ◌∷◌, refl, sym, ◌∙◌, subst, length, ◌≤◌}
 use Rattle.cip_mol.specs.declared.outcome.Rule.TheVariants.{R3, R4b, R4c, R5}
 use Rattle.cip_ligands.proofs.ConfigurationDecided.{decides_more, decides_early}
 use Rattle.cip_ligands.proofs.TakenSteps.{fewer_still, same_then}
+use Rattle.cip_rows.specs.Keys.{AreKeyed}
+use Rattle.cip_rows.specs.Kin.{Kin}
 use Rattle.cip_ligands.proofs.configuration.decide_before_last.Goals as goal
 
 pub returns-then-decide_before_readings-clause-decided : goal.returns-then-decide_before_readings-clause-decided
@@ -28,3 +30,25 @@ pub returns-clause-same : goal.returns-clause-same
 returns-clause-same g c =
     same_then c.args.branches.now c.decide_before_readings.new.branches c.decide_from_readings.new.branches
     c.decide_before_readings.ensures.same c.decide_from_readings.ensures.same
+
+pub decide_from_readings-requires-clause-room : goal.decide_from_readings-requires-clause-room
+decide_from_readings-requires-clause-room g c =
+    subst (λ (kin : Kin). length kin.ups ≤ c.args.readings.now.bound) (sym c.decide_before_readings.ensures.kin)
+    c.requires.room
+
+pub decide_from_readings-requires-clause-keyed : goal.decide_from_readings-requires-clause-keyed
+decide_from_readings-requires-clause-keyed g c =
+    subst (AreKeyed (length (g.M.Marked.marks c.args.marks.now))) (sym c.decide_before_readings.ensures.kin)
+    c.requires.keyed
+
+pub decide_before_readings-requires-clause-keyed : goal.decide_before_readings-requires-clause-keyed
+decide_before_readings-requires-clause-keyed g c = c.requires.keyed
+
+pub returns-clause-bound : goal.returns-clause-bound
+returns-clause-bound g c = c.decide_from_readings.ensures.bound
+
+pub returns-clause-all : goal.returns-clause-all
+returns-clause-all g c = c.decide_from_readings.ensures.all
+
+pub returns-clause-followed : goal.returns-clause-followed
+returns-clause-followed g c = c.decide_from_readings.ensures.followed

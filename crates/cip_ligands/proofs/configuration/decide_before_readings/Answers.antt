@@ -1,7 +1,8 @@
-use Rattle.std.proofs.Common.{true, [], ◌∷◌, refl, sym, ◌∙◌}
+use Rattle.std.proofs.Common.{true, [], ◌∷◌, refl, sym, ◌∙◌, subst, length}
 use Rattle.cip_mol.specs.declared.outcome.Rule.TheVariants.{R3, R4a, R4b}
 use Rattle.cip_ligands.proofs.ConfigurationDecided.{decides_one, decides_more, decides_early}
 use Rattle.cip_ligands.proofs.TakenSteps.{fewer_still, same_marked, same_then}
+use Rattle.cip_rows.specs.Keys.{AreKeyed}
 use Rattle.cip_ligands.proofs.configuration.decide_before_readings.Goals as goal
 
 pub returns-then-take_marked-clause-decided : goal.returns-then-take_marked-clause-decided
@@ -49,3 +50,19 @@ returns-clause-same g c =
     (same_marked marks true R3 c.args.branches.now c.args.asked.now mid c.take_marked.new.asked
     c.take_marked.ensures.taken)
     (same_marked marks true R4a mid c.take_marked.new.asked now c.take_marked-2.new.asked c.take_marked-2.ensures.taken)
+
+pub take_marked-requires-2-clause-keyed : goal.take_marked-requires-2-clause-keyed
+take_marked-requires-2-clause-keyed g c =
+    subst (AreKeyed (length (g.M.Marked.marks c.args.marks.now))) (sym c.take_marked.ensures.kin) c.requires.keyed
+
+pub take_marked-requires-clause-keyed : goal.take_marked-requires-clause-keyed
+take_marked-requires-clause-keyed g c = c.requires.keyed
+
+pub returns-then-take_marked-clause-kin : goal.returns-then-take_marked-clause-kin
+returns-then-take_marked-clause-kin g c = c.take_marked.ensures.kin
+
+pub returns-then-take_marked-clause-followed : goal.returns-then-take_marked-clause-followed
+returns-then-take_marked-clause-followed g c = c.take_marked.ensures.followed
+
+pub returns-then-take_marked-clause-wanted : goal.returns-then-take_marked-clause-wanted
+returns-then-take_marked-clause-wanted g c = c.take_marked.ensures.wanted

@@ -20,3 +20,27 @@ returns-clause-decided g c seen named node count begin within before known =
 
 pub returns-then-are_unmarked-clause-same : goal.returns-then-are_unmarked-clause-same
 returns-then-are_unmarked-clause-same g c = same_still c.args.branches.now
+
+pub decide_marked-requires-clause-keyed : goal.decide_marked-requires-clause-keyed
+decide_marked-requires-clause-keyed g c = c.requires.keyed
+
+pub decide_marked-requires-clause-len : goal.decide_marked-requires-clause-len
+decide_marked-requires-clause-len g c = c.requires.len
+
+pub are_unmarked-requires-clause-keyed : goal.are_unmarked-requires-clause-keyed
+are_unmarked-requires-clause-keyed g c = c.requires.keyed
+
+pub decide_marked-requires-clause-followed : goal.decide_marked-requires-clause-followed
+decide_marked-requires-clause-followed g c = c.requires.followed
+
+pub decide_marked-requires-clause-room : goal.decide_marked-requires-clause-room
+decide_marked-requires-clause-room g c = c.requires.room
+
+pub returns-clause-kin : goal.returns-clause-kin
+returns-clause-kin g c = c.decide_marked.ensures.kin
+
+pub returns-clause-bound : goal.returns-clause-bound
+returns-clause-bound g c = c.decide_marked.ensures.bound
+
+pub returns-clause-same : goal.returns-clause-same
+returns-clause-same g c = c.decide_marked.ensures.same

@@ -30,3 +30,30 @@ pub returns-clause-same : goal.returns-clause-same
 returns-clause-same g c =
     same_marked (g.M.Marked.marks c.args.marks.now) true R4c c.args.branches.now c.decide_by_readings.new.asked
     c.take_marked.new.branches c.take_marked.new.asked c.take_marked.ensures.taken
+
+pub take_marked-requires-clause-keyed : goal.take_marked-requires-clause-keyed
+take_marked-requires-clause-keyed g c = c.requires.keyed
+
+pub decide_by_readings-requires-clause-keyed : goal.decide_by_readings-requires-clause-keyed
+decide_by_readings-requires-clause-keyed g c = c.requires.keyed
+
+pub take_marked-requires-clause-followed : goal.take_marked-requires-clause-followed
+take_marked-requires-clause-followed g c = c.requires.followed
+
+pub returns-clause-wanted : goal.returns-clause-wanted
+returns-clause-wanted g c = c.take_marked.ensures.wanted
+
+pub returns-clause-bound : goal.returns-clause-bound
+returns-clause-bound g c = c.decide_by_readings.ensures.bound
+
+pub returns-clause-kin : goal.returns-clause-kin
+returns-clause-kin g c = c.take_marked.ensures.kin
+
+pub returns-clause-followed : goal.returns-clause-followed
+returns-clause-followed g c = c.take_marked.ensures.followed
+
+pub returns-then-decide_by_readings-clause-bound : goal.returns-then-decide_by_readings-clause-bound
+returns-then-decide_by_readings-clause-bound g c = c.decide_by_readings.ensures.bound
+
+pub returns-clause-all : goal.returns-clause-all
+returns-clause-all g c = c.take_marked.ensures.all

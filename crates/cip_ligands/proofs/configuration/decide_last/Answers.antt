@@ -78,3 +78,6 @@ returns-clause-kin g c = c.take_both_ways.ensures.kin
 
 pub returns-clause-bound : goal.returns-clause-bound
 returns-clause-bound g c = ap (λ (r : Readied). r.bound) c.readings.view_is
+
+pub some_count-requires-clause-keyed : goal.some_count-requires-clause-keyed
+some_count-requires-clause-keyed g c = c.requires.keyed

@@ -1,7 +1,9 @@
-use Rattle.std.proofs.Common.{true, false, sym, ◌∙◌}
+use Rattle.std.proofs.Common.{true, false, sym, ◌∙◌, subst, length, ◌≤◌}
 use Rattle.cip_ligands.proofs.ConfigurationDecided.{last_decides, decided_before}
 use Rattle.cip_ligands.proofs.MarkedPlaces.{marks_stay}
 use Rattle.cip_ligands.proofs.TakenSteps.{same_then}
+use Rattle.cip_rows.specs.Keys.{AreKeyed}
+use Rattle.cip_rows.specs.Kin.{Kin}
 use Rattle.cip_ligands.proofs.configuration.decide_marked.Goals as goal
 
 pub returns-then-decide_before_last-clause-decided : goal.returns-then-decide_before_last-clause-decided
@@ -40,3 +42,17 @@ pub returns-clause-same : goal.returns-clause-same
 returns-clause-same g c =
     same_then c.args.branches.now c.decide_before_last.new.branches c.decide_last.new.branches
     c.decide_before_last.ensures.same c.decide_last.ensures.same
+
+pub decide_last-requires-clause-room : goal.decide_last-requires-clause-room
+decide_last-requires-clause-room g c =
+    let before = c.decide_before_last.ensures in
+    subst (λ n. length c.decide_before_last.new.branches.layers.kin.ups ≤ n) (sym before.bound)
+    (subst (λ (kin : Kin). length kin.ups ≤ c.args.readings.now.bound) (sym before.kin) c.requires.room)
+
+pub decide_last-requires-clause-keyed : goal.decide_last-requires-clause-keyed
+decide_last-requires-clause-keyed g c =
+    subst (AreKeyed (length (g.M.Marked.marks c.args.marks.now))) (sym c.decide_before_last.ensures.kin)
+    c.requires.keyed
+
+pub decide_before_last-requires-clause-keyed : goal.decide_before_last-requires-clause-keyed
+decide_before_last-requires-clause-keyed g c = c.requires.keyed

@@ -1,8 +1,9 @@
-use Rattle.std.proofs.Common.{true, [], ◌∷◌, refl, sym, ◌∙◌}
+use Rattle.std.proofs.Common.{true, [], ◌∷◌, refl, sym, ◌∙◌, subst}
 use Rattle.cip_mol.specs.declared.outcome.Rule.TheVariants.{R1a, R1b, R2, R3}
 use Rattle.cip_ligands.proofs.RulesGoOn.{keys_stay}
 use Rattle.cip_ligands.proofs.RulesReady.{ready_next, ready_early}
 use Rattle.cip_ligands.proofs.TakenSteps.{fewer_still}
+use Rattle.cip_rows.specs.Keys.{AreKeyed}
 use Rattle.cip_ligands.proofs.constitution.decide_constitution.Goals as goal
 
 pub returns-then-take_rule-clause-decided : goal.returns-then-take_rule-clause-decided
@@ -33,3 +34,16 @@ returns-clause-decided g c seen named node count begin within before apart heavy
 pub returns-clause-wanted : goal.returns-clause-wanted
 returns-clause-wanted g c = fewer_still c.args.branches.now c.take_rule.new.branches c.take_rule-2.new.branches
     c.take_rule.ensures.wanted c.take_rule-2.ensures.wanted
+
+pub take_rule-requires-2-clause-keyed : goal.take_rule-requires-2-clause-keyed
+take_rule-requires-2-clause-keyed g c =
+    subst (AreKeyed (g.M.Keyed.nodes c.args.masses.now)) (sym c.take_rule.ensures.kin) c.requires.masses_keyed
+
+pub returns-then-take_rule-clause-wanted : goal.returns-then-take_rule-clause-wanted
+returns-then-take_rule-clause-wanted g c = c.take_rule.ensures.wanted
+
+pub returns-then-take_rule-clause-followed : goal.returns-then-take_rule-clause-followed
+returns-then-take_rule-clause-followed g c = c.take_rule.ensures.followed
+
+pub returns-then-take_rule-clause-kin : goal.returns-then-take_rule-clause-kin
+returns-then-take_rule-clause-kin g c = c.take_rule.ensures.kin

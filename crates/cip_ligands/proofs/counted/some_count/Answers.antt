@@ -31,3 +31,6 @@ returns-clause-none g c = λ no. record {
       let done = c.loop-place-test.false in
       c.loop-place.invariant place (omega (arith, lt, done)) p.chosen;
 }
+
+pub is_counted-requires-clause-keyed : goal.is_counted-requires-clause-keyed
+is_counted-requires-clause-keyed g c = c.requires.keyed

@@ -1,4 +1,5 @@
 use Rattle.std.proofs.Common.{ap, ◌∙◌, arith}
+use Rattle.std.proofs.lemmas.Grind.{common_steps}
 use Rattle.std.specs.List.{slice_set}
 use Rattle.cip_letters.specs.Asking.{found_between, with_found}
 use Rattle.cip_ligands.proofs.Noted.{mapped_more}
@@ -9,3 +10,6 @@ loop-one-preserved c =
     ap (slice_set c.loop-one.asked c.loop-one.one-index) c.noted.ensures
     ∙ mapped_more (with_found (found_between c.args.branches.now.layers.ranked.numbers c.args.rule c.args.depth))
     c.args.asked.now c.loop-one.asked c.loop-one.one-index _ c.loop-one.invariant (omega arith)
+
+pub returns : goal.returns
+returns c = grind (arith, common_steps)

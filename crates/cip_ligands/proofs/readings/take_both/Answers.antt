@@ -47,3 +47,9 @@ returns-clause-tops g c = c.branch_count-branches.ensures.tops
 
 pub returns-clause-bound : goal.returns-clause-bound
 returns-clause-bound g c = ap (λ (r : Readied). r.bound) c.readings.view_is
+
+pub write_values-requires-clause-keyed : goal.write_values-requires-clause-keyed
+write_values-requires-clause-keyed g c = c.requires.keyed
+
+pub take_with-requires-clause-followed : goal.take_with-requires-clause-followed
+take_with-requires-clause-followed g c = c.requires.followed

@@ -50,3 +50,18 @@ returns-clause-found g c seen named node count begin rules within before marked 
           ∙ none_asked (decided_by seen true R4b node) asked
           (subst (λ n. AllByRecursion (AreWithin n) asked) no_branch all)
     ]
+
+pub take_both-requires-clause-keyed : goal.take_both-requires-clause-keyed
+take_both-requires-clause-keyed g c = c.requires.keyed
+
+pub take_both-requires-clause-followed : goal.take_both-requires-clause-followed
+take_both-requires-clause-followed g c = c.requires.followed
+
+pub some_count-requires-clause-keyed : goal.some_count-requires-clause-keyed
+some_count-requires-clause-keyed g c = c.requires.keyed
+
+pub take_both-requires-clause-room : goal.take_both-requires-clause-room
+take_both-requires-clause-room g c = c.requires.room
+
+pub returns-clause-bound : goal.returns-clause-bound
+returns-clause-bound g c = c.take_both.ensures.bound

@@ -59,3 +59,6 @@ returns-clause-taken g c =
       compared = subst (λ (all : List Asked). ComparesReadings from (twins_of twins.layers.kin.room from) keys all
           c.args.asked.now c.take_pairs.new.asked) c.as_slice.ensures c.take_pairs.ensures.compared;
     }
+
+pub set_aside-requires-clause-some : goal.set_aside-requires-clause-some
+set_aside-requires-clause-some g c = c.requires.some

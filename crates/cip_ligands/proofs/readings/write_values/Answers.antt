@@ -22,3 +22,6 @@ loop-place-preserved g c =
           ∙ values_more key items c.loop-place.place value before.values c.reading_value.ensures;
       room = ap (λ (r : Reserved ℕ). r.room) c.push.ensures ∙ before.room;
     }
+
+pub reading_value-requires-clause-keyed : goal.reading_value-requires-clause-keyed
+reading_value-requires-clause-keyed g c = c.requires.keyed

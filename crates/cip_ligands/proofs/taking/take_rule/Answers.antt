@@ -93,3 +93,6 @@ returns-clause-followed g c = c.loop-far.invariant.followed
 
 pub returns-clause-kin : goal.returns-clause-kin
 returns-clause-kin g c = c.loop-far.invariant.kin
+
+pub next_rule-requires-clause-keyed : goal.next_rule-requires-clause-keyed
+next_rule-requires-clause-keyed g c = c.requires.keyed

@@ -16,3 +16,6 @@ returns-clause-none g c = λ yes. record {
       let done = c.loop-place-test.false in
       c.loop-place.invariant place (omega (arith, lt, done)) p.chosen;
 }
+
+pub is_marked-requires-clause-keyed : goal.is_marked-requires-clause-keyed
+is_marked-requires-clause-keyed g c = c.requires.keyed

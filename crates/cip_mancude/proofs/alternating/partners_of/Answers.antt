@@ -1,6 +1,7 @@
 use Rattle.std.proofs.Common.{◌<◌, arith, false, length}
 use Rattle.cip_digraph.specs.declared.graph.Edge.{Edge}
 use Rattle.cip_mancude.proofs.Noted.{all_noted, noted_next}
+use Rattle.std.proofs.lemmas.Grind.{common_steps}
 use Rattle.cip_mancude.proofs.alternating.partners_of.Goals as goal
 
 abbrev no_edge : Edge
@@ -30,3 +31,6 @@ pub returns : goal.returns
 returns c =
     all_noted c.args.graph.now c.loop-edge.edge-index c.loop-edge.partners.items
     (rw (← c.edges-edge-items.ensures.value) (omega (arith, c.loop-edge-test.false))) c.loop-edge.invariant
+
+pub loop-edge-init : goal.loop-edge-init
+loop-edge-init c = grind (arith, common_steps)

@@ -1,5 +1,7 @@
 use Rattle.std.proofs.Common.{ap, arith, length}
 use Rattle.cip_mancude.proofs.Listed.{all_below, all_listed, listed_next, next_within, none_yet}
+use Rattle.std.proofs.lemmas.Grind.{common_steps}
+use Rattle.cip_digraph.specs.rings.Positions.{positions_of}
 use Rattle.cip_mancude.proofs.listing.set_all.Goals as goal
 
 pub set_positions-requires-clause-within : goal.set_positions-requires-clause-within
@@ -26,3 +28,7 @@ returns c =
     all_listed c.args.graph.now c.loop-vertex.vertex _ _ c.loop-vertex.invariant
     (ap length c.vertices-count.ensures.value)
     (omega (arith, c.loop-vertex-test.false, c.loop-vertex.auto.vertex-end))
+
+pub overflow_cast-vertex-end : goal.overflow_cast-vertex-end
+unfolding positions_of
+overflow_cast-vertex-end c = grind (arith, common_steps)

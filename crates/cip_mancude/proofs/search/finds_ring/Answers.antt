@@ -1,6 +1,7 @@
-use Rattle.std.proofs.Common.{◌∙◌, ◌∷◌, [], ap, sym}
+use Rattle.std.proofs.Common.{◌∙◌, ◌∷◌, [], ap, sym, arith}
 use Rattle.cip_mancude.proofs.Searched.{begun_with}
 use Rattle.cip_mancude.proofs.Walked.{no_ring}
+use Rattle.std.proofs.lemmas.Grind.{common_steps}
 use Rattle.cip_mancude.proofs.search.finds_ring.Goals as goal
 
 pub returns-then-reaches_soon : goal.returns-then-reaches_soon
@@ -21,3 +22,6 @@ returns c =
     ∙ begun_with c.args.alternation.now c.args.aim.third c.args.next c.args.aim.target c.args.most _
     (c.reaches_soon.ensures.path ∙ c.push-2.ensures
     ∙ ap (λ path. c.args.next ∷ path) (c.push.ensures ∙ ap (λ path. c.args.aim.third ∷ path) c.new-path.ensures))
+
+pub reaches_by-requires : goal.reaches_by-requires
+reaches_by-requires c = grind (arith, common_steps)

@@ -1,3 +1,5 @@
+use Rattle.std.proofs.Common.{arith}
+use Rattle.std.proofs.lemmas.Grind.{common_steps}
 use Rattle.cip_num.proofs.Sizes.{flat_back, flat_product_back, flat_product_small}
 use Rattle.cip_num.proofs.plane.small_product.Goals as goal
 
@@ -14,3 +16,6 @@ returns-clause-small c =
       flat_product_back c.args.a c.args.b c.requires.a c.requires.b,
     )
     (flat_product_small c.args.a c.args.b c.requires.a c.requires.b)
+
+pub overflow_mul-result : goal.overflow_mul-result
+overflow_mul-result c = grind (arith, common_steps)

@@ -1,5 +1,6 @@
-use Rattle.std.proofs.Common.{refl}
+use Rattle.std.proofs.Common.{refl, arith}
 use Rattle.std.proofs.lemmas.List.{length-map}
+use Rattle.std.proofs.lemmas.Grind.{common_steps}
 use Rattle.cip_orient.proofs.axis.show_in_plane.Goals as goal
 
 pub show_marked-requires-clause-marks : goal.show_marked-requires-clause-marks
@@ -17,3 +18,9 @@ returns c =
       c.marks_to-marks.ensures,
       c.marks_to-other_marks.ensures,
     ) at c.show_marked.ensures
+
+pub show_marked-requires-clause-near : goal.show_marked-requires-clause-near
+show_marked-requires-clause-near c = grind (arith, common_steps)
+
+pub show_marked-requires-clause-far : goal.show_marked-requires-clause-far
+show_marked-requires-clause-far c = grind (arith, common_steps)

@@ -1,4 +1,6 @@
 use Rattle.std.proofs.lemmas.List.{length-map}
+use Rattle.std.proofs.Common.{arith}
+use Rattle.std.proofs.lemmas.Grind.{common_steps}
 use Rattle.cip_orient.proofs.axis.show_marked.Goals as goal
 
 pub show_by_marks-requires-clause-axis : goal.show_by_marks-requires-clause-axis
@@ -27,3 +29,15 @@ returns c =
       c.steps-seconds.ensures.value,
       c.step_between-axis.ensures.value,
     ) at c.show_by_marks.ensures
+
+pub steps-seconds-requires-clause-within : goal.steps-seconds-requires-clause-within
+steps-seconds-requires-clause-within c = grind (arith, common_steps)
+
+pub show_by_marks-requires-clause-first : goal.show_by_marks-requires-clause-first
+show_by_marks-requires-clause-first c = grind (arith, common_steps)
+
+pub show_by_marks-requires-clause-second : goal.show_by_marks-requires-clause-second
+show_by_marks-requires-clause-second c = grind (arith, common_steps)
+
+pub steps-firsts-requires-clause-within : goal.steps-firsts-requires-clause-within
+steps-firsts-requires-clause-within c = grind (arith, common_steps)

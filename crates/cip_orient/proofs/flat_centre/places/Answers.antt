@@ -1,5 +1,6 @@
-use Rattle.std.proofs.Common.{◌∙◌, ap, length}
+use Rattle.std.proofs.Common.{◌∙◌, ap, length, arith}
 use Rattle.cip_orient.proofs.FirstPlaces.{first_listed}
+use Rattle.std.proofs.lemmas.Grind.{common_steps}
 use Rattle.cip_orient.proofs.flat_centre.places.Goals as goal
 
 pub loop-number-init : goal.loop-number-init
@@ -9,3 +10,9 @@ loop-number-init c =
       so_far = first ∙ first_listed c.args.directions.now c.requires.some;
       counted = ap length first;
     }
+
+pub loop-number-preserved : goal.loop-number-preserved
+loop-number-preserved c = grind (arith, common_steps)
+
+pub returns : goal.returns
+returns c = grind (arith, common_steps)

@@ -1,10 +1,11 @@
-use Rattle.std.proofs.Common.{◌≡◌, ◌∙◌, ap, cond, false, sym}
+use Rattle.std.proofs.Common.{◌≡◌, ◌∙◌, ap, cond, false, sym, arith}
 use Rattle.cip_num.specs.Around.{has_clash}
 use Rattle.cip_mol.specs.Marks.{has_mark}
 use Rattle.cip_mol.specs.declared.site.Cause.TheVariants.{Coincident}
 use Rattle.cip_mol.specs.declared.site.Geometry.TheVariants.{Unknown}
 use Rattle.cip_orient.specs.OrderedMarks.{by_order}
 use Rattle.cip_orient.proofs.NoMarks.{shows_none}
+use Rattle.std.proofs.lemmas.Grind.{common_steps}
 use Rattle.cip_orient.proofs.flat_centre.show_in_plane.Goals as goal
 
 pub returns-then-not-has_mark : goal.returns-then-not-has_mark
@@ -14,3 +15,6 @@ returns-then-not-has_mark c =
     let clear : has_clash directions ≡ false = sym c.has_clash.ensures ∙ c.if-has_clash.false in
     let unmarked : has_mark marks ≡ false = sym c.has_mark.ensures ∙ c.if-not-has_mark.true in
     sym (ap (λ b. cond b (Unknown Coincident) (by_order directions marks)) clear ∙ shows_none directions marks unmarked)
+
+pub show_by_order-requires-clause-some : goal.show_by_order-requires-clause-some
+show_by_order-requires-clause-some c = grind (arith, common_steps)

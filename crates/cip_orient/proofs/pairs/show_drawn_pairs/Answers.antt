@@ -1,3 +1,5 @@
+use Rattle.std.proofs.Common.{arith}
+use Rattle.std.proofs.lemmas.Grind.{common_steps}
 use Rattle.cip_orient.proofs.pairs.show_drawn_pairs.Goals as goal
 
 pub returns : goal.returns
@@ -9,3 +11,21 @@ returns c =
       c.steps-seconds.ensures.value,
       c.step_between-between.ensures.value,
     ) at c.show_pairs.ensures
+
+pub steps-seconds-requires-clause-within : goal.steps-seconds-requires-clause-within
+steps-seconds-requires-clause-within c = grind (arith, common_steps)
+
+pub show_pairs-requires-clause-first : goal.show_pairs-requires-clause-first
+show_pairs-requires-clause-first c = grind (arith, common_steps)
+
+pub show_pairs-requires-clause-second : goal.show_pairs-requires-clause-second
+show_pairs-requires-clause-second c = grind (arith, common_steps)
+
+pub show_pairs-requires-clause-seconds : goal.show_pairs-requires-clause-seconds
+show_pairs-requires-clause-seconds c = grind (arith, common_steps)
+
+pub show_pairs-requires-clause-firsts : goal.show_pairs-requires-clause-firsts
+show_pairs-requires-clause-firsts c = grind (arith, common_steps)
+
+pub steps-firsts-requires-clause-within : goal.steps-firsts-requires-clause-within
+steps-firsts-requires-clause-within c = grind (arith, common_steps)

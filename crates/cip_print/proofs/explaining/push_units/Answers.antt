@@ -1,3 +1,5 @@
+use Rattle.std.proofs.Common.{arith}
+use Rattle.std.proofs.lemmas.Grind.{common_steps}
 use Rattle.cip_print.proofs.Told.{one_more}
 use Rattle.cip_print.proofs.explaining.push_units.Goals as goal
 
@@ -5,3 +7,6 @@ pub loop-place-preserved : goal.loop-place-preserved
 loop-place-preserved c =
     one_more c.args.units.now c.loop-place.place c.get.result.now c.loop-place.text.items c.push_unit.new.text.items _
     c.get.ensures c.in_ok-push_unit.ensures c.loop-place.invariant
+
+pub returns : goal.returns
+returns c = grind (arith, common_steps)

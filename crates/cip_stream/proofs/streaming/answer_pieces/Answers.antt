@@ -1,12 +1,13 @@
 use Rattle.std.proofs.Common.{rules, ◌<◌, ◌^◌, ◌++◌, ◌∙◌, arith, subst, sym, Ok, Err}
 use Rattle.std.proofs.lemmas.Result.{err_from_is_err_and}
+use Rattle.cip_stream.specs.declared.stop.Stop.TheVariants as stops
 use Rattle.cip_stream.specs.declared.reading.Turn.TheVariants.{Piece, Last}
 use Rattle.cip_stream.specs.Batches.{Answers}
 use Rattle.cip_stream.specs.Halting.{AnswersHalted}
 use Rattle.cip_stream.specs.Reading.{Brings}
 use Rattle.cip_stream.specs.Verdicts.{clear}
 use Rattle.cip_stream.proofs.Ending.{bounded}
-use Rattle.cip_stream.proofs.Faults.{later_twice}
+use Rattle.cip_stream.proofs.Faults.{joined_fault, later_twice, rose_later}
 use Rattle.cip_stream.proofs.Halting.{failed, halted, room_halted, stopped}
 use Rattle.cip_stream.proofs.Progressing.{Progress, begun, fed_piece, room_fed, turned}
 use Rattle.cip_stream.proofs.Turning.{as_many, less_room}
@@ -54,6 +55,11 @@ answer_waiting-requires-clause-room g c =
     c.loop-count.inflow.framer c.feed_next.new.framer c.loop-count.batch.first c.loop-count.batch.records
     c.loop-count.invariant.progress came c.feed_next.ensures.limit in
     omega (arith, room_fed _ c.args.limits _ _ _ _ _ _ _ _ _ fed c.requires.input)
+
+pub answer_waiting-requires-clause-limit : goal.answer_waiting-requires-clause-limit
+answer_waiting-requires-clause-limit g c κs within =
+    subst (λ limit. limit < 2 ^ 31) (sym (c.feed_next.ensures.limit ∙ c.loop-count.invariant.progress.limit))
+    c.requires.record
 
 pub returns-in_err-answer_waiting-in-Piece-clause-answered : goal.returns-in_err-answer_waiting-in-Piece-clause-answered
 returns-in_err-answer_waiting-in-Piece-clause-answered g c =
@@ -130,6 +136,11 @@ returns-in-Last-clause-answered g c =
     (subst (λ t. AnswersHalted (g.T.Teller.manner t) c.in-Last.halt c.loop-count.batch.first c.loop-count.batch.records
     c.feed_next.new.framer c.answer_halted.result (g.K.Sink.taken c.loop-count.sink)
     (g.K.Sink.taken c.answer_halted.new.sink)) c.loop-count.invariant.teller c.answer_halted.ensures.answered))
+
+pub returns-in-Last-clause-sink_fault : goal.returns-in-Last-clause-sink_fault
+returns-in-Last-clause-sink_fault g c =
+    rw c.then.ensures (joined_fault c.loop-count.verdict c.answer_halted.result stops.WriteFault
+    (λ is. rose_later _ _ _ c.loop-count.invariant.sink_later (c.answer_halted.ensures.fault is)))
 
 -- fewer bytes to come
 

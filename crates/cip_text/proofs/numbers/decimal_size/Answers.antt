@@ -1,6 +1,7 @@
-use Rattle.std.proofs.Common.{rules, ◌≡◌, ◌≤◌, ◌<◌, length, slice_index}
+use Rattle.std.proofs.Common.{arith, rules, ◌≡◌, ◌≤◌, ◌<◌, length, slice_index}
+use Rattle.std.proofs.lemmas.Grind.{common_steps}
 use Rattle.std.proofs.lemmas.List.{take_all, take_rest}
-use Rattle.cip_text.proofs.Decimals.{cut_here, uncut}
+use Rattle.cip_text.proofs.Decimals.{no_number, cut_here, uncut}
 use Rattle.cip_text.proofs.numbers.decimal_size.Goals as goal
 
 pub returns-then-byte-eq46 : goal.returns-then-byte-eq46
@@ -15,3 +16,12 @@ returns c =
     let end : length c.args.text.now ≤ c.loop-place.place = search rules in
     let digits = rw (take_all c.loop-place.place c.args.text.now end) at c.loop-place.invariant.digits in
     rw (uncut c.args.text.now digits) c.size_of_parts-2.ensures
+
+pub loop-place-preserved : goal.loop-place-preserved
+loop-place-preserved c = grind (arith, common_steps, no_number)
+
+pub size_of_parts-requires-2-clause-whole : goal.size_of_parts-requires-2-clause-whole
+size_of_parts-requires-2-clause-whole c = grind (arith, common_steps, no_number)
+
+pub size_of_parts-requires-2-clause-digits : goal.size_of_parts-requires-2-clause-digits
+size_of_parts-requires-2-clause-digits c = grind (arith, common_steps, no_number)

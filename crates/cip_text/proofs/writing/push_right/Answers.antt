@@ -1,4 +1,6 @@
-use Rattle.std.proofs.Common.{◌∙◌}
+use Rattle.std.proofs.Common.{arith, ◌∙◌}
+use Rattle.std.proofs.lemmas.Grind.{common_steps}
+use Rattle.cip_text.specs.Writing.{right}
 use Rattle.cip_text.proofs.Spaces.{one_space}
 use Rattle.cip_text.proofs.writing.push_right.Goals as goal
 
@@ -7,3 +9,7 @@ loop-column-preserved c =
     rw c.in_ok-push.ensures.items
     (one_space c.loop-column.line.items c.loop-column.column c.args.width c.loop-column-test.true
     ∙ c.loop-column.invariant)
+
+pub returns : goal.returns
+unfolding right
+returns c = grind (arith, common_steps)

@@ -1,10 +1,12 @@
-use Rattle.std.proofs.Common.{◌≡◌, ◌∙◌, ◌++◌, ◌∷◌, [], ap, refl, sym}
+use Rattle.std.proofs.Common.{◌≡◌, ◌∙◌, ◌++◌, ◌∷◌, [], ap, refl, sym, arith}
+use Rattle.std.proofs.lemmas.Result.{on_ok_weaker}
 use Rattle.cip_mol.specs.declared.site.Site.{Site}
 use Rattle.cip_mol.specs.declared.site.Site.TheVariants.{Bond}
 use Rattle.cip_digraph.specs.units.DoubleBonds.{bond_site, is_bond_unit}
 use Rattle.cip_unit.specs.Sites.{units_at}
 use Rattle.cip_unit.proofs.Kept.{one_is}
 use Rattle.cip_unit.proofs.Shown.{bond_shown}
+use Rattle.std.proofs.lemmas.Grind.{common_steps}
 use Rattle.cip_unit.proofs.bonds.push_bond.Goals as goal
 
 pub push_unit-requires : goal.push_unit-requires
@@ -13,15 +15,20 @@ push_unit-requires c =
     (bond_shown c.args.sketch.now.graph.now c.args.sketch.now.positions.now _ c.args.a c.args.edge.now c.requires.drawn
     c.requires.within c.requires.leads (sym c.in_ok-is_bond_unit.ensures ∙ c.if-branch.true))
 
-pub returns-in_ok-push_unit : goal.returns-in_ok-push_unit
-returns-in_ok-push_unit c =
+pub returns-then-branch : goal.returns-then-branch
+returns-then-branch c =
     let same : ◌≡◌ {A = Site}
     (Bond c.args.a c.other_end-b.result c.end_ligands.result c.end_ligands-then-branch.result)
     (bond_site c.args.sketch.now.graph.now c.args.a c.args.edge.now) =
     rw (c.end_ligands.ensures, c.end_ligands-then-branch.ensures, c.other_end-b.ensures) refl in
-    c.in_ok-push_unit.ensures
+    on_ok_weaker c.push_unit.result
+    (λ so_far. so_far
     ∙ ap (λ sites. c.args.units.now ++ units_at c.args.sketch.now.molecule.now sites)
     (ap (λ site. site ∷ []) same
     ∙ one_is (is_bond_unit c.args.sketch.now.graph.now c.args.sketch.now.positions.now c.args.a c.args.edge.now)
     (bond_site c.args.sketch.now.graph.now c.args.a c.args.edge.now)
-    (sym c.in_ok-is_bond_unit.ensures ∙ c.if-branch.true))
+    (sym c.in_ok-is_bond_unit.ensures ∙ c.if-branch.true)))
+    c.push_unit.ensures
+
+pub end_ligands-requires-then-branch : goal.end_ligands-requires-then-branch
+end_ligands-requires-then-branch c = grind (arith, common_steps)

@@ -1,9 +1,10 @@
-use Rattle.std.proofs.Common.{◌++◌, ap, sym}
+use Rattle.std.proofs.Common.{◌++◌, ap, sym, arith}
 use Rattle.cip_digraph.specs.units.DoubleBonds.{bond_site, is_bond_unit}
 use Rattle.cip_digraph.specs.graph.Graph.{edges_at}
 use Rattle.cip_unit.specs.Sites.{units_at}
 use Rattle.cip_unit.proofs.Kept.{kept_each}
 use Rattle.cip_unit.proofs.Leads.{leads_on}
+use Rattle.std.proofs.lemmas.Grind.{common_steps}
 use Rattle.cip_unit.proofs.bonds.push_bonds_from.Goals as goal
 
 pub loop-edge-init : goal.loop-edge-init
@@ -18,3 +19,6 @@ push_bond-requires-clause-leads c = λ order.
     leads_on c.args.sketch.now.graph.now c.requires.leads c.args.a
     c.edges_at-edge-items.result.now c.loop-edge.edge-index _
     c.edges_at-edge-items.ensures.value c.loop-edge-test.true order
+
+pub loop-edge-preserved : goal.loop-edge-preserved
+loop-edge-preserved c = grind (arith, common_steps)

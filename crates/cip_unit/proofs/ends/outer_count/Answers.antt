@@ -2,6 +2,7 @@ use Rattle.std.proofs.Common.{◌∙◌, ap, arith, cond}
 use Rattle.std.specs.Prelude.{not}
 use Rattle.cip_digraph.specs.rings.Alternating.{is_in}
 use Rattle.cip_unit.proofs.Kept.{count_next}
+use Rattle.std.proofs.lemmas.Grind.{common_steps}
 use Rattle.cip_unit.proofs.ends.outer_count.Goals as goal
 
 pub loop-edge-preserved : goal.loop-edge-preserved
@@ -15,3 +16,6 @@ loop-edge-preserved c = record {
       (c.is_outside.ensures ∙ ap (λ other. not (is_in other c.args.unit.now)) c.other_end.ensures));
   few = omega (arith, c.loop-edge.invariant.few, c.one_if-count.ensures.few);
 }
+
+pub returns : goal.returns
+returns c = grind (arith, common_steps)

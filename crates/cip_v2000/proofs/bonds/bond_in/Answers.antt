@@ -1,5 +1,4 @@
-use Rattle.std.proofs.Common.{◌≡◌, ◌≤◌, ◌∙◌, ℕ, Option, Some, arith, subst, sym}
-use Rattle.std.specs.Prelude.{IfSome}
+use Rattle.std.proofs.Common.{◌≡◌, ◌≤◌, ℕ, Option, Some, arith, sym}
 use Rattle.std.proofs.lemmas.Grind.{common_steps}
 use Rattle.cip_mol.specs.Ranges.{IsBond}
 use Rattle.cip_mol.specs.declared.molecule.Mark.{Mark}
@@ -17,6 +16,5 @@ in_range a b order code mark some few is = record {
 
 pub checked-requires : goal.checked-requires
 checked-requires c =
-    let order = subst (λ o. IfSome o (λ (n : ℕ). (1 ≤ n) × (n ≤ 3))) c.in_ok-order.ensures.ok_part c.order.ensures.range in
-    in_range c.in_ok-a.a c.in_ok-b.b c.in_ok-order.order c.digit_at-2.result c.in_ok-mark.mark order.0 order.1
-    (sym c.mark.ensures ∙ c.in_ok-mark.ensures.ok_part)
+    in_range c.in-Some.a c.in-Some-place_at.b c.in-Some-order.order c.digit_at-2.result c.in-Some-mark.mark
+    c.in-Some-order.ensures.range.0 c.in-Some-order.ensures.range.1 (sym c.in-Some-mark.ensures)

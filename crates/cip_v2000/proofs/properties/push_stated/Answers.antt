@@ -1,9 +1,7 @@
-use Rattle.std.proofs.Common.{◌≡◌, ◌<◌, ◌≤◌, ◌∙◌, ◌+◌, ◌-◌, ℕ, List, [], ◌∷◌, Bor, Option, Result, Err, Some, Fits, w32, arith, drop, get_or, length, refl, subst, sym, take, ap}
-use Rattle.std.specs.Prelude.{IfSome}
+use Rattle.std.proofs.Common.{◌≡◌, ◌<◌, ◌≤◌, ◌∙◌, ◌+◌, ◌-◌, ℕ, List, [], ◌∷◌, Bor, Err, None, Some, Fits, w32, arith, drop, get_or, length, refl, sym, take, ap}
 use Rattle.std.specs.Option.{ok_or}
 use Rattle.std.proofs.lemmas.Grind.{common_steps}
 use Rattle.std.proofs.lemmas.List.{take_all}
-use Rattle.std.proofs.lemmas.Result.{err_from_is_err_and}
 use Rattle.cip_text.specs.Slices.{texts}
 use Rattle.cip_mol.specs.declared.refusal.ReadFault.{ReadFault}
 use Rattle.cip_reading.specs.Fields.{number_in, place_named}
@@ -17,8 +15,8 @@ use Rattle.cip_v2000.proofs.properties.push_stated.Goals as goal
 whole_rest : {A : Type 0} (n : ℕ) (xs : List A) → take (length xs - n) (drop n xs) ≡ drop n xs
 whole_rest n xs = take_all (length xs - n) (drop n xs) (grind (arith, common_steps))
 
-one_more : (found : Option ℕ) (last : ℕ) → found ≡ Some last → IfSome found (λ place. place < 8) → last + 1 ≤ 8
-one_more found last is few = let small = subst (λ o. IfSome o (λ place. place < 8)) is few in omega (arith, small)
+one_more : (last : ℕ) → last < 8 → last + 1 ≤ 8
+one_more last few = omega (arith, few)
 
 fits_counted : (n : ℕ) → n ≤ 8 → Fits w32 n
 fits_counted n few = omega (arith, few)
@@ -38,22 +36,20 @@ module _ (fault : ReadFault) (atoms : ℕ) (before : List Pair) (property : Prop
   no_count [] few = refl
   no_count (word ∷ words) few = absurd (omega (arith, few))
 
-  no_last : (words : List (Bor (List ℕ))) (d : Bor (List ℕ)) (last : Option ℕ) (given : ReadFault)
-      → 1 ≤ length words → last ≡ place_named (number_in 8 (get_or words 0 d).now) → Err given ≡ ok_or last fault
-      → counted_pairs fault property atoms before (texts words) ≡ Err given
-  no_last [] d last given more at told = absurd (omega (arith, more))
-  no_last (word ∷ words) d last given more at told =
-      ap (λ (r : Result ℕ ReadFault). r >>= λ last. pairs_of fault property atoms before (last + 1) (texts words))
-      (ap (λ o. ok_or o fault) (sym at) ∙ sym told)
+  no_last : (words : List (Bor (List ℕ))) (d : Bor (List ℕ)) → 1 ≤ length words
+      → None ≡ place_named (number_in 8 (get_or words 0 d).now)
+      → counted_pairs fault property atoms before (texts words) ≡ Err fault
+  no_last [] d more at = absurd (omega (arith, more))
+  no_last (word ∷ words) d more at =
+      ap (λ o. ok_or o fault >>= λ last. pairs_of fault property atoms before (last + 1) (texts words)) (sym at)
 
-  some_last : (words : List (Bor (List ℕ))) (d : Bor (List ℕ)) (found : Option ℕ) (last : ℕ)
-      → 1 ≤ length words → found ≡ place_named (number_in 8 (get_or words 0 d).now) → found ≡ Some last
+  some_last : (words : List (Bor (List ℕ))) (d : Bor (List ℕ)) (last : ℕ)
+      → 1 ≤ length words → Some last ≡ place_named (number_in 8 (get_or words 0 d).now)
       → counted_pairs fault property atoms before (texts words)
       ≡ pairs_of fault property atoms before (last + 1) (texts (drop 1 words))
-  some_last [] d found last more at is = absurd (omega (arith, more))
-  some_last (word ∷ words) d found last more at is =
-      ap (λ o. ok_or o fault >>= λ last. pairs_of fault property atoms before (last + 1) (texts words))
-      (sym at ∙ is)
+  some_last [] d last more at = absurd (omega (arith, more))
+  some_last (word ∷ words) d last more at =
+      ap (λ o. ok_or o fault >>= λ last. pairs_of fault property atoms before (last + 1) (texts words)) (sym at)
 
 pub returns-in_default-as_slice-clause-value : goal.returns-in_default-as_slice-clause-value
 returns-in_default-as_slice-clause-value c =
@@ -63,27 +59,26 @@ returns-in_default-as_slice-clause-value c =
     ∙ no_count c.args.fault c.args.atoms c.args.pairs.now.items c.in-Some.property c.as_slice.result.now
     c.in_default-as_slice.len_below
 
-pub returns-in_err-last-clause-value : goal.returns-in_err-last-clause-value
-returns-in_err-last-clause-value c =
-    let refused = err_from_is_err_and c.from_residual-in_err-last.result c.from_residual-in_err-last.ensures.1 in
-    rw (refused.1, refused.2)
-    (in_words c.args.fault c.args.atoms c.args.pairs.now.items c.in-Some.property c.args.line.now
+pub returns-in_default-place_named-clause-value : goal.returns-in_default-place_named-clause-value
+returns-in_default-place_named-clause-value c =
+    in_words c.args.fault c.args.atoms c.args.pairs.now.items c.in-Some.property c.args.line.now
     c.as_slice.result.now c.in-Some.ensures.value
     (ap texts c.as_slice.ensures.value ∙ c.in_ok-words.ensures ∙ ap spaced_words_of (whole_rest 6 c.args.line.now))
-    ∙ no_last c.args.fault c.args.atoms c.args.pairs.now.items c.in-Some.property c.as_slice.result.now _ _ _
-    c.in-len1-up.len_at_least c.place_named.ensures.value c.in_err-last.ensures.value)
+    ∙ no_last c.args.fault c.args.atoms c.args.pairs.now.items c.in-Some.property c.as_slice.result.now _
+    c.in-len1-up.len_at_least c.in_default-place_named.ensures.value
 
 pub returns-clause-value : goal.returns-clause-value
 returns-clause-value c =
     let e : pairs_with c.args.fault c.args.atoms c.args.pairs.now.items c.args.line.now
-    ≡ pairs_of c.args.fault c.in-Some.property c.args.atoms c.args.pairs.now.items (c.in_ok-last.last + 1)
+    ≡ pairs_of c.args.fault c.in-Some.property c.args.atoms c.args.pairs.now.items (c.in-Some-place_named.last + 1)
     (texts (take (length c.as_slice.result.now - 1) (drop 1 c.as_slice.result.now))) =
     in_words c.args.fault c.args.atoms c.args.pairs.now.items c.in-Some.property c.args.line.now
     c.as_slice.result.now c.in-Some.ensures.value
     (ap texts c.as_slice.ensures.value ∙ c.in_ok-words.ensures ∙ ap spaced_words_of (whole_rest 6 c.args.line.now))
-    ∙ some_last c.args.fault c.args.atoms c.args.pairs.now.items c.in-Some.property c.as_slice.result.now _ _ _
-    c.in-len1-up.len_at_least c.place_named.ensures.value c.in_ok-last.ensures.ok_part
-    ∙ ap (λ words. pairs_of c.args.fault c.in-Some.property c.args.atoms c.args.pairs.now.items (c.in_ok-last.last + 1)
+    ∙ some_last c.args.fault c.args.atoms c.args.pairs.now.items c.in-Some.property c.as_slice.result.now _ _
+    c.in-len1-up.len_at_least c.in-Some-place_named.ensures.value
+    ∙ ap (λ words. pairs_of c.args.fault c.in-Some.property c.args.atoms c.args.pairs.now.items
+    (c.in-Some-place_named.last + 1)
     (texts words)) (sym (whole_rest 1 c.as_slice.result.now)) in
     rw e c.push_pairs.ensures.value
 
@@ -92,12 +87,12 @@ push_pairs-requires-clause-few c = c.requires.few
 
 pub push_pairs-requires-clause-count : goal.push_pairs-requires-clause-count
 push_pairs-requires-clause-count c =
-    one_more c.place_named.result c.in_ok-last.last c.in_ok-last.ensures.ok_part c.place_named.ensures.range
+    one_more c.in-Some-place_named.last c.in-Some-place_named.ensures.range
 
 pub push_pairs-requires-clause-range : goal.push_pairs-requires-clause-range
 push_pairs-requires-clause-range c = c.requires.range
 
 pub overflow_add-last : goal.overflow_add-last
 overflow_add-last c =
-    fits_counted (c.in_ok-last.last + 1)
-    (one_more c.place_named.result c.in_ok-last.last c.in_ok-last.ensures.ok_part c.place_named.ensures.range)
+    fits_counted (c.in-Some-place_named.last + 1)
+    (one_more c.in-Some-place_named.last c.in-Some-place_named.ensures.range)

@@ -1,4 +1,5 @@
-use Rattle.std.proofs.Common.{◌∙◌, sym}
+use Rattle.std.proofs.Common.{arith, ◌∙◌, sym}
+use Rattle.std.proofs.lemmas.Grind.{common_steps}
 use Rattle.cip_v3000.proofs.BlockRows.{table_ends, table_goes_on}
 use Rattle.cip_v3000.proofs.blocks.table_end.Goals as goal
 
@@ -11,3 +12,6 @@ pub loop-place-preserved : goal.loop-place-preserved
 loop-place-preserved c =
     table_goes_on c.args.past c.args.lines.now c.loop-place.place _ _ c.loop-place-test.true
     (sym c.in_ok-is_framed.ensures ∙ c.if-branch.false) c.loop-place.invariant
+
+pub returns : goal.returns
+returns c = grind (arith, common_steps)

@@ -1,6 +1,8 @@
 use Rattle.std.proofs.Common.{◌∙◌, ◌∷◌, [], sym, arith, map}
+use Rattle.std.proofs.lemmas.Grind.{common_steps}
 use Rattle.std.proofs.lemmas.List.{map-append}
 use Rattle.std.proofs.lemmas.List.Elements.{All-push}
+use Rattle.cip_v3000.specs.JoinedLines.{joined_lines}
 use Rattle.cip_v3000.specs.Joining.{seen, IsNumbered}
 use Rattle.cip_v3000.proofs.Joined.{line_refused, line_continued, line_whole}
 use Rattle.cip_v3000.proofs.joining.join_lines.Goals as goal
@@ -34,3 +36,11 @@ loop-place-preserved c = record {
   numbered = c.loop-place.invariant.numbered;
   first = omega (arith, c.loop-place.invariant.first);
 }
+
+pub loop-place-init : goal.loop-place-init
+unfolding joined_lines
+loop-place-init c = grind (arith, common_steps)
+
+pub returns-clause-value : goal.returns-clause-value
+unfolding joined_lines
+returns-clause-value c = grind (arith, common_steps)

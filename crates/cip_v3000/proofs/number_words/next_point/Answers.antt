@@ -3,5 +3,6 @@ use Rattle.cip_v3000.proofs.number_words.next_point.Goals as goal
 
 pub returns-clause-some : goal.returns-clause-some
 returns-clause-some c =
-    point_words_are _ _ _ _ _ _ _ _ c.in_ok-x.ensures.some c.in_ok-y.ensures.some c.in_ok-z.ensures.some
+    point_words_are _ _ _ _ _ _ _ _ c.in-Some.ensures.some c.in-Some-next_coordinate.ensures.some
+    c.in-Some-next_coordinate-2.ensures.some
     c.point.ensures.value c.point.ensures.near

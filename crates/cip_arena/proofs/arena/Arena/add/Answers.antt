@@ -8,6 +8,7 @@ use Rattle.cip_digraph.specs.digraph.NodeList.{told_at, parents_of}
 use Rattle.cip_arena.specs.Walk.{IsEarlier, IsMarked}
 use Rattle.cip_arena.proofs.Added.{parents_added, earlier_added, near_added, last_added}
 use Rattle.cip_arena.proofs.Marked.{marked_added}
+use Rattle.std.proofs.lemmas.Grind.{common_steps}
 use Rattle.cip_arena.proofs.arena.Arena.add.Goals as goal
 
 pub invariant_of-self : goal.invariant_of-self
@@ -74,3 +75,6 @@ pub returns-clause-last : goal.returns-clause-last
 returns-clause-last g c =
     ap (λ (all : List Told). last_parent (parents_of all)) c.push_reserved.ensures.items
     ∙ last_added c.self.inside.nodes.items c.args.node
+
+pub returns-clause-number : goal.returns-clause-number
+returns-clause-number g c = grind (arith, common_steps)

@@ -3,6 +3,7 @@ use Rattle.cip_arena.specs.Walk.{IsEarlier}
 use Rattle.cip_arena.specs.Making.{with_sphere}
 use Rattle.cip_arena.specs.Growth.{Growth, Holds}
 use Rattle.cip_arena.proofs.Grows.{is_grown, size_told, holds_grown, last_holds}
+use Rattle.std.proofs.lemmas.Grind.{common_steps}
 use Rattle.cip_arena.proofs.arena.Arena.grow.Goals as goal
 
 pub make_sphere-requires-clause-last : goal.make_sphere-requires-clause-last
@@ -67,3 +68,15 @@ returns-clause-answer g c =
       omega (arith, here, long, cost),
       omega (arith, size, some, not),
     )
+
+pub overflow_add-self : goal.overflow_add-self
+overflow_add-self g c = grind (arith, common_steps)
+
+pub sphere_size-requires-clause-order : goal.sphere_size-requires-clause-order
+sphere_size-requires-clause-order g c = grind (arith, common_steps)
+
+pub make_sphere-requires-clause-room : goal.make_sphere-requires-clause-room
+make_sphere-requires-clause-room g c = grind (arith, common_steps)
+
+pub make_sphere-requires-clause-order : goal.make_sphere-requires-clause-order
+make_sphere-requires-clause-order g c = grind (arith, common_steps)

@@ -154,3 +154,6 @@ returns-clause-size g c =
 
 pub returns-clause-cost : goal.returns-clause-cost
 returns-clause-cost g c = c.loop-edge.invariant.cost
+
+pub vertex_above-above-requires-clause-within : goal.vertex_above-above-requires-clause-within
+vertex_above-above-requires-clause-within g c = grind (arith, common_steps)

@@ -19,3 +19,12 @@ returns-then-edge-clause-cost g c = grind (arith, common_steps)
 
 pub add_copies-requires-clause-room : goal.add_copies-requires-clause-room
 add_copies-requires-clause-room g c = grind (arith, common_steps)
+
+pub tell_duplicate-told-requires-clause-within : goal.tell_duplicate-told-requires-clause-within
+tell_duplicate-told-requires-clause-within g c = grind (arith, common_steps)
+
+pub tell_duplicate-told-requires-clause-stands : goal.tell_duplicate-told-requires-clause-stands
+tell_duplicate-told-requires-clause-stands g c = grind (arith, common_steps)
+
+pub returns-else-edge-clause-size : goal.returns-else-edge-clause-size
+returns-else-edge-clause-size g c = grind (arith, common_steps)

@@ -6,6 +6,7 @@ use Rattle.cip_arena.specs.Walk.{IsEarlier}
 use Rattle.cip_arena.proofs.Neighbours.{told_read, with_nodes, closure_is, real_is, none_made, one_made, walked_as}
 use Rattle.cip_arena.proofs.Neighbours.{above_as, stands_as, none_more, one_more, room_for_one, above_low, longer}
 use Rattle.cip_arena.proofs.Walked.{none_above, parent_above, parent_found}
+use Rattle.std.proofs.lemmas.Grind.{common_steps}
 use Rattle.cip_arena.proofs.arena.Arena.make_neighbour.Goals as goal
 
 pub returns-then-comes_from : goal.returns-then-comes_from
@@ -160,3 +161,24 @@ add-requires-in-None-clause-in_order g c =
     c.tell_real-told.ensures in
     let last = c.requires.last in
     omega (arith, parent, last)
+
+pub is_above-requires-clause-within : goal.is_above-requires-clause-within
+is_above-requires-clause-within g c = grind (arith, common_steps)
+
+pub index-requires : goal.index-requires
+index-requires g c = grind (arith, common_steps)
+
+pub tell_closure-told-requires : goal.tell_closure-told-requires
+tell_closure-told-requires g c = grind (arith, common_steps)
+
+pub find_above-requires-clause-earlier : goal.find_above-requires-clause-earlier
+find_above-requires-clause-earlier g c = grind (arith, common_steps)
+
+pub is_above-requires-clause-earlier : goal.is_above-requires-clause-earlier
+is_above-requires-clause-earlier g c = grind (arith, common_steps)
+
+pub tell_real-told-requires-clause-within : goal.tell_real-told-requires-clause-within
+tell_real-told-requires-clause-within g c = grind (arith, common_steps)
+
+pub find_above-requires-clause-within : goal.find_above-requires-clause-within
+find_above-requires-clause-within g c = grind (arith, common_steps)

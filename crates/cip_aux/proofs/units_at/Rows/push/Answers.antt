@@ -5,3 +5,6 @@ use Rattle.cip_aux.proofs.units_at.Rows.push.Goals as goal
 
 pub returns : goal.returns
 returns c = grind (arith, common_steps, map-set, get_or-map)
+
+pub index_mut-requires : goal.index_mut-requires
+index_mut-requires c = grind (arith, common_steps)

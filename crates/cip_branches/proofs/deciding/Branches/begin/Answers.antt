@@ -52,3 +52,6 @@ returns-clause-followed g c =
             begins.here branch (omega (arith, lt, len, filled, c.len-count.ensures.count, begins.count));
       };
     })
+
+pub begin-requires-clause-keyed : goal.begin-requires-clause-keyed
+begin-requires-clause-keyed g c = c.requires.keyed

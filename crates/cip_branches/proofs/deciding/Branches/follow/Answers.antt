@@ -113,3 +113,6 @@ returns-clause-followed g c =
             (was.chosen.top branch (chosen.fewer.each branch has));
       };
     })
+
+pub follow-requires-clause-keyed : goal.follow-requires-clause-keyed
+follow-requires-clause-keyed g c = c.requires.keyed

@@ -1,4 +1,4 @@
-use Rattle.std.proofs.Common.{rules, ◌≡◌, ◌++◌, List, take, drop, length, sym, ap, ◌∙◌, subst}
+use Rattle.std.proofs.Common.{rules, ◌≡◌, ◌++◌, List, take, drop, length, sym, ap, ◌∙◌, subst, ◌≤◌}
 use Rattle.std.proofs.Math.Seq.{take-append_seam}
 use Rattle.cip_branches.specs.Deciding.{AreFollowed}
 use Rattle.cip_constitution.specs.Following.{Trying}
@@ -11,6 +11,7 @@ use Rattle.cip_letters.specs.declared.asked.Asked.{Asked}
 use Rattle.cip_digraph.specs.rules.Orders.{rule_2}
 use Rattle.cip_mol.specs.declared.outcome.Rule.TheVariants.{R3}
 use Rattle.std.specs.Prelude.{true}
+use Rattle.cip_rows.specs.Keys.{AreKeyed}
 use Rattle.cip_constitution.proofs.work.Work.configure.Goals as goal
 
 pub decide_configuration-requires-clause-followed : goal.decide_configuration-requires-clause-followed
@@ -63,3 +64,13 @@ invariant_of-self g c =
       saved = room.saved;
       under = room.under;
     }
+
+pub decide_configuration-requires-clause-keyed : goal.decide_configuration-requires-clause-keyed
+decide_configuration-requires-clause-keyed g c =
+    subst (λ (work : Trying). AreKeyed (length (g.M.Marked.marks c.args.marks.now)) work.branched.layers.kin) (sym
+    c.self.view_is) c.requires.keyed
+
+pub decide_configuration-requires-clause-room : goal.decide_configuration-requires-clause-room
+decide_configuration-requires-clause-room g c =
+    subst (λ (work : Trying). length work.branched.layers.kin.ups ≤ c.args.readings.now.bound) (sym c.self.view_is)
+    c.requires.room

@@ -134,3 +134,9 @@ returns-clause-kept c =
       pairs = c.self.inside.pairs.items;
       noted = c.self.inside.noted.items;
     }) back ∙ c.self.view_is
+
+pub alike_each-alike-requires-clause-grown : goal.alike_each-alike-requires-clause-grown
+alike_each-alike-requires-clause-grown c = c.requires.grown
+
+pub has_candidates-found-requires-clause-grown : goal.has_candidates-found-requires-clause-grown
+has_candidates-found-requires-clause-grown c = c.requires.grown

@@ -24,3 +24,27 @@ returns-clause-ordered c =
       turned = c.in_ok-name.ensures ∙ ap (λ pairs. by_vertices pairs c.as_slice.result.now)
           (c.pairs.ensures ∙ c.configure.ensures.pairs);
     })
+
+pub returns-clause-len : goal.returns-clause-len
+returns-clause-len c = on_ok c.name-2.result c.name-2.ensures (λ _. c.configure.ensures.len)
+
+pub returns-clause-same : goal.returns-clause-same
+returns-clause-same c = on_ok c.name-2.result c.name-2.ensures (λ _. c.configure.ensures.same)
+
+pub returns-clause-pairs : goal.returns-clause-pairs
+returns-clause-pairs c = on_ok c.name-2.result c.name-2.ensures (λ _. c.configure.ensures.pairs)
+
+pub configure-requires-clause-keyed : goal.configure-requires-clause-keyed
+configure-requires-clause-keyed c = c.requires.keyed
+
+pub configure-requires-clause-followed : goal.configure-requires-clause-followed
+configure-requires-clause-followed c = c.requires.followed
+
+pub configure-requires-clause-room : goal.configure-requires-clause-room
+configure-requires-clause-room c = c.requires.room
+
+pub returns-in_err-name-clause-readings : goal.returns-in_err-name-clause-readings
+returns-in_err-name-clause-readings c = c.configure.ensures.readings
+
+pub returns-clause-readings : goal.returns-clause-readings
+returns-clause-readings c = c.configure.ensures.readings

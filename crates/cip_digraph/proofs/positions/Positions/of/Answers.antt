@@ -16,3 +16,9 @@ returns-in-Some-clause-list c =
     let same : get_or c.self.inside.lists.items c.args.vertex c.in-Some.list.now ≡ c.in-Some.list.now =
     grind (arith, common_steps) in
     rw c.as_slice.ensures (subst IsKept same (c.self.invariant c.args.vertex c.in-Some.list.now within)).positions
+
+pub returns-in-Some-clause-value : goal.returns-in-Some-clause-value
+returns-in-Some-clause-value c = grind (arith, common_steps)
+
+pub returns-in-None-clause-value : goal.returns-in-None-clause-value
+returns-in-None-clause-value c = grind (arith, common_steps)

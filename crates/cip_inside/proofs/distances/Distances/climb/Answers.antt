@@ -1,4 +1,5 @@
-use Rattle.std.proofs.Common.{◌∙◌, ℕ, List, slice_index, ap}
+use Rattle.std.proofs.Common.{◌∙◌, ℕ, List, slice_index, ap, arith}
+use Rattle.std.proofs.lemmas.Grind.{common_steps}
 use Rattle.cip_digraph.specs.digraph.NodeList.{parents_of}
 use Rattle.cip_aux.specs.Sights.{sight_of}
 use Rattle.cip_aux.proofs.Told.{whole_shows}
@@ -23,3 +24,9 @@ returns g c =
     meets_there (sight_of whole) (whole_shows whole c.nodes-nodes.ensures.whole) self.from self.real c.args.node
     c.requires.real self.way.now self.flagged c.loop-table.at c.loop-table.invariant
     (c.is_off.ensures.on c.loop-table-test.false)
+
+pub parent_of-at-requires-clause-node : goal.parent_of-at-requires-clause-node
+parent_of-at-requires-clause-node g c = grind (arith, common_steps)
+
+pub parent_of-at-requires-clause-some : goal.parent_of-at-requires-clause-some
+parent_of-at-requires-clause-some g c = grind (arith, common_steps)

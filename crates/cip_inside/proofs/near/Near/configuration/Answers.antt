@@ -9,6 +9,7 @@ use Rattle.cip_ligands.specs.Deciding.{AreDecidedBy}
 use Rattle.cip_ligands.specs.Marked.{AreMarksOf}
 use Rattle.cip_inside.specs.Near.{Nearing, marked_by, seen_at}
 use Rattle.cip_inside.proofs.Configured.{ordered_by}
+use Rattle.cip_ligands.specs.Taking.{AreSame}
 use Rattle.cip_inside.proofs.near.Near.configuration.Goals as goal
 
 pub returns-clause-decided : goal.returns-clause-decided
@@ -47,3 +48,11 @@ returns-clause-tops g c = ap (λ (near : Nearing). near.tops) c.self.view_is
 
 pub returns-clause-bound : goal.returns-clause-bound
 returns-clause-bound g c = ap (λ (near : Nearing). near.bound) c.self.view_is
+
+pub returns-clause-same : goal.returns-clause-same
+returns-clause-same g c =
+    subst (λ (near : Nearing). AreSame near.now c.decide_configuration.new.branches) c.self.view_is
+    c.decide_configuration.ensures.same
+
+pub decide_configuration-requires-clause-len : goal.decide_configuration-requires-clause-len
+decide_configuration-requires-clause-len g c = c.requires.len

@@ -1,4 +1,5 @@
-use Rattle.std.proofs.Common.{◌≡◌, ◌<◌, ◌∙◌, List, Some, IfOk, length, map, slice_get, sym, ap, subst}
+use Rattle.std.proofs.Common.{◌≡◌, ◌<◌, ◌∙◌, List, Some, IfOk, length, map, slice_get, sym, ap, subst, arith}
+use Rattle.std.proofs.lemmas.Grind.{common_steps}
 use Rattle.std.proofs.lemmas.List.{length-map}
 use Rattle.std.proofs.lemmas.Option.{slice_get-map}
 use Rattle.std.specs.Option.{option_map}
@@ -39,3 +40,6 @@ look_again-requires-clause-open g c =
 
 pub returns-clause-near : goal.returns-clause-near
 returns-clause-near g c = c.look_again.ensures.near
+
+pub returns-clause-open : goal.returns-clause-open
+returns-clause-open g c = grind (arith, common_steps)

@@ -1,3 +1,5 @@
+use Rattle.std.proofs.Common.{arith}
+use Rattle.std.proofs.lemmas.Grind.{common_steps}
 use Rattle.cip_mol.proofs.Mirrored.{range_mirrored, sound_mirrored}
 use Rattle.cip_mol.proofs.molecule.Molecule.mirror.Goals as goal
 
@@ -6,3 +8,6 @@ of_sound-requires-clause-range c = rw (c.in_ok-atoms.ensures, c.in_ok-bonds.ensu
 
 pub of_sound-requires-clause-sound : goal.of_sound-requires-clause-sound
 of_sound-requires-clause-sound c = rw (c.in_ok-atoms.ensures, c.in_ok-bonds.ensures, c.atoms.ensures.value, c.bonds.ensures.value) (sound_mirrored _ c.atoms.ensures.sound)
+
+pub returns : goal.returns
+returns c = grind (arith, common_steps)

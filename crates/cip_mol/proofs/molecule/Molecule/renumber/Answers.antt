@@ -1,3 +1,5 @@
+use Rattle.std.proofs.Common.{arith}
+use Rattle.std.proofs.lemmas.Grind.{common_steps}
 use Rattle.cip_mol.specs.Points.{no_atom}
 use Rattle.cip_mol.specs.RenumberedDrawing.{no_bond}
 use Rattle.cip_mol.proofs.Renumbered.{range_renumbered, sound_renumbered}
@@ -26,3 +28,15 @@ of_sound-requires-clause-sound c =
       c.bonds.ensures.value,
     )
     (sound_renumbered _ _ _ c.requires.atoms c.requires.bonds c.atoms.ensures.sound)
+
+pub placed-requires : goal.placed-requires
+placed-requires c = grind (arith, common_steps)
+
+pub placed-requires-2 : goal.placed-requires-2
+placed-requires-2 c = grind (arith, common_steps)
+
+pub returns-clause-drawn : goal.returns-clause-drawn
+returns-clause-drawn c = grind (arith, common_steps)
+
+pub returns-clause-sound : goal.returns-clause-sound
+returns-clause-sound c = grind (arith, common_steps)

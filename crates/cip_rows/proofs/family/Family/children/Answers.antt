@@ -1,4 +1,5 @@
 use Rattle.std.proofs.Common.{arith}
+use Rattle.std.proofs.lemmas.Grind.{common_steps}
 use Rattle.cip_rows.proofs.FamilyColumn.{kids_within, place_count, place_within}
 use Rattle.cip_rows.proofs.family.Family.children.Goals as goal
 
@@ -21,3 +22,9 @@ returns-clause-within c =
     c.as_slice.ensures c.args.place c.requires in
     let count = place_count c.self.inside.places c.args.self.now c.self.view_is in
     omega (arith, within, count)
+
+pub returns-clause-past : goal.returns-clause-past
+returns-clause-past c = grind (arith, common_steps)
+
+pub returns-clause-first : goal.returns-clause-first
+returns-clause-first c = grind (arith, common_steps)

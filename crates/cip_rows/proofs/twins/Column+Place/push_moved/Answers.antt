@@ -1,4 +1,5 @@
 use Rattle.std.proofs.Common.{append_assoc, ◌≡◌, ◌+◌, ◌++◌, ◌∷◌, [], List, get_or, length, take, sym, ap, ◌∙◌, arith}
+use Rattle.std.proofs.lemmas.Grind.{common_steps}
 use Rattle.std.proofs.lemmas.List.{length-append, length-take-le}
 use Rattle.cip_rows.specs.Reserved.{Reserved}
 use Rattle.cip_rows.specs.Twins.{twin_place, twins_from}
@@ -44,3 +45,6 @@ loop-place-preserved c =
           ∙ ap (λ (ts : List Place). old ++ ts) (ap (λ (p : Place). before ++ p ∷ []) is
           ∙ sym (twins_more node by count places i none (omega arith))));
     }
+
+pub returns : goal.returns
+returns c = grind (arith, common_steps)

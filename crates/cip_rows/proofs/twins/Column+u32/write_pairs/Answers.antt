@@ -1,4 +1,5 @@
 use Rattle.std.proofs.Common.{ℕ, append_assoc, ◌≡◌, ◌+◌, ◌++◌, ◌∷◌, [], length, get_or, take, sym, ap, ◌∙◌, arith}
+use Rattle.std.proofs.lemmas.Grind.{common_steps}
 use Rattle.std.proofs.lemmas.List.{length-append, length-take-le}
 use Rattle.cip_rows.specs.Reserved.{Reserved}
 use Rattle.cip_rows.specs.Twins.{pairs}
@@ -45,3 +46,6 @@ loop-place-preserved c = record {
     }
     pushed = c.push.ensures ∙ ap (λ (r : Reserved ℕ). record r { items = r.items ++ get_or c.args.places.now i 0 ∷ [] })
         c.loop-place.invariant.written
+
+pub returns : goal.returns
+returns c = grind (arith, common_steps)

@@ -1,0 +1,16 @@
+use Rattle.std.proofs.Common.{arith}
+use Rattle.std.proofs.lemmas.Grind.{common_steps}
+use Rattle.cip_axis.specs.Biaryls.{is_biaryl}
+use Rattle.cip_axis.proofs.biaryls.is_biaryl.Goals as goal
+
+pub are_three_hindered-requires-clause-a : goal.are_three_hindered-requires-clause-a
+unfolding is_biaryl
+are_three_hindered-requires-clause-a c = grind (arith, common_steps)
+
+pub returns-then-not-are_three_hindered : goal.returns-then-not-are_three_hindered
+unfolding is_biaryl
+returns-then-not-are_three_hindered c = grind (arith, common_steps)
+
+pub are_three_hindered-requires-2-clause-a : goal.are_three_hindered-requires-2-clause-a
+unfolding is_biaryl
+are_three_hindered-requires-2-clause-a c = grind (arith, common_steps)

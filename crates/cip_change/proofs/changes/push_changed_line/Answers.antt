@@ -1,0 +1,9 @@
+use Rattle.std.proofs.Common.{arith}
+use Rattle.std.proofs.lemmas.Grind.{common_steps}
+use Rattle.cip_change.proofs.changes.push_changed_line.Goals as goal
+
+pub returns-then-are_drawn_alike : goal.returns-then-are_drawn_alike
+returns-then-are_drawn_alike c = grind (arith, common_steps)
+
+pub returns-in_ok-written : goal.returns-in_ok-written
+returns-in_ok-written c = grind (arith, common_steps)

@@ -1,0 +1,11 @@
+use Rattle.std.proofs.Common.{◌≡◌, subst}
+use Rattle.std.specs.Prelude.{IfOk, Ok}
+use Rattle.cip_mol.specs.Drawing.{Drawing}
+use Rattle.cip_collections.specs.Texts.{of_groups}
+use Rattle.cip_collections.proofs.telling.tell_groups.Goals as goal
+
+pub returns-clause-told : goal.returns-clause-told
+returns-clause-told g c =
+    subst (λ (drawing : Drawing). IfOk c.tell_drawn-told.result
+    (λ told. told ≡ of_groups c.args.rules c.args.labeller.now drawing (Ok c.args.groups.now)))
+    c.in_ok-drawn.ensures c.tell_drawn-told.ensures.told

@@ -1,0 +1,67 @@
+-- Answers to made records, counted batch by batch.
+use Rattle.std.proofs.Common.{◌≡◌, ◌+◌, ℕ, suc, List, [], ◌∷◌, ◌++◌, Bool, arith, ◌||◌, sym, ap, ◌∙◌, append_assoc, append-nil, fold, map}
+use Rattle.std.proofs.Math.Bool.{or-false}
+use Rattle.std.proofs.lemmas.List.{map-append}
+use Rattle.std.proofs.lemmas.List.Folds.{list_any-append}
+use Rattle.std.proofs.lemmas.List.Sums.{fold-append}
+use Rattle.cip_print.specs.declared.answer.Answer.{Answer}
+use Rattle.cip_print.specs.Tallies as tallies
+use Rattle.cip_print.specs.Tallies.{Counts}
+use Rattle.cip_answer.specs.Answers.{is_flagged}
+use Rattle.cip_commands.specs.declared.series.Numbered.{Numbered}
+use Rattle.cip_commands.specs.declared.series.Trial.{Trial}
+use Rattle.cip_commands.specs.Trying.{Counted, answer_of, answers_to, counted, made_answer, some_flagged, with_one}
+
+abbrev pair : Counts → Bool → Counted
+pair counts flagged = record { counts = counts; flagged = flagged }
+
+both : (counts now : Counts) (flagged told : Bool) → counts ≡ now → flagged ≡ told → pair counts flagged ≡ pair now told
+both counts now flagged told same alike = ap (λ c. pair c flagged) same ∙ ap (pair now) alike
+
+one_more : (before : List Answer) (answer : Answer) → with_one (counted before) answer ≡ counted (before ++ answer ∷ [])
+one_more before answer =
+    both _ _ _ _ (sym (fold-append tallies.counted tallies.nothing before (answer ∷ [])))
+    (ap (λ flagged. some_flagged before || flagged) (sym (or-false (is_flagged answer)))
+    ∙ sym (list_any-append is_flagged before (answer ∷ [])))
+
+with_more : (before answers : List Answer) → fold with_one (counted before) answers ≡ counted (before ++ answers)
+with_more before [] = ap counted (sym (append-nil before))
+with_more before (answer ∷ answers) =
+    ap (λ count. fold with_one count answers) (one_more before answer) ∙ with_more (before ++ answer ∷ []) answers
+    ∙ ap counted (append_assoc before (answer ∷ []) answers)
+
+-- a batch more is counted
+pub batch_counted : {D : Type 0} (before answers all : List Answer) (jobs : List (Numbered D)) (count now : Counted)
+    → count ≡ counted before → now ≡ fold with_one count answers → answers ≡ map answer_of jobs
+    → before ++ map answer_of jobs ≡ all → now ≡ counted all
+batch_counted {D} before answers all jobs count now so_far added found whole =
+    added ∙ ap (λ c. fold with_one c answers) so_far ∙ with_more before answers
+    ∙ ap (λ more. counted (before ++ more)) found ∙ ap counted whole
+
+-- one job more
+
+next_answer : (trial : Trial) (before : ℕ) → answers_to trial.series trial.labelling before
+    ++ made_answer trial.labelling.rules trial.labelling.nodes trial.series.start (before + 1) ∷ []
+    ≡ answers_to trial.series trial.labelling (before + 1)
+next_answer trial before =
+    let next : suc before ≡ before + 1 = omega arith in ap (answers_to trial.series trial.labelling) next
+
+job_answer : {D : Type 0} (trial : Trial) (number : ℕ) (job : Numbered D) → job.trial ≡ trial → job.number ≡ number
+    → answer_of job ≡ made_answer trial.labelling.rules trial.labelling.nodes trial.series.start number
+job_answer trial number job of is =
+    ap (λ (t : Trial). made_answer t.labelling.rules t.labelling.nodes t.series.start job.number) of
+    ∙ ap (made_answer trial.labelling.rules trial.labelling.nodes trial.series.start) is
+
+-- with the next job the answers are those to one record more
+pub job_more : {D : Type 0} (front : List Answer) (trial : Trial) (before : ℕ) (jobs now : List (Numbered D))
+    (job : Numbered D) → now ≡ jobs ++ job ∷ [] → job.trial ≡ trial → job.number ≡ before + 1
+    → front ++ map answer_of jobs ≡ answers_to trial.series trial.labelling before
+    → front ++ map answer_of now ≡ answers_to trial.series trial.labelling (before + 1)
+job_more front trial before jobs now job pushed of is so_far =
+    ap (λ jobs. front ++ map answer_of jobs) pushed
+    ∙ ap (λ answers. front ++ answers) (map-append answer_of jobs (job ∷ []))
+    ∙ sym (append_assoc front (map answer_of jobs) (answer_of job ∷ []))
+    ∙ ap (λ answers. answers ++ answer_of job ∷ []) so_far
+    ∙ ap (λ answer. answers_to trial.series trial.labelling before ++ answer ∷ [])
+    (job_answer trial (before + 1) job of is)
+    ∙ next_answer trial before

@@ -1,0 +1,83 @@
+-- What is told of a record is what is told of it without its label items.
+use Rattle.std.proofs.Common.{◌≡◌, ◌==◌, ℕ, List, Bool, true, false, refl, sym, ◌∙◌, ap, if◌then◌else◌}
+use Rattle.cip_item.proofs.Walking.{itself}
+use Rattle.cip_item.specs.Parts.{has_label_item, without_label_items}
+use Rattle.cip_change.proofs.MirrorReads.{mirror_reads}
+use Rattle.cip_change.specs.Answers.{GivesReflected, mirror_answer}
+use Rattle.cip_change.specs.declared.mirror_answers.MirrorAnswer.{MirrorAnswer}
+use Rattle.cip_change.specs.declared.mirror_answers.MirrorAnswer.TheVariants as mirrored
+use Rattle.cip_mol.specs.declared.centre_letter.CentreLetter.{CentreLetter}
+use Rattle.cip_change.proofs.SetReads.{set_records_are_read}
+use Rattle.cip_change.specs.SetAnswers.{GivesLetter, set_answer}
+use Rattle.cip_change.specs.declared.set_answers.SetAnswer.{SetAnswer}
+use Rattle.cip_change.specs.declared.set_answers.SetAnswer.TheVariants as sets
+use Rattle.cip_stream.specs.Batches.{Telling, telling}
+use Rattle.cip_words.specs.Ranges.{Labelling}
+use Rattle.cip_words.specs.declared.settings.Task.{Task}
+use Rattle.cip_words.specs.declared.settings.Task.TheVariants.{Set, Mirror}
+use Rattle.cip_commands.specs.Changing.{Change, mirrored_to, reflected, set_to, unchanged, with_letter}
+use Rattle.cip_commands.specs.Telling.{annotated, explained, is_flagged_record, manner_of}
+use Rattle.cip_commands.specs.TellingBare.{annotate_change, told_bare}
+use Rattle.cip_commands.specs.declared.ending.Note.{Note}
+
+module _ (labelling : Labelling) where
+  -- a record of bytes is told of by its bytes without label items
+  abbrev of_change : Change → Telling Note
+  of_change change = record {
+    text = annotated labelling.rules labelling.nodes change.bytes;
+    verdict = record { flagged = is_flagged_record labelling.rules labelling.nodes change.bytes; note = change.note };
+  }
+
+  abbrev bared : Change → Change
+  bared change = record { bytes = without_label_items change.bytes; note = change.note }
+
+  bare_told : (change : Change) → annotate_change labelling (bared change) ≡ of_change change
+  unfolding annotated is_flagged_record
+  bare_told change = refl
+
+  -- what was written has no label item, and where nothing was written the record stays
+  set_bared : (bytes : List ℕ) (atom : ℕ) (letter : CentreLetter) (answer : SetAnswer)
+      → GivesLetter labelling.rules labelling.nodes atom letter bytes answer
+      → bared (set_to bytes answer) ≡ set_to (without_label_items bytes) answer
+  set_bared bytes atom letter (sets.Written text) gives =
+      ap (λ bare. set_to bytes (sets.Written bare)) (itself text gives.free)
+  set_bared bytes atom letter (sets.Refused refusal) gives = refl
+
+  mirror_bared : (bytes : List ℕ) (answer : MirrorAnswer) → GivesReflected bytes answer
+      → bared (mirrored_to bytes answer) ≡ mirrored_to (without_label_items bytes) answer
+  mirror_bared bytes (mirrored.Written text) gives =
+      ap (λ bare. mirrored_to bytes (mirrored.Written bare)) (itself text gives.free)
+  mirror_bared bytes (mirrored.Refused refusal) gives = refl
+
+  letter_bared : (named atom : ℕ) (letter : CentreLetter) (number : ℕ) (bytes : List ℕ) (k : Bool)
+      → (number == named) ≡ k → bared (with_letter labelling.rules labelling.nodes named atom letter number bytes)
+      ≡ (if number == named
+      then set_to (without_label_items bytes) (set_answer labelling.rules labelling.nodes atom letter bytes)
+      else unchanged (without_label_items bytes))
+  unfolding with_letter
+  letter_bared named atom letter number bytes true k =
+      rw k (set_bared bytes atom letter (set_answer labelling.rules labelling.nodes atom letter bytes)
+      (set_records_are_read labelling.rules labelling.nodes atom letter bytes))
+  letter_bared named atom letter number bytes false k = rw k refl
+
+  reflected_bared : (bytes : List ℕ)
+      → bared (reflected bytes) ≡ mirrored_to (without_label_items bytes) (mirror_answer bytes)
+  unfolding reflected
+  reflected_bared bytes = mirror_bared bytes (mirror_answer bytes) (mirror_reads bytes)
+
+  pub bare_is_told : (task : Task) (number : ℕ) (bytes : List ℕ)
+      → told_bare labelling task number (without_label_items bytes)
+      ≡ telling (manner_of task labelling) number bytes
+  unfolding annotated explained is_flagged_record
+  bare_is_told (Set named atom letter) number bytes =
+      ap (annotate_change labelling) (sym (letter_bared named atom letter number bytes (number == named) refl))
+      ∙ bare_told (with_letter labelling.rules labelling.nodes named atom letter number bytes)
+  bare_is_told Mirror number bytes =
+      ap (annotate_change labelling) (sym (reflected_bared bytes)) ∙ bare_told (reflected bytes)
+  bare_is_told task number bytes = refl
+
+  -- a record without label items, and one of which they were taken out
+  pub told_itself : (task : Task) (number : ℕ) (bytes : List ℕ) → has_label_item bytes ≡ false
+      → told_bare labelling task number bytes ≡ telling (manner_of task labelling) number bytes
+  told_itself task number bytes none =
+      ap (told_bare labelling task number) (sym (itself bytes none)) ∙ bare_is_told task number bytes

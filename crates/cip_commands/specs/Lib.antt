@@ -1,0 +1,9 @@
+pub mod Changing
+pub mod Endings
+pub mod ExitStatuses
+pub mod Making
+pub mod Runs
+pub mod Statuses
+pub mod Telling
+pub mod TellingBare
+pub mod Trying

@@ -1,0 +1,145 @@
+// How a run ends.
+ghost use Rattle.std.specs.Prelude.{◌≡◌};
+ghost use Rattle.cip_commands.specs.Endings.{ending_after, ending_of, line_of, missed, missed_line, refusal_line, status_of};
+
+use crate::status::{
+    DONE, FLAGGED, LIMIT, NOT_CHANGED, OUT_OF_MEMORY, READ_FAULT, WORDS_REFUSED, WRITE_FAULT,
+};
+use cip_change::SetRefusal;
+use cip_stream::{Stop, Verdict};
+use cip_words::Task;
+
+/// Why a record isn't changed as it was asked.
+#[derive(Clone, Copy)]
+pub enum Missed {
+    /// There is no record of this number.
+    NoRecord,
+    /// The centre can't have the letter.
+    NotSet(SetRefusal),
+    /// A record can't be reflected.
+    NotMirrored,
+}
+
+/// What a run keeps of a record for its end.
+#[derive(Clone, Copy)]
+pub enum Note {
+    /// It was changed as it was asked.
+    Changed,
+    /// It wasn't.
+    Missing(Missed),
+}
+
+/// How a run ends.
+#[derive(Clone, Copy)]
+pub enum Ending {
+    /// What was asked for is done, and no record is flagged.
+    Done,
+    /// What was asked for is done; a record is refused, or a digraph of it is larger than the bound.
+    Flagged,
+    /// All records are written, but what was to be changed wasn't.
+    NotChanged(Missed),
+    /// The words are those of no command.
+    WordsRefused,
+    /// The source failed.
+    ReadFault,
+    /// The sink failed.
+    WriteFault,
+    /// There was no memory.
+    OutOfMemory,
+    /// A record or the input is longer than its limit.
+    Limit,
+}
+
+impl Ending {
+    /// Where answering the records of a stream ended so.
+    pub fn after(task: Task, answered: Result<Verdict<Note>, Stop>) -> Ending
+        ensures { result ≡ ending_after task answered }
+    {
+        match answered {
+            Ok(verdict) => Ending::of(task, verdict),
+            Err(Stop::ReadFault) => Ending::ReadFault,
+            Err(Stop::WriteFault) => Ending::WriteFault,
+            Err(Stop::Memory) => Ending::OutOfMemory,
+            Err(Stop::Limit) => Ending::Limit,
+        }
+    }
+
+    // Where all records were answered with this verdict.
+    fn of(task: Task, verdict: Verdict<Note>) -> Ending
+        ensures { result ≡ ending_of task verdict }
+    {
+        match what_is_missed(task, verdict.note) {
+            Some(missed) => Ending::NotChanged(missed),
+            None if verdict.flagged => Ending::Flagged,
+            None => Ending::Done,
+        }
+    }
+
+    /// The exit status.
+    pub fn status(self) -> u8
+        ensures { result ≡ status_of self }
+    {
+        match self {
+            Ending::Done => DONE,
+            Ending::Flagged => FLAGGED,
+            Ending::NotChanged(_) => NOT_CHANGED,
+            Ending::WordsRefused => WORDS_REFUSED,
+            Ending::ReadFault => READ_FAULT,
+            Ending::WriteFault => WRITE_FAULT,
+            Ending::OutOfMemory => OUT_OF_MEMORY,
+            Ending::Limit => LIMIT,
+        }
+    }
+
+    /// The diagnostic line, with its LF; empty where there is none.
+    pub fn line(self) -> &'static [u8]
+        ensures { result.now ≡ line_of self }
+    {
+        match self {
+            Ending::Done | Ending::Flagged => b"".as_slice(),
+            Ending::NotChanged(missed) => missed_line(missed),
+            Ending::WordsRefused => b"cip: words refused\n".as_slice(),
+            Ending::ReadFault => b"cip: read fault\n".as_slice(),
+            Ending::WriteFault => b"cip: write fault\n".as_slice(),
+            Ending::OutOfMemory => b"cip: out of memory\n".as_slice(),
+            Ending::Limit => b"cip: limit\n".as_slice(),
+        }
+    }
+}
+
+// What was to be changed and wasn't, by the first note on a record.
+fn what_is_missed(task: Task, note: Option<Note>) -> Option<Missed>
+    ensures { result ≡ missed task note }
+{
+    match (task, note) {
+        (Task::Set { .. }, None) => Some(Missed::NoRecord),
+        (Task::Set { .. } | Task::Mirror, Some(Note::Missing(missed))) => Some(missed),
+        _ => None,
+    }
+}
+
+fn missed_line(missed: Missed) -> &'static [u8]
+    ensures { result.now ≡ missed_line missed }
+{
+    match missed {
+        Missed::NoRecord => b"cip: not set NoRecord\n".as_slice(),
+        Missed::NotSet(refusal) => refusal_line(refusal),
+        Missed::NotMirrored => b"cip: not mirrored\n".as_slice(),
+    }
+}
+
+fn refusal_line(refusal: SetRefusal) -> &'static [u8]
+    ensures { result.now ≡ refusal_line refusal }
+{
+    match refusal {
+        SetRefusal::Grammar(_) => b"cip: not set Grammar\n".as_slice(),
+        SetRefusal::OnlyV2000 => b"cip: not set OnlyV2000\n".as_slice(),
+        SetRefusal::NoCentre => b"cip: not set NoCentre\n".as_slice(),
+        SetRefusal::ThreeD => b"cip: not set ThreeD\n".as_slice(),
+        SetRefusal::Coincident => b"cip: not set Coincident\n".as_slice(),
+        SetRefusal::NoBond => b"cip: not set NoBond\n".as_slice(),
+        SetRefusal::Over => b"cip: not set Over\n".as_slice(),
+        SetRefusal::Tie => b"cip: not set Tie\n".as_slice(),
+        SetRefusal::OtherKind { .. } => b"cip: not set OtherKind\n".as_slice(),
+    }
+}

@@ -1,0 +1,24 @@
+// Made records that are to be labelled.
+ghost use Rattle.std.specs.Prelude.{◌≤◌};
+
+use cip_words::{Labelling, Series};
+use std::alloc::Global;
+use std::marker::PhantomData;
+
+/// Made records, and by what they are labelled.
+#[derive(Clone, Copy)]
+pub struct Trial {
+    pub series: Series,
+    pub labelling: Labelling,
+}
+
+/// One of the records by its number, which is from 1 on. Whose digraphs it is labelled in is told by the type alone.
+#[derive(Drop)]
+pub struct Numbered<D> {
+    pub alloc: Global,
+    pub trial: Trial,
+    pub number: u32,
+    pub digraphs: PhantomData<D>,
+    ghost above: { 1 ≤ number },
+    ghost below: { number ≤ 100000 },
+}

@@ -1,0 +1,28 @@
+use Rattle.std.proofs.Common.{◌∷◌, [], ap, subst}
+use Rattle.std.specs.Prelude.{IfOk}
+use Rattle.cip_digraph.specs.units.Ends.{end_at}
+use Rattle.cip_label.specs.Standing.{RankedAs}
+use Rattle.cip_label.specs.Steps.{Rises}
+use Rattle.cip_desk.specs.Desks.{Held}
+use Rattle.cip_desk.specs.Standing.{standing_of}
+use Rattle.cip_desk.proofs.desk.DeskDigraphs.rank.Goals as goal
+
+pub rank_late-ranking-requires-clause-fit : goal.rank_late-ranking-requires-clause-fit
+rank_late-ranking-requires-clause-fit g c = c.requires.fit
+
+pub returns-then-branch-clause-kept : goal.returns-then-branch-clause-kept
+returns-then-branch-clause-kept g c = ap (λ (held : Held). held.bound) c.self.view_is
+
+pub returns-clause-kept : goal.returns-clause-kept
+returns-clause-kept g c = ap (λ (held : Held). held.bound) c.self.view_is
+
+pub returns-clause-ranking : goal.returns-clause-ranking
+returns-clause-ranking g c =
+    subst (λ (held : Held). IfOk c.rank_late-ranking.result (RankedAs c.args.setting.now held.bound c.args.root
+    c.args.ligands.now (standing_of c.rank_late-ranking.new.branches))) c.self.view_is
+    c.rank_late-ranking.ensures.ranking
+
+pub returns-clause-cost : goal.returns-clause-cost
+returns-clause-cost g c =
+    subst (λ (held : Held). Rises c.args.setting.now held.bound (end_at c.args.root c.args.ligands.now ∷ [])
+    c.args.steps.now c.rank_late-ranking.new.steps) c.self.view_is c.rank_late-ranking.ensures.cost

@@ -1,0 +1,5 @@
+use Rattle.cip_laws.proofs.done.Completing.{complete}
+use Rattle.cip_laws.proofs.runs.runs_complete.Goals as goal
+
+pub returns : goal.returns
+returns c = complete

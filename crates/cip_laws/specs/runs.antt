@@ -1,0 +1,5 @@
+pub mod Completeness
+pub mod Dividing
+pub mod Laws
+pub mod Repeating
+pub mod Worked

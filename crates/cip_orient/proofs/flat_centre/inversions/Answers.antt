@@ -1,0 +1,12 @@
+use Rattle.std.proofs.Common.{arith}
+use Rattle.std.proofs.lemmas.Grind.{common_steps}
+use Rattle.cip_orient.proofs.flat_centre.inversions.Goals as goal
+
+pub loop-number-preserved : goal.loop-number-preserved
+loop-number-preserved c = grind (arith, common_steps)
+
+pub returns : goal.returns
+returns c = grind (arith, common_steps)
+
+pub count-count-requires-clause-fits : goal.count-count-requires-clause-fits
+count-count-requires-clause-fits c = grind (arith, common_steps)

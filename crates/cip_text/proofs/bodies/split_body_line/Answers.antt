@@ -1,0 +1,13 @@
+use Rattle.std.proofs.Common.{arith}
+use Rattle.std.proofs.lemmas.Grind.{common_steps}
+use Rattle.cip_text.proofs.Halves.{closing_itself}
+use Rattle.cip_text.proofs.bodies.split_body_line.Goals as goal
+
+pub returns-clause-whole : goal.returns-clause-whole
+returns-clause-whole c = grind (arith, common_steps, closing_itself)
+
+pub returns-clause-some : goal.returns-clause-some
+returns-clause-some c = grind (arith, common_steps, closing_itself)
+
+pub returns-then-is_closing-clause-end : goal.returns-then-is_closing-clause-end
+returns-then-is_closing-clause-end c = grind (arith, common_steps, closing_itself)

@@ -1,0 +1,25 @@
+use Rattle.std.proofs.Common.{◌≡◌, ◌==◌, ◌∙◌, ◌||◌, ap, not, sym, subst, ℕ, List, [], Bool, false, zero, suc, refl, length, arith}
+use Rattle.std.specs.Prelude.{All}
+use Rattle.cip_mol.specs.Ranges.{IsBond}
+use Rattle.cip_mol.specs.declared.molecule.Bond.{Bond}
+use Rattle.cip_v3000.specs.Grammar.{Bonds, behind_block}
+use Rattle.cip_v3000.proofs.blocks.bond_block.Goals as goal
+
+none_due : (count : ℕ) (begins : Bool) → false ≡ (not (count == 0) || begins) → count ≡ 0
+none_due zero begins is = refl
+none_due (suc n) begins is = absurd (grind (arith, is))
+
+pub returns-then-not-branch-clause-are : goal.returns-then-not-branch-clause-are
+returns-then-not-branch-clause-are c =
+    let due = none_due c.args.count _ (sym c.if-not-branch.true ∙ c.in_ok-has_bond_block.ensures) in
+    let none : c.args.block.now.bonds.bonds ≡ [] = ap (λ (b : Bonds). b.bonds) c.requires.none.none in
+    record {
+      among = c.requires.none.among;
+      range = subst (λ (bonds : List Bond). All IsBond bonds) (sym none) (λ i d within. absurd (omega (arith, within)));
+      counted = ap length none ∙ sym due;
+    }
+
+pub returns-clause-behind : goal.returns-clause-behind
+returns-clause-behind c =
+    sym (ap (λ has. behind_block has c.args.count c.args.place)
+    (sym c.in_ok-has_bond_block.ensures ∙ c.if-not-branch.false))
