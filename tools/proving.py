@@ -63,13 +63,13 @@ class Crate:
             found.update(f"{os.path.relpath(path, self.folder)} {len(text)}\n".encode() + text)
         return found.hexdigest()
 
-    def lines(self):
-        """How much there is to prove, so far as it can be told before: lines of code."""
+    def functions(self):
+        """How many functions it has, by which it can be told before how long their proofs take."""
         count = 0
         for path in self.files():
             if path.endswith(".rt"):
                 with open(path, "rb") as file:
-                    count += file.read().count(b"\n")
+                    count += file.read().count(b"fn ")
         return count
 
     def stands(self):
@@ -168,12 +168,12 @@ def processors():
 
 
 def longest_behind(crates):
-    """By crate, the lines of code of the longest chain that begins with it, in which each waits for the one before."""
-    longest = {name: crate.lines() for name, crate in crates.items()}
+    """By crate, the functions of the longest chain that begins with it: each of its crates waits for the one before."""
+    longest = {name: crate.functions() for name, crate in crates.items()}
     # a crate comes behind those on which it stands
     for name in reversed(crates):
         for low in crates[name].lows:
-            longest[low.name] = max(longest[low.name], low.lines() + longest[name])
+            longest[low.name] = max(longest[low.name], low.functions() + longest[name])
     return longest
 
 

@@ -17,7 +17,7 @@ class Fake:
     def __init__(self, name, lows, count, turns, passes=True):
         self.name, self.lows, self.count, self.turns, self.passes = name, lows, count, turns, passes
 
-    def lines(self):
+    def functions(self):
         return self.count
 
     def stands(self):
