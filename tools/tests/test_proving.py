@@ -86,6 +86,19 @@ class Libraries(unittest.TestCase):
             self.assertFalse(found("low").stands())
             self.assertNotEqual(found().sum, before)
 
+    def test_a_library_of_the_gate_is_taken_once(self):
+        with tempfile.TemporaryDirectory() as top, mock.patch.object(script, "TOP", top):
+            kit = repository(top)
+            kit.name = b"kit"
+            low = proving.crates_of(kit, ["low"])["low"]
+            low.take()
+            self.assertFalse(low.stands())
+            left = low.at("out", "rlib", "low.rlib")
+            os.makedirs(left)
+            low.take()
+            self.assertTrue(low.stands() and os.path.isdir(low.library))
+            self.assertFalse(os.path.exists(left))
+
     def test_words_name_the_libraries(self):
         with tempfile.TemporaryDirectory() as top, mock.patch.object(script, "TOP", top):
             kit = repository(top)
