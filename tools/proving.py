@@ -99,7 +99,7 @@ class Crate:
                 note.write(self.sum)
 
     def words(self):
-        """What proves and builds it, by one processor: with more it takes longer."""
+        """What proves and builds it, by one processor: more are done sooner, and take a third more in all."""
         kit = self.kit
         words = [kit.path("bin", "rattle"), "build", "--crate-name", self.name,
                  "src/main.rt" if self.is_program else "src/lib.rt", "--links", self.name + "=", "--jobs", "1",
