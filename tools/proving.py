@@ -7,12 +7,16 @@ import hashlib
 import os
 import shutil
 import subprocess
+import tempfile
 
 import crate_table
 import script
 import sdf
 
 MEMORY_OF_A_CHECK = 3 << 20     # in KiB, as /proc/meminfo tells
+# A check writes thousands of small files and removes them again: some 200 MB, sooner in memory than on a disk.
+FOLDER_IN_MEMORY = "/dev/shm"
+MOST_WRITTEN = 1 << 30          # in bytes, by a check
 PROVED_PARTS = ("src", "specs", "proofs")
 
 
@@ -137,8 +141,11 @@ class Crate:
                 made + ".o", kit.path("c", "libos_c.a"), kit.path("c", "liblibc_c.a")]
 
     def passes(self, words, log):
-        ran = subprocess.run(words, cwd=self.folder, stdin=subprocess.DEVNULL, stdout=subprocess.PIPE,
-                             stderr=subprocess.STDOUT, encoding="utf-8", errors="replace", check=False)
+        # the folder goes also where a check was ended and left its files
+        with tempfile.TemporaryDirectory(prefix="cip-", dir=folder_of_checks()) as room:
+            ran = subprocess.run(words, cwd=self.folder, env={**os.environ, "TMPDIR": room}, stdin=subprocess.DEVNULL,
+                                 stdout=subprocess.PIPE, stderr=subprocess.STDOUT, encoding="utf-8", errors="replace",
+                                 check=False)
         # one write, since other crates' logs go into the same file
         log.write(f"== {self.name}\n{ran.stdout}")
         log.flush()
@@ -158,6 +165,16 @@ def crates_of(kit, names):
     for name in names:
         add(name)
     return crates
+
+
+def folder_of_checks():
+    """Where checks keep what they need for themselves: in memory if there is room; None for the usual folder."""
+    try:
+        told = os.statvfs(FOLDER_IN_MEMORY)
+    except OSError:
+        return None
+    has_room = told.f_bavail * told.f_frsize >= MOST_WRITTEN * processors()
+    return FOLDER_IN_MEMORY if has_room and os.access(FOLDER_IN_MEMORY, os.W_OK) else None
 
 
 def processors():

@@ -86,6 +86,23 @@ class Libraries(unittest.TestCase):
             self.assertFalse(found("low").stands())
             self.assertNotEqual(found().sum, before)
 
+    def test_a_check_leaves_nothing(self):
+        with tempfile.TemporaryDirectory() as top, tempfile.TemporaryDirectory() as memory, \
+                mock.patch.object(script, "TOP", top), mock.patch.object(proving, "FOLDER_IN_MEMORY", memory):
+            kit, log = repository(top), io.StringIO()
+            kit.name = b"kit"
+            low = proving.crates_of(kit, ["low"])["low"]
+            self.assertFalse(low.passes(["sh", "-c", 'echo "$TMPDIR"; touch "$TMPDIR/left"; exit 1'], log))
+            room = log.getvalue().split("\n")[1]
+            self.assertEqual(os.path.dirname(room), memory)
+            self.assertEqual(os.listdir(memory), [])
+
+    def test_without_room_in_memory_the_usual_folder_serves(self):
+        with mock.patch.object(proving, "FOLDER_IN_MEMORY", "/nowhere"):
+            self.assertIsNone(proving.folder_of_checks())
+        with mock.patch.object(proving, "MOST_WRITTEN", 1 << 60):
+            self.assertIsNone(proving.folder_of_checks())
+
     def test_a_library_of_the_gate_is_taken_once(self):
         with tempfile.TemporaryDirectory() as top, mock.patch.object(script, "TOP", top):
             kit = repository(top)

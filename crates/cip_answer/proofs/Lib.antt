@@ -1,4 +1,2 @@
-pub mod Answered
 pub mod FoundUnits
-pub mod LinesBehind
 pub mod UnitLists

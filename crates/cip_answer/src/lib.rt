@@ -6,10 +6,8 @@ mod axes;
 mod colours;
 mod further;
 mod images;
-mod laws;
 mod units;
 
 pub use answering::{is_flagged, label_within};
 pub use axes::{AxesText, axes_text_within};
 pub use cip_molfile::read_molecule;
-pub use laws::{lines_behind_change_nothing, worked_records_are_answered};

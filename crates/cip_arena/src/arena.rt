@@ -48,7 +48,7 @@ impl Model for Arena {
 }
 
 /// What growing answers.
-#[derive(Clone, Copy, Debug, PartialEq, Eq)]
+#[derive(Clone, Copy, PartialEq, Eq)]
 pub enum Grown {
     /// The next sphere was added.
     Grown,

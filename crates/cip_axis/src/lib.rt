@@ -7,14 +7,12 @@ mod counting;
 mod cumulenes;
 mod hindrance;
 mod labels;
-mod laws;
 mod listing;
 mod site;
 mod source;
 mod units;
 
 pub use labels::label_further;
-pub use laws::{further_units_are_fit, worked_further_is_found};
 pub use listing::further;
 pub use site::{FurtherSite, FurtherUnit, like};
 pub use units::FurtherUnits;

@@ -5,7 +5,6 @@ pub mod BondLines
 pub mod BondRanges
 pub mod CentreOutcomes
 pub mod CentrePlaces
-pub mod ColumnsStay
 pub mod Contents
 pub mod CopiedColumns
 pub mod EditedItems

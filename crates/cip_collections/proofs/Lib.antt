@@ -1,5 +1,4 @@
 pub mod AtomSteps
-pub mod Decided
 pub mod GroupLines
 pub mod KindWords
 pub mod LinesSoFar
@@ -7,4 +6,3 @@ pub mod NotedPlaces
 pub mod PlacedCentres
 pub mod SameKinds
 pub mod Told
-pub mod TurnedCentres

@@ -6,7 +6,6 @@ mod collections;
 mod faults;
 mod groups;
 mod kinds;
-mod laws;
 mod names;
 mod outcomes;
 mod places;
@@ -16,8 +15,4 @@ pub use collections::groups_of;
 pub use faults::{GroupCause, GroupFault, GroupRefusal};
 pub use groups::{Group, Groups, GroupsAnswer, Vertices};
 pub use kinds::GroupKind;
-pub use laws::{
-    both_are_of_one_centre, first_causes_decide, turned_twice_is_drawn, whole_groups_mirror,
-    worked_collections_are_read,
-};
 pub use telling::{GroupText, group_text_within};

@@ -7,7 +7,7 @@ use cip_rank::{Rules, Table};
 
 /// What a node of a digraph is: an atom, or a duplicate of an atom that is on the path, at the end of a ring; or
 /// of the other end of a multiple bond; or of what the other end of a delocalised double bond is on the mean.
-#[derive(Clone, Copy, Debug, PartialEq, Eq)]
+#[derive(Clone, Copy, PartialEq, Eq)]
 pub enum NodeKind {
     Real,
     Closure,

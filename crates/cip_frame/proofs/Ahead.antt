@@ -3,7 +3,7 @@ use Rattle.std.proofs.Common.{◌≡◌, ◌≤◌, ◌<◌, ◌+◌, ℕ, List,
 use Rattle.std.specs.List.{take_while}
 use Rattle.std.proofs.lemmas.List.Sums.{take_while-cons}
 use Rattle.cip_frame.specs.Records.{is_closing, open_line}
-use Rattle.cip_frame.specs.Framing.{Framing, IsFrontOf, fits, all_fit}
+use Rattle.cip_frame.specs.Framing.{Framing, IsFrontOf, fits}
 use Rattle.cip_frame.specs.Following.{cut_behind}
 use Rattle.cip_frame.specs.Taking.{is_line, Ahead, ArePlain, IsTooLong, TakesLine}
 use Rattle.cip_frame.proofs.PieceLines.{line_closing, line_open}

@@ -1,16 +1,13 @@
 pub mod AlikeLines
 pub mod Closed
-pub mod FirstEnds
 pub mod Gaps
 pub mod Headings
 pub mod ItemLines
 pub mod Joining
-pub mod LineEnds
 pub mod Made
 pub mod Names
 pub mod NoLabels
 pub mod Numbered
-pub mod PutAgain
 pub mod TakenOut
 pub mod Taking
 pub mod Unnamed

@@ -4,7 +4,6 @@
 mod digraphs;
 mod labeller;
 mod labels;
-mod laws;
 mod pairwise;
 mod places;
 mod putting;
@@ -15,7 +14,6 @@ mod standing;
 
 pub use digraphs::{Digraphs, Ranking};
 pub use labeller::Labeller;
-pub use laws::units_are_fit;
 pub use putting::put_at;
 pub use roots::Ranked;
 pub use setting::Setting;

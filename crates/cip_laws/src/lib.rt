@@ -1,19 +1,39 @@
 //! What another numbering, a mirror and ties do to labels, and to the answers to records; what is read of records; what
-//! runs that are done leave behind; the tables that definitions and code share, written out once more. No part of the
-//! program stands on them.
+//! runs that are done leave behind; the tables that definitions and code share, written out once more; and what holds of
+//! the definitions of a single crate, in a module of its own. No part of the program stands on them.
 #![tactic(auto)]
 
+pub mod alternation;
+pub mod answers;
+pub mod axes;
 mod biaryls;
+pub mod collections;
 mod cumulenes;
+pub mod digraphs;
+pub mod directions;
+pub mod edits;
+pub mod framing;
+pub mod geometry;
 mod groups;
+pub mod items;
+pub mod labels;
+pub mod marking;
 mod marks;
+pub mod printed;
 mod records;
 mod reflection;
 mod renumbering;
+pub mod ring_search;
 mod rings;
+pub mod rules;
 mod runs;
+pub mod streams;
 mod tables;
+pub mod text;
 mod ties;
+pub mod trees;
+pub mod v2000;
+pub mod v3000;
 mod worked;
 
 pub use biaryls::delocalised_atoms_are_ends;

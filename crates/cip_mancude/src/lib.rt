@@ -2,7 +2,6 @@
 #![tactic(auto)]
 
 mod alternating;
-mod laws;
 mod listing;
 mod path;
 mod search;
@@ -10,6 +9,5 @@ mod sharing;
 mod walk;
 mod ways;
 
-pub use laws::shared_rings_are_found;
 pub use listing::positions;
 pub use sharing::share_ring;

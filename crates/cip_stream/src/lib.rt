@@ -3,7 +3,6 @@
 
 mod batch;
 mod crew;
-mod laws;
 mod limits;
 mod reading;
 mod stop;
@@ -13,7 +12,6 @@ mod verdict;
 mod writing;
 
 pub use crew::Crew;
-pub use laws::streams_divide;
 pub use limits::{LIMITS, Limits};
 pub use stop::Stop;
 pub use streaming::answer_stream;

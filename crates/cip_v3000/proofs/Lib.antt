@@ -3,12 +3,7 @@ pub mod Continued
 pub mod Counted
 pub mod FirstWords
 pub mod FrameWords
-pub mod InOrder
 pub mod Joined
-pub mod JoinedInOrder
-pub mod LineCauses
 pub mod NumberWords
 pub mod PlacedWords
-pub mod Soundness
 pub mod Tables
-pub mod WorkedLines

@@ -7,14 +7,14 @@ use Rattle.cip_text.specs.Kinds.{is_molecule_end}
 use Rattle.cip_item.specs.Parts.{without_label_items}
 use Rattle.cip_item.specs.Putting.{with_item, prepared, needs_gap}
 use Rattle.cip_item.proofs.NoLabels.{no_label_item}
-use Rattle.cip_item.proofs.PutAgain.{prepared_contents, items_are_put_again}
+use Rattle.cip_laws.proofs.put_items.PutAgain.{prepared_contents, items_are_put_again}
 use Rattle.cip_item.proofs.TakenOut.{gap_of, gap_contents, items_are_taken_out}
 use Rattle.cip_print.specs.Values.{values_of}
-use Rattle.cip_print.proofs.Fit.{values_are_fit}
+use Rattle.cip_laws.proofs.item_values.Fit.{values_are_fit}
 use Rattle.cip_rank.specs.declared.rules.Rules.{Rules}
 use Rattle.cip_answer.specs.Answers.{answer_lines, answer_without_items, answer_by}
 use Rattle.cip_answer.specs.Laws.{IsComplete}
-use Rattle.cip_answer.proofs.LinesBehind.{lines_behind}
+use Rattle.cip_laws.proofs.answered.LinesBehind.{lines_behind}
 use Rattle.cip_laws.specs.runs.Repeating.{ItemsComeOut, EndsAsItSays, AnnotatingRepeats}
 use Rattle.cip_commands.specs.Telling.{annotated}
 

@@ -8,7 +8,7 @@ use Rattle.cip_text.specs.Bodies.{body_lines, body_contents, closing, closing_li
 use Rattle.cip_text.specs.Kinds.{is_blank}
 use Rattle.cip_text.specs.Lines.{lines_of, content_of}
 use Rattle.cip_frame.specs.Records.{Cut, cut_of, is_blank_text, last_of, records_of, blank_tail}
-use Rattle.cip_frame.proofs.Parts.{cut_as, IsOne, parts_of, cuts_of_all, one_alike, open_alike}
+use Rattle.cip_laws.proofs.pieces.Parts.{cut_as, IsOne, parts_of, cuts_of_all, one_alike, open_alike}
 use Rattle.cip_item.specs.Parts.{without_label_items}
 use Rattle.cip_item.specs.Putting.{heading}
 use Rattle.cip_item.proofs.ItemLines.{item_contents}
@@ -16,7 +16,7 @@ use Rattle.cip_item.proofs.NoLabels.{both, closing_kept}
 use Rattle.cip_item.proofs.TakenOut.{all_lines, all_contents, made_with_item, gap_of, gap_contents}
 use Rattle.cip_item.proofs.Made.{IsMade}
 use Rattle.cip_print.specs.Values.{values_of}
-use Rattle.cip_print.proofs.Fit.{values_are_fit}
+use Rattle.cip_laws.proofs.item_values.Fit.{values_are_fit}
 use Rattle.cip_rank.specs.declared.rules.Rules.{Rules}
 use Rattle.cip_answer.specs.Answers.{answer_by, is_flagged}
 use Rattle.cip_stream.specs.declared.limits.Limits.{Limits}

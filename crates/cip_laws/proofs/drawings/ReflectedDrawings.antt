@@ -17,9 +17,9 @@ use Rattle.cip_mol.specs.declared.site.Geometry.TheVariants.{Known, Unknown}
 use Rattle.cip_mol.specs.declared.site.Site.{Site}
 use Rattle.cip_mol.specs.declared.site.Site.TheVariants.{Centre, Bond, Axis}
 use Rattle.cip_mol.specs.declared.site.Unit as units
-use Rattle.cip_mol.proofs.ReflectedAxes.{reflection_turns_axes}
-use Rattle.cip_mol.proofs.ReflectedCentres.{reflection_turns_centres}
-use Rattle.cip_mol.proofs.ReflectedPairs.{reflection_keeps_bonds}
+use Rattle.cip_laws.proofs.senses.ReflectedAxes.{reflection_turns_axes}
+use Rattle.cip_laws.proofs.senses.ReflectedCentres.{reflection_turns_centres}
+use Rattle.cip_laws.proofs.senses.ReflectedPairs.{reflection_keeps_bonds}
 use Rattle.cip_digraph.specs.graph.DrawnGraph.{atom_vertex, bond_edge, carriers, graph_of}
 use Rattle.cip_digraph.specs.rules.Exchange.{reflected_geometry, reflected_unit}
 use Rattle.cip_digraph.specs.declared.graph.Edge.{Edge}

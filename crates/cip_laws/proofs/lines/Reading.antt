@@ -4,8 +4,8 @@ use Rattle.cip_rank.specs.declared.rules.Rules.{Rules}
 use Rattle.cip_mol.specs.Bonds.{IsSound}
 use Rattle.cip_mol.specs.Drawing.{Drawing}
 use Rattle.cip_v2000.specs.Version.{is_v3000}
-use Rattle.cip_v2000.proofs.Soundness as old
-use Rattle.cip_v3000.proofs.Soundness as new
+use Rattle.cip_laws.proofs.v2000_lines.Soundness as old
+use Rattle.cip_laws.proofs.v3000_lines.Soundness as new
 use Rattle.cip_answer.specs.Answers.{of_molecule, of_reading, answer_without_items, answer_by}
 use Rattle.cip_molfile.specs.Molecules.{read_molecule}
 use Rattle.cip_laws.specs.Records.{IsReadAs, ReadingsAreSound}

@@ -13,9 +13,9 @@ use Rattle.cip_mol.specs.declared.site.Ligand.TheVariants.{LonePair}
 use Rattle.cip_mol.specs.declared.site.Ligand.TheVariants as ligands
 use Rattle.cip_mol.specs.declared.site.Site.{Site}
 use Rattle.cip_mol.specs.declared.site.Site.TheVariants.{Centre, Bond, Axis}
-use Rattle.cip_mol.proofs.ExchangedLigands.{exchange_turns_centres}
-use Rattle.cip_mol.proofs.ExchangedAtEnd.{exchange_turns_bonds, exchange_turns_axes}
-use Rattle.cip_mol.proofs.ExchangedEnds.{exchanged_ends_keep_bonds, exchanged_ends_keep_axes}
+use Rattle.cip_laws.proofs.senses.ExchangedLigands.{exchange_turns_centres}
+use Rattle.cip_laws.proofs.senses.ExchangedAtEnd.{exchange_turns_bonds, exchange_turns_axes}
+use Rattle.cip_laws.proofs.senses.ExchangedEnds.{exchanged_ends_keep_bonds, exchanged_ends_keep_axes}
 use Rattle.cip_digraph.specs.units.Descriptors.{is_odd, shape_of}
 use Rattle.cip_digraph.specs.units.Ends.{End, end_at, ends_of}
 use Rattle.cip_digraph.specs.graph.Renumbering.{IsRenumbering}

@@ -8,7 +8,7 @@ use Rattle.cip_mol.specs.declared.site.Ligand.{Ligand}
 use Rattle.cip_mol.specs.declared.site.Ligand.TheVariants.{Vertex, LonePair}
 use Rattle.cip_mol.specs.DrawnLigands.{drawn}
 use Rattle.cip_mol.specs.Senses.{other_way}
-use Rattle.cip_mol.proofs.ExchangedLigands.{other_way_back}
+use Rattle.cip_laws.proofs.senses.ExchangedLigands.{other_way_back}
 use Rattle.cip_digraph.specs.units.Descriptors.{is_odd}
 use Rattle.cip_image.proofs.lists.Exchanges.{exchange_long, exchanges_long}
 use Rattle.cip_image.specs.Exchanged.{exchange, exchanges, IsExchanged}

@@ -1,3 +1,5 @@
+use Rattle.std.proofs.Common.{arith}
+use Rattle.std.proofs.lemmas.Grind.{common_steps}
 use Rattle.std.proofs.Common.{◌+◌, ◌∙◌, ap}
 use Rattle.cip_hydro.proofs.Around.{surroundings_count}
 use Rattle.cip_hydro.proofs.Drawn.{bonds_join, edges_next}
@@ -24,3 +26,6 @@ loop-bond-preserved c = record {
   count = c.push_reserved.ensures.len ∙ ap (λ n. n + 1) c.loop-bond.invariant.count;
   room = c.push_reserved.ensures.capacity ∙ c.loop-bond.invariant.room;
 }
+
+pub returns-clause-value : goal.returns-clause-value
+returns-clause-value c = grind (arith, common_steps)

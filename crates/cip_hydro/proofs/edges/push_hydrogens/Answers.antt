@@ -1,3 +1,4 @@
+use Rattle.std.proofs.lemmas.Grind.{common_steps}
 use Rattle.std.proofs.Common.{arith, false}
 use Rattle.cip_hydro.specs.declared.surroundings.Surroundings.{Surroundings}
 use Rattle.cip_hydro.proofs.Carried.{count_next, edges_on, left_next}
@@ -29,3 +30,9 @@ loop-atom-preserved c = record {
       let room = c.loop-atom.invariant.room in
       omega (arith, left, room, c.push_carried.ensures.count, c.push_carried.ensures.room);
 }
+
+pub returns : goal.returns
+returns c = grind (arith, common_steps)
+
+pub overflow_add-next : goal.overflow_add-next
+overflow_add-next c = grind (arith, common_steps)

@@ -1,3 +1,4 @@
+use Rattle.std.proofs.lemmas.Grind.{common_steps}
 use Rattle.std.proofs.Common.{◌<◌, ◌+◌, ◌∙◌, ap, arith, length}
 use Rattle.cip_hydro.proofs.Around.{surroundings_count}
 use Rattle.cip_hydro.proofs.Drawn.{vertices_next}
@@ -23,3 +24,6 @@ loop-number-preserved c = record {
   count = c.push_reserved.ensures.len ∙ ap (λ n. n + 1) c.loop-number.invariant.count;
   room = c.push_reserved.ensures.capacity ∙ c.loop-number.invariant.room;
 }
+
+pub returns-clause-count : goal.returns-clause-count
+returns-clause-count c = grind (arith, common_steps)

@@ -1,3 +1,4 @@
+use Rattle.std.proofs.lemmas.Grind.{common_steps}
 use Rattle.std.proofs.Common.{◌<◌, ◌≤◌, arith, length, take}
 use Rattle.std.specs.Prelude.{flat_map}
 use Rattle.cip_ring.proofs.Further.{no_shorter_now, one_more}
@@ -20,3 +21,6 @@ loop-place-preserved g c =
           c.in_ok-add_steps.ensures;
       upto = omega (arith, lt);
     }
+
+pub returns : goal.returns
+returns g c = grind (arith, common_steps)

@@ -1,5 +1,0 @@
-use Rattle.cip_axis.proofs.FurtherFit as law
-use Rattle.cip_axis.proofs.laws.further_units_are_fit.Goals as goal
-
-pub returns : goal.returns
-returns c = law.further_units_are_fit

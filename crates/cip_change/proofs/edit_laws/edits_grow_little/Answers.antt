@@ -1,5 +1,0 @@
-use Rattle.cip_change.proofs.Lengths.{edits_grow_little}
-use Rattle.cip_change.proofs.edit_laws.edits_grow_little.Goals as goal
-
-pub returns : goal.returns
-returns c = edits_grow_little

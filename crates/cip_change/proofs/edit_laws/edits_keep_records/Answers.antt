@@ -1,5 +1,0 @@
-use Rattle.cip_change.proofs.EditedItems.{edits_keep_records}
-use Rattle.cip_change.proofs.edit_laws.edits_keep_records.Goals as goal
-
-pub returns : goal.returns
-returns c = edits_keep_records

@@ -1,5 +1,0 @@
-use Rattle.cip_change.proofs.SetReads.{set_records_are_read}
-use Rattle.cip_change.proofs.mark_laws.set_records_are_read.Goals as goal
-
-pub returns : goal.returns
-returns c = set_records_are_read

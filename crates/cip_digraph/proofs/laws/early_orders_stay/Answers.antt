@@ -1,6 +1,0 @@
-use Rattle.cip_digraph.proofs.orders.EarlyRoots.{settled_order}
-use Rattle.cip_digraph.proofs.laws.early_orders_stay.Goals as goal
-
-pub returns : goal.returns
-returns c rules graph positions all end sphere sound some low e =
-    settled_order rules graph positions all end sphere sound some low e

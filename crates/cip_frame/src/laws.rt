@@ -1,8 +1,0 @@
-// What records are, in plain words.
-ghost use Rattle.cip_frame.specs.Laws.{RecordsJoin};
-
-/// The records in order, with the blank tail behind them, are the stream.
-#[tactic(auto, using(crate::proofs::Joining::records_join))]
-pub fn records_join()
-    ensures { RecordsJoin }
-{}

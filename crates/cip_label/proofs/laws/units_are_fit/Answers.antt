@@ -1,5 +1,0 @@
-use Rattle.cip_label.proofs.FitUnits.{units_fit}
-use Rattle.cip_label.proofs.laws.units_are_fit.Goals as goal
-
-pub returns : goal.returns
-returns c = λ graph positions all sound at. units_fit graph sound positions all at

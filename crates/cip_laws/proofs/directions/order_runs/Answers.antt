@@ -1,0 +1,5 @@
+use Rattle.cip_laws.proofs.senses.RunningOrder as law
+use Rattle.cip_laws.proofs.directions.order_runs.Goals as goal
+
+pub returns : goal.returns
+returns c = law.order_runs

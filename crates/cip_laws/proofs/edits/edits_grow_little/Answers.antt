@@ -1,0 +1,5 @@
+use Rattle.cip_change.proofs.Lengths.{edits_grow_little}
+use Rattle.cip_laws.proofs.edits.edits_grow_little.Goals as goal
+
+pub returns : goal.returns
+returns c = edits_grow_little

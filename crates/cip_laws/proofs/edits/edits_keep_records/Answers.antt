@@ -1,0 +1,5 @@
+use Rattle.cip_change.proofs.EditedItems.{edits_keep_records}
+use Rattle.cip_laws.proofs.edits.edits_keep_records.Goals as goal
+
+pub returns : goal.returns
+returns c = edits_keep_records

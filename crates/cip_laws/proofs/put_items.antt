@@ -1,0 +1,3 @@
+pub mod FirstEnds
+pub mod LineEnds
+pub mod PutAgain

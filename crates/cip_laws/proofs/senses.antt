@@ -1,0 +1,15 @@
+pub mod Determinants
+pub mod ExchangedAtEnd
+pub mod ExchangedEnds
+pub mod ExchangedInPlane
+pub mod ExchangedInSpace
+pub mod ExchangedLigands
+pub mod Exchanges
+pub mod Firsts
+pub mod FourRound
+pub mod OneOrder
+pub mod ReflectedAxes
+pub mod ReflectedCentres
+pub mod ReflectedPairs
+pub mod Rounds
+pub mod RunningOrder

@@ -1,0 +1,4 @@
+pub mod InOrder
+pub mod LineCauses
+pub mod PairFaults
+pub mod Soundness

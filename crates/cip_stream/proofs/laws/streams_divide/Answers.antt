@@ -1,5 +1,0 @@
-use Rattle.cip_stream.proofs.Dividing.{streams_divide}
-use Rattle.cip_stream.proofs.laws.streams_divide.Goals as goal
-
-pub returns : goal.returns
-returns g c = streams_divide {N = g.row.N.Denot}

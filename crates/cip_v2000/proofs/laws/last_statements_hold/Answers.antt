@@ -1,5 +1,0 @@
-use Rattle.cip_v2000.proofs.Settling.{atoms_settled}
-use Rattle.cip_v2000.proofs.laws.last_statements_hold.Goals as goal
-
-pub returns : goal.returns
-returns c = atoms_settled
