@@ -82,8 +82,11 @@ fn note(places: &mut IndexMap<u32, u32>, at: u32, place: u32) -> Result<(), Allo
         ≡ or_here (get nat_eq places.old atom) (is_in at (atom ∷ [])) place) }
 {
     if places.contains_key(&at) {
-        return Ok(());
+        Ok(())
+    } else {
+        match places.insert(at, place) {
+            Ok(_) => Ok(()),
+            Err(_) => Err(AllocError),
+        }
     }
-    places.insert(at, place)?;
-    Ok(())
 }
