@@ -42,9 +42,13 @@ pub fn atom_block(
     ensures value { Gives seen_atoms result (atom_block (seen_all joined.now) count) }
     ensures are { IfOk result (AreAtoms count) }
 {
-    let mut block = no_atoms(alloc, count)?;
-    read_atoms(alloc, joined, count, &mut block)?;
-    Ok(block)
+    let Ok(mut block) = no_atoms(alloc, count) else {
+        return Err(ReadRefusal::Memory);
+    };
+    match read_atoms(alloc, joined, count, &mut block) {
+        Ok(()) => Ok(block),
+        Err(refusal) => Err(refusal),
+    }
 }
 
 fn no_atoms(alloc: Global, count: u32) -> Result<AtomBlock, AllocError>
@@ -87,9 +91,13 @@ fn read_atom(
     ensures are { OnOk result (AreAtoms (row + 1) block.new) }
 {
     let line = atom_line(alloc, joined, 3 + row, &block.indices)?;
-    block.indices.push(line.index)?;
-    block.atoms.push(line.atom)?;
-    Ok(())
+    let Ok(()) = block.indices.push(line.index) else {
+        return Err(ReadRefusal::Memory);
+    };
+    match block.atoms.push(line.atom) {
+        Ok(()) => Ok(()),
+        Err(_) => Err(ReadRefusal::Memory),
+    }
 }
 
 /// Whether there is a bond block at a place. It may be missing where there are no bonds.
@@ -138,11 +146,14 @@ pub fn bond_block(
         ≡ behind_block (has_bond_block (seen_all joined.now) count place) count place) }
     ensures are { OnOk result (AreBonds (length atoms.now) count block.new) }
 {
-    if !has_bond_block(alloc, joined, count, place)? {
-        return Ok(place);
+    match has_bond_block(alloc, joined, count, place) {
+        Ok(true) => match read_framed(alloc, joined, atoms, count, place, block) {
+            Ok(()) => Ok(place + count as usize + 2),
+            Err(refusal) => Err(refusal),
+        },
+        Ok(false) => Ok(place),
+        Err(AllocError) => Err(ReadRefusal::Memory),
     }
-    read_framed(alloc, joined, atoms, count, place, block)?;
-    Ok(place + count as usize + 2)
 }
 
 /// The number of the line behind the end of the table, which stands at this place of the joined lines or behind it;
@@ -159,10 +170,11 @@ pub fn table_end(
     let mut place = first;
     while place < lines.len() {
         let line = lines[place];
-        if is_framed(alloc, &line, FrameLine::EndTable)? {
-            return Ok(line.next_number());
+        match is_framed(alloc, &line, FrameLine::EndTable) {
+            Ok(true) => return Ok(line.next_number()),
+            Ok(false) => place += 1,
+            Err(AllocError) => return Err(ReadRefusal::Memory),
         }
-        place += 1;
     }
     Err(ReadRefusal::Fault(past))
 }
@@ -268,7 +280,11 @@ fn read_bond(
         &block.indices,
         &block.bonds,
     )?;
-    block.indices.push(line.index)?;
-    block.bonds.push(line.bond)?;
-    Ok(())
+    let Ok(()) = block.indices.push(line.index) else {
+        return Err(ReadRefusal::Memory);
+    };
+    match block.bonds.push(line.bond) {
+        Ok(()) => Ok(()),
+        Err(_) => Err(ReadRefusal::Memory),
+    }
 }

@@ -50,8 +50,10 @@ pub fn bond_in(
     };
     let index = new_index(known, words.index)?;
     let drawn = bond_by(atoms, &words)?;
-    let bond = checked(before, drawn)?;
-    Ok(BondLine { index, bond })
+    match checked(before, drawn) {
+        Ok(bond) => Ok(BondLine { index, bond }),
+        Err(cause) => Err(cause),
+    }
 }
 
 fn bond_words(text: &[u8]) -> Option<BondWords<'_>>
@@ -96,8 +98,10 @@ fn bond_by(atoms: &Indices, words: &BondWords<'_>) -> Result<Bond, ReadCause>
     let Some(b) = place_of(atoms, words.b) else {
         return Err(ReadCause::BondEnd);
     };
-    let mark = mark_in(order, words.keys)?;
-    Ok(Bond { a, b, order, mark })
+    match mark_in(order, words.keys) {
+        Ok(mark) => Ok(Bond { a, b, order, mark }),
+        Err(cause) => Err(cause),
+    }
 }
 
 /// The place, from 0, of the atom that a word names by its index.
@@ -152,10 +156,11 @@ fn marked(order: u8, mark: Mark, key: &[u8], value: &[u8]) -> Result<Mark, ReadC
     ensures value { result ≡ marked order mark (key.now, value.now) }
     ensures range { IfOk result (IsMark order) }
 {
-    if key != b"CFG".as_slice() {
-        return Ok(mark);
+    if key == b"CFG".as_slice() {
+        mark_of(order, number_stated(3, value)).ok_or(ReadCause::BondMark)
+    } else {
+        Ok(mark)
     }
-    mark_of(order, number_stated(3, value)).ok_or(ReadCause::BondMark)
 }
 
 fn mark_of(order: u8, code: Option<u32>) -> Option<Mark>
