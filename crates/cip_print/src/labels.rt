@@ -6,7 +6,7 @@ ghost use Rattle.cip_print.specs.Labels.{ligand_name, spaced_name, names_at, nam
 
 use crate::answer::UnitAnswer;
 use crate::digits::{push_number, push_word};
-use crate::naming::{push_atom, push_name};
+use crate::naming::{UnitName, push_atom, push_name};
 use cip_mol::{Label, Ligand, Site};
 use std::alloc::{AllocError, Global};
 
@@ -17,28 +17,53 @@ pub const LINE: usize = 80;
 pub fn ordered_label(alloc: Global, unit: &UnitAnswer, label: &Label) -> Result<Vec<u8>, AllocError>
     ensures { IfOk result (λ text. text.items ≡ ordered_label unit.now label.now) }
 {
-    let mut text = Vec::with_capacity(alloc, LINE)?;
-    push_label(&mut text, unit, label)?;
-    Ok(text)
+    let Ok(mut text) = Vec::with_capacity(alloc, LINE) else {
+        return Err(AllocError);
+    };
+    match push_label(&mut text, unit, label) {
+        Ok(()) => Ok(text),
+        Err(error) => Err(error),
+    }
 }
 
 /// The name of a unit, and a word.
 pub fn named(alloc: Global, unit: &UnitAnswer, word: &str) -> Result<Vec<u8>, AllocError>
     ensures { IfOk result (λ text. text.items ≡ name_text unit.now.name ++ (codes " " ++ word.now)) }
 {
-    let mut text = Vec::with_capacity(alloc, LINE)?;
-    push_name(&mut text, unit.name)?;
-    push_word(&mut text, word)?;
-    Ok(text)
+    let Ok(mut text) = Vec::with_capacity(alloc, LINE) else {
+        return Err(AllocError);
+    };
+    match push_named(&mut text, unit.name, word) {
+        Ok(()) => Ok(text),
+        Err(error) => Err(error),
+    }
 }
 
+/// Adds the name of a unit, and a word.
+#[tactic(auto, using(crate::proofs::Texts::moved))]
+pub fn push_named(text: &mut Vec<u8>, name: UnitName, word: &str) -> Result<(), AllocError>
+    ensures { OnOk result (text.new.items ≡ text.old.items ++ (name_text name ++ (codes " " ++ word.now))) }
+{
+    let Ok(()) = push_name(text, name) else {
+        return Err(AllocError);
+    };
+    push_word(text, word)
+}
+
+/// Adds a label with the ligands in the order that it rests on.
 #[tactic(auto, unfolding(crate::specs::Labels::ordered_label), using(crate::proofs::Texts::moved))]
-fn push_label(text: &mut Vec<u8>, unit: &UnitAnswer, label: &Label) -> Result<(), AllocError>
+pub fn push_label(text: &mut Vec<u8>, unit: &UnitAnswer, label: &Label) -> Result<(), AllocError>
     ensures { OnOk result (text.new.items ≡ text.old.items ++ ordered_label unit.now label.now) }
 {
-    push_name(text, unit.name)?;
-    push_decision(text, label)?;
-    text.extend_from_slice(b" order")?;
+    let Ok(()) = push_name(text, unit.name) else {
+        return Err(AllocError);
+    };
+    let Ok(()) = push_decision(text, label) else {
+        return Err(AllocError);
+    };
+    let Ok(()) = text.extend_from_slice(b" order") else {
+        return Err(AllocError);
+    };
     push_names_in_order(text, unit.drawn, &unit.site, label.order.as_slice())
 }
 
@@ -47,9 +72,15 @@ fn push_label(text: &mut Vec<u8>, unit: &UnitAnswer, label: &Label) -> Result<()
 fn push_decision(text: &mut Vec<u8>, label: &Label) -> Result<(), AllocError>
     ensures { OnOk result (text.new.items ≡ text.old.items ++ decision_text label.now) }
 {
-    push_word(text, label.letter.text())?;
-    push_word(text, label.rule.text())?;
-    text.push(b' ')?;
+    let Ok(()) = push_word(text, label.letter.text()) else {
+        return Err(AllocError);
+    };
+    let Ok(()) = push_word(text, label.rule.text()) else {
+        return Err(AllocError);
+    };
+    let Ok(()) = text.push(b' ') else {
+        return Err(AllocError);
+    };
     push_number(text, u64::from(label.sphere))
 }
 
@@ -81,8 +112,12 @@ fn push_ends(
     ensures { OnOk result (text.new.items ≡ text.old.items ++ names_of_ends drawn first.now second.now places.now) }
 {
     let behind = first.len().min(places.len());
-    push_names(text, drawn, first, &places[..behind])?;
-    text.extend_from_slice(b" |")?;
+    let Ok(()) = push_names(text, drawn, first, &places[..behind]) else {
+        return Err(AllocError);
+    };
+    let Ok(()) = text.extend_from_slice(b" |") else {
+        return Err(AllocError);
+    };
     push_names(text, drawn, second, &places[behind..])
 }
 

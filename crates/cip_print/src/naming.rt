@@ -44,7 +44,9 @@ pub fn push_name(text: &mut Vec<u8>, name: UnitName) -> Result<(), AllocError>
 fn push_centre(text: &mut Vec<u8>, at: u32) -> Result<(), AllocError>
     ensures { OnOk result (text.new.items ≡ text.old.items ++ 97 ∷ number at) }
 {
-    text.push(b'a')?;
+    let Ok(()) = text.push(b'a') else {
+        return Err(AllocError);
+    };
     push_atom(text, at)
 }
 
@@ -53,9 +55,15 @@ fn push_centre(text: &mut Vec<u8>, at: u32) -> Result<(), AllocError>
 fn push_pair(text: &mut Vec<u8>, kind: u8, a: u32, b: u32) -> Result<(), AllocError>
     ensures { OnOk result (text.new.items ≡ text.old.items ++ kind ∷ pair a b) }
 {
-    text.push(kind)?;
-    push_atom(text, a.min(b))?;
-    text.push(b'-')?;
+    let Ok(()) = text.push(kind) else {
+        return Err(AllocError);
+    };
+    let Ok(()) = push_atom(text, a.min(b)) else {
+        return Err(AllocError);
+    };
+    let Ok(()) = text.push(b'-') else {
+        return Err(AllocError);
+    };
     push_atom(text, a.max(b))
 }
 

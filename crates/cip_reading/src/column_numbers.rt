@@ -76,7 +76,10 @@ pub fn place_at(most: u32, line: &[u8], first: u32) -> Option<u32>
     ensures value { result ≡ place_named (number_in most (field first (first + 2) line.now)) }
     ensures range { IfSome result (λ place. place < most) }
 {
-    place_of(number_at(most, line, first)?)
+    match number_at(most, line, first) {
+        Some(number) => place_of(number),
+        None => None,
+    }
 }
 
 fn usual_coordinate(line: &[u8], first: u32) -> Option<i64>
