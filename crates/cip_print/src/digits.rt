@@ -33,8 +33,8 @@ fn push_digit(text: &mut Vec<u8>, digit: u64) -> Result<(), AllocError>
 pub fn push_word(text: &mut Vec<u8>, word: &str) -> Result<(), AllocError>
     ensures { OnOk result (text.new.items ≡ text.old.items ++ (codes " " ++ word.now)) }
 {
-    let Ok(()) = text.push(b' ') else {
-        return Err(AllocError);
-    };
-    text.extend_from_slice(word.as_bytes())
+    match text.push(b' ') {
+        Ok(()) => text.extend_from_slice(word.as_bytes()),
+        Err(_) => Err(AllocError),
+    }
 }

@@ -18,12 +18,14 @@ use std::alloc::{AllocError, Global};
 pub fn explain_text(alloc: Global, answer: &Answer, number: u64) -> Result<Vec<u8>, AllocError>
     ensures { IfOk result (λ text. text.items ≡ explained number answer.now) }
 {
-    let Ok(line) = format!(in alloc; "record {number}\n") else {
-        return Err(AllocError);
-    };
-    let mut text = line.into_bytes();
-    match push_answer(alloc, &mut text, answer) {
-        Ok(()) => Ok(text),
+    match format!(in alloc; "record {number}\n") {
+        Ok(line) => {
+            let mut text = line.into_bytes();
+            match push_answer(alloc, &mut text, answer) {
+                Ok(()) => Ok(text),
+                Err(error) => Err(error),
+            }
+        }
         Err(error) => Err(error),
     }
 }
@@ -50,9 +52,15 @@ fn push_refusal(alloc: Global, text: &mut Vec<u8>, fault: ReadFault) -> Result<(
 fn push_line(text: &mut Vec<u8>, line: &[u8]) -> Result<(), AllocError>
     ensures { OnOk result (text.new.items ≡ text.old.items ++ (line.now ++ 10 ∷ [])) }
 {
-    let Ok(()) = text.extend_from_slice(line) else {
-        return Err(AllocError);
-    };
+    match text.extend_from_slice(line) {
+        Ok(()) => end_line(text),
+        Err(error) => Err(error),
+    }
+}
+
+fn end_line(text: &mut Vec<u8>) -> Result<(), AllocError>
+    ensures { OnOk result (text.new.items ≡ text.old.items ++ 10 ∷ []) }
+{
     match text.push(b'\n') {
         Ok(()) => Ok(()),
         Err(_) => Err(AllocError),
@@ -72,12 +80,9 @@ fn push_units(text: &mut Vec<u8>, units: &UnitAnswers) -> Result<(), AllocError>
 fn push_unit(text: &mut Vec<u8>, unit: &UnitAnswer) -> Result<(), AllocError>
     ensures { OnOk result (text.new.items ≡ text.old.items ++ told_line unit.now) }
 {
-    let Ok(()) = push_told(text, unit) else {
-        return Err(AllocError);
-    };
-    match text.push(b'\n') {
-        Ok(()) => Ok(()),
-        Err(_) => Err(AllocError),
+    match push_told(text, unit) {
+        Ok(()) => end_line(text),
+        Err(error) => Err(error),
     }
 }
 
@@ -97,10 +102,10 @@ fn push_without_sense(text: &mut Vec<u8>, name: UnitName, cause: Cause) -> Resul
     ensures { OnOk result (text.new.items
         ≡ text.old.items ++ (name_text name ++ (codes " none " ++ reason_text cause))) }
 {
-    let Ok(()) = push_named(text, name, "none") else {
-        return Err(AllocError);
-    };
-    push_word(text, reason(cause))
+    match push_named(text, name, "none") {
+        Ok(()) => push_word(text, reason(cause)),
+        Err(error) => Err(error),
+    }
 }
 
 // Why a drawing shows no sense of a unit, in a word.

@@ -17,11 +17,11 @@ pub const LINE: usize = 80;
 pub fn ordered_label(alloc: Global, unit: &UnitAnswer, label: &Label) -> Result<Vec<u8>, AllocError>
     ensures { IfOk result (λ text. text.items ≡ ordered_label unit.now label.now) }
 {
-    let Ok(mut text) = Vec::with_capacity(alloc, LINE) else {
-        return Err(AllocError);
-    };
-    match push_label(&mut text, unit, label) {
-        Ok(()) => Ok(text),
+    match Vec::with_capacity(alloc, LINE) {
+        Ok(mut text) => match push_label(&mut text, unit, label) {
+            Ok(()) => Ok(text),
+            Err(error) => Err(error),
+        },
         Err(error) => Err(error),
     }
 }
@@ -30,11 +30,11 @@ pub fn ordered_label(alloc: Global, unit: &UnitAnswer, label: &Label) -> Result<
 pub fn named(alloc: Global, unit: &UnitAnswer, word: &str) -> Result<Vec<u8>, AllocError>
     ensures { IfOk result (λ text. text.items ≡ name_text unit.now.name ++ (codes " " ++ word.now)) }
 {
-    let Ok(mut text) = Vec::with_capacity(alloc, LINE) else {
-        return Err(AllocError);
-    };
-    match push_named(&mut text, unit.name, word) {
-        Ok(()) => Ok(text),
+    match Vec::with_capacity(alloc, LINE) {
+        Ok(mut text) => match push_named(&mut text, unit.name, word) {
+            Ok(()) => Ok(text),
+            Err(error) => Err(error),
+        },
         Err(error) => Err(error),
     }
 }
@@ -44,10 +44,10 @@ pub fn named(alloc: Global, unit: &UnitAnswer, word: &str) -> Result<Vec<u8>, Al
 pub fn push_named(text: &mut Vec<u8>, name: UnitName, word: &str) -> Result<(), AllocError>
     ensures { OnOk result (text.new.items ≡ text.old.items ++ (name_text name ++ (codes " " ++ word.now))) }
 {
-    let Ok(()) = push_name(text, name) else {
-        return Err(AllocError);
-    };
-    push_word(text, word)
+    match push_name(text, name) {
+        Ok(()) => push_word(text, word),
+        Err(error) => Err(error),
+    }
 }
 
 /// Adds a label with the ligands in the order that it rests on.
@@ -58,13 +58,13 @@ pub fn push_label(text: &mut Vec<u8>, unit: &UnitAnswer, label: &Label) -> Resul
     let Ok(()) = push_name(text, unit.name) else {
         return Err(AllocError);
     };
-    let Ok(()) = push_decision(text, label) else {
-        return Err(AllocError);
-    };
-    let Ok(()) = text.extend_from_slice(b" order") else {
-        return Err(AllocError);
-    };
-    push_names_in_order(text, unit.drawn, &unit.site, label.order.as_slice())
+    match push_decision(text, label) {
+        Ok(()) => match text.extend_from_slice(b" order") {
+            Ok(()) => push_names_in_order(text, unit.drawn, &unit.site, label.order.as_slice()),
+            Err(error) => Err(error),
+        },
+        Err(error) => Err(error),
+    }
 }
 
 // The descriptor, the rule and the sphere, a space before each.
@@ -75,13 +75,13 @@ fn push_decision(text: &mut Vec<u8>, label: &Label) -> Result<(), AllocError>
     let Ok(()) = push_word(text, label.letter.text()) else {
         return Err(AllocError);
     };
-    let Ok(()) = push_word(text, label.rule.text()) else {
-        return Err(AllocError);
-    };
-    let Ok(()) = text.push(b' ') else {
-        return Err(AllocError);
-    };
-    push_number(text, u64::from(label.sphere))
+    match push_word(text, label.rule.text()) {
+        Ok(()) => match text.push(b' ') {
+            Ok(()) => push_number(text, u64::from(label.sphere)),
+            Err(_) => Err(AllocError),
+        },
+        Err(error) => Err(error),
+    }
 }
 
 /// Adds the ligands of a site at these places, a space before each; a bar between two ends.
@@ -112,13 +112,13 @@ fn push_ends(
     ensures { OnOk result (text.new.items ≡ text.old.items ++ names_of_ends drawn first.now second.now places.now) }
 {
     let behind = first.len().min(places.len());
-    let Ok(()) = push_names(text, drawn, first, &places[..behind]) else {
-        return Err(AllocError);
-    };
-    let Ok(()) = text.extend_from_slice(b" |") else {
-        return Err(AllocError);
-    };
-    push_names(text, drawn, second, &places[behind..])
+    match push_names(text, drawn, first, &places[..behind]) {
+        Ok(()) => match text.extend_from_slice(b" |") {
+            Ok(()) => push_names(text, drawn, second, &places[behind..]),
+            Err(error) => Err(error),
+        },
+        Err(error) => Err(error),
+    }
 }
 
 // The ligands at these places, a space before each.
@@ -158,8 +158,10 @@ fn push_ligand(text: &mut Vec<u8>, drawn: u32, ligand: Ligand) -> Result<(), All
 {
     match ligand {
         Ligand::Vertex(vertex) if vertex < drawn => {
-            text.push(b' ')?;
-            push_atom(text, vertex)
+            match text.push(b' ') {
+                Ok(()) => push_atom(text, vertex),
+                Err(_) => Err(AllocError),
+            }
         }
         Ligand::Vertex(_) => push_word(text, "H"),
         Ligand::LonePair => push_word(text, ":"),

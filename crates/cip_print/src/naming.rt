@@ -44,10 +44,10 @@ pub fn push_name(text: &mut Vec<u8>, name: UnitName) -> Result<(), AllocError>
 fn push_centre(text: &mut Vec<u8>, at: u32) -> Result<(), AllocError>
     ensures { OnOk result (text.new.items ≡ text.old.items ++ 97 ∷ number at) }
 {
-    let Ok(()) = text.push(b'a') else {
-        return Err(AllocError);
-    };
-    push_atom(text, at)
+    match text.push(b'a') {
+        Ok(()) => push_atom(text, at),
+        Err(_) => Err(AllocError),
+    }
 }
 
 // A letter, and two atoms, the lower one first.
@@ -58,13 +58,13 @@ fn push_pair(text: &mut Vec<u8>, kind: u8, a: u32, b: u32) -> Result<(), AllocEr
     let Ok(()) = text.push(kind) else {
         return Err(AllocError);
     };
-    let Ok(()) = push_atom(text, a.min(b)) else {
-        return Err(AllocError);
-    };
-    let Ok(()) = text.push(b'-') else {
-        return Err(AllocError);
-    };
-    push_atom(text, a.max(b))
+    match push_atom(text, a.min(b)) {
+        Ok(()) => match text.push(b'-') {
+            Ok(()) => push_atom(text, a.max(b)),
+            Err(_) => Err(AllocError),
+        },
+        Err(error) => Err(error),
+    }
 }
 
 /// Adds the number of an atom, counted from 1.

@@ -77,11 +77,11 @@ fn push_settings(
 fn settings(alloc: Global, nodes: u32, rules: Rules) -> Result<Vec<u8>, AllocError>
     ensures { IfOk result (λ line. line.items ≡ settings_line nodes rules) }
 {
-    let Ok(mut line) = Vec::with_capacity(alloc, LINE) else {
-        return Err(AllocError);
-    };
-    match write_settings(&mut line, nodes, rules) {
-        Ok(()) => Ok(line),
+    match Vec::with_capacity(alloc, LINE) {
+        Ok(mut line) => match write_settings(&mut line, nodes, rules) {
+            Ok(()) => Ok(line),
+            Err(error) => Err(error),
+        },
         Err(error) => Err(error),
     }
 }
@@ -95,13 +95,13 @@ fn write_settings(line: &mut Vec<u8>, nodes: u32, rules: Rules) -> Result<(), Al
     let Ok(()) = line.extend_from_slice(b"cip 2 rule1b") else {
         return Err(AllocError);
     };
-    let Ok(()) = push_word(line, year(rules)) else {
-        return Err(AllocError);
-    };
-    let Ok(()) = line.extend_from_slice(b" nodes ") else {
-        return Err(AllocError);
-    };
-    push_number(line, u64::from(nodes))
+    match push_word(line, year(rules)) {
+        Ok(()) => match line.extend_from_slice(b" nodes ") {
+            Ok(()) => push_number(line, u64::from(nodes)),
+            Err(error) => Err(error),
+        },
+        Err(error) => Err(error),
+    }
 }
 
 fn year(rules: Rules) -> &'static str
@@ -123,16 +123,12 @@ fn push_unit_values(
     requires few { length units.now < 2 ^ 32 - 1 }
     ensures { OnOk result (values.new ≡ values.old ++ or_none (filter_map unit_line units.now)) }
 {
-    let Ok(()) = push_lines(alloc, values, units) else {
-        return Err(AllocError);
-    };
-    if values.len() == 1 {
-        match format!(in alloc; "none") {
+    match push_lines(alloc, values, units) {
+        Ok(()) if values.len() == 1 => match format!(in alloc; "none") {
             Ok(line) => values.push(Bytes::from_vec(line.into_bytes())),
             Err(error) => Err(error),
-        }
-    } else {
-        Ok(())
+        },
+        pushed => pushed,
     }
 }
 
