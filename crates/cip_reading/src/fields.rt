@@ -69,10 +69,7 @@ pub fn place_of(number: u32) -> Option<u32>
     ensures value { result ≡ place_named (Some number) }
     ensures range { IfSome result (λ place. place < number) }
 {
-    if number == 0 {
-        return None;
-    }
-    Some(number - 1)
+    if number == 0 { None } else { Some(number - 1) }
 }
 
 fn up_to(most: u32, number: Option<i64>) -> Option<u32>

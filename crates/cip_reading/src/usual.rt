@@ -36,10 +36,11 @@ pub fn usual_number(first: u8, second: u8, third: u8) -> Option<u32>
 pub fn usual_digit(first: u8, second: u8, third: u8) -> Option<u32>
     ensures { IfSome result (λ number. integer_of (trimmed (first ∷ second ∷ third ∷ [])) ≡ Ok (pos number)) }
 {
-    if first != b' ' || second != b' ' {
-        return None;
+    if first == b' ' && second == b' ' {
+        digit_of(third)
+    } else {
+        None
     }
-    digit_of(third)
 }
 
 /// Whether ten columns hold a zero with four places.
@@ -69,12 +70,14 @@ pub fn usual_decimal(columns: &[u8]) -> Option<i64>
     if columns[5] != b'.' {
         return None;
     }
-    let Some(places) = four_digits(&columns[6..]) else {
-        return None;
-    };
-    let front = behind_spaces(&columns[..5]);
-    match few_digits(without_minus(front)) {
-        Some(whole) => with_sign(begins_with(front, b'-'), ten_thousandths(whole, places)),
+    match four_digits(&columns[6..]) {
+        Some(places) => {
+            let front = behind_spaces(&columns[..5]);
+            match few_digits(without_minus(front)) {
+                Some(whole) => with_sign(begins_with(front, b'-'), ten_thousandths(whole, places)),
+                None => None,
+            }
+        }
         None => None,
     }
 }
@@ -103,11 +106,11 @@ pub fn decimal_begun(text: &[u8]) -> Option<(i64, usize)>
     ensures small { IfSome result (λ found. unsigned_abs found.0 ≤ 500000000) }
 {
     let bare = without_minus(text);
-    let Some((size, end)) = size_begun(bare) else {
-        return None;
-    };
-    match with_sign(begins_with(text, b'-'), size) {
-        Some(number) => Some((number, text.len() - bare.len() + end)),
+    match size_begun(bare) {
+        Some((size, end)) => match with_sign(begins_with(text, b'-'), size) {
+            Some(number) => Some((number, text.len() - bare.len() + end)),
+            None => None,
+        },
         None => None,
     }
 }
@@ -123,14 +126,17 @@ fn size_begun(text: &[u8]) -> Option<(u64, usize)>
     if behind.len() < 4 {
         return None;
     }
-    let Some(places) = four_digits(&behind[..4]) else {
-        return None;
-    };
-    let end = point + 5 + digits_end(&behind[4..]);
-    if end < text.len() && text[end] != b' ' {
-        return None;
+    match four_digits(&behind[..4]) {
+        Some(places) => {
+            let end = point + 5 + digits_end(&behind[4..]);
+            if end < text.len() && text[end] != b' ' {
+                None
+            } else {
+                Some((ten_thousandths(whole, places), end))
+            }
+        }
+        None => None,
     }
-    Some((ten_thousandths(whole, places), end))
 }
 
 // How many digits begin a text.
@@ -226,9 +232,8 @@ fn with_sign(negative: bool, size: u64) -> Option<i64>
     ensures small { IfSome result (λ number. unsigned_abs number ≤ 500000000) }
 {
     if size > 500_000_000 {
-        return None;
-    }
-    if negative {
+        None
+    } else if negative {
         Some(-(size as i64))
     } else {
         Some(size as i64)

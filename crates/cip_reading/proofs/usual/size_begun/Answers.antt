@@ -4,8 +4,8 @@ use Rattle.cip_reading.proofs.UsualDecimals.{size_front}
 use Rattle.cip_reading.proofs.usual.size_begun.Goals.{else-end-text-via-then-end-text+else-text-end-ne32, else-end-text-via-else-end-text}
 use Rattle.cip_reading.proofs.usual.size_begun.Goals as goal
 
-pub returns : goal.returns
-returns c =
+pub returns-else-end-text : goal.returns-else-end-text
+returns-else-end-text c =
     let text = c.args.text.now in
     let point = c.in-Some.point in
     let behind = take_rest text (point + 1) in
