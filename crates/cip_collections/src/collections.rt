@@ -105,11 +105,11 @@ fn read_line(
     ensures found { Gives (λ _. found.new) result (if is_frame EndTable (words_in (seen line.now)) then Ok found.old
         else with_joined indices.now line.now.number found.old (words_in (seen line.now))) }
 {
-    let Ok(text) = text_of(alloc, line) else {
-        return Err(GroupRefusal::Memory);
-    };
-    match words(alloc, text.bytes()) {
-        Ok(words) => read_line_words(alloc, indices, line.number, found, &words),
+    match text_of(alloc, line) {
+        Ok(text) => match words(alloc, text.bytes()) {
+            Ok(words) => read_line_words(alloc, indices, line.number, found, &words),
+            Err(AllocError) => Err(GroupRefusal::Memory),
+        },
         Err(AllocError) => Err(GroupRefusal::Memory),
     }
 }
@@ -151,12 +151,13 @@ fn ended(number: u32, found: &Found) -> Result<(), GroupRefusal>
     ensures { Gives (λ _. found.now.groups) result (ended number found.now) }
 {
     if found.inside {
-        return Err(GroupRefusal::Fault(GroupFault {
+        Err(GroupRefusal::Fault(GroupFault {
             line: number,
             cause: GroupCause::Frame,
-        }));
+        }))
+    } else {
+        Ok(())
     }
-    Ok(())
 }
 
 // Reads a line behind those before it; lines outside collections are passed over.

@@ -43,8 +43,7 @@ impl Vertices {
     pub fn extend(&mut self, more: &[u32]) -> Result<(), AllocError>
         ensures { OnOk result (self.new ≡ self.old ++ more.now) }
     {
-        self.items.extend_from_slice(more)?;
-        Ok(())
+        self.items.extend_from_slice(more)
     }
 }
 
@@ -136,12 +135,16 @@ fn push_group(names: &mut Names, items: &mut Vec<Group>, group: Group) -> Result
 {
     let before = items.len();
     let kind = group.kind;
-    items.push(group)?;
-    let named = names.push(kind);
-    if named.is_err() {
-        items.truncate(before);
+    match items.push(group) {
+        Ok(()) => {
+            let named = names.push(kind);
+            if named.is_err() {
+                items.truncate(before);
+            }
+            named
+        }
+        Err(_) => Err(AllocError),
     }
-    named
 }
 
 /// The groups of a record, or why it has none.

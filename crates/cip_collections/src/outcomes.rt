@@ -73,15 +73,19 @@ fn count_lines<D: Digraphs, L: Ledger>(
     ensures lines { IfOk result (λ lines. lines.items ≡ all_lines labeller.old centres.now groups.now) }
     ensures kept { labeller.new ≡ labeller.old }
 {
-    let mut turned = units.copy(alloc)?;
-    let mut told = Told {
-        lines: Vec::new(alloc),
-        steps: Steps::<L>::open(blank),
-    };
-    let joined = join_lines(alloc, labeller, centres, &mut turned, groups, &mut told);
-    drop(turned);
-    match joined {
-        Ok(()) => Ok(told.lines),
+    match units.copy(alloc) {
+        Ok(mut turned) => {
+            let mut told = Told {
+                lines: Vec::new(alloc),
+                steps: Steps::<L>::open(blank),
+            };
+            let joined = join_lines(alloc, labeller, centres, &mut turned, groups, &mut told);
+            drop(turned);
+            match joined {
+                Ok(()) => Ok(told.lines),
+                Err(error) => Err(error),
+            }
+        }
         Err(error) => Err(error),
     }
 }

@@ -35,8 +35,10 @@ impl<'a> Centres<'a> {
         requires few { length setting.now.units < 2 ^ 32 }
         ensures { IfOk result (λ centres. centres ≡ setting.now) }
     {
-        let places = places_of(alloc, setting.units().as_slice())?;
-        Ok(Centres { setting, places })
+        match places_of(alloc, setting.units().as_slice()) {
+            Ok(places) => Ok(Centres { setting, places }),
+            Err(error) => Err(error),
+        }
     }
 
     /// The setting itself.

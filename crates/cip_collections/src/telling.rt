@@ -56,15 +56,17 @@ pub fn group_text_within<D: Digraphs>(
 fn with_number(alloc: Global, number: u64, told: &GroupText) -> Result<GroupText, AllocError>
     ensures { IfOk result (λ numbered. numbered ≡ with_number number told.now) }
 {
-    let Ok(line) = format!(in alloc; "record {number}\n") else {
-        return Err(AllocError);
-    };
-    let mut text = line.into_bytes();
-    match text.extend_from_slice(told.text.as_slice()) {
-        Ok(()) => Ok(GroupText {
-            text: Bytes::from_vec(text),
-            flagged: told.flagged,
-        }),
+    match format!(in alloc; "record {number}\n") {
+        Ok(line) => {
+            let mut text = line.into_bytes();
+            match text.extend_from_slice(told.text.as_slice()) {
+                Ok(()) => Ok(GroupText {
+                    text: Bytes::from_vec(text),
+                    flagged: told.flagged,
+                }),
+                Err(error) => Err(error),
+            }
+        }
         Err(error) => Err(error),
     }
 }
@@ -118,8 +120,10 @@ fn tell_refusal(alloc: Global, refusal: ReadRefusal) -> Result<GroupText, AllocE
 fn refused_line(alloc: Global, fault: ReadFault) -> Result<String, AllocError>
     ensures { IfOk result (λ text. string_bytes text ≡ refusal_line fault ++ 10 ∷ []) }
 {
-    let line = refusal(alloc, fault)?;
-    format!(in alloc; "{line}\n")
+    match refusal(alloc, fault) {
+        Ok(line) => format!(in alloc; "{line}\n"),
+        Err(error) => Err(error),
+    }
 }
 
 fn flagged(text: String) -> GroupText
@@ -240,11 +244,13 @@ fn drawn_lines<D: Digraphs>(
 fn of_lines(alloc: Global, lines: &[GroupLine]) -> Result<GroupText, AllocError>
     ensures { IfOk result (λ told. told ≡ of_lines lines.now) }
 {
-    let text = lines_text(alloc, lines)?;
-    Ok(GroupText {
-        text: Bytes::from_vec(text.into_bytes()),
-        flagged: have_over(lines),
-    })
+    match lines_text(alloc, lines) {
+        Ok(text) => Ok(GroupText {
+            text: Bytes::from_vec(text.into_bytes()),
+            flagged: have_over(lines),
+        }),
+        Err(error) => Err(error),
+    }
 }
 
 fn lines_text(alloc: Global, lines: &[GroupLine]) -> Result<String, AllocError>
