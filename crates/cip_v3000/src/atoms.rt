@@ -95,19 +95,20 @@ fn atom_by(words: &AtomWords<'_>) -> Result<Atom, ReadCause>
         return Err(ReadCause::Symbol);
     };
     let at = words.at?;
-    if !is_number(words.mapping) {
-        return Err(ReadCause::KeyValue);
-    }
-    match atom_keys(NO_KEYS, words.keys) {
-        Ok(keys) => Ok(Atom {
-            z: element.z,
-            isotope: isotope(element.isotope, keys.mass),
-            charge: keys.charge,
-            radical: keys.radical,
-            valence_mark: keys.valence_mark,
-            at,
-        }),
-        Err(cause) => Err(cause),
+    if is_number(words.mapping) {
+        match atom_keys(NO_KEYS, words.keys) {
+            Ok(keys) => Ok(Atom {
+                z: element.z,
+                isotope: isotope(element.isotope, keys.mass),
+                charge: keys.charge,
+                radical: keys.radical,
+                valence_mark: keys.valence_mark,
+                at,
+            }),
+            Err(cause) => Err(cause),
+        }
+    } else {
+        Err(ReadCause::KeyValue)
     }
 }
 

@@ -42,21 +42,25 @@ pub fn atom_block(
     ensures value { Gives seen_atoms result (atom_block (seen_all joined.now) count) }
     ensures are { IfOk result (AreAtoms count) }
 {
-    let Ok(mut block) = no_atoms(alloc, count) else {
-        return Err(ReadRefusal::Memory);
-    };
-    match read_atoms(alloc, joined, count, &mut block) {
-        Ok(()) => Ok(block),
-        Err(refusal) => Err(refusal),
+    match no_atoms(alloc, count) {
+        Ok(mut block) => match read_atoms(alloc, joined, count, &mut block) {
+            Ok(()) => Ok(block),
+            Err(refusal) => Err(refusal),
+        },
+        Err(AllocError) => Err(ReadRefusal::Memory),
     }
 }
 
 fn no_atoms(alloc: Global, count: u32) -> Result<AtomBlock, AllocError>
     ensures { IfOk result (λ block. seen_atoms block ≡ record { indices = []; atoms = [] }) }
 {
-    let atoms = Vec::with_capacity(alloc, count as usize)?;
-    let indices = Indices::new(alloc);
-    Ok(AtomBlock { indices, atoms })
+    match Vec::with_capacity(alloc, count as usize) {
+        Ok(atoms) => Ok(AtomBlock {
+            indices: Indices::new(alloc),
+            atoms,
+        }),
+        Err(error) => Err(error),
+    }
 }
 
 // Reads so many atoms into a block that has none. It stays with the caller, so that no row gives it back.
@@ -91,12 +95,12 @@ fn read_atom(
     ensures are { OnOk result (AreAtoms (row + 1) block.new) }
 {
     let line = atom_line(alloc, joined, 3 + row, &block.indices)?;
-    let Ok(()) = block.indices.push(line.index) else {
-        return Err(ReadRefusal::Memory);
-    };
-    match block.atoms.push(line.atom) {
-        Ok(()) => Ok(()),
-        Err(_) => Err(ReadRefusal::Memory),
+    match block.indices.push(line.index) {
+        Ok(()) => match block.atoms.push(line.atom) {
+            Ok(()) => Ok(()),
+            Err(_) => Err(ReadRefusal::Memory),
+        },
+        Err(AllocError) => Err(ReadRefusal::Memory),
     }
 }
 
@@ -110,11 +114,12 @@ pub fn has_bond_block(
     ensures { IfOk result (λ has. has ≡ has_bond_block (seen_all joined.now) count place) }
 {
     if count != 0 {
-        return Ok(true);
-    }
-    match joined.lines.get(place) {
-        None => Ok(false),
-        Some(line) => is_framed(alloc, line, FrameLine::BeginBonds),
+        Ok(true)
+    } else {
+        match joined.lines.get(place) {
+            None => Ok(false),
+            Some(line) => is_framed(alloc, line, FrameLine::BeginBonds),
+        }
     }
 }
 
@@ -122,9 +127,13 @@ pub fn has_bond_block(
 pub fn no_bonds(alloc: Global, atoms: &Indices) -> Result<BondBlock, AllocError>
     ensures { IfOk result (HasNoBonds (length atoms.now)) }
 {
-    let bonds = BondList::new(alloc, atoms.len())?;
-    let indices = Indices::new(alloc);
-    Ok(BondBlock { indices, bonds })
+    match BondList::new(alloc, atoms.len()) {
+        Ok(bonds) => Ok(BondBlock {
+            indices: Indices::new(alloc),
+            bonds,
+        }),
+        Err(error) => Err(error),
+    }
 }
 
 /// Reads the bond block at a place, where there is one, and says which place is behind it. The bonds stay with the
@@ -194,10 +203,7 @@ pub fn molecule_end(lines: &[&[u8]], number: u32) -> Result<(), ReadFault>
 fn has_end(lines: &[&[u8]], place: usize) -> bool
     ensures { result ≡ list_any is_molecule_end (drop place (texts lines.now)) }
 {
-    if place > lines.len() {
-        return false;
-    }
-    is_any_end(&lines[place..])
+    place <= lines.len() && is_any_end(&lines[place..])
 }
 
 fn is_any_end(lines: &[&[u8]]) -> bool
@@ -224,13 +230,15 @@ fn read_framed(
     ensures are { OnOk result (AreBonds (length atoms.now) count block.new) }
 {
     frame(alloc, joined, place, FrameLine::BeginBonds)?;
-    read_bonds(alloc, joined, atoms, place + 1, count, block)?;
-    frame(
-        alloc,
-        joined,
-        place + 1 + count as usize,
-        FrameLine::EndBonds,
-    )
+    match read_bonds(alloc, joined, atoms, place + 1, count, block) {
+        Ok(()) => frame(
+            alloc,
+            joined,
+            place + 1 + count as usize,
+            FrameLine::EndBonds,
+        ),
+        Err(refusal) => Err(refusal),
+    }
 }
 
 // Reads so many bond lines, from this place on, into a block that has no bonds.
@@ -280,11 +288,11 @@ fn read_bond(
         &block.indices,
         &block.bonds,
     )?;
-    let Ok(()) = block.indices.push(line.index) else {
-        return Err(ReadRefusal::Memory);
-    };
-    match block.bonds.push(line.bond) {
-        Ok(()) => Ok(()),
-        Err(_) => Err(ReadRefusal::Memory),
+    match block.indices.push(line.index) {
+        Ok(()) => match block.bonds.push(line.bond) {
+            Ok(()) => Ok(()),
+            Err(_) => Err(ReadRefusal::Memory),
+        },
+        Err(AllocError) => Err(ReadRefusal::Memory),
     }
 }

@@ -49,9 +49,11 @@ pub fn bond_in(
         return Err(ReadCause::Frame);
     };
     let index = new_index(known, words.index)?;
-    let drawn = bond_by(atoms, &words)?;
-    match checked(before, drawn) {
-        Ok(bond) => Ok(BondLine { index, bond }),
+    match bond_by(atoms, &words) {
+        Ok(drawn) => match checked(before, drawn) {
+            Ok(bond) => Ok(BondLine { index, bond }),
+            Err(cause) => Err(cause),
+        },
         Err(cause) => Err(cause),
     }
 }
@@ -95,12 +97,12 @@ fn bond_by(atoms: &Indices, words: &BondWords<'_>) -> Result<Bond, ReadCause>
     let Some(a) = place_of(atoms, words.a) else {
         return Err(ReadCause::BondEnd);
     };
-    let Some(b) = place_of(atoms, words.b) else {
-        return Err(ReadCause::BondEnd);
-    };
-    match mark_in(order, words.keys) {
-        Ok(mark) => Ok(Bond { a, b, order, mark }),
-        Err(cause) => Err(cause),
+    match place_of(atoms, words.b) {
+        Some(b) => match mark_in(order, words.keys) {
+            Ok(mark) => Ok(Bond { a, b, order, mark }),
+            Err(cause) => Err(cause),
+        },
+        None => Err(ReadCause::BondEnd),
     }
 }
 
@@ -120,9 +122,10 @@ fn place_of(indices: &Indices, index: Option<u32>) -> Option<u32>
     ensures value { result ≡ place_of indices.now index }
     ensures within { IfSome result (λ place. place < length indices.now) }
 {
-    let index = index?;
-    let place = indices.place(index)?;
-    Some(place as u32)
+    match indices.place(index?) {
+        Some(place) => Some(place as u32),
+        None => None,
+    }
 }
 
 // The mark that the keys of a bond state, which are the words of a text.

@@ -38,11 +38,11 @@ pub fn joined_lines<'a>(alloc: Global, lines: &'a [&'a [u8]]) -> Result<JoinedLi
     ensures value { IfOk result (λ found. seen_all found ≡ joined_lines (texts lines.now)) }
     ensures numbered { IfOk result (λ found. All IsNumbered found.lines.items) }
 {
-    let Ok(mut found) = Vec::with_capacity(alloc, lines.len()) else {
-        return Err(AllocError);
-    };
-    match join_lines(lines, &mut found) {
-        Ok(past) => Ok(JoinedLines { lines: found, past }),
+    match Vec::with_capacity(alloc, lines.len()) {
+        Ok(mut found) => match join_lines(lines, &mut found) {
+            Ok(past) => Ok(JoinedLines { lines: found, past }),
+            Err(error) => Err(error),
+        },
         Err(error) => Err(error),
     }
 }
@@ -181,10 +181,7 @@ fn is_continued(line: &[u8]) -> bool
 fn body(line: &[u8]) -> &[u8]
     ensures { result.now ≡ body line.now }
 {
-    if line.len() < 7 {
-        return &[];
-    }
-    &line[7..]
+    if line.len() < 7 { &[] } else { &line[7..] }
 }
 
 fn part_of(line: &[u8]) -> &[u8]
