@@ -135,16 +135,12 @@ fn push_group(names: &mut Names, items: &mut Vec<Group>, group: Group) -> Result
 {
     let before = items.len();
     let kind = group.kind;
-    match items.push(group) {
-        Ok(()) => {
-            let named = names.push(kind);
-            if named.is_err() {
-                items.truncate(before);
-            }
-            named
-        }
-        Err(_) => Err(AllocError),
+    items.push(group)?;
+    let named = names.push(kind);
+    if named.is_err() {
+        items.truncate(before);
     }
+    named
 }
 
 /// The groups of a record, or why it has none.

@@ -24,12 +24,11 @@ impl fmt::Display for GroupKind {
     ghost output = { λ kind. Some (kind_text kind) };
 
     fn fmt<W: fmt::Write>(&self, f: &mut fmt::Formatter<W>) -> fmt::Result {
-        let (name, number) = match *self {
-            GroupKind::Absolute => return f.write_str("abs"),
-            GroupKind::Racemic(number) => ("rac", number),
-            GroupKind::Relative(number) => ("rel", number),
-        };
-        write!(f, "{name}{number}")
+        match *self {
+            GroupKind::Absolute => f.write_str("abs"),
+            GroupKind::Racemic(number) => write!(f, "rac{number}"),
+            GroupKind::Relative(number) => write!(f, "rel{number}"),
+        }
     }
 }
 

@@ -105,7 +105,9 @@ fn join_lines<D: Digraphs, L: Ledger>(
     ensures kept { labeller.new ≡ labeller.old }
 {
     for group in groups {
-        group_lines(alloc, labeller, centres, units, group, told)?;
+        let Ok(()) = group_lines(alloc, labeller, centres, units, group, told) else {
+            return Err(AllocError);
+        };
     }
     Ok(())
 }

@@ -63,7 +63,9 @@ fn places_of(alloc: Global, units: &[Unit]) -> Result<IndexMap<u32, u32>, AllocE
 {
     let mut places = IndexMap::new(alloc);
     for (place, unit) in units.iter().enumerate() {
-        note_unit(&mut places, unit, place as u32)?;
+        let Ok(()) = note_unit(&mut places, unit, place as u32) else {
+            return Err(AllocError);
+        };
     }
     Ok(places)
 }

@@ -258,7 +258,9 @@ fn lines_text(alloc: Global, lines: &[GroupLine]) -> Result<String, AllocError>
 {
     let mut text = String::new(alloc);
     for line in lines {
-        push_line(&mut text, line)?;
+        let Ok(()) = push_line(&mut text, line) else {
+            return Err(AllocError);
+        };
     }
     Ok(text)
 }

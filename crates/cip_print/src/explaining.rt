@@ -71,7 +71,9 @@ fn push_units(text: &mut Vec<u8>, units: &UnitAnswers) -> Result<(), AllocError>
     ensures { OnOk result (text.new.items ≡ text.old.items ++ told_lines units.now) }
 {
     for place in 0..units.len() {
-        push_unit(text, units.get(place))?;
+        let Ok(()) = push_unit(text, units.get(place)) else {
+            return Err(AllocError);
+        };
     }
     Ok(())
 }

@@ -132,7 +132,9 @@ fn push_names(
     ensures { OnOk result (text.new.items ≡ text.old.items ++ names_at drawn ligands.now places.now) }
 {
     for place in places {
-        push_name_at(text, drawn, ligands, *place)?;
+        let Ok(()) = push_name_at(text, drawn, ligands, *place) else {
+            return Err(AllocError);
+        };
     }
     Ok(())
 }

@@ -139,7 +139,9 @@ fn push_lines(alloc: Global, values: &mut Texts, units: &UnitAnswers) -> Result<
     ensures { OnOk result (values.new ≡ values.old ++ filter_map unit_line units.now) }
 {
     for place in 0..units.len() {
-        push_line(alloc, values, units.get(place))?;
+        let Ok(()) = push_line(alloc, values, units.get(place)) else {
+            return Err(AllocError);
+        };
     }
     Ok(())
 }
