@@ -24,7 +24,10 @@ pub fn names_of<'a>(
 {
     let mut names = Vec::new(alloc);
     for word in words {
-        push_names(alloc, number, &mut names, word)?;
+        match push_names(alloc, number, &mut names, word) {
+            Ok(()) => (),
+            Err(refusal) => return Err(refusal),
+        }
     }
     Ok(names)
 }

@@ -76,7 +76,10 @@ fn read_atoms(
     ensures are { OnOk result (AreAtoms count block.new) }
 {
     for row in 0..count as usize {
-        read_atom(alloc, joined, row, block)?;
+        match read_atom(alloc, joined, row, block) {
+            Ok(()) => (),
+            Err(refusal) => return Err(refusal),
+        }
     }
     Ok(())
 }
@@ -258,7 +261,10 @@ fn read_bonds(
     ensures are { OnOk result (AreBonds (length atoms.now) count block.new) }
 {
     for row in 0..count as usize {
-        read_bond(alloc, joined, atoms, first, row, block)?;
+        match read_bond(alloc, joined, atoms, first, row, block) {
+            Ok(()) => (),
+            Err(refusal) => return Err(refusal),
+        }
     }
     Ok(())
 }

@@ -136,7 +136,10 @@ fn mark_in(order: u8, text: &[u8]) -> Result<Mark, ReadCause>
     let mut mark = Mark::Plain;
     let mut rest = text;
     while let Some((word, behind)) = next_word(rest) {
-        mark = with_mark(order, mark, word)?;
+        match with_mark(order, mark, word) {
+            Ok(next) => mark = next,
+            Err(cause) => return Err(cause),
+        }
         rest = behind;
     }
     Ok(mark)

@@ -83,7 +83,10 @@ pub fn text_of<'a>(alloc: Global, line: &JoinedLine<'a>) -> Result<Text<'a>, All
 {
     match line.parts {
         [only] => Ok(Text::Whole(part_of(only))),
-        parts => Ok(Text::Joined(joined_text(alloc, parts)?)),
+        parts => match joined_text(alloc, parts) {
+            Ok(text) => Ok(Text::Joined(text)),
+            Err(error) => Err(error),
+        },
     }
 }
 
