@@ -24,7 +24,10 @@ pub fn names_of<'a>(
 {
     let mut names = Vec::new(alloc);
     for word in words {
-        push_names(alloc, number, &mut names, word)?;
+        match push_names(alloc, number, &mut names, word) {
+            Ok(()) => (),
+            Err(refusal) => return Err(refusal),
+        }
     }
     Ok(names)
 }
@@ -42,7 +45,9 @@ pub fn atoms_of(
     let mut atoms = Vec::new(alloc);
     for name in names {
         let atom = atom_of(number, indices, name)?;
-        atoms.push(atom)?;
+        let Ok(()) = atoms.push(atom) else {
+            return Err(GroupRefusal::Memory);
+        };
     }
     Ok(atoms)
 }
@@ -55,7 +60,9 @@ pub fn take_all(number: u32, taken: &mut Indices, atoms: &[u32]) -> Result<(), G
         if taken.contains(*atom) {
             return Err(refused(number, GroupCause::Repeated));
         }
-        taken.push(*atom)?;
+        let Ok(()) = taken.push(*atom) else {
+            return Err(GroupRefusal::Memory);
+        };
     }
     Ok(())
 }
@@ -71,14 +78,17 @@ fn push_names<'a>(
     ensures { Gives (λ _. texts names.new.items) result
         (told_at number (with_names (texts names.old.items) word.now)) }
 {
-    if !word.starts_with(b"ATOMS=") {
-        return Ok(());
+    if word.starts_with(b"ATOMS=") {
+        match inner(word) {
+            Some(text) => match spaced_words(alloc, text) {
+                Ok(parts) => push_parts(number, names, &parts),
+                Err(AllocError) => Err(GroupRefusal::Memory),
+            },
+            None => Err(refused(number, GroupCause::Word)),
+        }
+    } else {
+        Ok(())
     }
-    let Some(text) = inner(word) else {
-        return Err(refused(number, GroupCause::Word));
-    };
-    let parts = spaced_words(alloc, text)?;
-    push_parts(number, names, &parts)
 }
 
 // Puts the names of a list behind the others.
@@ -90,11 +100,14 @@ fn push_parts<'a>(
     ensures { Gives (λ _. texts names.new.items) result
         (told_at number (with_parts (texts names.old.items) (texts parts.now))) }
 {
-    if !is_counted(parts) {
-        return Err(refused(number, GroupCause::Word));
+    if is_counted(parts) {
+        match push_behind_first(names, parts) {
+            Ok(()) => Ok(()),
+            Err(AllocError) => Err(GroupRefusal::Memory),
+        }
+    } else {
+        Err(refused(number, GroupCause::Word))
     }
-    push_behind_first(names, parts)?;
-    Ok(())
 }
 
 fn push_behind_first<'a>(names: &mut Vec<&'a [u8]>, parts: &[&'a [u8]]) -> Result<(), AllocError>

@@ -14,7 +14,7 @@ use crate::faults::{GroupCause, GroupFault, GroupRefusal, told_at};
 use crate::groups::Groups;
 use crate::kinds::{GroupKind, kind_of};
 use cip_v3000::{FrameLine, Indices, JoinedLine, Table, is_frame, text_of, words};
-use std::alloc::Global;
+use std::alloc::{AllocError, Global};
 
 /// What was read of the lines before: whether a collection is open, the atoms that stand in a group line, the groups.
 #[derive(Drop)]
@@ -29,9 +29,13 @@ impl Found {
     fn put(&mut self, number: u32, kind: GroupKind, atoms: Vec<u32>) -> Result<(), GroupRefusal>
         ensures { Gives (λ _. self.new) result (with_atoms number self.old kind atoms.items) }
     {
-        take_all(number, &mut self.taken, &atoms)?;
-        self.groups.put_line(kind, number, atoms)?;
-        Ok(())
+        match take_all(number, &mut self.taken, &atoms) {
+            Ok(()) => match self.groups.put_line(kind, number, atoms) {
+                Ok(()) => Ok(()),
+                Err(AllocError) => Err(GroupRefusal::Memory),
+            },
+            Err(refusal) => Err(refusal),
+        }
     }
 
     fn into_groups(self) -> Groups
@@ -80,8 +84,10 @@ fn read_lines(
     ensures { Gives (λ _. found.new.groups) result (groups_from indices.now found.old (map seen lines.now)) }
 {
     for line in lines {
-        if read_line(alloc, indices, line, found)? {
-            return ended(line.number, found);
+        match read_line(alloc, indices, line, found) {
+            Ok(true) => return ended(line.number, found),
+            Ok(false) => (),
+            Err(refusal) => return Err(refusal),
         }
     }
     Ok(())
@@ -99,9 +105,13 @@ fn read_line(
     ensures found { Gives (λ _. found.new) result (if is_frame EndTable (words_in (seen line.now)) then Ok found.old
         else with_joined indices.now line.now.number found.old (words_in (seen line.now))) }
 {
-    let text = text_of(alloc, line)?;
-    let words = words(alloc, text.bytes())?;
-    read_line_words(alloc, indices, line.number, found, &words)
+    match text_of(alloc, line) {
+        Ok(text) => match words(alloc, text.bytes()) {
+            Ok(words) => read_line_words(alloc, indices, line.number, found, &words),
+            Err(AllocError) => Err(GroupRefusal::Memory),
+        },
+        Err(AllocError) => Err(GroupRefusal::Memory),
+    }
 }
 
 fn read_line_words(
@@ -117,10 +127,13 @@ fn read_line_words(
         else with_joined indices.now number found.old (texts words.now)) }
 {
     if is_frame(FrameLine::EndTable, words) {
-        return Ok(true);
+        Ok(true)
+    } else {
+        match read_joined(alloc, indices, number, found, words) {
+            Ok(()) => Ok(false),
+            Err(refusal) => Err(refusal),
+        }
     }
-    read_joined(alloc, indices, number, found, words)?;
-    Ok(false)
 }
 
 fn nothing(alloc: Global) -> Found
@@ -138,12 +151,13 @@ fn ended(number: u32, found: &Found) -> Result<(), GroupRefusal>
     ensures { Gives (λ _. found.now.groups) result (ended number found.now) }
 {
     if found.inside {
-        return Err(GroupRefusal::Fault(GroupFault {
+        Err(GroupRefusal::Fault(GroupFault {
             line: number,
             cause: GroupCause::Frame,
-        }));
+        }))
+    } else {
+        Ok(())
     }
-    Ok(())
 }
 
 // Reads a line behind those before it; lines outside collections are passed over.
@@ -160,13 +174,13 @@ fn read_joined(
 {
     if !found.inside {
         found.inside = is_frame(FrameLine::BeginCollection, words);
-        return Ok(());
-    }
-    if is_frame(FrameLine::EndCollection, words) {
+        Ok(())
+    } else if is_frame(FrameLine::EndCollection, words) {
         found.inside = false;
-        return Ok(());
+        Ok(())
+    } else {
+        read_words(alloc, indices, number, found, words)
     }
-    read_words(alloc, indices, number, found, words)
 }
 
 fn read_words(
@@ -181,9 +195,10 @@ fn read_words(
 {
     match words {
         [] => Ok(()),
-        [name, words @ ..] => match told_at(number, kind_of(name))? {
-            None => Ok(()),
-            Some(kind) => read_kind(alloc, indices, number, found, words, kind),
+        [name, words @ ..] => match told_at(number, kind_of(name)) {
+            Ok(Some(kind)) => read_kind(alloc, indices, number, found, words, kind),
+            Ok(None) => Ok(()),
+            Err(fault) => Err(GroupRefusal::Fault(fault)),
         },
     }
 }
@@ -200,7 +215,11 @@ fn read_kind(
     requires few { length indices.now ≤ 1000000000 }
     ensures { Gives (λ _. found.new) result (with_kind indices.now number found.old (texts words.now) (Some kind)) }
 {
-    let names = names_of(alloc, number, words)?;
-    let atoms = atoms_of(alloc, number, indices, &names)?;
-    found.put(number, kind, atoms)
+    match names_of(alloc, number, words) {
+        Ok(names) => match atoms_of(alloc, number, indices, &names) {
+            Ok(atoms) => found.put(number, kind, atoms),
+            Err(refusal) => Err(refusal),
+        },
+        Err(refusal) => Err(refusal),
+    }
 }

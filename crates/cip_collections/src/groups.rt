@@ -43,8 +43,7 @@ impl Vertices {
     pub fn extend(&mut self, more: &[u32]) -> Result<(), AllocError>
         ensures { OnOk result (self.new ≡ self.old ++ more.now) }
     {
-        self.items.extend_from_slice(more)?;
-        Ok(())
+        self.items.extend_from_slice(more)
     }
 }
 

@@ -38,29 +38,32 @@ pub fn kind_of(word: &[u8]) -> Result<Option<GroupKind>, GroupCause>
     ensures { result ≡ kind_of word.now }
 {
     if word == b"MDLV30/STEABS".as_slice() {
-        return Ok(Some(GroupKind::Absolute));
+        Ok(Some(GroupKind::Absolute))
+    } else if word.starts_with(b"MDLV30/STERAC") {
+        racemic(&word[13..])
+    } else if word.starts_with(b"MDLV30/STEREL") {
+        relative(&word[13..])
+    } else {
+        Ok(None)
     }
-    if word.starts_with(b"MDLV30/STERAC") {
-        return racemic(&word[13..]);
-    }
-    if word.starts_with(b"MDLV30/STEREL") {
-        return relative(&word[13..]);
-    }
-    Ok(None)
 }
 
 fn racemic(text: &[u8]) -> Result<Option<GroupKind>, GroupCause>
     ensures { result ≡ racemic_by text.now }
 {
-    let number = number_of(text)?;
-    Ok(Some(GroupKind::Racemic(number)))
+    match number_of(text) {
+        Ok(number) => Ok(Some(GroupKind::Racemic(number))),
+        Err(cause) => Err(cause),
+    }
 }
 
 fn relative(text: &[u8]) -> Result<Option<GroupKind>, GroupCause>
     ensures { result ≡ relative_by text.now }
 {
-    let number = number_of(text)?;
-    Ok(Some(GroupKind::Relative(number)))
+    match number_of(text) {
+        Ok(number) => Ok(Some(GroupKind::Relative(number))),
+        Err(cause) => Err(cause),
+    }
 }
 
 // The number of a group, which follows its kind.

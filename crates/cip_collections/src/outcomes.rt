@@ -49,8 +49,12 @@ pub fn all_lines<D: Digraphs>(
     ensures lines { IfOk result (λ lines. lines.items ≡ all_lines labeller.old setting.now groups.now) }
     ensures kept { labeller.new ≡ labeller.old }
 {
-    let centres = Centres::of(alloc, setting)?;
-    count_lines::<D, Brand>(alloc, labeller, &centres, units, groups, Blank::new(1))
+    match Centres::of(alloc, setting) {
+        Ok(centres) => {
+            count_lines::<D, Brand>(alloc, labeller, &centres, units, groups, Blank::new(1))
+        }
+        Err(error) => Err(error),
+    }
 }
 
 // The same with a counter of steps.
@@ -69,13 +73,19 @@ fn count_lines<D: Digraphs, L: Ledger>(
     ensures lines { IfOk result (λ lines. lines.items ≡ all_lines labeller.old centres.now groups.now) }
     ensures kept { labeller.new ≡ labeller.old }
 {
-    let mut turned = units.copy(alloc)?;
-    let mut told = Told {
-        lines: Vec::new(alloc),
-        steps: Steps::<L>::open(blank),
-    };
-    match join_lines(alloc, labeller, centres, &mut turned, groups, &mut told) {
-        Ok(()) => Ok(told.lines),
+    match units.copy(alloc) {
+        Ok(mut turned) => {
+            let mut told = Told {
+                lines: Vec::new(alloc),
+                steps: Steps::<L>::open(blank),
+            };
+            let joined = join_lines(alloc, labeller, centres, &mut turned, groups, &mut told);
+            drop(turned);
+            match joined {
+                Ok(()) => Ok(told.lines),
+                Err(error) => Err(error),
+            }
+        }
         Err(error) => Err(error),
     }
 }
@@ -95,7 +105,9 @@ fn join_lines<D: Digraphs, L: Ledger>(
     ensures kept { labeller.new ≡ labeller.old }
 {
     for group in groups {
-        group_lines(alloc, labeller, centres, units, group, told)?;
+        let Ok(()) = group_lines(alloc, labeller, centres, units, group, told) else {
+            return Err(AllocError);
+        };
     }
     Ok(())
 }
@@ -117,12 +129,13 @@ fn group_lines<D: Digraphs, L: Ledger>(
 {
     let atoms = group.atoms.as_slice();
     if atoms.is_empty() {
-        return Ok(());
+        Ok(())
+    } else {
+        units.invert(atoms);
+        let put = turned_lines(alloc, labeller, centres, units, group, told);
+        units.invert(atoms);
+        put
     }
-    units.invert(atoms);
-    turned_lines(alloc, labeller, centres, units, group, told)?;
-    units.invert(atoms);
-    Ok(())
 }
 
 fn turned_lines<D: Digraphs, L: Ledger>(
@@ -139,14 +152,16 @@ fn turned_lines<D: Digraphs, L: Ledger>(
     ensures kept { labeller.new ≡ labeller.old }
 {
     let setting = centres.setting();
-    let turned = Setting::new(
+    match Setting::new(
         alloc,
         setting.graph(),
         setting.positions(),
         units.list(),
         setting.rules(),
-    )?;
-    atom_lines(alloc, labeller, centres, &turned, group, told)
+    ) {
+        Ok(turned) => atom_lines(alloc, labeller, centres, &turned, group, told),
+        Err(error) => Err(error),
+    }
 }
 
 fn atom_lines<D: Digraphs, L: Ledger>(
@@ -163,7 +178,9 @@ fn atom_lines<D: Digraphs, L: Ledger>(
     ensures kept { labeller.new ≡ labeller.old }
 {
     for atom in group.atoms.as_slice() {
-        let outcomes = both_at(alloc, labeller, centres, turned, *atom, &mut told.steps)?;
+        let Ok(outcomes) = both_at(alloc, labeller, centres, turned, *atom, &mut told.steps) else {
+            return Err(AllocError);
+        };
         told.lines.push(GroupLine {
             kind: group.kind,
             atom: *atom,
@@ -187,10 +204,16 @@ fn both_at<D: Digraphs, L: Ledger>(
         ≡ both_by (outcome_at labeller.old centres.now atom) (outcome_at labeller.old turned.now atom)) }
     ensures kept { labeller.new ≡ labeller.old }
 {
-    let Some(place) = centres.place(atom) else {
-        return Ok(None);
-    };
-    let drawn = labeller.label(alloc, centres.setting(), place, steps)?;
-    let turned = labeller.label(alloc, turned, place, steps)?;
-    Ok(Some(BothOutcomes { drawn, turned }))
+    match centres.place(atom) {
+        Some(place) => {
+            let Ok(drawn) = labeller.label(alloc, centres.setting(), place, steps) else {
+                return Err(AllocError);
+            };
+            match labeller.label(alloc, turned, place, steps) {
+                Ok(turned) => Ok(Some(BothOutcomes { drawn, turned })),
+                Err(error) => Err(error),
+            }
+        }
+        None => Ok(None),
+    }
 }

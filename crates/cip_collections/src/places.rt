@@ -35,8 +35,10 @@ impl<'a> Centres<'a> {
         requires few { length setting.now.units < 2 ^ 32 }
         ensures { IfOk result (λ centres. centres ≡ setting.now) }
     {
-        let places = places_of(alloc, setting.units().as_slice())?;
-        Ok(Centres { setting, places })
+        match places_of(alloc, setting.units().as_slice()) {
+            Ok(places) => Ok(Centres { setting, places }),
+            Err(error) => Err(error),
+        }
     }
 
     /// The setting itself.
@@ -61,7 +63,9 @@ fn places_of(alloc: Global, units: &[Unit]) -> Result<IndexMap<u32, u32>, AllocE
 {
     let mut places = IndexMap::new(alloc);
     for (place, unit) in units.iter().enumerate() {
-        note_unit(&mut places, unit, place as u32)?;
+        let Ok(()) = note_unit(&mut places, unit, place as u32) else {
+            return Err(AllocError);
+        };
     }
     Ok(places)
 }
@@ -82,8 +86,11 @@ fn note(places: &mut IndexMap<u32, u32>, at: u32, place: u32) -> Result<(), Allo
         ≡ or_here (get nat_eq places.old atom) (is_in at (atom ∷ [])) place) }
 {
     if places.contains_key(&at) {
-        return Ok(());
+        Ok(())
+    } else {
+        match places.insert(at, place) {
+            Ok(_) => Ok(()),
+            Err(_) => Err(AllocError),
+        }
     }
-    places.insert(at, place)?;
-    Ok(())
 }

@@ -1,5 +1,5 @@
 // What is told of the groups of a record.
-ghost use Rattle.std.specs.Prelude.{◌≡◌, ◌≤◌, ◌<◌, ◌-◌, ◌^◌, ◌++◌, ◌∷◌, [], IfOk, Ok, false, flat_map, length, string_bytes, true};
+ghost use Rattle.std.specs.Prelude.{◌≡◌, ◌≤◌, ◌<◌, ◌-◌, ◌^◌, ◌++◌, ◌∷◌, [], IfOk, OnOk, Ok, false, flat_map, length, string_bytes, true};
 ghost use Rattle.std.specs.List.{list_any};
 ghost use Rattle.cip_text.specs.Slices.{texts};
 ghost use Rattle.cip_v2000.specs.Grammar.{molecule_of};
@@ -10,7 +10,7 @@ ghost use Rattle.cip_label.specs.Settings.{setting_in};
 ghost use Rattle.cip_collections.specs.Outcomes.{all_lines};
 ghost use Rattle.cip_print.specs.Refusals.{refusal_line};
 ghost use Rattle.cip_collections.specs.Readings.{TellsFault, TellsRefusal};
-ghost use Rattle.cip_collections.specs.Texts.{outcome_text, both_text, line_text, is_over, some_over, fault_line, of_lines, of_groups, of_molecule, of_contents, told_without_items, with_number};
+ghost use Rattle.cip_collections.specs.Texts.{outcome_text, line_text, is_over, some_over, fault_line, of_lines, of_groups, of_molecule, of_contents, told_without_items, with_number};
 
 use crate::collections::groups_of;
 use crate::faults::{GroupFault, GroupRefusal};
@@ -46,20 +46,29 @@ pub fn group_text_within<D: Digraphs>(
     ensures told { IfOk result (λ told. told ≡ with_number number (told_without_items rules labeller.old lines.now)) }
     ensures kept { labeller.new ≡ labeller.old }
 {
-    let told = tell_contents(alloc, labeller, lines.contents(), rules)?;
-    with_number(alloc, number, &told)
+    match tell_contents(alloc, labeller, lines.contents(), rules) {
+        Ok(told) => with_number(alloc, number, &told),
+        Err(error) => Err(error),
+    }
 }
 
 // What is told of a record, behind a line with its number.
 fn with_number(alloc: Global, number: u64, told: &GroupText) -> Result<GroupText, AllocError>
     ensures { IfOk result (λ numbered. numbered ≡ with_number number told.now) }
 {
-    let mut text = format!(in alloc; "record {number}\n")?.into_bytes();
-    text.extend_from_slice(told.text.as_slice())?;
-    Ok(GroupText {
-        text: Bytes::from_vec(text),
-        flagged: told.flagged,
-    })
+    match format!(in alloc; "record {number}\n") {
+        Ok(line) => {
+            let mut text = line.into_bytes();
+            match text.extend_from_slice(told.text.as_slice()) {
+                Ok(()) => Ok(GroupText {
+                    text: Bytes::from_vec(text),
+                    flagged: told.flagged,
+                }),
+                Err(error) => Err(error),
+            }
+        }
+        Err(error) => Err(error),
+    }
 }
 
 fn tell_contents<D: Digraphs>(
@@ -72,12 +81,13 @@ fn tell_contents<D: Digraphs>(
     ensures told { IfOk result (λ told. told ≡ of_contents rules labeller.old (texts lines.now)) }
     ensures kept { labeller.new ≡ labeller.old }
 {
-    if !is_v3000(lines) {
-        return tell_plain(alloc, lines);
-    }
-    match read_table(alloc, lines) {
-        Ok(table) => tell_table(alloc, labeller, table, rules),
-        Err(refusal) => tell_refusal(alloc, refusal),
+    if is_v3000(lines) {
+        match read_table(alloc, lines) {
+            Ok(table) => tell_table(alloc, labeller, table, rules),
+            Err(refusal) => tell_refusal(alloc, refusal),
+        }
+    } else {
+        tell_plain(alloc, lines)
     }
 }
 
@@ -87,10 +97,13 @@ fn tell_plain(alloc: Global, lines: &[&[u8]]) -> Result<GroupText, AllocError>
     ensures { IfOk result (λ told. told ≡ of_molecule (molecule_of (texts lines.now))) }
 {
     match cip_v2000::read_lines(alloc, lines) {
-        Ok(_) => Ok(GroupText {
-            text: Bytes::from_vec(Vec::new(alloc)),
-            flagged: false,
-        }),
+        Ok(molecule) => {
+            drop(molecule);
+            Ok(GroupText {
+                text: Bytes::from_vec(Vec::new(alloc)),
+                flagged: false,
+            })
+        }
         Err(refusal) => tell_refusal(alloc, refusal),
     }
 }
@@ -104,18 +117,20 @@ fn tell_refusal(alloc: Global, refusal: ReadRefusal) -> Result<GroupText, AllocE
     }
 }
 
-fn refused_line(alloc: Global, fault: ReadFault) -> Result<Vec<u8>, AllocError>
-    ensures { IfOk result (λ text. text.items ≡ refusal_line fault ++ 10 ∷ []) }
+fn refused_line(alloc: Global, fault: ReadFault) -> Result<String, AllocError>
+    ensures { IfOk result (λ text. string_bytes text ≡ refusal_line fault ++ 10 ∷ []) }
 {
-    let line = refusal(alloc, fault)?;
-    Ok(format!(in alloc; "{line}\n")?.into_bytes())
+    match refusal(alloc, fault) {
+        Ok(line) => format!(in alloc; "{line}\n"),
+        Err(error) => Err(error),
+    }
 }
 
-fn flagged(text: Vec<u8>) -> GroupText
-    ensures { result ≡ record { text = text.items; flagged = true } }
+fn flagged(text: String) -> GroupText
+    ensures { result ≡ record { text = string_bytes text; flagged = true } }
 {
     GroupText {
-        text: Bytes::from_vec(text),
+        text: Bytes::from_vec(text.into_bytes()),
         flagged: true,
     }
 }
@@ -140,7 +155,10 @@ fn tell_table<D: Digraphs>(
             drop(groups);
             told
         }
-        Err(refusal) => tell_fault(alloc, refusal),
+        Err(refusal) => {
+            drop(molecule);
+            tell_fault(alloc, refusal)
+        }
     }
 }
 
@@ -160,12 +178,12 @@ fn tell_fault(alloc: Global, refusal: GroupRefusal) -> Result<GroupText, AllocEr
     }
 }
 
-fn fault_line(alloc: Global, fault: GroupFault) -> Result<Vec<u8>, AllocError>
-    ensures { IfOk result (λ text. text.items ≡ fault_line fault) }
+fn fault_line(alloc: Global, fault: GroupFault) -> Result<String, AllocError>
+    ensures { IfOk result (λ text. string_bytes text ≡ fault_line fault) }
 {
     let line = fault.line;
     let cause = fault.cause;
-    Ok(format!(in alloc; "groups {line} {cause}\n")?.into_bytes())
+    format!(in alloc; "groups {line} {cause}\n")
 }
 
 fn tell_groups<D: Digraphs>(
@@ -178,10 +196,14 @@ fn tell_groups<D: Digraphs>(
     ensures told { IfOk result (λ told. told ≡ of_groups rules labeller.old molecule (Ok groups.now)) }
     ensures kept { labeller.new ≡ labeller.old }
 {
-    let drawn = Drawn::of(alloc, molecule)?;
-    let told = tell_drawn(alloc, labeller, &drawn, groups, rules);
-    drop(drawn);
-    told
+    match Drawn::of(alloc, molecule) {
+        Ok(drawn) => {
+            let told = tell_drawn(alloc, labeller, &drawn, groups, rules);
+            drop(drawn);
+            told
+        }
+        Err(error) => Err(error),
+    }
 }
 
 // What is drawn stays with the caller, so that no end of this function gives it back.
@@ -195,8 +217,10 @@ fn tell_drawn<D: Digraphs>(
     ensures told { IfOk result (λ told. told ≡ of_groups rules labeller.old drawn.now (Ok groups.now)) }
     ensures kept { labeller.new ≡ labeller.old }
 {
-    let lines = drawn_lines(alloc, labeller, drawn, groups, rules)?;
-    of_lines(alloc, &lines)
+    match drawn_lines(alloc, labeller, drawn, groups, rules) {
+        Ok(lines) => of_lines(alloc, &lines),
+        Err(error) => Err(error),
+    }
 }
 
 fn drawn_lines<D: Digraphs>(
@@ -211,64 +235,60 @@ fn drawn_lines<D: Digraphs>(
     ensures kept { labeller.new ≡ labeller.old }
 {
     let units = drawn.units();
-    let setting = Setting::new(alloc, drawn.graph(), drawn.positions(), units.list(), rules)?;
-    all_lines(alloc, labeller, &setting, units, groups.as_slice())
+    match Setting::new(alloc, drawn.graph(), drawn.positions(), units.list(), rules) {
+        Ok(setting) => all_lines(alloc, labeller, &setting, units, groups.as_slice()),
+        Err(error) => Err(error),
+    }
 }
 
 fn of_lines(alloc: Global, lines: &[GroupLine]) -> Result<GroupText, AllocError>
     ensures { IfOk result (λ told. told ≡ of_lines lines.now) }
 {
-    Ok(GroupText {
-        text: Bytes::from_vec(lines_text(alloc, lines)?),
-        flagged: have_over(lines),
-    })
+    match lines_text(alloc, lines) {
+        Ok(text) => Ok(GroupText {
+            text: Bytes::from_vec(text.into_bytes()),
+            flagged: have_over(lines),
+        }),
+        Err(error) => Err(error),
+    }
 }
 
-fn lines_text(alloc: Global, lines: &[GroupLine]) -> Result<Vec<u8>, AllocError>
-    ensures { IfOk result (λ text. text.items ≡ flat_map line_text lines.now) }
+fn lines_text(alloc: Global, lines: &[GroupLine]) -> Result<String, AllocError>
+    ensures { IfOk result (λ text. string_bytes text ≡ flat_map line_text lines.now) }
 {
-    let mut text = Vec::new(alloc);
+    let mut text = String::new(alloc);
     for line in lines {
-        text.extend_from_slice(line_text(alloc, line)?.as_bytes())?;
+        let Ok(()) = push_line(&mut text, line) else {
+            return Err(AllocError);
+        };
     }
     Ok(text)
 }
 
 #[tactic(auto, unfolding(crate::specs::Texts::line_text))]
-fn line_text(alloc: Global, line: &GroupLine) -> Result<String, AllocError>
-    ensures { IfOk result (λ text. string_bytes text ≡ line_text line.now) }
+fn push_line(text: &mut String, line: &GroupLine) -> Result<(), AllocError>
+    ensures { OnOk result (string_bytes text.new ≡ string_bytes text.old ++ line_text line.now) }
 {
     let kind = line.kind;
     let number = u64::from(line.atom) + 1;
-    let both = both_text(alloc, &line.outcomes)?;
-    format!(in alloc; "{kind} a{number} {both}\n")
-}
-
-fn both_text(alloc: Global, outcomes: &Option<BothOutcomes>) -> Result<String, AllocError>
-    ensures { IfOk result (λ text. string_bytes text ≡ both_text outcomes.now) }
-{
-    match outcomes {
-        None => format!(in alloc; "-"),
+    match &line.outcomes {
+        None => write!(text, "{kind} a{number} -\n"),
         Some(both) => {
-            let drawn = outcome_text(alloc, &both.drawn)?;
-            let turned = outcome_text(alloc, &both.turned)?;
-            format!(in alloc; "{drawn} {turned}")
+            let drawn = outcome_word(&both.drawn);
+            let turned = outcome_word(&both.turned);
+            write!(text, "{kind} a{number} {drawn} {turned}\n")
         }
     }
 }
 
-// An outcome in a word.
-fn outcome_text(alloc: Global, outcome: &Outcome) -> Result<String, AllocError>
-    ensures { IfOk result (λ text. string_bytes text ≡ outcome_text outcome.now) }
+fn outcome_word(outcome: &Outcome) -> &'static str
+    ensures { result.now ≡ outcome_text outcome.now }
 {
     match outcome {
-        Outcome::Label(label) => {
-            let letter = label.letter;
-            format!(in alloc; "{letter}")
-        }
-        Outcome::Tie => format!(in alloc; "tie"),
-        Outcome::Over => format!(in alloc; "over"),
-        Outcome::NoGeometry(_) => format!(in alloc; "none"),
+        Outcome::Label(label) => label.letter.text(),
+        Outcome::Tie => "tie",
+        Outcome::Over => "over",
+        Outcome::NoGeometry(_) => "none",
     }
 }
 

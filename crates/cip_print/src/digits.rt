@@ -9,18 +9,23 @@ pub fn push_number(text: &mut Vec<u8>, number: u64) -> Result<(), AllocError>
     ensures { OnOk result (text.new.items ≡ text.old.items ++ decimal number) }
 {
     if number < 10 {
-        return push_digit(text, number);
+        push_digit(text, number)
+    } else {
+        match push_number(text, number / 10) {
+            Ok(()) => push_digit(text, number % 10),
+            Err(error) => Err(error),
+        }
     }
-    push_number(text, number / 10)?;
-    push_digit(text, number % 10)
 }
 
 fn push_digit(text: &mut Vec<u8>, digit: u64) -> Result<(), AllocError>
     requires { digit < 10 }
     ensures { OnOk result (text.new.items ≡ text.old.items ++ (48 + digit) ∷ []) }
 {
-    text.push(b'0' + digit as u8)?;
-    Ok(())
+    match text.push(b'0' + digit as u8) {
+        Ok(()) => Ok(()),
+        Err(_) => Err(AllocError),
+    }
 }
 
 /// Adds a space and a word.
@@ -28,7 +33,8 @@ fn push_digit(text: &mut Vec<u8>, digit: u64) -> Result<(), AllocError>
 pub fn push_word(text: &mut Vec<u8>, word: &str) -> Result<(), AllocError>
     ensures { OnOk result (text.new.items ≡ text.old.items ++ (codes " " ++ word.now)) }
 {
-    text.push(b' ')?;
-    text.extend_from_slice(word.as_bytes())?;
-    Ok(())
+    match text.push(b' ') {
+        Ok(()) => text.extend_from_slice(word.as_bytes()),
+        Err(_) => Err(AllocError),
+    }
 }

@@ -1,13 +1,15 @@
 // What is told of a record beside its drawing.
-ghost use Rattle.std.specs.Prelude.{◌≡◌, ◌++◌, IfOk, OnOk, codes};
+ghost use Rattle.std.specs.Prelude.{◌≡◌, ◌++◌, ◌∷◌, [], IfOk, OnOk, codes};
 ghost use Rattle.cip_print.specs.Naming.{name_text};
+ghost use Rattle.cip_print.specs.Refusals.{refusal_line};
 ghost use Rattle.cip_print.specs.Explaining.{reason_text, told, told_line, told_lines, told_answer, explained};
 
 use crate::answer::{Answer, UnitAnswer, UnitAnswers};
 use crate::digits::push_word;
-use crate::labels::{named, ordered_label};
+use crate::labels::{push_label, push_named};
+use crate::naming::UnitName;
 use crate::refusals::refusal;
-use cip_mol::{Cause, Outcome};
+use cip_mol::{Cause, Outcome, ReadFault};
 use std::alloc::{AllocError, Global};
 
 /// What is found of the record of this number, to be read beside its drawing: why it is refused, or a line for each
@@ -16,62 +18,96 @@ use std::alloc::{AllocError, Global};
 pub fn explain_text(alloc: Global, answer: &Answer, number: u64) -> Result<Vec<u8>, AllocError>
     ensures { IfOk result (λ text. text.items ≡ explained number answer.now) }
 {
-    let mut text = format!(in alloc; "record {number}\n")?.into_bytes();
-    push_answer(alloc, &mut text, answer)?;
-    Ok(text)
+    match format!(in alloc; "record {number}\n") {
+        Ok(line) => {
+            let mut text = line.into_bytes();
+            match push_answer(alloc, &mut text, answer) {
+                Ok(()) => Ok(text),
+                Err(error) => Err(error),
+            }
+        }
+        Err(error) => Err(error),
+    }
 }
 
 fn push_answer(alloc: Global, text: &mut Vec<u8>, answer: &Answer) -> Result<(), AllocError>
     ensures { OnOk result (text.new.items ≡ text.old.items ++ told_answer answer.now) }
 {
     match answer {
-        Answer::Labelled(units) => push_units(alloc, text, units),
-        Answer::Refused(fault) => {
-            let line = format!(in alloc; "{}\n", refusal(alloc, *fault)?)?;
-            text.extend_from_slice(line.as_bytes())?;
-            Ok(())
-        }
+        Answer::Labelled(units) => push_units(text, units),
+        Answer::Refused(fault) => push_refusal(alloc, text, *fault),
     }
 }
 
-fn push_units(alloc: Global, text: &mut Vec<u8>, units: &UnitAnswers) -> Result<(), AllocError>
+fn push_refusal(alloc: Global, text: &mut Vec<u8>, fault: ReadFault) -> Result<(), AllocError>
+    ensures { OnOk result (text.new.items ≡ text.old.items ++ (refusal_line fault ++ 10 ∷ [])) }
+{
+    match refusal(alloc, fault) {
+        Ok(line) => push_line(text, line.as_bytes()),
+        Err(error) => Err(error),
+    }
+}
+
+// A text, and the end of its line.
+fn push_line(text: &mut Vec<u8>, line: &[u8]) -> Result<(), AllocError>
+    ensures { OnOk result (text.new.items ≡ text.old.items ++ (line.now ++ 10 ∷ [])) }
+{
+    match text.extend_from_slice(line) {
+        Ok(()) => end_line(text),
+        Err(error) => Err(error),
+    }
+}
+
+fn end_line(text: &mut Vec<u8>) -> Result<(), AllocError>
+    ensures { OnOk result (text.new.items ≡ text.old.items ++ 10 ∷ []) }
+{
+    match text.push(b'\n') {
+        Ok(()) => Ok(()),
+        Err(_) => Err(AllocError),
+    }
+}
+
+fn push_units(text: &mut Vec<u8>, units: &UnitAnswers) -> Result<(), AllocError>
     ensures { OnOk result (text.new.items ≡ text.old.items ++ told_lines units.now) }
 {
     for place in 0..units.len() {
-        push_unit(alloc, text, units.get(place))?;
+        let Ok(()) = push_unit(text, units.get(place)) else {
+            return Err(AllocError);
+        };
     }
     Ok(())
 }
 
 #[tactic(auto, unfolding(crate::specs::Explaining::told_line))]
-fn push_unit(alloc: Global, text: &mut Vec<u8>, unit: &UnitAnswer) -> Result<(), AllocError>
+fn push_unit(text: &mut Vec<u8>, unit: &UnitAnswer) -> Result<(), AllocError>
     ensures { OnOk result (text.new.items ≡ text.old.items ++ told_line unit.now) }
 {
-    let mut line = told(alloc, unit)?;
-    line.push(b'\n')?;
-    text.extend_from_slice(&line)?;
-    Ok(())
-}
-
-// What is found of a unit.
-fn told(alloc: Global, unit: &UnitAnswer) -> Result<Vec<u8>, AllocError>
-    ensures { IfOk result (λ text. text.items ≡ told unit.now unit.now.outcome) }
-{
-    match &unit.outcome {
-        Outcome::Label(label) => ordered_label(alloc, unit, label),
-        Outcome::Over => named(alloc, unit, "over"),
-        Outcome::Tie => named(alloc, unit, "tie"),
-        Outcome::NoGeometry(cause) => without_sense(alloc, unit, *cause),
+    match push_told(text, unit) {
+        Ok(()) => end_line(text),
+        Err(error) => Err(error),
     }
 }
 
-fn without_sense(alloc: Global, unit: &UnitAnswer, cause: Cause) -> Result<Vec<u8>, AllocError>
-    ensures { IfOk result (λ text. text.items
-        ≡ name_text unit.now.name ++ (codes " none " ++ reason_text cause)) }
+// What is found of a unit.
+fn push_told(text: &mut Vec<u8>, unit: &UnitAnswer) -> Result<(), AllocError>
+    ensures { OnOk result (text.new.items ≡ text.old.items ++ told unit.now unit.now.outcome) }
 {
-    let mut text = named(alloc, unit, "none")?;
-    push_word(&mut text, reason(cause))?;
-    Ok(text)
+    match &unit.outcome {
+        Outcome::Label(label) => push_label(text, unit, label),
+        Outcome::Over => push_named(text, unit.name, "over"),
+        Outcome::Tie => push_named(text, unit.name, "tie"),
+        Outcome::NoGeometry(cause) => push_without_sense(text, unit.name, *cause),
+    }
+}
+
+fn push_without_sense(text: &mut Vec<u8>, name: UnitName, cause: Cause) -> Result<(), AllocError>
+    ensures { OnOk result (text.new.items
+        ≡ text.old.items ++ (name_text name ++ (codes " none " ++ reason_text cause))) }
+{
+    match push_named(text, name, "none") {
+        Ok(()) => push_word(text, reason(cause)),
+        Err(error) => Err(error),
+    }
 }
 
 // Why a drawing shows no sense of a unit, in a word.

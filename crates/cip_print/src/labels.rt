@@ -6,7 +6,7 @@ ghost use Rattle.cip_print.specs.Labels.{ligand_name, spaced_name, names_at, nam
 
 use crate::answer::UnitAnswer;
 use crate::digits::{push_number, push_word};
-use crate::naming::{push_atom, push_name};
+use crate::naming::{UnitName, push_atom, push_name};
 use cip_mol::{Label, Ligand, Site};
 use std::alloc::{AllocError, Global};
 
@@ -17,29 +17,54 @@ pub const LINE: usize = 80;
 pub fn ordered_label(alloc: Global, unit: &UnitAnswer, label: &Label) -> Result<Vec<u8>, AllocError>
     ensures { IfOk result (λ text. text.items ≡ ordered_label unit.now label.now) }
 {
-    let mut text = Vec::with_capacity(alloc, LINE)?;
-    push_label(&mut text, unit, label)?;
-    Ok(text)
+    match Vec::with_capacity(alloc, LINE) {
+        Ok(mut text) => match push_label(&mut text, unit, label) {
+            Ok(()) => Ok(text),
+            Err(error) => Err(error),
+        },
+        Err(error) => Err(error),
+    }
 }
 
 /// The name of a unit, and a word.
 pub fn named(alloc: Global, unit: &UnitAnswer, word: &str) -> Result<Vec<u8>, AllocError>
     ensures { IfOk result (λ text. text.items ≡ name_text unit.now.name ++ (codes " " ++ word.now)) }
 {
-    let mut text = Vec::with_capacity(alloc, LINE)?;
-    push_name(&mut text, unit.name)?;
-    push_word(&mut text, word)?;
-    Ok(text)
+    match Vec::with_capacity(alloc, LINE) {
+        Ok(mut text) => match push_named(&mut text, unit.name, word) {
+            Ok(()) => Ok(text),
+            Err(error) => Err(error),
+        },
+        Err(error) => Err(error),
+    }
 }
 
+/// Adds the name of a unit, and a word.
+#[tactic(auto, using(crate::proofs::Texts::moved))]
+pub fn push_named(text: &mut Vec<u8>, name: UnitName, word: &str) -> Result<(), AllocError>
+    ensures { OnOk result (text.new.items ≡ text.old.items ++ (name_text name ++ (codes " " ++ word.now))) }
+{
+    match push_name(text, name) {
+        Ok(()) => push_word(text, word),
+        Err(error) => Err(error),
+    }
+}
+
+/// Adds a label with the ligands in the order that it rests on.
 #[tactic(auto, unfolding(crate::specs::Labels::ordered_label), using(crate::proofs::Texts::moved))]
-fn push_label(text: &mut Vec<u8>, unit: &UnitAnswer, label: &Label) -> Result<(), AllocError>
+pub fn push_label(text: &mut Vec<u8>, unit: &UnitAnswer, label: &Label) -> Result<(), AllocError>
     ensures { OnOk result (text.new.items ≡ text.old.items ++ ordered_label unit.now label.now) }
 {
-    push_name(text, unit.name)?;
-    push_decision(text, label)?;
-    text.extend_from_slice(b" order")?;
-    push_names_in_order(text, unit.drawn, &unit.site, label.order.as_slice())
+    let Ok(()) = push_name(text, unit.name) else {
+        return Err(AllocError);
+    };
+    match push_decision(text, label) {
+        Ok(()) => match text.extend_from_slice(b" order") {
+            Ok(()) => push_names_in_order(text, unit.drawn, &unit.site, label.order.as_slice()),
+            Err(error) => Err(error),
+        },
+        Err(error) => Err(error),
+    }
 }
 
 // The descriptor, the rule and the sphere, a space before each.
@@ -47,10 +72,16 @@ fn push_label(text: &mut Vec<u8>, unit: &UnitAnswer, label: &Label) -> Result<()
 fn push_decision(text: &mut Vec<u8>, label: &Label) -> Result<(), AllocError>
     ensures { OnOk result (text.new.items ≡ text.old.items ++ decision_text label.now) }
 {
-    push_word(text, label.letter.text())?;
-    push_word(text, label.rule.text())?;
-    text.push(b' ')?;
-    push_number(text, u64::from(label.sphere))
+    let Ok(()) = push_word(text, label.letter.text()) else {
+        return Err(AllocError);
+    };
+    match push_word(text, label.rule.text()) {
+        Ok(()) => match text.push(b' ') {
+            Ok(()) => push_number(text, u64::from(label.sphere)),
+            Err(_) => Err(AllocError),
+        },
+        Err(error) => Err(error),
+    }
 }
 
 /// Adds the ligands of a site at these places, a space before each; a bar between two ends.
@@ -81,9 +112,13 @@ fn push_ends(
     ensures { OnOk result (text.new.items ≡ text.old.items ++ names_of_ends drawn first.now second.now places.now) }
 {
     let behind = first.len().min(places.len());
-    push_names(text, drawn, first, &places[..behind])?;
-    text.extend_from_slice(b" |")?;
-    push_names(text, drawn, second, &places[behind..])
+    match push_names(text, drawn, first, &places[..behind]) {
+        Ok(()) => match text.extend_from_slice(b" |") {
+            Ok(()) => push_names(text, drawn, second, &places[behind..]),
+            Err(error) => Err(error),
+        },
+        Err(error) => Err(error),
+    }
 }
 
 // The ligands at these places, a space before each.
@@ -97,7 +132,9 @@ fn push_names(
     ensures { OnOk result (text.new.items ≡ text.old.items ++ names_at drawn ligands.now places.now) }
 {
     for place in places {
-        push_name_at(text, drawn, ligands, *place)?;
+        let Ok(()) = push_name_at(text, drawn, ligands, *place) else {
+            return Err(AllocError);
+        };
     }
     Ok(())
 }
@@ -123,8 +160,10 @@ fn push_ligand(text: &mut Vec<u8>, drawn: u32, ligand: Ligand) -> Result<(), All
 {
     match ligand {
         Ligand::Vertex(vertex) if vertex < drawn => {
-            text.push(b' ')?;
-            push_atom(text, vertex)
+            match text.push(b' ') {
+                Ok(()) => push_atom(text, vertex),
+                Err(_) => Err(AllocError),
+            }
         }
         Ligand::Vertex(_) => push_word(text, "H"),
         Ligand::LonePair => push_word(text, ":"),

@@ -44,8 +44,10 @@ pub fn push_name(text: &mut Vec<u8>, name: UnitName) -> Result<(), AllocError>
 fn push_centre(text: &mut Vec<u8>, at: u32) -> Result<(), AllocError>
     ensures { OnOk result (text.new.items ≡ text.old.items ++ 97 ∷ number at) }
 {
-    text.push(b'a')?;
-    push_atom(text, at)
+    match text.push(b'a') {
+        Ok(()) => push_atom(text, at),
+        Err(_) => Err(AllocError),
+    }
 }
 
 // A letter, and two atoms, the lower one first.
@@ -53,10 +55,16 @@ fn push_centre(text: &mut Vec<u8>, at: u32) -> Result<(), AllocError>
 fn push_pair(text: &mut Vec<u8>, kind: u8, a: u32, b: u32) -> Result<(), AllocError>
     ensures { OnOk result (text.new.items ≡ text.old.items ++ kind ∷ pair a b) }
 {
-    text.push(kind)?;
-    push_atom(text, a.min(b))?;
-    text.push(b'-')?;
-    push_atom(text, a.max(b))
+    let Ok(()) = text.push(kind) else {
+        return Err(AllocError);
+    };
+    match push_atom(text, a.min(b)) {
+        Ok(()) => match text.push(b'-') {
+            Ok(()) => push_atom(text, a.max(b)),
+            Err(_) => Err(AllocError),
+        },
+        Err(error) => Err(error),
+    }
 }
 
 /// Adds the number of an atom, counted from 1.

@@ -85,9 +85,17 @@ impl Tally {
     pub fn line(&self, alloc: Global) -> Result<Vec<u8>, AllocError>
         ensures { IfOk result (λ line. line.items ≡ summary_line self.now) }
     {
-        let mut line = self.records_part(alloc)?.into_bytes();
-        line.extend_from_slice(self.units_part(alloc)?.as_bytes())?;
-        Ok(line)
+        let Ok(records) = self.records_part(alloc) else {
+            return Err(AllocError);
+        };
+        let mut line = records.into_bytes();
+        match self.units_part(alloc) {
+            Ok(units) => match line.extend_from_slice(units.as_bytes()) {
+                Ok(()) => Ok(line),
+                Err(error) => Err(error),
+            },
+            Err(error) => Err(error),
+        }
     }
 
     #[tactic(auto, unfolding(crate::specs::Tallies::records_part))]

@@ -17,7 +17,6 @@ use std::alloc::{AllocError, Global};
 /// The value lines of an answer that was found within a bound on nodes by a wording of Rule 1b: these two, then why the
 /// record is refused, or a line for each unit that has a label or whose digraph is larger than the bound, and `none`
 /// where there is no such unit.
-#[tactic(auto, unfolding(crate::specs::Values::values_of))]
 pub fn item_values(
     alloc: Global,
     answer: &Answer,
@@ -27,27 +26,82 @@ pub fn item_values(
     requires few { HasRoom answer.now }
     ensures { IfOk result (λ texts. texts ≡ values_of nodes rules answer.now) }
 {
+    let mut values = Texts::new(alloc);
+    match push_values(alloc, &mut values, answer, nodes, rules) {
+        Ok(()) => Ok(values),
+        Err(error) => Err(error),
+    }
+}
+
+// Puts the lines into a list that has none. It stays with the caller, so that no line gives it back.
+#[tactic(auto, unfolding(crate::specs::Values::values_of))]
+fn push_values(
+    alloc: Global,
+    values: &mut Texts,
+    answer: &Answer,
+    nodes: u32,
+    rules: Rules,
+) -> Result<(), AllocError>
+    requires none { values.old ≡ [] }
+    requires few { HasRoom answer.now }
+    ensures { OnOk result (values.new ≡ values_of nodes rules answer.now) }
+{
+    let Ok(()) = push_settings(alloc, values, nodes, rules) else {
+        return Err(AllocError);
+    };
     match answer {
-        Answer::Labelled(units) => unit_values(alloc, units, settings(alloc, nodes, rules)?),
-        Answer::Refused(fault) => {
-            let mut values = one_text(alloc, settings(alloc, nodes, rules)?)?;
-            values.push(Bytes::from_vec(refusal(alloc, *fault)?.into_bytes()))?;
-            Ok(values)
-        }
+        Answer::Labelled(units) => push_unit_values(alloc, values, units),
+        Answer::Refused(fault) => match refusal(alloc, *fault) {
+            Ok(line) => values.push(Bytes::from_vec(line.into_bytes())),
+            Err(error) => Err(error),
+        },
+    }
+}
+
+fn push_settings(
+    alloc: Global,
+    values: &mut Texts,
+    nodes: u32,
+    rules: Rules,
+) -> Result<(), AllocError>
+    requires { length values.old < 2 ^ 32 - 1 }
+    ensures { OnOk result (values.new ≡ values.old ++ settings_line nodes rules ∷ []) }
+{
+    match settings(alloc, nodes, rules) {
+        Ok(line) => values.push(Bytes::from_vec(line)),
+        Err(error) => Err(error),
     }
 }
 
 // The version of the item, and what the labels rest on.
-#[tactic(auto, using(crate::proofs::Texts::moved))]
 fn settings(alloc: Global, nodes: u32, rules: Rules) -> Result<Vec<u8>, AllocError>
     ensures { IfOk result (λ line. line.items ≡ settings_line nodes rules) }
 {
-    let mut line = Vec::with_capacity(alloc, LINE)?;
-    line.extend_from_slice(b"cip 2 rule1b")?;
-    push_word(&mut line, year(rules))?;
-    line.extend_from_slice(b" nodes ")?;
-    push_number(&mut line, u64::from(nodes))?;
-    Ok(line)
+    match Vec::with_capacity(alloc, LINE) {
+        Ok(mut line) => match write_settings(&mut line, nodes, rules) {
+            Ok(()) => Ok(line),
+            Err(error) => Err(error),
+        },
+        Err(error) => Err(error),
+    }
+}
+
+// Puts them into an empty line.
+#[tactic(auto, using(crate::proofs::Texts::moved))]
+fn write_settings(line: &mut Vec<u8>, nodes: u32, rules: Rules) -> Result<(), AllocError>
+    requires { line.old.items ≡ [] }
+    ensures { OnOk result (line.new.items ≡ settings_line nodes rules) }
+{
+    let Ok(()) = line.extend_from_slice(b"cip 2 rule1b") else {
+        return Err(AllocError);
+    };
+    match push_word(line, year(rules)) {
+        Ok(()) => match line.extend_from_slice(b" nodes ") {
+            Ok(()) => push_number(line, u64::from(nodes)),
+            Err(error) => Err(error),
+        },
+        Err(error) => Err(error),
+    }
 }
 
 fn year(rules: Rules) -> &'static str
@@ -59,16 +113,23 @@ fn year(rules: Rules) -> &'static str
     }
 }
 
-fn unit_values(alloc: Global, units: &UnitAnswers, first: Vec<u8>) -> Result<Texts, AllocError>
-    requires { length units.now < 2 ^ 32 - 1 }
-    ensures { IfOk result (λ texts. texts ≡ first.items ∷ or_none (filter_map unit_line units.now)) }
+// Adds the lines of units behind a first line, or a line that says that there is none.
+fn push_unit_values(
+    alloc: Global,
+    values: &mut Texts,
+    units: &UnitAnswers,
+) -> Result<(), AllocError>
+    requires first { length values.old ≡ 1 }
+    requires few { length units.now < 2 ^ 32 - 1 }
+    ensures { OnOk result (values.new ≡ values.old ++ or_none (filter_map unit_line units.now)) }
 {
-    let mut values = one_text(alloc, first)?;
-    push_lines(alloc, &mut values, units)?;
-    if values.len() == 1 {
-        values.push(Bytes::from_vec(format!(in alloc; "none")?.into_bytes()))?;
+    match push_lines(alloc, values, units) {
+        Ok(()) if values.len() == 1 => match format!(in alloc; "none") {
+            Ok(line) => values.push(Bytes::from_vec(line.into_bytes())),
+            Err(error) => Err(error),
+        },
+        pushed => pushed,
     }
-    Ok(values)
 }
 
 // Adds the lines of units behind a first line.
@@ -78,7 +139,9 @@ fn push_lines(alloc: Global, values: &mut Texts, units: &UnitAnswers) -> Result<
     ensures { OnOk result (values.new ≡ values.old ++ filter_map unit_line units.now) }
 {
     for place in 0..units.len() {
-        push_line(alloc, values, units.get(place))?;
+        let Ok(()) = push_line(alloc, values, units.get(place)) else {
+            return Err(AllocError);
+        };
     }
     Ok(())
 }
@@ -89,26 +152,25 @@ fn push_line(alloc: Global, values: &mut Texts, unit: &UnitAnswer) -> Result<(),
     ensures added { OnOk result (values.new ≡ values.old ++ filter_map unit_line (unit.now ∷ [])) }
     ensures few { OnOk result (length values.new ≤ length values.old + 1) }
 {
-    if let Some(value) = value_of(alloc, unit)? {
-        values.push(Bytes::from_vec(value))?;
+    match value_of(alloc, unit) {
+        Ok(Some(value)) => values.push(Bytes::from_vec(value)),
+        Ok(None) => Ok(()),
+        Err(error) => Err(error),
     }
-    Ok(())
 }
 
 fn value_of(alloc: Global, unit: &UnitAnswer) -> Result<Option<Vec<u8>>, AllocError>
     ensures { IfOk result (λ value. option_map (λ line. line.items) value ≡ unit_line unit.now) }
 {
     match &unit.outcome {
-        Outcome::Label(label) => Ok(Some(ordered_label(alloc, unit, label)?)),
-        Outcome::Over => Ok(Some(named(alloc, unit, "over")?)),
+        Outcome::Label(label) => match ordered_label(alloc, unit, label) {
+            Ok(line) => Ok(Some(line)),
+            Err(error) => Err(error),
+        },
+        Outcome::Over => match named(alloc, unit, "over") {
+            Ok(line) => Ok(Some(line)),
+            Err(error) => Err(error),
+        },
         Outcome::Tie | Outcome::NoGeometry(_) => Ok(None),
     }
-}
-
-fn one_text(alloc: Global, text: Vec<u8>) -> Result<Texts, AllocError>
-    ensures { IfOk result (λ texts. texts ≡ text.items ∷ []) }
-{
-    let mut texts = Texts::new(alloc);
-    texts.push(Bytes::from_vec(text))?;
-    Ok(texts)
 }

@@ -25,11 +25,10 @@ pub fn order(code: Option<u32>) -> Option<u8>
     ensures value { result ≡ order_of code }
     ensures range { IfSome result (λ order. (1 ≤ order) × (order ≤ 3)) }
 {
-    let code = code?;
-    if code == 0 {
-        return None;
+    match code {
+        Some(0) | None => None,
+        Some(code) => Some(code as u8),
     }
-    Some(code as u8)
 }
 
 /// The bond itself, or the first cause that holds at it behind these bonds.

@@ -32,9 +32,10 @@ pub fn height_at(line: &[u8], first: u32) -> Result<i64, ReadCause>
     ensures small { IfOk result (λ number. unsigned_abs number ≤ 500000000) }
 {
     if has_plain_zero(line, first) {
-        return Ok(0);
+        Ok(0)
+    } else {
+        coordinate_at(line, first)
     }
-    coordinate_at(line, first)
 }
 
 /// The number in three columns from this one on, from 0 to a most; 0 where they are empty.
@@ -76,7 +77,10 @@ pub fn place_at(most: u32, line: &[u8], first: u32) -> Option<u32>
     ensures value { result ≡ place_named (number_in most (field first (first + 2) line.now)) }
     ensures range { IfSome result (λ place. place < most) }
 {
-    place_of(number_at(most, line, first)?)
+    match number_at(most, line, first) {
+        Some(number) => place_of(number),
+        None => None,
+    }
 }
 
 fn usual_coordinate(line: &[u8], first: u32) -> Option<i64>
@@ -86,10 +90,11 @@ fn usual_coordinate(line: &[u8], first: u32) -> Option<i64>
     ensures small { IfSome result (λ number. unsigned_abs number ≤ 500000000) }
 {
     let start = first as usize - 1;
-    if line.len() < start + 10 {
-        return None;
+    if line.len() >= start + 10 {
+        usual_decimal(&line[start..start + 10])
+    } else {
+        None
     }
-    usual_decimal(&line[start..start + 10])
 }
 
 fn has_plain_zero(line: &[u8], first: u32) -> bool
@@ -107,10 +112,11 @@ fn single_digit(line: &[u8], first: u32) -> Option<u32>
     ensures { IfSome result (λ number. integer_of (field first (first + 2) line.now) ≡ Ok (pos number)) }
 {
     let start = first as usize - 1;
-    if line.len() < start + 3 {
-        return None;
+    if line.len() >= start + 3 {
+        usual_digit(line[start], line[start + 1], line[start + 2])
+    } else {
+        None
     }
-    usual_digit(line[start], line[start + 1], line[start + 2])
 }
 
 fn usual_field(line: &[u8], first: u32) -> Option<u32>
@@ -119,8 +125,9 @@ fn usual_field(line: &[u8], first: u32) -> Option<u32>
     ensures { IfSome result (λ number. integer_of (field first (first + 2) line.now) ≡ Ok (pos number)) }
 {
     let start = first as usize - 1;
-    if line.len() < start + 3 {
-        return None;
+    if line.len() >= start + 3 {
+        usual_number(line[start], line[start + 1], line[start + 2])
+    } else {
+        None
     }
-    usual_number(line[start], line[start + 1], line[start + 2])
 }

@@ -58,7 +58,10 @@ pub fn place_named(most: u32, field: &[u8]) -> Option<u32>
     ensures value { result ≡ place_named (number_in most field.now) }
     ensures range { IfSome result (λ place. place < most) }
 {
-    place_of(number(most, field)?)
+    match number(most, field) {
+        Some(number) => place_of(number),
+        None => None,
+    }
 }
 
 /// The place, from 0, of what a number names from 1.
@@ -66,10 +69,7 @@ pub fn place_of(number: u32) -> Option<u32>
     ensures value { result ≡ place_named (Some number) }
     ensures range { IfSome result (λ place. place < number) }
 {
-    if number == 0 {
-        return None;
-    }
-    Some(number - 1)
+    if number == 0 { None } else { Some(number - 1) }
 }
 
 fn up_to(most: u32, number: Option<i64>) -> Option<u32>
@@ -77,11 +77,10 @@ fn up_to(most: u32, number: Option<i64>) -> Option<u32>
     ensures value { result ≡ up_to most number }
     ensures range { IfSome result (λ found. found ≤ most) }
 {
-    let number = number?;
-    if number < 0 || number > i64::from(most) {
-        return None;
+    match number {
+        Some(number) if number >= 0 && number <= i64::from(most) => Some(number as u32),
+        _ => None,
     }
-    Some(number as u32)
 }
 
 fn between(low: u8, high: u8, number: Option<i64>) -> Option<i8>
@@ -90,11 +89,12 @@ fn between(low: u8, high: u8, number: Option<i64>) -> Option<i8>
     ensures value { result ≡ between low high number }
     ensures range { IfSome result (λ found. unsigned_abs found ≤ max low high) }
 {
-    let number = number?;
-    if number < -i64::from(low) || number > i64::from(high) {
-        return None;
+    match number {
+        Some(number) if number >= -i64::from(low) && number <= i64::from(high) => {
+            Some(number as i8)
+        }
+        _ => None,
     }
-    Some(number as i8)
 }
 
 fn or_zero(field: &[u8]) -> Option<i64>

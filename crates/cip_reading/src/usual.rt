@@ -13,16 +13,22 @@ use cip_text::begins_with;
 pub fn usual_number(first: u8, second: u8, third: u8) -> Option<u32>
     ensures { IfSome result (λ number. integer_of (trimmed (first ∷ second ∷ third ∷ [])) ≡ Ok (pos number)) }
 {
-    let ones = digit_of(third)?;
+    let Some(ones) = digit_of(third) else {
+        return None;
+    };
     if first == b' ' && second == b' ' {
         return Some(ones);
     }
-    let tens = digit_of(second)?;
+    let Some(tens) = digit_of(second) else {
+        return None;
+    };
     if first == b' ' {
         return Some(10 * tens + ones);
     }
-    let hundreds = digit_of(first)?;
-    Some(100 * hundreds + (10 * tens + ones))
+    match digit_of(first) {
+        Some(hundreds) => Some(100 * hundreds + (10 * tens + ones)),
+        None => None,
+    }
 }
 
 /// The number in three columns, one digit behind two spaces.
@@ -30,10 +36,11 @@ pub fn usual_number(first: u8, second: u8, third: u8) -> Option<u32>
 pub fn usual_digit(first: u8, second: u8, third: u8) -> Option<u32>
     ensures { IfSome result (λ number. integer_of (trimmed (first ∷ second ∷ third ∷ [])) ≡ Ok (pos number)) }
 {
-    if first != b' ' || second != b' ' {
-        return None;
+    if first == b' ' && second == b' ' {
+        digit_of(third)
+    } else {
+        None
     }
-    digit_of(third)
 }
 
 /// Whether ten columns hold a zero with four places.
@@ -63,10 +70,16 @@ pub fn usual_decimal(columns: &[u8]) -> Option<i64>
     if columns[5] != b'.' {
         return None;
     }
-    let places = four_digits(&columns[6..])?;
-    let front = behind_spaces(&columns[..5]);
-    let whole = few_digits(without_minus(front))?;
-    with_sign(begins_with(front, b'-'), ten_thousandths(whole, places))
+    match four_digits(&columns[6..]) {
+        Some(places) => {
+            let front = behind_spaces(&columns[..5]);
+            match few_digits(without_minus(front)) {
+                Some(whole) => with_sign(begins_with(front, b'-'), ten_thousandths(whole, places)),
+                None => None,
+            }
+        }
+        None => None,
+    }
 }
 
 // The number before the first point of a text, digits alone and one at least, and the place of that point.
@@ -78,10 +91,10 @@ fn whole_part(text: &[u8]) -> Option<(u32, usize)>
         if *byte == b'.' && place > 0 {
             return Some((sum, place));
         }
-        if sum > 99_999 {
-            return None;
+        match digit_of(*byte) {
+            Some(digit) if sum <= 99_999 => sum = 10 * sum + digit,
+            _ => return None,
         }
-        sum = 10 * sum + digit_of(*byte)?;
     }
     None
 }
@@ -93,26 +106,37 @@ pub fn decimal_begun(text: &[u8]) -> Option<(i64, usize)>
     ensures small { IfSome result (λ found. unsigned_abs found.0 ≤ 500000000) }
 {
     let bare = without_minus(text);
-    let (size, end) = size_begun(bare)?;
-    let number = with_sign(begins_with(text, b'-'), size)?;
-    Some((number, text.len() - bare.len() + end))
+    match size_begun(bare) {
+        Some((size, end)) => match with_sign(begins_with(text, b'-'), size) {
+            Some(number) => Some((number, text.len() - bare.len() + end)),
+            None => None,
+        },
+        None => None,
+    }
 }
 
 // The same without a minus.
 fn size_begun(text: &[u8]) -> Option<(u64, usize)>
     ensures { IfSome result (IsSizeBegun text.now) }
 {
-    let (whole, point) = whole_part(text)?;
+    let Some((whole, point)) = whole_part(text) else {
+        return None;
+    };
     let behind = &text[point + 1..];
     if behind.len() < 4 {
         return None;
     }
-    let places = four_digits(&behind[..4])?;
-    let end = point + 5 + digits_end(&behind[4..]);
-    if end < text.len() && text[end] != b' ' {
-        return None;
+    match four_digits(&behind[..4]) {
+        Some(places) => {
+            let end = point + 5 + digits_end(&behind[4..]);
+            if end < text.len() && text[end] != b' ' {
+                None
+            } else {
+                Some((ten_thousandths(whole, places), end))
+            }
+        }
+        None => None,
     }
-    Some((ten_thousandths(whole, places), end))
 }
 
 // How many digits begin a text.
@@ -136,10 +160,10 @@ pub fn few_digits(text: &[u8]) -> Option<u32>
     }
     let mut sum: u32 = 0;
     for byte in text {
-        if sum > 99_999 {
-            return None;
+        match digit_of(*byte) {
+            Some(digit) if sum <= 99_999 => sum = 10 * sum + digit,
+            _ => return None,
         }
-        sum = 10 * sum + digit_of(*byte)?;
     }
     Some(sum)
 }
@@ -148,11 +172,17 @@ fn four_digits(text: &[u8]) -> Option<u32>
     requires { length text.now ≡ 4 }
     ensures { IfSome result (ArePlaces text.now) }
 {
-    let thousands = digit_of(text[0])?;
-    let hundreds = digit_of(text[1])?;
-    let tens = digit_of(text[2])?;
-    let ones = digit_of(text[3])?;
-    Some(1000 * thousands + (100 * hundreds + (10 * tens + ones)))
+    match (
+        digit_of(text[0]),
+        digit_of(text[1]),
+        digit_of(text[2]),
+        digit_of(text[3]),
+    ) {
+        (Some(thousands), Some(hundreds), Some(tens), Some(ones)) => {
+            Some(1000 * thousands + (100 * hundreds + (10 * tens + ones)))
+        }
+        _ => None,
+    }
 }
 
 fn digit_of(byte: u8) -> Option<u32>
@@ -202,9 +232,8 @@ fn with_sign(negative: bool, size: u64) -> Option<i64>
     ensures small { IfSome result (λ number. unsigned_abs number ≤ 500000000) }
 {
     if size > 500_000_000 {
-        return None;
-    }
-    if negative {
+        None
+    } else if negative {
         Some(-(size as i64))
     } else {
         Some(size as i64)

@@ -49,9 +49,13 @@ pub fn atom_in(known: &Indices, text: &[u8]) -> Result<AtomLine, ReadCause>
     let Some(words) = atom_words(text) else {
         return Err(ReadCause::Frame);
     };
-    let index = new_index(known, words.index)?;
-    let atom = atom_by(&words)?;
-    Ok(AtomLine { index, atom })
+    match new_index(known, words.index) {
+        Ok(index) => match atom_by(&words) {
+            Ok(atom) => Ok(AtomLine { index, atom }),
+            Err(cause) => Err(cause),
+        },
+        Err(cause) => Err(cause),
+    }
 }
 
 fn atom_words(text: &[u8]) -> Option<AtomWords<'_>>
@@ -91,18 +95,21 @@ fn atom_by(words: &AtomWords<'_>) -> Result<Atom, ReadCause>
         return Err(ReadCause::Symbol);
     };
     let at = words.at?;
-    if !is_number(words.mapping) {
-        return Err(ReadCause::KeyValue);
+    if is_number(words.mapping) {
+        match atom_keys(NO_KEYS, words.keys) {
+            Ok(keys) => Ok(Atom {
+                z: element.z,
+                isotope: isotope(element.isotope, keys.mass),
+                charge: keys.charge,
+                radical: keys.radical,
+                valence_mark: keys.valence_mark,
+                at,
+            }),
+            Err(cause) => Err(cause),
+        }
+    } else {
+        Err(ReadCause::KeyValue)
     }
-    let keys = atom_keys(NO_KEYS, words.keys)?;
-    Ok(Atom {
-        z: element.z,
-        isotope: isotope(element.isotope, keys.mass),
-        charge: keys.charge,
-        radical: keys.radical,
-        valence_mark: keys.valence_mark,
-        at,
-    })
 }
 
 fn isotope(stated: u16, mass: u16) -> u16

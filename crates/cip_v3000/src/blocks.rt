@@ -42,17 +42,25 @@ pub fn atom_block(
     ensures value { Gives seen_atoms result (atom_block (seen_all joined.now) count) }
     ensures are { IfOk result (AreAtoms count) }
 {
-    let mut block = no_atoms(alloc, count)?;
-    read_atoms(alloc, joined, count, &mut block)?;
-    Ok(block)
+    match no_atoms(alloc, count) {
+        Ok(mut block) => match read_atoms(alloc, joined, count, &mut block) {
+            Ok(()) => Ok(block),
+            Err(refusal) => Err(refusal),
+        },
+        Err(AllocError) => Err(ReadRefusal::Memory),
+    }
 }
 
 fn no_atoms(alloc: Global, count: u32) -> Result<AtomBlock, AllocError>
     ensures { IfOk result (λ block. seen_atoms block ≡ record { indices = []; atoms = [] }) }
 {
-    let atoms = Vec::with_capacity(alloc, count as usize)?;
-    let indices = Indices::new(alloc);
-    Ok(AtomBlock { indices, atoms })
+    match Vec::with_capacity(alloc, count as usize) {
+        Ok(atoms) => Ok(AtomBlock {
+            indices: Indices::new(alloc),
+            atoms,
+        }),
+        Err(error) => Err(error),
+    }
 }
 
 // Reads so many atoms into a block that has none. It stays with the caller, so that no row gives it back.
@@ -68,7 +76,10 @@ fn read_atoms(
     ensures are { OnOk result (AreAtoms count block.new) }
 {
     for row in 0..count as usize {
-        read_atom(alloc, joined, row, block)?;
+        match read_atom(alloc, joined, row, block) {
+            Ok(()) => (),
+            Err(refusal) => return Err(refusal),
+        }
     }
     Ok(())
 }
@@ -87,9 +98,13 @@ fn read_atom(
     ensures are { OnOk result (AreAtoms (row + 1) block.new) }
 {
     let line = atom_line(alloc, joined, 3 + row, &block.indices)?;
-    block.indices.push(line.index)?;
-    block.atoms.push(line.atom)?;
-    Ok(())
+    match block.indices.push(line.index) {
+        Ok(()) => match block.atoms.push(line.atom) {
+            Ok(()) => Ok(()),
+            Err(_) => Err(ReadRefusal::Memory),
+        },
+        Err(AllocError) => Err(ReadRefusal::Memory),
+    }
 }
 
 /// Whether there is a bond block at a place. It may be missing where there are no bonds.
@@ -102,11 +117,12 @@ pub fn has_bond_block(
     ensures { IfOk result (λ has. has ≡ has_bond_block (seen_all joined.now) count place) }
 {
     if count != 0 {
-        return Ok(true);
-    }
-    match joined.lines.get(place) {
-        None => Ok(false),
-        Some(line) => is_framed(alloc, line, FrameLine::BeginBonds),
+        Ok(true)
+    } else {
+        match joined.lines.get(place) {
+            None => Ok(false),
+            Some(line) => is_framed(alloc, line, FrameLine::BeginBonds),
+        }
     }
 }
 
@@ -114,9 +130,13 @@ pub fn has_bond_block(
 pub fn no_bonds(alloc: Global, atoms: &Indices) -> Result<BondBlock, AllocError>
     ensures { IfOk result (HasNoBonds (length atoms.now)) }
 {
-    let bonds = BondList::new(alloc, atoms.len())?;
-    let indices = Indices::new(alloc);
-    Ok(BondBlock { indices, bonds })
+    match BondList::new(alloc, atoms.len()) {
+        Ok(bonds) => Ok(BondBlock {
+            indices: Indices::new(alloc),
+            bonds,
+        }),
+        Err(error) => Err(error),
+    }
 }
 
 /// Reads the bond block at a place, where there is one, and says which place is behind it. The bonds stay with the
@@ -138,11 +158,14 @@ pub fn bond_block(
         ≡ behind_block (has_bond_block (seen_all joined.now) count place) count place) }
     ensures are { OnOk result (AreBonds (length atoms.now) count block.new) }
 {
-    if !has_bond_block(alloc, joined, count, place)? {
-        return Ok(place);
+    match has_bond_block(alloc, joined, count, place) {
+        Ok(true) => match read_framed(alloc, joined, atoms, count, place, block) {
+            Ok(()) => Ok(place + count as usize + 2),
+            Err(refusal) => Err(refusal),
+        },
+        Ok(false) => Ok(place),
+        Err(AllocError) => Err(ReadRefusal::Memory),
     }
-    read_framed(alloc, joined, atoms, count, place, block)?;
-    Ok(place + count as usize + 2)
 }
 
 /// The number of the line behind the end of the table, which stands at this place of the joined lines or behind it;
@@ -159,10 +182,11 @@ pub fn table_end(
     let mut place = first;
     while place < lines.len() {
         let line = lines[place];
-        if is_framed(alloc, &line, FrameLine::EndTable)? {
-            return Ok(line.next_number());
+        match is_framed(alloc, &line, FrameLine::EndTable) {
+            Ok(true) => return Ok(line.next_number()),
+            Ok(false) => place += 1,
+            Err(AllocError) => return Err(ReadRefusal::Memory),
         }
-        place += 1;
     }
     Err(ReadRefusal::Fault(past))
 }
@@ -182,10 +206,7 @@ pub fn molecule_end(lines: &[&[u8]], number: u32) -> Result<(), ReadFault>
 fn has_end(lines: &[&[u8]], place: usize) -> bool
     ensures { result ≡ list_any is_molecule_end (drop place (texts lines.now)) }
 {
-    if place > lines.len() {
-        return false;
-    }
-    is_any_end(&lines[place..])
+    place <= lines.len() && is_any_end(&lines[place..])
 }
 
 fn is_any_end(lines: &[&[u8]]) -> bool
@@ -212,13 +233,15 @@ fn read_framed(
     ensures are { OnOk result (AreBonds (length atoms.now) count block.new) }
 {
     frame(alloc, joined, place, FrameLine::BeginBonds)?;
-    read_bonds(alloc, joined, atoms, place + 1, count, block)?;
-    frame(
-        alloc,
-        joined,
-        place + 1 + count as usize,
-        FrameLine::EndBonds,
-    )
+    match read_bonds(alloc, joined, atoms, place + 1, count, block) {
+        Ok(()) => frame(
+            alloc,
+            joined,
+            place + 1 + count as usize,
+            FrameLine::EndBonds,
+        ),
+        Err(refusal) => Err(refusal),
+    }
 }
 
 // Reads so many bond lines, from this place on, into a block that has no bonds.
@@ -238,7 +261,10 @@ fn read_bonds(
     ensures are { OnOk result (AreBonds (length atoms.now) count block.new) }
 {
     for row in 0..count as usize {
-        read_bond(alloc, joined, atoms, first, row, block)?;
+        match read_bond(alloc, joined, atoms, first, row, block) {
+            Ok(()) => (),
+            Err(refusal) => return Err(refusal),
+        }
     }
     Ok(())
 }
@@ -268,7 +294,11 @@ fn read_bond(
         &block.indices,
         &block.bonds,
     )?;
-    block.indices.push(line.index)?;
-    block.bonds.push(line.bond)?;
-    Ok(())
+    match block.indices.push(line.index) {
+        Ok(()) => match block.bonds.push(line.bond) {
+            Ok(()) => Ok(()),
+            Err(_) => Err(ReadRefusal::Memory),
+        },
+        Err(AllocError) => Err(ReadRefusal::Memory),
+    }
 }

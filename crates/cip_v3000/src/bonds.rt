@@ -49,9 +49,13 @@ pub fn bond_in(
         return Err(ReadCause::Frame);
     };
     let index = new_index(known, words.index)?;
-    let drawn = bond_by(atoms, &words)?;
-    let bond = checked(before, drawn)?;
-    Ok(BondLine { index, bond })
+    match bond_by(atoms, &words) {
+        Ok(drawn) => match checked(before, drawn) {
+            Ok(bond) => Ok(BondLine { index, bond }),
+            Err(cause) => Err(cause),
+        },
+        Err(cause) => Err(cause),
+    }
 }
 
 fn bond_words(text: &[u8]) -> Option<BondWords<'_>>
@@ -93,11 +97,13 @@ fn bond_by(atoms: &Indices, words: &BondWords<'_>) -> Result<Bond, ReadCause>
     let Some(a) = place_of(atoms, words.a) else {
         return Err(ReadCause::BondEnd);
     };
-    let Some(b) = place_of(atoms, words.b) else {
-        return Err(ReadCause::BondEnd);
-    };
-    let mark = mark_in(order, words.keys)?;
-    Ok(Bond { a, b, order, mark })
+    match place_of(atoms, words.b) {
+        Some(b) => match mark_in(order, words.keys) {
+            Ok(mark) => Ok(Bond { a, b, order, mark }),
+            Err(cause) => Err(cause),
+        },
+        None => Err(ReadCause::BondEnd),
+    }
 }
 
 /// The place, from 0, of the atom that a word names by its index.
@@ -116,9 +122,10 @@ fn place_of(indices: &Indices, index: Option<u32>) -> Option<u32>
     ensures value { result ≡ place_of indices.now index }
     ensures within { IfSome result (λ place. place < length indices.now) }
 {
-    let index = index?;
-    let place = indices.place(index)?;
-    Some(place as u32)
+    match indices.place(index?) {
+        Some(place) => Some(place as u32),
+        None => None,
+    }
 }
 
 // The mark that the keys of a bond state, which are the words of a text.
@@ -129,7 +136,10 @@ fn mark_in(order: u8, text: &[u8]) -> Result<Mark, ReadCause>
     let mut mark = Mark::Plain;
     let mut rest = text;
     while let Some((word, behind)) = next_word(rest) {
-        mark = with_mark(order, mark, word)?;
+        match with_mark(order, mark, word) {
+            Ok(next) => mark = next,
+            Err(cause) => return Err(cause),
+        }
         rest = behind;
     }
     Ok(mark)
@@ -152,10 +162,11 @@ fn marked(order: u8, mark: Mark, key: &[u8], value: &[u8]) -> Result<Mark, ReadC
     ensures value { result ≡ marked order mark (key.now, value.now) }
     ensures range { IfOk result (IsMark order) }
 {
-    if key != b"CFG".as_slice() {
-        return Ok(mark);
+    if key == b"CFG".as_slice() {
+        mark_of(order, number_stated(3, value)).ok_or(ReadCause::BondMark)
+    } else {
+        Ok(mark)
     }
-    mark_of(order, number_stated(3, value)).ok_or(ReadCause::BondMark)
 }
 
 fn mark_of(order: u8, code: Option<u32>) -> Option<Mark>

@@ -22,13 +22,10 @@ pub fn counts_in(words: &[&[u8]]) -> Result<CountsLine, ReadCause>
     if !is_counts(words) {
         return Err(ReadCause::Frame);
     }
-    let Some(atoms) = count_at(16_384, 1, words) else {
-        return Err(ReadCause::Counts);
-    };
-    let Some(bonds) = count_at(32_768, 2, words) else {
-        return Err(ReadCause::Counts);
-    };
-    Ok(CountsLine { atoms, bonds })
+    match (count_at(16_384, 1, words), count_at(32_768, 2, words)) {
+        (Some(atoms), Some(bonds)) => Ok(CountsLine { atoms, bonds }),
+        _ => Err(ReadCause::Counts),
+    }
 }
 
 fn is_counts(words: &[&[u8]]) -> bool

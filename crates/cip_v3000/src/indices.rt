@@ -59,10 +59,13 @@ impl Indices {
     {
         if self.others.is_empty() && index > 0 && index - 1 == self.counted {
             self.counted = index;
-            return Ok(());
+            Ok(())
+        } else {
+            match self.others.insert(index) {
+                Ok(_) => Ok(()),
+                Err(_) => Err(AllocError),
+            }
         }
-        self.others.insert(index)?;
-        Ok(())
     }
 
     /// Whether an index is there.
@@ -80,12 +83,15 @@ impl Indices {
         ensures within { IfSome result (λ place. place < length self.now) }
     {
         if is_counted(self.counted, index) {
-            return Some(index as usize - 1);
+            Some(index as usize - 1)
+        } else {
+            // Reading how many there are tells that they are few.
+            let _others = self.others.len();
+            match self.others.get_index_of(&index) {
+                Some(place) => Some(self.counted as usize + place),
+                None => None,
+            }
         }
-        // Reading how many there are tells that they are few.
-        let _others = self.others.len();
-        let place = self.others.get_index_of(&index)?;
-        Some(self.counted as usize + place)
     }
 }
 

@@ -38,9 +38,13 @@ pub fn joined_lines<'a>(alloc: Global, lines: &'a [&'a [u8]]) -> Result<JoinedLi
     ensures value { IfOk result (λ found. seen_all found ≡ joined_lines (texts lines.now)) }
     ensures numbered { IfOk result (λ found. All IsNumbered found.lines.items) }
 {
-    let mut found = Vec::with_capacity(alloc, lines.len())?;
-    let past = join_lines(lines, &mut found)?;
-    Ok(JoinedLines { lines: found, past })
+    match Vec::with_capacity(alloc, lines.len()) {
+        Ok(mut found) => match join_lines(lines, &mut found) {
+            Ok(past) => Ok(JoinedLines { lines: found, past }),
+            Err(error) => Err(error),
+        },
+        Err(error) => Err(error),
+    }
 }
 
 // Puts the joined lines into a list that has none, and says which fault it is where one more is due. The list stays
@@ -64,7 +68,9 @@ fn join_lines<'a>(
         }
         place += 1;
         if !is_continued(line) {
-            found.push(joined_line(lines, first, place))?;
+            let Ok(()) = found.push(joined_line(lines, first, place)) else {
+                return Err(AllocError);
+            };
             first = place;
         }
     }
@@ -77,7 +83,10 @@ pub fn text_of<'a>(alloc: Global, line: &JoinedLine<'a>) -> Result<Text<'a>, All
 {
     match line.parts {
         [only] => Ok(Text::Whole(part_of(only))),
-        parts => Ok(Text::Joined(joined_text(alloc, parts)?)),
+        parts => match joined_text(alloc, parts) {
+            Ok(text) => Ok(Text::Joined(text)),
+            Err(error) => Err(error),
+        },
     }
 }
 
@@ -122,7 +131,9 @@ fn joined_text(alloc: Global, parts: &[&[u8]]) -> Result<Vec<u8>, AllocError>
 {
     let mut text = Vec::new(alloc);
     for part in parts {
-        text.extend_from_slice(part_of(part))?;
+        let Ok(()) = text.extend_from_slice(part_of(part)) else {
+            return Err(AllocError);
+        };
     }
     Ok(text)
 }
@@ -173,10 +184,7 @@ fn is_continued(line: &[u8]) -> bool
 fn body(line: &[u8]) -> &[u8]
     ensures { result.now ≡ body line.now }
 {
-    if line.len() < 7 {
-        return &[];
-    }
-    &line[7..]
+    if line.len() < 7 { &[] } else { &line[7..] }
 }
 
 fn part_of(line: &[u8]) -> &[u8]

@@ -26,7 +26,10 @@ pub fn atom_keys(start: AtomKeys, text: &[u8]) -> Result<AtomKeys, ReadCause>
     let mut keys = start;
     let mut rest = text;
     while let Some((word, behind)) = next_word(rest) {
-        keys = with_key(keys, word)?;
+        match with_key(keys, word) {
+            Ok(next) => keys = next,
+            Err(cause) => return Err(cause),
+        }
         rest = behind;
     }
     Ok(keys)

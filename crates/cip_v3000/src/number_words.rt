@@ -21,11 +21,13 @@ pub fn next_number(most: u32, text: &[u8]) -> Option<(Option<u32>, &[u8])>
     ensures none { IsNone result → words_of text.now ≡ [] }
 {
     let begun = behind_spaces(text);
-    if let Some((number, end)) = number_begun(begun) {
-        return Some((at_most(most, number), &begun[end..]));
+    match number_begun(begun) {
+        Some((number, end)) => Some((at_most(most, number), &begun[end..])),
+        None => match next_word(text) {
+            Some((word, rest)) => Some((number_stated(most, word), rest)),
+            None => None,
+        },
     }
-    let (word, rest) = next_word(text)?;
-    Some((number_stated(most, word), rest))
 }
 
 // The coordinate that the first word of a text is, where it is one, and what stands behind the word.
@@ -34,11 +36,13 @@ fn next_coordinate(text: &[u8]) -> Option<(Result<i64, ReadCause>, &[u8])>
     ensures none { IsNone result → words_of text.now ≡ [] }
 {
     let begun = behind_spaces(text);
-    if let Some((number, end)) = decimal_begun(begun) {
-        return Some((Ok(number), &begun[end..]));
+    match decimal_begun(begun) {
+        Some((number, end)) => Some((Ok(number), &begun[end..])),
+        None => match next_word(text) {
+            Some((word, rest)) => Some((coordinate(word), rest)),
+            None => None,
+        },
     }
-    let (word, rest) = next_word(text)?;
-    Some((coordinate(word), rest))
 }
 
 /// The point whose coordinates the first three words of a text are, where they are some, and what stands behind them.
@@ -69,8 +73,10 @@ fn point(
     ensures value { result ≡ point_by x y z }
     ensures near { IfOk result IsPlace }
 {
-    let (x, y, z) = (x?, y?, z?);
-    Ok(Vec3 { x, y, z })
+    match (x, y, z) {
+        (Ok(x), Ok(y), Ok(z)) => Ok(Vec3 { x, y, z }),
+        (Err(cause), _, _) | (_, Err(cause), _) | (_, _, Err(cause)) => Err(cause),
+    }
 }
 
 // A number that isn't larger than a most.

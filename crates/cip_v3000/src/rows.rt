@@ -26,9 +26,13 @@ pub fn counts_line(alloc: Global, joined: &JoinedLines<'_>) -> Result<CountsLine
     ensures value { Gives (λ counts. counts) result (read_at (seen_all joined.now) 1 counts_of) }
     ensures range { IfOk result AreCounts }
 {
-    let line = joined.line(1)?;
-    let text = text_of(alloc, &line)?;
-    counts_of(alloc, line.number, text.bytes())
+    match joined.line(1) {
+        Ok(line) => match text_of(alloc, &line) {
+            Ok(text) => counts_of(alloc, line.number, text.bytes()),
+            Err(AllocError) => Err(ReadRefusal::Memory),
+        },
+        Err(fault) => Err(ReadRefusal::Fault(fault)),
+    }
 }
 
 // The same of a line's text, which stays with the caller.
@@ -36,8 +40,10 @@ fn counts_of(alloc: Global, number: u32, text: &[u8]) -> Result<CountsLine, Read
     ensures value { Gives (λ counts. counts) result (numbered number (counts_of (words_of text.now))) }
     ensures range { IfOk result AreCounts }
 {
-    let words = words(alloc, text)?;
-    told(number, counts_in(&words))
+    match words(alloc, text) {
+        Ok(words) => told(number, counts_in(&words)),
+        Err(AllocError) => Err(ReadRefusal::Memory),
+    }
 }
 
 /// Reads the atom line at a place, behind atoms of these indices.
@@ -51,9 +57,13 @@ pub fn atom_line(
     ensures value { Gives (λ line. line) result (read_at (seen_all joined.now) place (atom_of known.now)) }
     ensures range { IfOk result (IsAtomLine known.now) }
 {
-    let line = joined.line(place)?;
-    let text = text_of(alloc, &line)?;
-    told(line.number, atom_in(known, text.bytes()))
+    match joined.line(place) {
+        Ok(line) => match text_of(alloc, &line) {
+            Ok(text) => told(line.number, atom_in(known, text.bytes())),
+            Err(AllocError) => Err(ReadRefusal::Memory),
+        },
+        Err(fault) => Err(ReadRefusal::Fault(fault)),
+    }
 }
 
 /// Reads the bond line at a place, among atoms of these indices and behind these bonds.
@@ -72,9 +82,13 @@ pub fn bond_line(
         (read_at (seen_all joined.now) place (bond_of atoms.now known.now before.now.bonds)) }
     ensures range { IfOk result (IsBondLine known.now before.now) }
 {
-    let line = joined.line(place)?;
-    let text = text_of(alloc, &line)?;
-    told(line.number, bond_in(atoms, known, before, text.bytes()))
+    match joined.line(place) {
+        Ok(line) => match text_of(alloc, &line) {
+            Ok(text) => told(line.number, bond_in(atoms, known, before, text.bytes())),
+            Err(AllocError) => Err(ReadRefusal::Memory),
+        },
+        Err(fault) => Err(ReadRefusal::Fault(fault)),
+    }
 }
 
 /// Reads the line at a place that frames a part.
@@ -87,14 +101,17 @@ pub fn frame(
 ) -> Result<(), ReadRefusal>
     ensures { Gives (λ _. tt) result (frame_at (seen_all joined.now) place due) }
 {
-    let line = joined.line(place)?;
-    if !is_framed(alloc, &line, due)? {
-        return Err(ReadRefusal::Fault(ReadFault {
-            line: line.number,
-            cause: ReadCause::Frame,
-        }));
+    match joined.line(place) {
+        Ok(line) => match is_framed(alloc, &line, due) {
+            Ok(true) => Ok(()),
+            Ok(false) => Err(ReadRefusal::Fault(ReadFault {
+                line: line.number,
+                cause: ReadCause::Frame,
+            })),
+            Err(AllocError) => Err(ReadRefusal::Memory),
+        },
+        Err(fault) => Err(ReadRefusal::Fault(fault)),
     }
-    Ok(())
 }
 
 // What was read of a line, with the line's number in its fault. The text stays with the caller, which lets it go once.
@@ -102,13 +119,18 @@ fn told<T: Copy>(number: u32, read: Result<T, ReadCause>) -> Result<T, ReadRefus
     ensures value { Gives (λ row. row) result (numbered number read) }
     ensures read { IfOk result (λ row. read ≡ Ok row) }
 {
-    Ok(numbered(number, read)?)
+    match numbered(number, read) {
+        Ok(row) => Ok(row),
+        Err(fault) => Err(ReadRefusal::Fault(fault)),
+    }
 }
 
 /// Whether a joined line is the one that frames a part.
 pub fn is_framed(alloc: Global, line: &JoinedLine<'_>, due: FrameLine) -> Result<bool, AllocError>
     ensures { IfOk result (λ is. is ≡ is_frame due (words_in (seen line.now))) }
 {
-    let text = text_of(alloc, line)?;
-    Ok(is_frame_text(due, text.bytes()))
+    match text_of(alloc, line) {
+        Ok(text) => Ok(is_frame_text(due, text.bytes())),
+        Err(error) => Err(error),
+    }
 }

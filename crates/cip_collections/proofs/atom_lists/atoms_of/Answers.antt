@@ -20,7 +20,7 @@ returns-in_err-atom c =
 
 pub loop-name-preserved : goal.loop-name-preserved
 loop-name-preserved c =
-    rw c.in_ok-push.ensures.items
+    rw c.in-Ok.ensures.items
     (over_next (with_atom c.args.indices.now) c.loop-name.atoms.items _ _ _ _ _
     (ap texts (drop_more c.args.names.now c.loop-name.name-index _ c.loop-name-test.true))
     (atom_read c.args.indices.now c.loop-name.atoms.items _ c.in_ok-atom.atom

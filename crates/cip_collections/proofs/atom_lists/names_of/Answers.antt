@@ -1,6 +1,5 @@
 use Rattle.std.proofs.Common.{sym, ap}
 use Rattle.std.proofs.lemmas.List.{drop_more, drop_all}
-use Rattle.std.proofs.lemmas.Result.{err_from_is_err_and}
 use Rattle.cip_text.specs.Slices.{texts}
 use Rattle.cip_reading.proofs.Turns.{over_next, over_refused, over_done}
 use Rattle.cip_collections.specs.AtomLists.{with_names}
@@ -8,19 +7,17 @@ use Rattle.cip_collections.specs.Reading.{told_at, fault_in}
 use Rattle.cip_collections.proofs.Told.{read_from_told, refused_alike}
 use Rattle.cip_collections.proofs.atom_lists.names_of.Goals as goal
 
-pub returns-in_err-push_names : goal.returns-in_err-push_names
-returns-in_err-push_names c =
-    let refused = err_from_is_err_and c.from_residual.result c.from_residual.ensures.1 in
-    rw (refused.1, refused.2)
-    (refused_alike (fault_in c.in_err-push_names.field-0.0) c.args.number _ _ c.in_err-push_names.ensures
+pub returns-in-Err : goal.returns-in-Err
+returns-in-Err c =
+    refused_alike (fault_in c.in-Err.refusal) c.args.number _ _ c.in-Err.ensures
     (λ cause is. over_refused with_names (texts c.loop-word.names.items) cause _ _ _ _
-    (ap texts (drop_more c.args.words.now c.loop-word.word-index _ c.loop-word-test.true)) is c.loop-word.invariant))
+    (ap texts (drop_more c.args.words.now c.loop-word.word-index _ c.loop-word-test.true)) is c.loop-word.invariant)
 
 pub loop-word-preserved : goal.loop-word-preserved
 loop-word-preserved c =
     over_next with_names (texts c.loop-word.names.items) (texts c.push_names.new.names.items) _ _ _ _
     (ap texts (drop_more c.args.words.now c.loop-word.word-index _ c.loop-word-test.true))
-    (read_from_told c.args.number _ _ c.in_ok-push_names.ensures) c.loop-word.invariant
+    (read_from_told c.args.number _ _ c.in-Ok.ensures) c.loop-word.invariant
 
 pub returns : goal.returns
 returns c =

@@ -18,7 +18,7 @@ returns-then-contains c =
 pub loop-atom-preserved : goal.loop-atom-preserved
 loop-atom-preserved c =
     let atom = get_or c.args.atoms.now c.loop-atom.atom-index 0 in
-    rw c.in_ok-push.ensures (over_next with_taken c.loop-atom.taken _ _ _ _ _
+    rw c.in-Ok.ensures (over_next with_taken c.loop-atom.taken _ _ _ _ _
     (drop_more c.args.atoms.now c.loop-atom.atom-index 0 c.loop-atom-test.true)
     (taken_first c.loop-atom.taken atom (sym c.contains.ensures ∙ c.if-contains.false)) c.loop-atom.invariant)
 

@@ -8,5 +8,5 @@ loop-line-preserved c = grind (arith, common_steps)
 pub returns : goal.returns
 returns c = grind (arith, common_steps)
 
-pub returns-then-branch : goal.returns-then-branch
-returns-then-branch c = grind (arith, common_steps)
+pub returns-in-Ok-true : goal.returns-in-Ok-true
+returns-in-Ok-true c = grind (arith, common_steps)

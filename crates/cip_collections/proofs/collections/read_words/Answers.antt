@@ -5,5 +5,5 @@ use Rattle.cip_collections.proofs.collections.read_words.Goals as goal
 pub returns-in-empty : goal.returns-in-empty
 returns-in-empty c = grind (arith, common_steps)
 
-pub returns-in-Some : goal.returns-in-Some
-returns-in-Some c = grind (arith, common_steps)
+pub returns-in-Ok-Some : goal.returns-in-Ok-Some
+returns-in-Ok-Some c = grind (arith, common_steps)

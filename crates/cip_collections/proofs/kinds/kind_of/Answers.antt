@@ -26,14 +26,14 @@ returns-then-starts_with-2 c =
     ∙ named c.args.word.now false false true
     (ap (bytes_eq c.args.word.now) (sym c.as_slice.ensures) ∙ sym c.eq.ensures ∙ c.if-eq.false)
     (sym c.starts_with.ensures.value ∙ c.if-starts_with.false)
-    (sym c.starts_with-2.ensures.value ∙ c.if-starts_with-2.true)
+    (sym c.starts_with-else-starts_with.ensures.value ∙ c.if-starts_with-2.true)
 
-pub returns : goal.returns
-returns c =
+pub returns-else-starts_with-2 : goal.returns-else-starts_with-2
+returns-else-starts_with-2 c =
     named c.args.word.now false false false
     (ap (bytes_eq c.args.word.now) (sym c.as_slice.ensures) ∙ sym c.eq.ensures ∙ c.if-eq.false)
     (sym c.starts_with.ensures.value ∙ c.if-starts_with.false)
-    (sym c.starts_with-2.ensures.value ∙ c.if-starts_with-2.false)
+    (sym c.starts_with-else-starts_with.ensures.value ∙ c.if-starts_with-2.false)
 
 pub slice_bounds-relative-count : goal.slice_bounds-relative-count
 unfolding kind_of

@@ -11,7 +11,7 @@ loop-atom-preserved g c =
     let group = c.args.group.now in
     let place = c.loop-atom.atom-index in
     let atom = get_or c.as_slice-atom-items.result.now place 0 in
-    let outcomes = c.in_ok-outcomes.outcomes in
+    let outcomes = c.in-Ok.outcomes in
     record {
       so_far = c.in_ok-push.ensures.items
           ∙ line_behind c.args.told.now.lines.items group.atoms place 0
@@ -23,10 +23,10 @@ loop-atom-preserved g c =
             kind = group.kind;
             atom = atom;
             outcomes = both_found outcomes c.loop-atom.labeller bound drawn c.args.turned.now group.atoms atom
-                c.in_ok-outcomes.ensures.both c.loop-atom.invariant.kept c.requires.turned i;
+                c.in-Ok.ensures.both c.loop-atom.invariant.kept c.requires.turned i;
           })
           ∙ ap (λ (atoms : List ℕ). line_of bound drawn group (get_or atoms place 0)) c.as_slice-atom-items.ensures);
-      kept = c.in_ok-outcomes.ensures.kept ∙ c.loop-atom.invariant.kept;
+      kept = c.in-Ok.ensures.kept ∙ c.loop-atom.invariant.kept;
     }
 
 pub returns : goal.returns

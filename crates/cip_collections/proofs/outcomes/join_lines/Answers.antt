@@ -1,4 +1,4 @@
-use Rattle.std.proofs.Common.{◌∙◌, ◌++◌, ℕ, ap}
+use Rattle.std.proofs.Common.{◌∙◌, ℕ, ap}
 use Rattle.std.proofs.lemmas.List.{take_all}
 use Rattle.cip_collections.specs.Outcomes.{all_lines, lines_of}
 use Rattle.cip_collections.proofs.LinesSoFar.{lines_more}
@@ -10,14 +10,14 @@ loop-group-preserved g c =
     let drawn = c.args.centres.now in
     let group = c.group-item.result in
     record {
-      so_far = c.in_ok-group_lines.ensures.lines
+      so_far = c.in-Ok.ensures.lines
           ∙ lines_more c.args.groups.now c.loop-group.group-index group c.loop-group-test.true
           c.loop-group.told.lines.items (lines_of bound drawn) (lines_of c.loop-group.labeller drawn group)
           c.loop-group.invariant.so_far
           (ap (λ (b : ℕ). lines_of b drawn group) c.loop-group.invariant.kept
           ∙ ap (lines_of bound drawn) c.group-item.is);
-      same = c.in_ok-group_lines.ensures.back ∙ c.loop-group.invariant.same;
-      kept = c.in_ok-group_lines.ensures.kept ∙ c.loop-group.invariant.kept;
+      same = c.in-Ok.ensures.back ∙ c.loop-group.invariant.same;
+      kept = c.in-Ok.ensures.kept ∙ c.loop-group.invariant.kept;
     }
 
 pub returns : goal.returns

@@ -18,7 +18,7 @@ new-requires g c = record {
 
 pub atom_lines-requires : goal.atom_lines-requires
 atom_lines-requires g c = record {
-  turned = c.in_ok-turned.ensures
+  turned = c.in-Ok.ensures
       ∙ (λ i. record {
         rules = c.rules.ensures i;
         graph = c.graph.ensures.value i;

@@ -10,7 +10,7 @@ pub loop-place-preserved : goal.loop-place-preserved
 loop-place-preserved c = λ atom.
     let place = c.loop-place.place in
     let unit = c.index-units-place.result in
-    c.in_ok-note_unit.ensures atom
+    c.in-Ok.ensures atom
     ∙ ap (λ found. or_here found (is_centre_at atom unit) place) (c.loop-place.invariant atom)
     ∙ ap (λ (one : units.Unit). or_here (position (is_centre_at atom) (take place c.args.units.now))
     (is_centre_at atom one) place) c.index-units-place.is

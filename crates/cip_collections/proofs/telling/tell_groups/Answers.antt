@@ -4,8 +4,8 @@ use Rattle.cip_mol.specs.Drawing.{Drawing}
 use Rattle.cip_collections.specs.Texts.{of_groups}
 use Rattle.cip_collections.proofs.telling.tell_groups.Goals as goal
 
-pub returns-clause-told : goal.returns-clause-told
-returns-clause-told g c =
+pub returns-in-Ok-clause-told : goal.returns-in-Ok-clause-told
+returns-in-Ok-clause-told g c =
     subst (λ (drawing : Drawing). IfOk c.tell_drawn-told.result
     (λ told. told ≡ of_groups c.args.rules c.args.labeller.now drawing (Ok c.args.groups.now)))
-    c.in_ok-drawn.ensures c.tell_drawn-told.ensures.told
+    c.in-Ok.ensures c.tell_drawn-told.ensures.told

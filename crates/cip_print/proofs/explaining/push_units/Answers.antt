@@ -6,7 +6,7 @@ use Rattle.cip_print.proofs.explaining.push_units.Goals as goal
 pub loop-place-preserved : goal.loop-place-preserved
 loop-place-preserved c =
     one_more c.args.units.now c.loop-place.place c.get.result.now c.loop-place.text.items c.push_unit.new.text.items _
-    c.get.ensures c.in_ok-push_unit.ensures c.loop-place.invariant
+    c.get.ensures c.in-Ok.ensures c.loop-place.invariant
 
 pub returns : goal.returns
 returns c = grind (arith, common_steps)

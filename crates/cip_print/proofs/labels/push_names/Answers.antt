@@ -13,7 +13,7 @@ loop-place-preserved c =
     let place = get_or places at 0 in
     moved c.loop-place.text.items (spaced_name c.args.drawn (slice_get ligands place))
     (names_at c.args.drawn ligands (drop (at + 1) places)) c.push_name_at.new.text.items
-    (c.args.text.now.items ++ names_at c.args.drawn ligands places) c.in_ok-push_name_at.ensures
+    (c.args.text.now.items ++ names_at c.args.drawn ligands places) c.in-Ok.ensures
     (subst (λ xs. c.loop-place.text.items ++ names_at c.args.drawn ligands xs
     ≡ c.args.text.now.items ++ names_at c.args.drawn ligands places)
     (drop_more places at 0 c.loop-place-test.true) c.loop-place.invariant)

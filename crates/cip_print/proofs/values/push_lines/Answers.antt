@@ -6,6 +6,6 @@ pub loop-place-preserved : goal.loop-place-preserved
 loop-place-preserved c = record {
   so_far =
       one_more c.args.units.now c.loop-place.place c.get.result.now c.loop-place.values c.push_line.new.values _
-      c.get.ensures c.in_ok-push_line.ensures.added c.loop-place.invariant.so_far;
-  few = omega (arith, c.in_ok-push_line.ensures.few, c.loop-place.invariant.few);
+      c.get.ensures c.in-Ok.ensures.added c.loop-place.invariant.so_far;
+  few = omega (arith, c.in-Ok.ensures.few, c.loop-place.invariant.few);
 }

@@ -2,5 +2,5 @@ use Rattle.std.proofs.Common.{arith}
 use Rattle.std.proofs.lemmas.Grind.{common_steps}
 use Rattle.cip_reading.proofs.usual.four_digits.Goals as goal
 
-pub returns : goal.returns
-returns c = grind (arith, common_steps)
+pub returns-in-Some-Some-Some-Some : goal.returns-in-Some-Some-Some-Some
+returns-in-Some-Some-Some-Some c = grind (arith, common_steps)

@@ -5,13 +5,13 @@ use Rattle.cip_reading.specs.Usual.{unsigned, Spells, ArePlaces}
 use Rattle.cip_reading.proofs.UsualDecimals.{usual_read}
 use Rattle.cip_reading.proofs.usual.usual_decimal.Goals as goal
 
-pub returns-clause-value : goal.returns-clause-value
-returns-clause-value c =
+pub returns-in-Some-few_digits-clause-value : goal.returns-in-Some-few_digits-clause-value
+returns-in-Some-few_digits-clause-value c =
     let columns = c.args.columns.now in
     let point : get_or columns 5 0 ≡ 46 = search rules in
-    let places : ArePlaces (drop 6 columns) c.in_ok-places.places = rw take_rest at c.in_ok-places.ensures in
+    let places : ArePlaces (drop 6 columns) c.in-Some.places = rw take_rest at c.in-Some.ensures in
     let front = c.behind_spaces-front.ensures in
-    let whole : Spells (unsigned (without_spaces_before (take 5 columns))) c.in_ok-whole.whole =
-    rw (c.without_minus.ensures, front) at c.in_ok-whole.ensures in
-    rw (usual_read columns c.in_ok-whole.whole c.in_ok-places.places c.requires point whole places)
+    let whole : Spells (unsigned (without_spaces_before (take 5 columns))) c.in-Some-few_digits.whole =
+    rw (c.without_minus.ensures, front) at c.in-Some-few_digits.ensures in
+    rw (usual_read columns c.in-Some-few_digits.whole c.in-Some.places c.requires point whole places)
     (rw (c.begins_with.ensures, front, c.ten_thousandths.ensures) at c.with_sign.ensures.value)

@@ -8,5 +8,5 @@ returns-then-second-eq32 c = grind (arith, one_digit)
 pub returns-then-first-eq32-2 : goal.returns-then-first-eq32-2
 returns-then-first-eq32-2 c = grind (arith, two_digits)
 
-pub returns : goal.returns
-returns c = grind (arith, three_digits)
+pub returns-in-Some-digit_of-2 : goal.returns-in-Some-digit_of-2
+returns-in-Some-digit_of-2 c = grind (arith, three_digits)

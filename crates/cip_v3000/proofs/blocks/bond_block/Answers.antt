@@ -9,9 +9,9 @@ none_due : (count : ℕ) (begins : Bool) → false ≡ (not (count == 0) || begi
 none_due zero begins is = refl
 none_due (suc n) begins is = absurd (grind (arith, is))
 
-pub returns-then-not-branch-clause-are : goal.returns-then-not-branch-clause-are
-returns-then-not-branch-clause-are c =
-    let due = none_due c.args.count _ (sym c.if-not-branch.true ∙ c.in_ok-has_bond_block.ensures) in
+pub returns-in-Ok-false-clause-are : goal.returns-in-Ok-false-clause-are
+returns-in-Ok-false-clause-are c =
+    let due = none_due c.args.count _ (sym c.in-Ok-false.field-0-test ∙ c.in-Ok-false.ensures) in
     let none : c.args.block.now.bonds.bonds ≡ [] = ap (λ (b : Bonds). b.bonds) c.requires.none.none in
     record {
       among = c.requires.none.among;
@@ -19,7 +19,7 @@ returns-then-not-branch-clause-are c =
       counted = ap length none ∙ sym due;
     }
 
-pub returns-clause-behind : goal.returns-clause-behind
-returns-clause-behind c =
+pub returns-in-Ok-clause-behind : goal.returns-in-Ok-clause-behind
+returns-in-Ok-clause-behind c =
     sym (ap (λ has. behind_block has c.args.count c.args.place)
-    (sym c.in_ok-has_bond_block.ensures ∙ c.if-not-branch.false))
+    (sym c.in-Ok-true.ensures ∙ c.in-Ok-true.field-0-test))

@@ -4,8 +4,8 @@ use Rattle.cip_text.specs.Kinds.{is_molecule_end}
 use Rattle.cip_reading.proofs.Texts.{any_text}
 use Rattle.cip_v3000.proofs.blocks.has_end.Goals as goal
 
-pub returns : goal.returns
-returns c =
+pub returns-then-place-lines : goal.returns-then-place-lines
+returns-then-place-lines c =
     rw (
       c.is_any_end.ensures,
       take_rest c.args.lines.now c.args.place,

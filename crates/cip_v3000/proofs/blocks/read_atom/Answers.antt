@@ -19,16 +19,16 @@ returns-in_err-line-clause-value c =
     (read_at joined (3 + c.args.row) (atom_of c.args.block.now.indices)) _ c.in_err-line.ensures.value
     (λ fault is. sym (atom_row_refused joined (seen_atoms c.args.block.now) c.args.row fault is)))
 
-pub returns-clause-value : goal.returns-clause-value
-returns-clause-value c =
-    rw (c.in_ok-push.ensures, c.in_ok-push-2.ensures.items)
+pub returns-in-Ok-push-clause-value : goal.returns-in-Ok-push-clause-value
+returns-in-Ok-push-clause-value c =
+    rw (c.in-Ok.ensures, c.in-Ok-push.ensures.items)
     (sym (atom_row_read (seen_all c.args.joined.now) (seen_atoms c.args.block.now) c.args.row c.in_ok-line.line
     c.in_ok-line.ensures.value))
 
-pub returns-clause-are : goal.returns-clause-are
-returns-clause-are c = record {
-  range = subst (All IsAtom) (sym c.in_ok-push-2.ensures.items)
+pub returns-in-Ok-push-clause-are : goal.returns-in-Ok-push-clause-are
+returns-in-Ok-push-clause-are c = record {
+  range = subst (All IsAtom) (sym c.in-Ok-push.ensures.items)
       (All-push IsAtom _ _ c.requires.are.range c.in_ok-line.ensures.range.atom);
-  counted = ap length c.in_ok-push-2.ensures.items ∙ length-push _ _ _ c.requires.are.counted;
-  indexed = ap length c.in_ok-push.ensures ∙ length-push _ _ _ c.requires.are.indexed;
+  counted = ap length c.in-Ok-push.ensures.items ∙ length-push _ _ _ c.requires.are.counted;
+  indexed = ap length c.in-Ok.ensures ∙ length-push _ _ _ c.requires.are.indexed;
 }

@@ -21,8 +21,8 @@ returns-in_err-line-clause-value c =
     c.in_err-line.ensures.value
     (λ fault is. sym (bond_row_refused joined c.args.atoms.now c.args.first (seen_bonds before) c.args.row fault is)))
 
-pub returns : goal.returns
-returns c = rw (c.in_ok-push.ensures, c.in_ok-push-2.ensures.added) (record {
+pub returns-in-Ok-push : goal.returns-in-Ok-push
+returns-in-Ok-push c = rw (c.in-Ok.ensures, c.in-Ok-push.ensures.added) (record {
   value = sym (bond_row_read (seen_all c.args.joined.now) c.args.atoms.now c.args.first (seen_bonds c.args.block.now)
       c.args.row c.in_ok-line.line c.in_ok-line.ensures.value);
   are = record {

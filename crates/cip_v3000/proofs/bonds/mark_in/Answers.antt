@@ -1,25 +1,22 @@
 use Rattle.std.proofs.Common.{rules, ◌≡◌, [], ◌∷◌}
-use Rattle.std.proofs.lemmas.Result.{err_from_is_err_and}
 use Rattle.cip_reading.proofs.Turns.{over_next, over_refused, over_done}
 use Rattle.cip_v3000.specs.BondLine.{with_mark}
 use Rattle.cip_v3000.specs.Words.{words_of}
 use Rattle.cip_v3000.proofs.bonds.mark_in.Goals as goal
 
-pub returns-in_err-mark-clause-value : goal.returns-in_err-mark-clause-value
-returns-in_err-mark-clause-value c =
-    let refused = err_from_is_err_and c.from_residual.result c.from_residual.ensures.1 in
+pub returns-in-Err-clause-value : goal.returns-in-Err-clause-value
+returns-in-Err-clause-value c =
     let next : words_of c.loop-word.rest.now ≡ c.in-Some.word.now ∷ words_of c.in-Some.behind.now = search rules in
-    rw (refused.1, refused.2)
-    (over_refused (with_mark c.args.order) c.loop-word.mark c.in_err-mark.field-0.0 _ _ _ _ next
-    c.in_err-mark.ensures.value c.loop-word.invariant.so_far)
+    over_refused (with_mark c.args.order) c.loop-word.mark c.in-Err.cause _ _ _ _ next
+    c.in-Err.ensures.value c.loop-word.invariant.so_far
 
 pub loop-word-preserved : goal.loop-word-preserved
 loop-word-preserved c =
     let next : words_of c.loop-word.rest.now ≡ c.in-Some.word.now ∷ words_of c.in-Some.behind.now = search rules in
     record {
-      so_far = over_next (with_mark c.args.order) c.loop-word.mark c.in_ok-mark.mark _ _ _ _ next
-          c.in_ok-mark.ensures.value c.loop-word.invariant.so_far;
-      range = c.in_ok-mark.ensures.range;
+      so_far = over_next (with_mark c.args.order) c.loop-word.mark c.in-Ok.next _ _ _ _ next
+          c.in-Ok.ensures.value c.loop-word.invariant.so_far;
+      range = c.in-Ok.ensures.range;
     }
 
 pub returns-clause-value : goal.returns-clause-value

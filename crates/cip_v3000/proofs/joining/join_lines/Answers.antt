@@ -16,14 +16,14 @@ returns-then-not-begins_v30-clause-value c =
 
 pub loop-place-preserved-then-not-is_continued : goal.loop-place-preserved-then-not-is_continued
 loop-place-preserved-then-not-is_continued c = record {
-  so_far = rw (c.in_ok-push.ensures.items, map-append seen c.loop-place.found.items (c.joined_line.result ∷ []))
+  so_far = rw (c.in-Ok.ensures.items, map-append seen c.loop-place.found.items (c.joined_line.result ∷ []))
       (line_whole (map seen c.loop-place.found.items) c.args.lines.now c.loop-place.first c.loop-place.place _
       (seen c.joined_line.result) _
       c.loop-place.invariant.first c.loop-place-test.true (sym c.begins_v30.ensures ∙ c.if-not-begins_v30.false)
       (sym c.is_continued.ensures ∙ c.if-not-is_continued.true) c.joined_line.ensures.value
       c.loop-place.invariant.so_far);
   numbered =
-      rw c.in_ok-push.ensures.items
+      rw c.in-Ok.ensures.items
       (All-push IsNumbered _ _ c.loop-place.invariant.numbered c.joined_line.ensures.numbered);
   first = omega arith;
 }

@@ -6,5 +6,5 @@ pub returns-in-len1 : goal.returns-in-len1
 returns-in-len1 c =
     c.part_of.ensures ∙ only_part c.args.line.now.parts.now _ c.in-len1.len_at_least c.in-len1.len_below
 
-pub returns-in_ok-joined_text-in_default : goal.returns-in_ok-joined_text-in_default
-returns-in_ok-joined_text-in_default c = c.in_ok-joined_text-in_default.ensures
+pub returns-in-Ok : goal.returns-in-Ok
+returns-in-Ok c = c.in-Ok.ensures

@@ -11,10 +11,10 @@ returns-in-Some-clause-some c =
     c.behind_spaces-begun.ensures (to_z-of_z w64 c.in-Some.number (omega (arith, ints, near)))
     c.in-Some.ensures.value near
 
-pub returns-clause-some : goal.returns-clause-some
-returns-clause-some c = record {
-  word = c.in_ok-word.word.now;
-  split = c.in_ok-word.ensures.some;
+pub returns-in-Some-next_word-clause-some : goal.returns-in-Some-next_word-clause-some
+returns-in-Some-next_word-clause-some c = record {
+  word = c.in-Some-next_word.word.now;
+  split = c.in-Some-next_word.ensures.some;
   value = c.coordinate.ensures.value;
   near = c.coordinate.ensures.small;
 }

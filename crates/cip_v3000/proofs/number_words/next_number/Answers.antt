@@ -6,10 +6,10 @@ returns-in-Some-clause-some c =
     number_next c.args.most c.args.text.now c.behind_spaces-begun.result.now c.in-Some.number c.in-Some.end
     c.at_most.result c.behind_spaces-begun.ensures c.in-Some.ensures c.at_most.ensures.value c.at_most.ensures.range
 
-pub returns-clause-some : goal.returns-clause-some
-returns-clause-some c = record {
-  word = c.in_ok-word.word.now;
-  split = c.in_ok-word.ensures.some;
+pub returns-in-Some-next_word-clause-some : goal.returns-in-Some-next_word-clause-some
+returns-in-Some-next_word-clause-some c = record {
+  word = c.in-Some-next_word.word.now;
+  split = c.in-Some-next_word.ensures.some;
   is = c.number_stated.ensures.value;
   few = c.number_stated.ensures.range;
 }

@@ -7,15 +7,15 @@ returns-then-is_empty-clause-none c =
     let none : length c.behind_spaces-begun.result.now ≡ 0 = search rules in
     λ _. no_words c.args.text.now c.behind_spaces-begun.result.now c.behind_spaces-begun.ensures none
 
-pub returns-clause-some : goal.returns-clause-some
-returns-clause-some c =
+pub returns-else-is_empty-clause-some : goal.returns-else-is_empty-clause-some
+returns-else-is_empty-clause-some c =
     let some : 0 < length c.behind_spaces-begun.result.now = search rules in
     (first_word c.args.text.now c.behind_spaces-begun.result.now c.word_end-end.result
     c.behind_spaces-begun.ensures some c.word_end-end.ensures.cut c.word_end-end.ensures.within
     c.word_end-end.ensures.space).words
 
-pub returns-clause-shorter : goal.returns-clause-shorter
-returns-clause-shorter c =
+pub returns-else-is_empty-clause-shorter : goal.returns-else-is_empty-clause-shorter
+returns-else-is_empty-clause-shorter c =
     let some : 0 < length c.behind_spaces-begun.result.now = search rules in
     (first_word c.args.text.now c.behind_spaces-begun.result.now c.word_end-end.result
     c.behind_spaces-begun.ensures some c.word_end-end.ensures.cut c.word_end-end.ensures.within
