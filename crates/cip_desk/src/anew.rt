@@ -93,7 +93,9 @@ fn rank_settled(
         Settled::Over => Ok(Found::Told(Ranking::Over)),
         Settled::Tied => Ok(Found::Told(Ranking::Tied)),
         Settled::Ordered => {
-            rank_ordered(rooted, work, tables, branches)?;
+            let Ok(()) = rank_ordered(rooted, work, tables, branches) else {
+                return Err(AllocError);
+            };
             Ok(Found::Told(Ranking::Known))
         }
         Settled::Whole => rank_whole(alloc, rooted, work, tables, branches),

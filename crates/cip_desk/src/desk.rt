@@ -74,12 +74,15 @@ impl Digraphs for Desk {
             bound: self.bound,
         };
         self.last_is_kept = false;
-        if rank_early(alloc, &told, &mut self.early, &mut self.branches)? {
-            return Ok(Ranking::Known);
+        match rank_early(alloc, &told, &mut self.early, &mut self.branches) {
+            Ok(true) => Ok(Ranking::Known),
+            Ok(false) => {
+                let ranking = rank_late(alloc, &told, &mut self.bench, &mut self.branches, steps);
+                self.last_is_kept = self.bench.memo.found.is_some();
+                ranking
+            }
+            Err(error) => Err(error),
         }
-        let ranking = rank_late(alloc, &told, &mut self.bench, &mut self.branches, steps);
-        self.last_is_kept = self.bench.memo.found.is_some();
-        ranking
     }
 
     fn decide(&self, a: u32, b: u32, r_first: bool) -> Option<Decision> {

@@ -78,11 +78,12 @@ impl Early {
             positions: rooted.setting.positions(),
             at: rooted.root,
         };
-        if !are_few(&root, rooted.bound) {
-            return Ok(false);
+        if are_few(&root, rooted.bound) {
+            self.note(alloc, &root, rooted.ligands.as_slice())?;
+            Ok(are_decided(&self.noted))
+        } else {
+            Ok(false)
         }
-        self.note(alloc, &root, rooted.ligands.as_slice())?;
-        Ok(are_decided(&self.noted))
     }
 
     // Notes what two spheres decide between each two ligands.

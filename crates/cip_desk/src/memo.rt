@@ -72,9 +72,8 @@ impl Memo {
         ensures root { IfSome result (λ _. self.now.root
             ≡ Some (kept_of told.now.setting.now told.now.root told.now.ligands.now)) }
     {
-        let found = self.found?;
-        match &self.root {
-            Some(root) if root.is_of(told) => Some(found),
+        match (self.found, &self.root) {
+            (Some(found), Some(root)) if root.is_of(told) => Some(found),
             _ => None,
         }
     }

@@ -10,11 +10,13 @@ fn note_two(one: &Shown, other: &Shown, noted: &mut Vec<Asked>) -> Result<(), Al
     ensures { OnOk result (noted.new.items ≡ noted.old.items ++ answer_between one.now other.now) }
 {
     if one.vertex != other.vertex {
-        noted.push(Asked {
+        let Ok(()) = noted.push(Asked {
             first: one.vertex,
             second: other.vertex,
             decision: tell(one, other),
-        })?;
+        }) else {
+            return Err(AllocError);
+        };
     }
     Ok(())
 }

@@ -54,10 +54,15 @@ fn show_one(
         ++ branch_if root.now.graph.now root.now.positions.now root.now.at ligand.now) }
 {
     match ligand {
-        Ligand::LonePair => {}
-        Ligand::Vertex(vertex) => shown.push(show(alloc, root, *vertex)?)?,
+        Ligand::LonePair => Ok(()),
+        Ligand::Vertex(vertex) => {
+            let Ok(branch) = show(alloc, root, *vertex) else {
+                return Err(AllocError);
+            };
+            shown.push(branch)?;
+            Ok(())
+        }
     }
-    Ok(())
 }
 
 /// Shows the branches at ligands; a lone pair has none.
@@ -84,13 +89,14 @@ fn decide(side: Ordering, sphere: u32) -> Option<Decision>
     ensures { result ≡ decided R1a (differing (sphere - 1) side) }
 {
     if side.is_eq() {
-        return None;
+        None
+    } else {
+        Some(Decision {
+            side,
+            rule: Rule::R1a,
+            sphere,
+        })
     }
-    Some(Decision {
-        side,
-        rule: Rule::R1a,
-        sphere,
-    })
 }
 
 /// What the nodes of two branches decide, and where these tie the sets below them. A set that ends first is lower.
@@ -99,10 +105,11 @@ pub fn tell(one: &Shown, other: &Shown) -> Option<Decision>
 {
     let side = one.key.cmp(&other.key);
     if side.is_ne() {
-        return decide(side, 1);
+        decide(side, 1)
+    } else {
+        decide(
+            compare_sets(one.below.as_slice(), other.below.as_slice()),
+            2,
+        )
     }
-    decide(
-        compare_sets(one.below.as_slice(), other.below.as_slice()),
-        2,
-    )
 }

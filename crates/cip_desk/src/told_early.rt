@@ -23,9 +23,9 @@ pub fn rank_early(
     ensures ranked { result ≡ Ok true → RankedAs rooted.now.setting.now rooted.now.bound rooted.now.root
         rooted.now.ligands.now (standing_of branches.new) Known }
 {
-    let told = early.tell(alloc, rooted)?;
-    if told {
+    let told = early.tell(alloc, rooted);
+    if let Ok(true) = told {
         branches.take_named(early.noted())?;
     }
-    Ok(told)
+    told
 }

@@ -41,12 +41,12 @@ returns-in-Tied-clause-ranking c =
     (subst (SettledAs (settled_by rooted.setting.now rooted.ligands.now) rooted.arena.now) c.in-Tied.is
     c.requires.settled) c.requires.rooted.fits
 
-pub returns-in_ok-rank_ordered-in-Ordered-clause-ranking : goal.returns-in_ok-rank_ordered-in-Ordered-clause-ranking
-returns-in_ok-rank_ordered-in-Ordered-clause-ranking c =
+pub returns-in-Ok-clause-ranking : goal.returns-in-Ok-clause-ranking
+returns-in-Ok-clause-ranking c =
     let rooted = c.args.rooted.now in
     subst (λ (s : Standing). RankedAs rooted.setting.now rooted.arena.now.bound rooted.root rooted.ligands.now
-    (standing_of s) Known) (sym c.in_ok-rank_ordered-in-Ordered.ensures.standing)
-    (c.in_ok-rank_ordered-in-Ordered.ensures.told.each rooted.setting.now.units c.args.rooted.now.proper.sites)
+    (standing_of s) Known) (sym c.in-Ok.ensures.standing)
+    (c.in-Ok.ensures.told.each rooted.setting.now.units c.args.rooted.now.proper.sites)
 
 pub rank_whole-requires-clause-followed : goal.rank_whole-requires-clause-followed
 rank_whole-requires-clause-followed c = c.requires.followed c.in-Whole.is
@@ -60,5 +60,5 @@ returns-in-Whole-clause-ranking c = c.rank_whole.ensures.ranking
 pub returns-in-Whole-clause-found : goal.returns-in-Whole-clause-found
 returns-in-Whole-clause-found c = c.rank_whole.ensures.found
 
-pub returns-in_ok-rank_ordered-in-Ordered-clause-work : goal.returns-in_ok-rank_ordered-in-Ordered-clause-work
-returns-in_ok-rank_ordered-in-Ordered-clause-work c = refl
+pub returns-in-Ok-clause-work : goal.returns-in-Ok-clause-work
+returns-in-Ok-clause-work c = refl

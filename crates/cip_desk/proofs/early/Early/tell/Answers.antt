@@ -9,16 +9,16 @@ use Rattle.cip_desk.proofs.Answers.{answers_are}
 use Rattle.cip_desk.proofs.DifferEarly.{decided_is}
 use Rattle.cip_desk.proofs.early.Early.tell.Goals as goal
 
-pub returns-clause-noted : goal.returns-clause-noted
-returns-clause-noted c told =
+pub returns-in_ok-note-clause-noted : goal.returns-in_ok-note-clause-noted
+returns-in_ok-note-clause-noted c told =
     let rooted = c.args.rooted.now in
     c.in_ok-note.ensures
     ∙ (λ k. answers_of (branches_of (c.graph.ensures.value k) (c.positions.ensures k) rooted.root
     (c.as_slice.ensures.value k)))
     ∙ answers_are rooted.setting.now rooted.root rooted.ligands.now
 
-pub returns-clause-told : goal.returns-clause-told
-returns-clause-told c =
+pub returns-in_ok-note-clause-told : goal.returns-in_ok-note-clause-told
+returns-in_ok-note-clause-told c =
     let rooted = c.args.rooted.now in
     let setting = rooted.setting.now in
     let noted = c.in_ok-note.ensures
