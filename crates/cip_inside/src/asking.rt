@@ -66,7 +66,9 @@ fn ask_row(
     ensures { OnOk result (pairs.new.items ≡ pairs.old.items ++ map (asked_of near.now.tops one) others.now) }
 {
     for other in others {
-        pairs.push(ask(near, one, *other))?;
+        let Ok(()) = pairs.push(ask(near, one, *other)) else {
+            return Err(AllocError);
+        };
     }
     Ok(())
 }
@@ -82,7 +84,9 @@ pub fn ask_all(
     let mut pairs = SmallVec::new(alloc);
     let mut rest = ligands;
     while let [one, others @ ..] = rest {
-        ask_row(near, *one, others, &mut pairs)?;
+        let Ok(()) = ask_row(near, *one, others, &mut pairs) else {
+            return Err(AllocError);
+        };
         rest = others;
     }
     Ok(pairs)

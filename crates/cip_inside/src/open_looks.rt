@@ -178,8 +178,9 @@ fn fitting(alloc: Global, branches: Branches, room: u32) -> Result<Branches, All
     ensures { IfOk result (λ branches. branches.layers.kin.room ≡ room) }
 {
     if branches.room() == room {
-        return Ok(branches);
+        Ok(branches)
+    } else {
+        drop(branches);
+        Branches::reserve(alloc, room)
     }
-    drop(branches);
-    Branches::reserve(alloc, room)
 }

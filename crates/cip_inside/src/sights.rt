@@ -70,15 +70,14 @@ pub(crate) fn configure<N: Nodes>(
 {
     if all_inside(near, inner, node) {
         near.configuration(inner.marks(), pairs, turned);
-        return;
+    } else {
+        let marks = MarksInside {
+            table: inner.whole().nodes().table(),
+            from: inner.from(),
+            marks: inner.marks(),
+        };
+        near.configuration(&marks, pairs, turned);
     }
-    let table = inner.whole().nodes().table();
-    let marks = MarksInside {
-        table,
-        from: inner.from(),
-        marks: inner.marks(),
-    };
-    near.configuration(&marks, pairs, turned);
 }
 
 impl Sights {

@@ -22,25 +22,25 @@ returns-then-all_inside-clause-ordered g c = λ begin mark within is undone agre
     (marks_are inner c.args.node c.requires.ready near.tops c.requires.tops near.now c.requires.placed
     (c.all_inside.ensures.from c.if-all_inside.true) (c.all_inside.ensures.behind c.if-all_inside.true) mark agrees))
 
-pub configuration-requires-2-clause-keyed : goal.configuration-requires-2-clause-keyed
-configuration-requires-2-clause-keyed g c =
+pub configuration-requires-else-all_inside-clause-keyed : goal.configuration-requires-else-all_inside-clause-keyed
+configuration-requires-else-all_inside-clause-keyed g c =
     let inner = c.args.inner.now in
     let near = c.args.near.now in
-    let parents = c.table-table.ensures
+    let parents = c.table.ensures
     ∙ ap parents_of (c.nodes.ensures.told ∙ ap (λ (s : Sight). s.told) c.whole.ensures) in
     subst (λ (marks : List (Option Descriptor)). AreKeyed (length marks) near.now.layers.kin)
-    (sym (λ i. marks_below (parents i) (c.from.ensures i) (c.marks-2.ensures i)))
+    (sym (λ i. marks_below (parents i) (c.from.ensures i) (c.marks-else-all_inside.ensures i)))
     (counted_keyed inner c.args.node c.requires.ready near.tops near.now c.requires.placed)
 
-pub returns-clause-ordered : goal.returns-clause-ordered
-returns-clause-ordered g c = λ begin mark within is undone agrees.
+pub returns-else-all_inside-clause-ordered : goal.returns-else-all_inside-clause-ordered
+returns-else-all_inside-clause-ordered g c = λ begin mark within is undone agrees.
     let inner = c.args.inner.now in
     let near = c.args.near.now in
-    let parents = c.table-table.ensures
+    let parents = c.table.ensures
     ∙ ap parents_of (c.nodes.ensures.told ∙ ap (λ (s : Sight). s.told) c.whole.ensures) in
-    c.configuration-2.ensures.decided inner.sight c.args.node begin mark within is undone
+    c.configuration-else-all_inside.ensures.decided inner.sight c.args.node begin mark within is undone
     (subst (λ (marks : List (Option Descriptor)). AreMarksOf (node_at inner.sight.nodes) (marked_by mark) marks
-    near.now) (sym (λ i. marks_below (parents i) (c.from.ensures i) (c.marks-2.ensures i)))
+    near.now) (sym (λ i. marks_below (parents i) (c.from.ensures i) (c.marks-else-all_inside.ensures i)))
     (counted_are inner c.args.node c.requires.ready near.tops near.now c.requires.placed mark agrees))
 
 pub configuration-requires-clause-followed : goal.configuration-requires-clause-followed
@@ -71,27 +71,27 @@ returns-then-all_inside-clause-bound g c = c.configuration.ensures.bound
 pub invariant_of-marks : goal.invariant_of-marks
 invariant_of-marks g c =
     let ready = c.requires.ready in
-    let parents = c.table-table.ensures
+    let parents = c.table.ensures
     ∙ ap parents_of (c.nodes.ensures.told ∙ ap (λ (s : Sight). s.told) c.whole.ensures) in
     record {
-      len = ap (λ (marks : List (Option Descriptor)). length marks) c.marks-2.ensures ∙ ready.marks
+      len = ap (λ (marks : List (Option Descriptor)). length marks) c.marks-else-all_inside.ensures ∙ ready.marks
           ∙ ready.shows.told.len ∙ sym (ap (λ (ps : List ℕ). length ps) parents);
     }
 
-pub configuration-requires-2-clause-followed : goal.configuration-requires-2-clause-followed
-configuration-requires-2-clause-followed g c = c.requires.placed.followed
+pub configuration-requires-else-all_inside-clause-followed : goal.configuration-requires-else-all_inside-clause-followed
+configuration-requires-else-all_inside-clause-followed g c = c.requires.placed.followed
 
-pub configuration-requires-2-clause-room : goal.configuration-requires-2-clause-room
-configuration-requires-2-clause-room g c =
+pub configuration-requires-else-all_inside-clause-room : goal.configuration-requires-else-all_inside-clause-room
+configuration-requires-else-all_inside-clause-room g c =
     let few = c.requires.placed.few in
     let room = c.requires.room in
     omega (arith, few, room)
 
-pub configuration-requires-2-clause-len : goal.configuration-requires-2-clause-len
-configuration-requires-2-clause-len g c = c.requires.len
+pub configuration-requires-else-all_inside-clause-len : goal.configuration-requires-else-all_inside-clause-len
+configuration-requires-else-all_inside-clause-len g c = c.requires.len
 
-pub returns-clause-same : goal.returns-clause-same
-returns-clause-same g c = c.configuration-2.ensures.same
+pub returns-else-all_inside-clause-same : goal.returns-else-all_inside-clause-same
+returns-else-all_inside-clause-same g c = c.configuration-else-all_inside.ensures.same
 
-pub returns-clause-bound : goal.returns-clause-bound
-returns-clause-bound g c = c.configuration-2.ensures.bound
+pub returns-else-all_inside-clause-bound : goal.returns-else-all_inside-clause-bound
+returns-else-all_inside-clause-bound g c = c.configuration-else-all_inside.ensures.bound
