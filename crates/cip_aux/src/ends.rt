@@ -60,8 +60,12 @@ fn turns_at<N: Nodes, V: Viewer>(
     ensures turns { IfOk result (λ found.
         AreRootTurns inner.now node found.by_constitution ligands.now found.turns) }
 {
-    let numbers = ligands_at(alloc, inner.whole().nodes(), node, ligands)?;
-    viewer.look(alloc, inner, node, numbers.as_slice())
+    let Ok(numbers) = ligands_at(alloc, inner.whole().nodes(), node, ligands) else {
+        return Err(AllocError);
+    };
+    let found = viewer.look(alloc, inner, node, numbers.as_slice());
+    drop(numbers);
+    found
 }
 
 // The node of a unit's other end, where the rest of the unit follows below a node.
@@ -98,12 +102,17 @@ fn ends_turns<N: Nodes, V: Viewer>(
     let Some(other) = far_end(inner.whole().nodes(), node, ends.between, ends.far.at) else {
         return Ok(no_turns());
     };
-    let one = turns_at(alloc, inner, viewer, node, ends.near.ligands)?;
+    let Ok(one) = turns_at(alloc, inner, viewer, node, ends.near.ligands) else {
+        return Err(AllocError);
+    };
     if one.turns.is_none() {
-        return Ok(one);
+        Ok(one)
+    } else {
+        let Ok(two) = turns_at(alloc, inner, viewer, other, ends.far.ligands) else {
+            return Err(AllocError);
+        };
+        Ok(both_found(one, two))
     }
-    let two = turns_at(alloc, inner, viewer, other, ends.far.ligands)?;
-    Ok(both_found(one, two))
 }
 
 // The turns of a unit with two ends, where a vertex is one of them: that end is the nearer one.

@@ -61,11 +61,9 @@ impl KeptTurns {
     pub fn of(&self, node: u32, place: usize) -> Option<KeptTurn>
         ensures { result ≡ kept_at self.now.items node place }
     {
-        let turn = (*self.turns.as_slice().get(node as usize)?)?;
-        if turn.place == place {
-            Some(turn)
-        } else {
-            None
+        match self.turns.as_slice().get(node as usize) {
+            Some(Some(turn)) if turn.place == place => Some(*turn),
+            _ => None,
         }
     }
 

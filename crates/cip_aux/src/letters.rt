@@ -72,7 +72,9 @@ fn seen_turns<N: Nodes, V: Viewer>(
         (nearer_first here.now.vertex (ends_of (unit_at here.now.units.now here.now.place).site))) }
 {
     let ends = here.unit().site.ends();
-    let found = unit_turns(alloc, inner, viewer, here.vertex, &ends)?;
+    let Ok(found) = unit_turns(alloc, inner, viewer, here.vertex, &ends) else {
+        return Err(AllocError);
+    };
     if found.by_constitution {
         keep(kept, inner.from(), here.place, found.turns);
     }
@@ -131,7 +133,9 @@ fn unit_letter<N: Nodes, V: Viewer>(
     match unit.geometry {
         Geometry::Unknown(_) => Ok(None),
         Geometry::Known(sense) => {
-            let turns = turns_here(alloc, inner, viewer, here, kept)?;
+            let Ok(turns) = turns_here(alloc, inner, viewer, here, kept) else {
+                return Err(AllocError);
+            };
             Ok(named(&unit.site.ends(), sense, turns))
         }
     }
@@ -165,10 +169,11 @@ pub fn first_letter<N: Nodes, V: Viewer>(
             place: *place,
             vertex,
         };
-        if let Some(letter) = unit_letter(alloc, inner, viewer, &here, kept)? {
-            return Ok(Some(letter));
+        match unit_letter(alloc, inner, viewer, &here, kept) {
+            Ok(None) => rest = others,
+            Ok(Some(letter)) => return Ok(Some(letter)),
+            Err(error) => return Err(error),
         }
-        rest = others;
     }
     Ok(None)
 }

@@ -72,7 +72,9 @@ impl Rows {
         requires { vertex < length self.old }
         ensures { OnOk result (self.new ≡ with_last vertex place self.old) }
     {
-        self.rows[vertex as usize].push(place)?;
+        let Ok(()) = self.rows[vertex as usize].push(place) else {
+            return Err(AllocError);
+        };
         Ok(())
     }
 
@@ -111,7 +113,9 @@ fn rows_of(alloc: Global, units: &[Unit]) -> Result<Rows, AllocError>
 {
     let mut rows = Rows::new(alloc);
     for (place, unit) in units.iter().enumerate() {
-        add_unit(&mut rows, unit, place)?;
+        let Ok(()) = add_unit(&mut rows, unit, place) else {
+            return Err(AllocError);
+        };
     }
     Ok(rows)
 }

@@ -20,7 +20,7 @@ pub returns-then-found-clause-kept : goal.returns-then-found-clause-kept
 returns-then-found-clause-kept g c =
     let inner = c.args.inner.now in
     let here = c.args.here.now in
-    let found = c.in_ok-found.found in
+    let found = c.in-Ok.found in
     let all = here.units.now in
     let site = ap (λ (unit : units.Unit). unit.site) c.unit.ensures in
     told_kept inner here.vertex all here.place c.requires.vertex found.turns c.args.kept.now c.keep.new.kept
@@ -28,7 +28,7 @@ returns-then-found-clause-kept g c =
     (lent_turns inner here.vertex true found.turns c.ends-ends.result (unit_at all here.place).site
     (c.ends-ends.ensures.site ∙ site) (c.ends-ends.ensures.between ∙ ap between_of site)
     (subst (λ b. AreEndTurns inner inner.from b (between_in c.ends-ends.result)
-    (nearer_first here.vertex (ends_in c.ends-ends.result)) found.turns) c.if-found.true c.in_ok-found.ensures.turns))
+    (nearer_first here.vertex (ends_in c.ends-ends.result)) found.turns) c.if-found.true c.in-Ok.ensures.turns))
     c.requires.kept c.keep.ensures.none c.keep.ensures.some
 
 pub unit_turns-requires-clause-ready : goal.unit_turns-requires-clause-ready
@@ -40,14 +40,14 @@ unit_turns-requires-clause-vertex g c = c.requires.vertex
 pub unit_turns-requires-clause-stands : goal.unit_turns-requires-clause-stands
 unit_turns-requires-clause-stands g c = c.requires.stands
 
-pub returns-in_err-found-clause-room : goal.returns-in_err-found-clause-room
-returns-in_err-found-clause-room g c = c.unit_turns.ensures.room
+pub returns-in_default-clause-room : goal.returns-in_default-clause-room
+returns-in_default-clause-room g c = c.unit_turns.ensures.room
 
-pub returns-in_err-found-clause-stands : goal.returns-in_err-found-clause-stands
-returns-in_err-found-clause-stands g c = c.unit_turns.ensures.stands
+pub returns-in_default-clause-stands : goal.returns-in_default-clause-stands
+returns-in_default-clause-stands g c = c.unit_turns.ensures.stands
 
-pub returns-in_err-found-clause-kept : goal.returns-in_err-found-clause-kept
-returns-in_err-found-clause-kept g c = c.requires.kept
+pub returns-in_default-clause-kept : goal.returns-in_default-clause-kept
+returns-in_default-clause-kept g c = c.requires.kept
 
 pub returns-then-found-clause-room : goal.returns-then-found-clause-room
 returns-then-found-clause-room g c = c.unit_turns.ensures.room
@@ -68,9 +68,9 @@ pub returns-else-found-clause-turns : goal.returns-else-found-clause-turns
 returns-else-found-clause-turns g c =
     let inner = c.args.inner.now in
     let here = c.args.here.now in
-    let found = c.in_ok-found.found in
+    let found = c.in-Ok.found in
     let site = ap (λ (unit : units.Unit). unit.site) c.unit.ensures in
     lent_turns inner here.vertex false found.turns c.ends-ends.result (unit_at here.units.now here.place).site
     (c.ends-ends.ensures.site ∙ site) (c.ends-ends.ensures.between ∙ ap between_of site)
     (subst (λ b. AreEndTurns inner inner.from b (between_in c.ends-ends.result)
-    (nearer_first here.vertex (ends_in c.ends-ends.result)) found.turns) c.if-found.false c.in_ok-found.ensures.turns)
+    (nearer_first here.vertex (ends_in c.ends-ends.result)) found.turns) c.if-found.false c.in-Ok.ensures.turns)
