@@ -157,20 +157,21 @@ impl Work {
             };
             has_candidates(&trial, &mut self.under)
         };
-        if !found {
-            return false;
-        }
-        take_both(&mut self.branches, &mut self.saved, arena, setting.rules);
-        let alike = {
-            let trial = Trial {
-                arena: &*arena,
-                branches: &self.branches,
-                setting: *setting,
+        if found {
+            take_both(&mut self.branches, &mut self.saved, arena, setting.rules);
+            let alike = {
+                let trial = Trial {
+                    arena: &*arena,
+                    branches: &self.branches,
+                    setting: *setting,
+                };
+                alike_each(&trial, &mut self.under)
             };
-            alike_each(&trial, &mut self.under)
-        };
-        self.branches.restore(&self.saved);
-        alike
+            self.branches.restore(&self.saved);
+            alike
+        } else {
+            false
+        }
     }
 }
 
