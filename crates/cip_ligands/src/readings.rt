@@ -27,7 +27,7 @@ use cip_branches::{Branches, SavedRanks};
 use cip_digraph::Decision;
 use cip_letters::{Asked, are_decided};
 use cip_mol::Rule;
-use cip_rank::{Keyed, both};
+use cip_rank::{Keyed, both_of};
 use cip_rows::Column;
 use std::alloc::{AllocError, Global};
 use std::cmp::Ordering;
@@ -64,15 +64,15 @@ impl Readings {
         requires { bound < 2 ^ 31 }
         ensures { IfOk result (λ readings. readings.bound ≡ bound) }
     {
-        let ranks = both(
-            Branches::reserve(alloc, bound + bound)?,
+        let ranks = both_of(
+            Branches::reserve(alloc, bound + bound),
             SavedRanks::reserve(alloc, bound + bound),
-        )?;
-        let columns = both(ranks, Column::reserve(alloc, bound))?;
-        let (((twins, saved), sides), values) = both(
-            columns,
+        );
+        let columns = both_of(
+            Column::reserve(alloc, bound),
             Column::reserve(alloc, bound + bound),
-        )?;
+        );
+        let ((twins, saved), (sides, values)) = both_of(ranks, columns)?;
         Ok(Readings {
             bound,
             twins,
@@ -411,11 +411,11 @@ pub fn take_readings<M: Marked>(
 {
     // Counting the places tells that branches can be doubled.
     let _places = branches.count();
-    if !some_count(branches, marks, Rule::R5) {
+    if some_count(branches, marks, Rule::R5) {
+        take_both(branches, readings, marks, asked);
+    } else {
         note(branches, Rule::R4b, 0, asked);
-        return;
     }
-    take_both(branches, readings, marks, asked);
 }
 
 /// The same, of nodes of any kind: the rule is taken over both readings, where there is a branch.
@@ -435,21 +435,20 @@ pub(crate) fn take_both<M: Marked>(
     ensures tops { length branches.now.wanted ≤ length branches.now.layers.kin.ups }
     ensures bound { readings.new.bound ≡ readings.old.bound }
 {
-    if branches.len() == 0 {
-        return;
+    if branches.len() > 0 {
+        let _branches = branches.branch_count();
+        write_values(branches, marks, &mut readings.values);
+        let keys = ReadingKeys {
+            branches,
+            marks,
+            values: readings.values.as_slice(),
+        };
+        take_with(
+            &keys,
+            &mut readings.twins,
+            &mut readings.saved,
+            &mut readings.sides,
+            asked,
+        );
     }
-    let _branches = branches.branch_count();
-    write_values(branches, marks, &mut readings.values);
-    let keys = ReadingKeys {
-        branches,
-        marks,
-        values: readings.values.as_slice(),
-    };
-    take_with(
-        &keys,
-        &mut readings.twins,
-        &mut readings.saved,
-        &mut readings.sides,
-        asked,
-    );
 }

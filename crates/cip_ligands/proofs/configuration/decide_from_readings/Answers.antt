@@ -11,8 +11,8 @@ returns-then-decide_by_readings-clause-decided g c =
     c.decide_by_readings.new.asked c.decide_by_readings.ensures.decided
     (sym c.decide_by_readings.ensures.all ∙ c.if-decide_by_readings.true)
 
-pub returns-clause-decided : goal.returns-clause-decided
-returns-clause-decided g c =
+pub returns-else-decide_by_readings-clause-decided : goal.returns-else-decide_by_readings-clause-decided
+returns-else-decide_by_readings-clause-decided g c =
     let marks = g.M.Marked.marks c.args.marks.now in
     let old = c.args.branches.now in
     let now = c.take_marked.new.branches in
@@ -26,8 +26,8 @@ returns-clause-decided g c =
 pub returns-then-decide_by_readings-clause-same : goal.returns-then-decide_by_readings-clause-same
 returns-then-decide_by_readings-clause-same g c = same_still c.args.branches.now
 
-pub returns-clause-same : goal.returns-clause-same
-returns-clause-same g c =
+pub returns-else-decide_by_readings-clause-same : goal.returns-else-decide_by_readings-clause-same
+returns-else-decide_by_readings-clause-same g c =
     same_marked (g.M.Marked.marks c.args.marks.now) true R4c c.args.branches.now c.decide_by_readings.new.asked
     c.take_marked.new.branches c.take_marked.new.asked c.take_marked.ensures.taken
 
@@ -40,20 +40,20 @@ decide_by_readings-requires-clause-keyed g c = c.requires.keyed
 pub take_marked-requires-clause-followed : goal.take_marked-requires-clause-followed
 take_marked-requires-clause-followed g c = c.requires.followed
 
-pub returns-clause-wanted : goal.returns-clause-wanted
-returns-clause-wanted g c = c.take_marked.ensures.wanted
+pub returns-else-decide_by_readings-clause-wanted : goal.returns-else-decide_by_readings-clause-wanted
+returns-else-decide_by_readings-clause-wanted g c = c.take_marked.ensures.wanted
 
-pub returns-clause-bound : goal.returns-clause-bound
-returns-clause-bound g c = c.decide_by_readings.ensures.bound
+pub returns-else-decide_by_readings-clause-bound : goal.returns-else-decide_by_readings-clause-bound
+returns-else-decide_by_readings-clause-bound g c = c.decide_by_readings.ensures.bound
 
-pub returns-clause-kin : goal.returns-clause-kin
-returns-clause-kin g c = c.take_marked.ensures.kin
+pub returns-else-decide_by_readings-clause-kin : goal.returns-else-decide_by_readings-clause-kin
+returns-else-decide_by_readings-clause-kin g c = c.take_marked.ensures.kin
 
-pub returns-clause-followed : goal.returns-clause-followed
-returns-clause-followed g c = c.take_marked.ensures.followed
+pub returns-else-decide_by_readings-clause-followed : goal.returns-else-decide_by_readings-clause-followed
+returns-else-decide_by_readings-clause-followed g c = c.take_marked.ensures.followed
 
 pub returns-then-decide_by_readings-clause-bound : goal.returns-then-decide_by_readings-clause-bound
 returns-then-decide_by_readings-clause-bound g c = c.decide_by_readings.ensures.bound
 
-pub returns-clause-all : goal.returns-clause-all
-returns-clause-all g c = c.take_marked.ensures.all
+pub returns-else-decide_by_readings-clause-all : goal.returns-else-decide_by_readings-clause-all
+returns-else-decide_by_readings-clause-all g c = c.take_marked.ensures.all
