@@ -1,5 +1,4 @@
 use Rattle.std.proofs.Common.{rules, ◌≡◌, ◌∙◌, true, sym}
-use Rattle.std.specs.Prelude.{Ok}
 use Rattle.cip_desk.proofs.EarlyRoots.{told_ranked}
 use Rattle.cip_desk.proofs.told_early.rank_early.Goals as goal
 

@@ -1,9 +1,5 @@
-use Rattle.std.proofs.Common.{◌∙◌, arith, ap, ℕ, List}
+use Rattle.std.proofs.Common.{◌∙◌, arith}
 use Rattle.std.proofs.lemmas.Grind.{common_steps}
-use Rattle.cip_inside.specs.Near.{asked_tops}
-use Rattle.cip_digraph.specs.digraph.NodeList.{parents_of}
-use Rattle.std.specs.declared.option.Option.{Option}
-use Rattle.cip_inside.specs.Narrowing.{open_tops}
 use Rattle.cip_inside.proofs.keeping.narrowed.Goals as goal
 
 pub look_anew-open-requires-clause-room : goal.look_anew-open-requires-clause-room
