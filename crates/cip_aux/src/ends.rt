@@ -16,7 +16,7 @@ use crate::neighbours::{ligands_at, real_child};
 use crate::viewer::{FoundTurns, Viewer};
 use cip_digraph::Nodes;
 use cip_letters::both;
-use cip_mol::{End, Ends, Ligands, TwoEnds};
+use cip_mol::{Ends, Ligands, TwoEnds};
 use std::alloc::{AllocError, Global};
 
 // None, as the digraph is.
@@ -143,27 +143,6 @@ fn two_ends<N: Nodes, V: Viewer>(
     }
 }
 
-fn one_end<N: Nodes, V: Viewer>(
-    alloc: Global,
-    inner: &Inner<'_, N>,
-    viewer: &mut V,
-    vertex: u32,
-    end: &End<'_>,
-) -> Result<FoundTurns, AllocError>
-    requires ready { Ready inner.now inner.now.from }
-    requires stands { V.stands viewer.old inner.now.sight }
-    ensures room { V.room viewer.new ≡ V.room viewer.old }
-    ensures stands { V.stands viewer.new inner.now.sight }
-    ensures turns { IfOk result (λ found. AreEndTurns inner.now inner.now.from found.by_constitution []
-        (nearer_first vertex (as_end end.now ∷ [])) found.turns) }
-{
-    if end.at == vertex {
-        turns_at(alloc, inner, viewer, inner.from(), end.ligands)
-    } else {
-        Ok(no_turns())
-    }
-}
-
 /// The turns of a unit at the nearer of its ends, seen from the node, whose vertex this is.
 pub fn unit_turns<N: Nodes, V: Viewer>(
     alloc: Global,
@@ -182,7 +161,13 @@ pub fn unit_turns<N: Nodes, V: Viewer>(
         (between_in ends.now) (nearer_first vertex (ends_in ends.now)) found.turns) }
 {
     match ends {
-        Ends::One(end) => one_end(alloc, inner, viewer, vertex, end),
+        Ends::One(end) => {
+            if end.at == vertex {
+                turns_at(alloc, inner, viewer, inner.from(), end.ligands)
+            } else {
+                Ok(no_turns())
+            }
+        }
         Ends::Two(_, two) => two_ends(alloc, inner, viewer, vertex, two),
     }
 }

@@ -49,39 +49,7 @@ fn keep(kept: &mut KeptTurns, node: u32, place: usize, turns: Option<Turns>)
     }
 }
 
-// The turns of a unit, seen from the node. What constitution told is kept.
-fn seen_turns<N: Nodes, V: Viewer>(
-    alloc: Global,
-    inner: &Inner<'_, N>,
-    viewer: &mut V,
-    here: &UnitHere<'_>,
-    kept: &mut KeptTurns,
-) -> Result<Option<Turns>, AllocError>
-    requires ready { Ready inner.now inner.now.from }
-    requires vertex { here.now.vertex ≡ (node_at inner.now.sight.nodes inner.now.from).vertex }
-    requires low { here.now.place < length here.now.units.now }
-    requires joined { EndsJoin inner.now.sight.graph (unit_at here.now.units.now here.now.place).site }
-    requires stands { V.stands viewer.old inner.now.sight }
-    requires kept { AreKept inner.now.sight (sites_in here.now.units.now) kept.old.items }
-    ensures room { V.room viewer.new ≡ V.room viewer.old }
-    ensures stands { V.stands viewer.new inner.now.sight }
-    ensures kept { AreKept inner.now.sight (sites_in here.now.units.now) kept.new.items }
-    ensures kept_room { kept.new.room ≡ kept.old.room }
-    ensures turns { IfOk result (AreEndTurns inner.now inner.now.from false
-        (between_of (unit_at here.now.units.now here.now.place).site)
-        (nearer_first here.now.vertex (ends_of (unit_at here.now.units.now here.now.place).site))) }
-{
-    let ends = here.unit().site.ends();
-    let Ok(found) = unit_turns(alloc, inner, viewer, here.vertex, &ends) else {
-        return Err(AllocError);
-    };
-    if found.by_constitution {
-        keep(kept, inner.from(), here.place, found.turns);
-    }
-    Ok(found.turns)
-}
-
-// The turns of a unit at the node: those that are kept, or else as they are seen.
+// The turns of a unit at the node: those that are kept, or else as they are seen. What constitution told is kept.
 fn turns_here<N: Nodes, V: Viewer>(
     alloc: Global,
     inner: &Inner<'_, N>,
@@ -105,7 +73,16 @@ fn turns_here<N: Nodes, V: Viewer>(
 {
     match kept.of(inner.from(), here.place) {
         Some(turn) => Ok(Some(turn.turns)),
-        None => seen_turns(alloc, inner, viewer, here, kept),
+        None => {
+            let ends = here.unit().site.ends();
+            let Ok(found) = unit_turns(alloc, inner, viewer, here.vertex, &ends) else {
+                return Err(AllocError);
+            };
+            if found.by_constitution {
+                keep(kept, inner.from(), here.place, found.turns);
+            }
+            Ok(found.turns)
+        }
     }
 }
 

@@ -25,14 +25,6 @@ impl Model for Rows {
 }
 
 impl Rows {
-    fn new(alloc: Global) -> Rows
-        ensures { result ≡ [] }
-    {
-        Rows {
-            rows: Vec::new(alloc),
-        }
-    }
-
     // There are none at a number beyond the table.
     fn of(&self, vertex: u32) -> &[usize]
         ensures { result.now ≡ row self.now vertex }
@@ -111,7 +103,9 @@ fn add_unit(rows: &mut Rows, unit: &Unit, place: usize) -> Result<(), AllocError
 fn rows_of(alloc: Global, units: &[Unit]) -> Result<Rows, AllocError>
     ensures { IfOk result (AreRows units.now units.now) }
 {
-    let mut rows = Rows::new(alloc);
+    let mut rows = Rows {
+        rows: Vec::new(alloc),
+    };
     for (place, unit) in units.iter().enumerate() {
         let Ok(()) = add_unit(&mut rows, unit, place) else {
             return Err(AllocError);

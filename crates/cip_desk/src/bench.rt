@@ -41,7 +41,10 @@ impl Bench {
             arena,
             work,
             tables,
-            memo: Memo::new(),
+            memo: Memo {
+                root: None,
+                found: None,
+            },
         })
     }
 }

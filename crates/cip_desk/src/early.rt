@@ -79,20 +79,17 @@ impl Early {
             at: rooted.root,
         };
         if are_few(&root, rooted.bound) {
-            self.note(alloc, &root, rooted.ligands.as_slice())?;
+            let ligands = rooted.ligands.as_slice();
+            let Ok(()) = show_all(alloc, &root, ligands, &mut self.shown) else {
+                return Err(AllocError);
+            };
+            let Ok(()) = note_each(&self.shown, &mut self.noted) else {
+                return Err(AllocError);
+            };
             Ok(are_decided(&self.noted))
         } else {
             Ok(false)
         }
-    }
-
-    // Notes what two spheres decide between each two ligands.
-    fn note(&mut self, alloc: Global, root: &Root<'_>, ligands: &[Ligand]) -> Result<(), AllocError>
-        ensures { OnOk result (self.new ≡ answers_of (branches_of root.now.graph.now root.now.positions.now
-            root.now.at ligands.now)) }
-    {
-        show_all(alloc, root, ligands, &mut self.shown)?;
-        note_each(&self.shown, &mut self.noted)
     }
 
     /// The vertices of each two ligands, with what is decided between them.

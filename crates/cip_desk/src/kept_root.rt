@@ -42,17 +42,10 @@ impl KeptRoot {
     pub fn is_of(&self, told: &RootedLigands<'_, '_>) -> bool
         ensures { result ≡ true → self.now ≡ kept_of told.now.setting.now told.now.root told.now.ligands.now }
     {
+        let setting = told.setting;
         self.root == told.root
             && are_same(self.ligands.as_slice(), told.ligands.as_slice())
-            && self.is_in(told.setting)
-    }
-
-    fn is_in(&self, setting: &Setting<'_>) -> bool
-        ensures rules { result ≡ true → self.now.rules ≡ setting.now.rules }
-        ensures graph { result ≡ true → self.now.graph ≡ setting.now.graph }
-        ensures positions { result ≡ true → self.now.positions ≡ setting.now.positions }
-    {
-        is_same_wording(self.rules, setting.rules())
+            && is_same_wording(self.rules, setting.rules())
             && self.graph.is_same(setting.graph())
             && self.positions.is_same(setting.positions())
     }
@@ -62,10 +55,8 @@ fn is_same_wording(one: Rules, other: Rules) -> bool
     ensures { result ≡ true → one ≡ other }
 {
     match (one, other) {
-        (Rules::Wording2013, Rules::Wording2013) => true,
-        (Rules::Wording2018, Rules::Wording2018) => true,
-        (Rules::Wording2013, Rules::Wording2018) => false,
-        (Rules::Wording2018, Rules::Wording2013) => false,
+        (Rules::Wording2013, Rules::Wording2013) | (Rules::Wording2018, Rules::Wording2018) => true,
+        _ => false,
     }
 }
 
@@ -75,8 +66,7 @@ fn is_same(one: Ligand, other: Ligand) -> bool
     match (one, other) {
         (Ligand::Vertex(a), Ligand::Vertex(b)) => a == b,
         (Ligand::LonePair, Ligand::LonePair) => true,
-        (Ligand::Vertex(_), Ligand::LonePair) => false,
-        (Ligand::LonePair, Ligand::Vertex(_)) => false,
+        _ => false,
     }
 }
 

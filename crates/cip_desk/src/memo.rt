@@ -1,5 +1,5 @@
 // What is kept of the root ranked last, where it was costly.
-ghost use Rattle.std.specs.Prelude.{◌≡◌, None, Some, IfSome, OnErr, OnOk};
+ghost use Rattle.std.specs.Prelude.{◌≡◌, Some, IfSome, OnErr, OnOk};
 ghost use Rattle.cip_desk.specs.Keeping.{kept_of, ranking_in};
 
 use crate::early::RootedLigands;
@@ -37,16 +37,6 @@ pub struct Memo {
 }
 
 impl Memo {
-    /// Nothing.
-    pub fn new() -> Memo
-        ensures { result ≡ record { root = None; found = None } }
-    {
-        Memo {
-            root: None,
-            found: None,
-        }
-    }
-
     /// Keeps what was found of a root.
     pub fn keep(
         &mut self,

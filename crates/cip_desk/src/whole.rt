@@ -61,7 +61,15 @@ impl Tables {
         requires { nodes < 2 ^ 31 }
         ensures { IfOk result (HasRoom nodes) }
     {
-        let tables = both_of(reserve_read(alloc, nodes), reserve_kept(alloc, nodes))?;
+        let read = both_of(
+            Descriptors::reserve(alloc, nodes),
+            Readings::reserve(alloc, nodes),
+        );
+        let kept = both_of(
+            KeptTurns::reserve(alloc, nodes),
+            Aside::reserve(alloc, nodes),
+        );
+        let tables = both_of(read, kept)?;
         let (((marks, readings), (turns, aside)), sights) = both(
             tables,
             Sights::reserve(alloc, nodes),
@@ -74,27 +82,6 @@ impl Tables {
             aside,
         })
     }
-}
-
-fn reserve_read(alloc: Global, nodes: u32) -> Result<(Descriptors, Readings), AllocError>
-    requires { nodes < 2 ^ 31 }
-    ensures marks { IfOk result (λ both. nodes ≤ both.0.bound) }
-    ensures readings { IfOk result (λ both. nodes ≤ both.1.bound) }
-{
-    both_of(
-        Descriptors::reserve(alloc, nodes),
-        Readings::reserve(alloc, nodes),
-    )
-}
-
-fn reserve_kept(alloc: Global, nodes: u32) -> Result<(KeptTurns, Aside), AllocError>
-    ensures turns { IfOk result (λ both. nodes ≤ both.0.room) }
-    ensures aside { IfOk result (λ both. nodes ≤ both.1.ranks.room) }
-{
-    both_of(
-        KeptTurns::reserve(alloc, nodes),
-        Aside::reserve(alloc, nodes),
-    )
 }
 
 /// Whether it costs much to find once more what was found of a root: its digraph is large, also beside the graph, which
