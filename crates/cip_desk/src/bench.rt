@@ -35,8 +35,12 @@ impl Bench {
         requires { nodes < 2 ^ 31 }
         ensures { IfOk result (IsReady nodes) }
     {
-        let growing = both_of(Arena::reserve(alloc, nodes), Work::reserve(alloc, nodes))?;
-        let ((arena, work), tables) = both(growing, Tables::reserve(alloc, nodes))?;
+        let Ok(growing) = both_of(Arena::reserve(alloc, nodes), Work::reserve(alloc, nodes)) else {
+            return Err(AllocError);
+        };
+        let Ok(((arena, work), tables)) = both(growing, Tables::reserve(alloc, nodes)) else {
+            return Err(AllocError);
+        };
         Ok(Bench {
             arena,
             work,

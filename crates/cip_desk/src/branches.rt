@@ -46,7 +46,12 @@ impl Branches {
             Vec::with_capacity(alloc, MOST_PAIRS),
             Vec::with_capacity(alloc, MOST_PAIRS),
         );
-        let ((natural, turned), numbered) = both_of(named, Vec::with_capacity(alloc, MOST_PAIRS))?;
+        let Ok(((natural, turned), numbered)) = both_of(
+            named,
+            Vec::with_capacity(alloc, MOST_PAIRS),
+        ) else {
+            return Err(AllocError);
+        };
         Ok(Branches {
             natural,
             turned,

@@ -47,8 +47,12 @@ impl Digraphs for Desk {
     ghost standing = { λ desk. standing_of desk.standing };
 
     fn reserve(alloc: Global, nodes: u32) -> Result<Desk, AllocError> {
-        let telling = both_of(Branches::reserve(alloc), Early::reserve(alloc))?;
-        let ((branches, early), bench) = both(telling, Bench::reserve(alloc, nodes))?;
+        let Ok(telling) = both_of(Branches::reserve(alloc), Early::reserve(alloc)) else {
+            return Err(AllocError);
+        };
+        let Ok(((branches, early), bench)) = both(telling, Bench::reserve(alloc, nodes)) else {
+            return Err(AllocError);
+        };
         Ok(Desk {
             bound: nodes,
             early,

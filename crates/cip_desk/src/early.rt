@@ -1,8 +1,7 @@
 // Roots whose ligands two spheres tell apart.
-ghost use Rattle.std.specs.Prelude.{◌≡◌, ◌≤◌, [], IfOk, OnOk, Ok, true};
+ghost use Rattle.std.specs.Prelude.{◌≡◌, ◌≤◌, [], IfOk, Ok, true};
 ghost use Rattle.cip_label.specs.Fitting.{IsFit};
 ghost use Rattle.cip_label.specs.Settings.{IsProper};
-ghost use Rattle.cip_desk.specs.Branches.{answers_of, branches_of};
 ghost use Rattle.cip_desk.specs.ToldEarly.{is_told_early, noted_early};
 
 use crate::counting::are_few;
@@ -11,7 +10,7 @@ use crate::root::Root;
 use crate::shown::{Shown, show_all};
 use cip_label::Setting;
 use cip_letters::{Asked, are_decided};
-use cip_mol::{Ligand, Ligands};
+use cip_mol::Ligands;
 use cip_rank::both_of;
 use std::alloc::{AllocError, Global};
 use std::marker::Model;
@@ -53,10 +52,12 @@ impl Early {
     pub fn reserve(alloc: Global) -> Result<Early, AllocError>
         ensures { IfOk result (λ early. early ≡ []) }
     {
-        let (shown, noted) = both_of(
+        let Ok((shown, noted)) = both_of(
             Vec::with_capacity(alloc, MOST_LIGANDS),
             Vec::with_capacity(alloc, MOST_PAIRS),
-        )?;
+        ) else {
+            return Err(AllocError);
+        };
         Ok(Early { shown, noted })
     }
 

@@ -4,7 +4,6 @@ ghost use Rattle.cip_desk.specs.Keeping.{kept_of};
 
 use crate::early::RootedLigands;
 use cip_digraph::{Graph, Positions};
-use cip_label::Setting;
 use cip_mol::{Ligand, Ligands, copy_ligands};
 use cip_rank::{Rules, both_of};
 use std::alloc::{AllocError, Global};
@@ -25,10 +24,12 @@ impl KeptRoot {
         ensures { IfOk result (λ kept. kept ≡ kept_of told.now.setting.now told.now.root told.now.ligands.now) }
     {
         let setting = told.setting;
-        let (graph, positions) = both_of(
+        let Ok((graph, positions)) = both_of(
             setting.graph().copy(alloc),
             setting.positions().copy(alloc),
-        )?;
+        ) else {
+            return Err(AllocError);
+        };
         Ok(KeptRoot {
             rules: setting.rules(),
             graph,

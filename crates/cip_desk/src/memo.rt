@@ -49,7 +49,9 @@ impl Memo {
             ≡ Some (kept_of told.now.setting.now told.now.root told.now.ligands.now)) }
         ensures same { OnErr result (self.new ≡ self.old) }
     {
-        let kept = KeptRoot::of(alloc, told)?;
+        let Ok(kept) = KeptRoot::of(alloc, told) else {
+            return Err(AllocError);
+        };
         // what was kept before is let go by a call: written out here, column by column, it costs more to prove
         drop(mem::replace(&mut self.root, Some(kept)));
         self.found = Some(found);

@@ -26,7 +26,9 @@ fn note_with_each(one: &Shown, branches: &[Shown], noted: &mut Vec<Asked>) -> Re
 {
     let mut rest = branches;
     while let [other, others @ ..] = rest {
-        note_two(one, other, noted)?;
+        let Ok(()) = note_two(one, other, noted) else {
+            return Err(AllocError);
+        };
         rest = others;
     }
     Ok(())
@@ -39,7 +41,9 @@ pub fn note_each(branches: &[Shown], noted: &mut Vec<Asked>) -> Result<(), Alloc
     noted.clear();
     let mut rest = branches;
     while let [one, others @ ..] = rest {
-        note_with_each(one, others, noted)?;
+        let Ok(()) = note_with_each(one, others, noted) else {
+            return Err(AllocError);
+        };
         rest = others;
     }
     Ok(())

@@ -36,7 +36,9 @@ fn show(alloc: Global, root: &Root<'_>, vertex: u32) -> Result<Shown, AllocError
     ensures { IfOk result (λ shown. shown ≡ branch_at root.now.graph.now root.now.positions.now root.now.at vertex) }
 {
     let mut below = SmallVec::new(alloc);
-    put_below(root, vertex, &mut below)?;
+    let Ok(()) = put_below(root, vertex, &mut below) else {
+        return Err(AllocError);
+    };
     Ok(Shown {
         vertex,
         key: 6 * z_of(root.graph, vertex) as u32,
@@ -78,7 +80,9 @@ pub fn show_all(
     shown.clear();
     let mut rest = ligands;
     while let [ligand, others @ ..] = rest {
-        show_one(alloc, root, ligand, shown)?;
+        let Ok(()) = show_one(alloc, root, ligand, shown) else {
+            return Err(AllocError);
+        };
         rest = others;
     }
     Ok(())

@@ -69,11 +69,15 @@ impl Tables {
             KeptTurns::reserve(alloc, nodes),
             Aside::reserve(alloc, nodes),
         );
-        let tables = both_of(read, kept)?;
-        let (((marks, readings), (turns, aside)), sights) = both(
+        let Ok(tables) = both_of(read, kept) else {
+            return Err(AllocError);
+        };
+        let Ok((((marks, readings), (turns, aside)), sights)) = both(
             tables,
             Sights::reserve(alloc, nodes),
-        )?;
+        ) else {
+            return Err(AllocError);
+        };
         Ok(Tables {
             sights,
             marks,
@@ -132,7 +136,9 @@ fn find_marks(
     ensures turns { HaveTurns rooted.now.setting.now rooted.now.arena.now tables.new }
     ensures aside { tables.new.aside ≡ tables.old.aside }
 {
-    let mut flags = vec![in alloc; false; rooted.arena.len() as usize]?;
+    let Ok(mut flags) = vec![in alloc; false; rooted.arena.len() as usize] else {
+        return Err(AllocError);
+    };
     flag_nodes(work, rooted.arena.table(), flags.as_mut_slice());
     let found = find_flagged(alloc, rooted, flags.as_slice(), tables);
     drop(flags);
@@ -158,8 +164,10 @@ fn find_flagged(
     ensures turns { HaveTurns rooted.now.setting.now rooted.now.arena.now tables.new }
     ensures aside { tables.new.aside ≡ tables.old.aside }
 {
+    let Ok(units) = UnitsAt::new(alloc, rooted.setting.units().as_slice()) else {
+        return Err(AllocError);
+    };
     let whole = whole_of(rooted);
-    let units = UnitsAt::new(alloc, rooted.setting.units().as_slice())?;
     let wanted = Wanted {
         units: &units,
         flags,
