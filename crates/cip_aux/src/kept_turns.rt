@@ -37,9 +37,10 @@ impl KeptTurns {
     pub fn reserve(alloc: Global, bound: u32) -> Result<KeptTurns, AllocError>
         ensures { IfOk result (λ kept. kept ≡ record { room = bound; items = [] }) }
     {
-        Ok(KeptTurns {
-            turns: Column::reserve(alloc, bound)?,
-        })
+        let Ok(turns) = Column::reserve(alloc, bound) else {
+            return Err(AllocError);
+        };
+        Ok(KeptTurns { turns })
     }
 
     /// No entries: nothing is kept, nor will be.

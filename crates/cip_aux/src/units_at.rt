@@ -55,7 +55,9 @@ impl Rows {
         ensures same { OnOk result ((other : ℕ) → row self.new other ≡ row self.old other) }
     {
         while self.len() <= vertex as usize {
-            self.push_empty()?;
+            let Ok(()) = self.push_empty() else {
+                return Err(AllocError);
+            };
         }
         Ok(())
     }
@@ -85,7 +87,9 @@ fn add_site(rows: &mut Rows, site: &Site, place: usize) -> Result<(), AllocError
     match site {
         Site::Centre { at, .. } => rows.add(*at, place),
         Site::Bond { a, b, .. } | Site::Axis { a, b, .. } => {
-            rows.add(*a, place)?;
+            let Ok(()) = rows.add(*a, place) else {
+                return Err(AllocError);
+            };
             if a == b { Ok(()) } else { rows.add(*b, place) }
         }
     }
@@ -138,7 +142,9 @@ impl<'a> UnitsAt<'a> {
     pub fn new(alloc: Global, units: &'a [Unit]) -> Result<UnitsAt<'a>, AllocError>
         ensures { IfOk result (λ at. at ≡ units.now) }
     {
-        let rows = rows_of(alloc, units)?;
+        let Ok(rows) = rows_of(alloc, units) else {
+            return Err(AllocError);
+        };
         Ok(UnitsAt { units, rows })
     }
 

@@ -74,7 +74,9 @@ impl Work {
             reserve_branches(alloc, bound),
             SavedRanks::reserve(alloc, place_count(bound)),
         );
-        let ((under, (pairs, noted)), ((branches, tops), saved)) = both_of(nodes, places)?;
+        let Ok(((under, (pairs, noted)), ((branches, tops), saved))) = both_of(nodes, places) else {
+            return Err(AllocError);
+        };
         Ok(Work {
             bound,
             branches,

@@ -76,8 +76,11 @@ impl Sights {
         requires { bound < 2 ^ 31 }
         ensures { IfOk result (λ sights. sights ≡ record { bound = bound; looks = [] }) }
     {
+        let Ok(near) = Near::reserve(alloc, bound) else {
+            return Err(AllocError);
+        };
         Ok(Sights {
-            near: Near::reserve(alloc, bound)?,
+            near,
             kept: OpenLooks::none(alloc),
         })
     }

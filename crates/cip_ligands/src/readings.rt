@@ -72,7 +72,9 @@ impl Readings {
             Column::reserve(alloc, bound),
             Column::reserve(alloc, bound + bound),
         );
-        let ((twins, saved), (sides, values)) = both_of(ranks, columns)?;
+        let Ok(((twins, saved), (sides, values))) = both_of(ranks, columns) else {
+            return Err(AllocError);
+        };
         Ok(Readings {
             bound,
             twins,
