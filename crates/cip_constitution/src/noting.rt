@@ -1,6 +1,6 @@
 // What Rule 1a decides between the branches of a root's ligands, noted at each sphere.
-ghost use Rattle.std.specs.Prelude.{◌≡◌, ◌<◌, ◌≤◌, ◌-◌, List, length, map, vec_capacity};
-ghost use Rattle.cip_constitution.specs.Noting.{branch_at, asked_by};
+ghost use Rattle.std.specs.Prelude.{◌≡◌, ◌<◌, ◌≤◌, ◌-◌, List, length, vec_capacity};
+ghost use Rattle.cip_constitution.specs.Noting.{branch_at};
 ghost use Rattle.cip_constitution.specs.Settling.{Setting};
 ghost use Rattle.cip_constitution.specs.Trials.{IsGrown, FollowsTo, NotesTo};
 ghost use Rattle.cip_constitution.specs.declared.pairs.Pair.{Pair as AnyPair};
@@ -24,11 +24,12 @@ fn branch_at(arena: &Arena, vertex: u32) -> u32
     }
 }
 
-// Asks for each pair by the branches of its vertices.
-fn ask(arena: &Arena, pairs: &[Pair], noted: &mut Vec<Asked>)
+/// Asks for each pair of vertices by their branches, in the first sphere. Nothing is decided yet.
+pub(crate) fn begin_noting(arena: &Arena, pairs: &[Pair], noted: &mut Vec<Asked>)
     requires some { 0 < length arena.now.nodes }
     requires room { length pairs.now ≤ vec_capacity noted.old }
-    ensures asked { noted.new.items ≡ map (asked_by (branch_at arena.now.nodes)) pairs.now }
+    ensures noted { (setting : Setting) → IsGrown setting arena.now → arena.now.sphere ≡ 1
+        → NotesTo setting arena.now 0 pairs.now noted.new.items }
     ensures room { vec_capacity noted.old ≤ vec_capacity noted.new }
 {
     noted.clear();
@@ -39,17 +40,6 @@ fn ask(arena: &Arena, pairs: &[Pair], noted: &mut Vec<Asked>)
             decision: None,
         });
     }
-}
-
-/// Asks for each pair of vertices by their branches, in the first sphere. Nothing is decided yet.
-pub(crate) fn begin_noting(arena: &Arena, pairs: &[Pair], noted: &mut Vec<Asked>)
-    requires some { 0 < length arena.now.nodes }
-    requires room { length pairs.now ≤ vec_capacity noted.old }
-    ensures noted { (setting : Setting) → IsGrown setting arena.now → arena.now.sphere ≡ 1
-        → NotesTo setting arena.now 0 pairs.now noted.new.items }
-    ensures room { vec_capacity noted.old ≤ vec_capacity noted.new }
-{
-    ask(arena, pairs, noted);
 }
 
 /// Notes what the branches' numbers tell in the last sphere.
