@@ -75,10 +75,10 @@ fn far_end<N: Nodes>(nodes: &N, node: u32, between: Option<u32>, far: u32) -> Op
 {
     match between {
         None => real_child(nodes, node, far),
-        Some(middle) => {
-            let next = real_child(nodes, node, middle)?;
-            real_child(nodes, next, far)
-        }
+        Some(middle) => match real_child(nodes, node, middle) {
+            Some(next) => real_child(nodes, next, far),
+            None => None,
+        },
     }
 }
 

@@ -76,7 +76,9 @@ impl Rows {
     fn add(&mut self, vertex: u32, place: usize) -> Result<(), AllocError>
         ensures { OnOk result (AreAdded (λ other. vertex == other) place self.old self.new) }
     {
-        self.reach(vertex)?;
+        let Ok(()) = self.reach(vertex) else {
+            return Err(AllocError);
+        };
         self.push(vertex, place)
     }
 }

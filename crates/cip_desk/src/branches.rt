@@ -160,7 +160,9 @@ pub fn take_noted(
     ensures standing { OnOk result (branches.new ≡ both_as (by_vertices work.now.pairs work.now.noted)) }
     ensures kept { OnOk result (kept.new.items ≡ by_vertices work.now.pairs work.now.noted) }
 {
-    name(work.pairs(), work.noted(), kept)?;
+    let Ok(()) = name(work.pairs(), work.noted(), kept) else {
+        return Err(AllocError);
+    };
     branches.take_named(kept)
 }
 

@@ -156,13 +156,19 @@ impl OpenLooks {
     }
 }
 
-// Its ranks are let go by a call: written out here, column by column, they cost more to prove.
+// What it has else is let go by calls: written out here, column by column, it costs more to prove.
 fn branches_of(look: OpenLook) -> Branches {
     let OpenLook {
+        ligands,
+        tops,
+        pairs,
         branches,
         ranks,
         ..
     } = look;
+    drop(ligands);
+    drop(tops);
+    drop(pairs);
     drop(ranks);
     branches
 }

@@ -74,24 +74,6 @@ fn decide_before_readings<M: Marked>(
     take_marked(branches, marks, Rule::R3, asked) || take_marked(branches, marks, Rule::R4a, asked)
 }
 
-// Rule 4b.
-fn decide_by_readings<M: Marked>(
-    branches: &Branches,
-    readings: &mut Readings,
-    marks: &M,
-    asked: &mut [Asked],
-) -> bool
-    requires followed { AreFollowed branches.now }
-    requires keyed { AreKeyed (length (M.marks marks.now)) branches.now.layers.kin }
-    requires room { length branches.now.layers.kin.ups ≤ readings.old.bound }
-    ensures decided { DecidesOn (M.marks marks.now) R4b R4c branches.now asked.old branches.now asked.new }
-    ensures all { result ≡ list_all is_decided asked.new }
-    ensures bound { readings.new.bound ≡ readings.old.bound }
-{
-    take_readings(branches, readings, marks, asked);
-    are_decided(asked)
-}
-
 // Rules 4b and 4c.
 fn decide_from_readings<M: Marked>(
     branches: &mut Branches,
@@ -110,8 +92,8 @@ fn decide_from_readings<M: Marked>(
     ensures wanted { WantsNoMore branches.old branches.new }
     ensures bound { readings.new.bound ≡ readings.old.bound }
 {
-    decide_by_readings(branches, readings, marks, asked)
-        || take_marked(branches, marks, Rule::R4c, asked)
+    take_readings(branches, readings, marks, asked);
+    are_decided(asked) || take_marked(branches, marks, Rule::R4c, asked)
 }
 
 // All rules before the last one.

@@ -14,7 +14,7 @@ ghost use Rattle.cip_letters.specs.Asking.{AreWithin, is_decided, with_found};
 ghost use Rattle.cip_ligands.specs.Deciding.{AreDecidedBy};
 ghost use Rattle.cip_ligands.specs.Marked.{AreMarksOf};
 ghost use Rattle.cip_ligands.specs.Orders.{decided_by};
-ghost use Rattle.cip_ligands.specs.Readings.{twin_of, side_of, is_second, s_higher, base_of, reading_of, read_as, between};
+ghost use Rattle.cip_ligands.specs.Readings.{twin_of, side_of, s_higher, base_of, reading_of, read_as, between};
 ghost use Rattle.cip_ligands.specs.Readings.{reading_key, reading_keys, AreTwinsAside, ComparesReadings, TakesReadings};
 ghost use Rattle.cip_ligands.specs.Taking.{TakesRule};
 
@@ -194,21 +194,19 @@ fn ask_sides(branches: &Branches, sides: &mut Column<Asked>)
     }
 }
 
-// Whether the second of the two readings that a pair asks about is the higher one.
-fn is_second(one: Asked) -> bool
-    ensures { result ≡ is_second one.decision }
-{
-    match one.decision {
-        Some(found) => found.side == Ordering::Less,
-        None => false,
-    }
-}
-
 // Whether the reading with S is the higher one of a branch.
 fn is_s_higher(sides: &[Asked], branch: u32) -> bool
     ensures { result ≡ has_flag (s_higher sides.now) branch }
 {
-    (branch as usize) < sides.len() && is_second(sides[branch as usize])
+    match sides.get(branch as usize) {
+        Some(
+            Asked {
+                decision: Some(found),
+                ..
+            },
+        ) => found.side == Ordering::Less,
+        _ => false,
+    }
 }
 
 // The lower or the higher reading of a branch.
