@@ -17,7 +17,7 @@ use crate::units_at::UnitsAt;
 use crate::viewer::Viewer;
 use cip_digraph::Nodes;
 use cip_letters::{Turns, named};
-use cip_mol::{Descriptor, Geometry, Unit};
+use cip_mol::{Descriptor, Geometry};
 use std::alloc::{AllocError, Global};
 
 // A unit by its place in the record's units, at a vertex where it ends.
@@ -26,15 +26,6 @@ struct UnitHere<'a> {
     units: &'a UnitsAt<'a>,
     place: usize,
     vertex: u32,
-}
-
-impl<'a> UnitHere<'a> {
-    fn unit(&self) -> &Unit
-        requires { self.now.place < length self.now.units.now }
-        ensures { result.now ≡ unit_at self.now.units.now self.now.place }
-    {
-        self.units.unit(self.place)
-    }
 }
 
 // Keeps the turns of a unit at a node.
@@ -74,7 +65,7 @@ fn turns_here<N: Nodes, V: Viewer>(
     match kept.of(inner.from(), here.place) {
         Some(turn) => Ok(Some(turn.turns)),
         None => {
-            let ends = here.unit().site.ends();
+            let ends = here.units.unit(here.place).site.ends();
             let Ok(found) = unit_turns(alloc, inner, viewer, here.vertex, &ends) else {
                 return Err(AllocError);
             };
@@ -106,7 +97,7 @@ fn unit_letter<N: Nodes, V: Viewer>(
     ensures letter { IfOk result (IsUnitLetter inner.now inner.now.from
         (unit_at here.now.units.now here.now.place)) }
 {
-    let unit = here.unit();
+    let unit = here.units.unit(here.place);
     match unit.geometry {
         Geometry::Unknown(_) => Ok(None),
         Geometry::Known(sense) => {

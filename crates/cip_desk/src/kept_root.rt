@@ -77,14 +77,13 @@ fn are_same(ligands: &[Ligand], others: &[Ligand]) -> bool
     let mut rest = ligands;
     let mut more = others;
     while let [one, behind @ ..] = rest {
-        let [other, later @ ..] = more else {
-            return false;
-        };
-        if !is_same(*one, *other) {
-            return false;
+        match more {
+            [other, later @ ..] if is_same(*one, *other) => {
+                rest = behind;
+                more = later;
+            }
+            _ => return false,
         }
-        rest = behind;
-        more = later;
     }
     more.is_empty()
 }

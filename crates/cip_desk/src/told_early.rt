@@ -25,7 +25,9 @@ pub fn rank_early(
 {
     let told = early.tell(alloc, rooted);
     if let Ok(true) = told {
-        branches.take_named(early.noted())?;
+        let Ok(()) = branches.take_named(early.noted()) else {
+            return Err(AllocError);
+        };
     }
     told
 }

@@ -211,7 +211,9 @@ pub fn rank_open(
     ensures turns { HaveTurns rooted.now.setting.now rooted.now.arena.now tables.new }
     ensures aside { tables.new.aside ≡ tables.old.aside }
 {
-    find_marks(alloc, rooted, work, tables)?;
+    let Ok(()) = find_marks(alloc, rooted, work, tables) else {
+        return Err(AllocError);
+    };
     branches.configure(work, &mut tables.readings, &tables.marks)
 }
 
