@@ -1,5 +1,6 @@
-use Rattle.std.proofs.Common.{sym, subst, rules, arith}
+use Rattle.std.proofs.Common.{sym, subst, arith}
 use Rattle.std.proofs.lemmas.Grind.{common_steps}
+use Rattle.std.proofs.lemmas.List.Elements.{All-nil}
 use Rattle.cip_aux.specs.Sights.{sight_of}
 use Rattle.cip_inside.specs.OpenLooks.{AreOpen}
 use Rattle.cip_inside.specs.Room.{Room}
@@ -13,7 +14,7 @@ returns-then-is_costly-clause-turns c =
     let room = c.requires.room.sights in (
       grind (arith, common_steps),
       subst (λ (looks : Room). AreOpen looks.bound sight looks.looks) (sym c.begin-then-is_costly.ensures)
-          (record { room = omega (arith, fits, room); each = search rules }),
+          (record { room = omega (arith, fits, room); each = All-nil _ }),
     )
 
 pub returns-else-is_costly-clause-turns : goal.returns-else-is_costly-clause-turns
@@ -23,5 +24,5 @@ returns-else-is_costly-clause-turns c =
     let room = c.requires.room.sights in (
       grind (arith, common_steps),
       subst (λ (looks : Room). AreOpen looks.bound sight looks.looks) (sym c.begin-else-is_costly.ensures)
-          (record { room = omega (arith, fits, room); each = search rules }),
+          (record { room = omega (arith, fits, room); each = All-nil _ }),
     )
