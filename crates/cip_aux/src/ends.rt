@@ -16,7 +16,7 @@ use crate::neighbours::{ligands_at, real_child};
 use crate::viewer::{FoundTurns, Viewer};
 use cip_digraph::Nodes;
 use cip_letters::both;
-use cip_mol::{End, Ends, Ligands, TwoEnds};
+use cip_mol::{Ends, Ligands, TwoEnds};
 use std::alloc::{AllocError, Global};
 
 // None, as the digraph is.
@@ -60,8 +60,12 @@ fn turns_at<N: Nodes, V: Viewer>(
     ensures turns { IfOk result (λ found.
         AreRootTurns inner.now node found.by_constitution ligands.now found.turns) }
 {
-    let numbers = ligands_at(alloc, inner.whole().nodes(), node, ligands)?;
-    viewer.look(alloc, inner, node, numbers.as_slice())
+    let Ok(numbers) = ligands_at(alloc, inner.whole().nodes(), node, ligands) else {
+        return Err(AllocError);
+    };
+    let found = viewer.look(alloc, inner, node, numbers.as_slice());
+    drop(numbers);
+    found
 }
 
 // The node of a unit's other end, where the rest of the unit follows below a node.
@@ -71,10 +75,10 @@ fn far_end<N: Nodes>(nodes: &N, node: u32, between: Option<u32>, far: u32) -> Op
 {
     match between {
         None => real_child(nodes, node, far),
-        Some(middle) => {
-            let next = real_child(nodes, node, middle)?;
-            real_child(nodes, next, far)
-        }
+        Some(middle) => match real_child(nodes, node, middle) {
+            Some(next) => real_child(nodes, next, far),
+            None => None,
+        },
     }
 }
 
@@ -98,12 +102,17 @@ fn ends_turns<N: Nodes, V: Viewer>(
     let Some(other) = far_end(inner.whole().nodes(), node, ends.between, ends.far.at) else {
         return Ok(no_turns());
     };
-    let one = turns_at(alloc, inner, viewer, node, ends.near.ligands)?;
+    let Ok(one) = turns_at(alloc, inner, viewer, node, ends.near.ligands) else {
+        return Err(AllocError);
+    };
     if one.turns.is_none() {
-        return Ok(one);
+        Ok(one)
+    } else {
+        let Ok(two) = turns_at(alloc, inner, viewer, other, ends.far.ligands) else {
+            return Err(AllocError);
+        };
+        Ok(both_found(one, two))
     }
-    let two = turns_at(alloc, inner, viewer, other, ends.far.ligands)?;
-    Ok(both_found(one, two))
 }
 
 // The turns of a unit with two ends, where a vertex is one of them: that end is the nearer one.
@@ -134,27 +143,6 @@ fn two_ends<N: Nodes, V: Viewer>(
     }
 }
 
-fn one_end<N: Nodes, V: Viewer>(
-    alloc: Global,
-    inner: &Inner<'_, N>,
-    viewer: &mut V,
-    vertex: u32,
-    end: &End<'_>,
-) -> Result<FoundTurns, AllocError>
-    requires ready { Ready inner.now inner.now.from }
-    requires stands { V.stands viewer.old inner.now.sight }
-    ensures room { V.room viewer.new ≡ V.room viewer.old }
-    ensures stands { V.stands viewer.new inner.now.sight }
-    ensures turns { IfOk result (λ found. AreEndTurns inner.now inner.now.from found.by_constitution []
-        (nearer_first vertex (as_end end.now ∷ [])) found.turns) }
-{
-    if end.at == vertex {
-        turns_at(alloc, inner, viewer, inner.from(), end.ligands)
-    } else {
-        Ok(no_turns())
-    }
-}
-
 /// The turns of a unit at the nearer of its ends, seen from the node, whose vertex this is.
 pub fn unit_turns<N: Nodes, V: Viewer>(
     alloc: Global,
@@ -173,7 +161,13 @@ pub fn unit_turns<N: Nodes, V: Viewer>(
         (between_in ends.now) (nearer_first vertex (ends_in ends.now)) found.turns) }
 {
     match ends {
-        Ends::One(end) => one_end(alloc, inner, viewer, vertex, end),
+        Ends::One(end) => {
+            if end.at == vertex {
+                turns_at(alloc, inner, viewer, inner.from(), end.ligands)
+            } else {
+                Ok(no_turns())
+            }
+        }
         Ends::Two(_, two) => two_ends(alloc, inner, viewer, vertex, two),
     }
 }

@@ -56,9 +56,10 @@ fn mark_of<N: Nodes, V: Viewer>(
         return Ok(None);
     };
     if node == 0 {
-        return Ok(None);
+        Ok(None)
+    } else {
+        first_letter(alloc, inner, viewer, vertex, units, kept)
     }
-    first_letter(alloc, inner, viewer, vertex, units, kept)
 }
 
 /// The units of a record, and at which nodes their descriptors are wanted.
@@ -111,11 +112,12 @@ fn wanted_mark<N: Nodes, V: Viewer>(
         (node_mark (sight_of whole.now) wanted.now.units.now (node_at (sight_of whole.now).nodes behind.now.node))
         None) }
 {
-    if !wanted.is_at(behind.node) {
-        return Ok(None);
+    if wanted.is_at(behind.node) {
+        let inner = Inner::new(whole, behind.node, behind.marks);
+        mark_of(alloc, &inner, viewer, wanted.units, kept)
+    } else {
+        Ok(None)
     }
-    let inner = Inner::new(whole, behind.node, behind.marks);
-    mark_of(alloc, &inner, viewer, wanted.units, kept)
 }
 
 // No descriptor at each of so many nodes.
@@ -160,7 +162,9 @@ pub fn auxiliaries<N: Nodes, V: Viewer>(
             node,
             marks: &*marks,
         };
-        let mark = wanted_mark(alloc, whole, viewer, wanted, &behind, kept)?;
+        let Ok(mark) = wanted_mark(alloc, whole, viewer, wanted, &behind, kept) else {
+            return Err(AllocError);
+        };
         marks.set(node, mark);
     }
     Ok(())

@@ -37,9 +37,10 @@ impl KeptTurns {
     pub fn reserve(alloc: Global, bound: u32) -> Result<KeptTurns, AllocError>
         ensures { IfOk result (λ kept. kept ≡ record { room = bound; items = [] }) }
     {
-        Ok(KeptTurns {
-            turns: Column::reserve(alloc, bound)?,
-        })
+        let Ok(turns) = Column::reserve(alloc, bound) else {
+            return Err(AllocError);
+        };
+        Ok(KeptTurns { turns })
     }
 
     /// No entries: nothing is kept, nor will be.
@@ -61,11 +62,9 @@ impl KeptTurns {
     pub fn of(&self, node: u32, place: usize) -> Option<KeptTurn>
         ensures { result ≡ kept_at self.now.items node place }
     {
-        let turn = (*self.turns.as_slice().get(node as usize)?)?;
-        if turn.place == place {
-            Some(turn)
-        } else {
-            None
+        match self.turns.as_slice().get(node as usize) {
+            Some(Some(turn)) if turn.place == place => Some(*turn),
+            _ => None,
         }
     }
 

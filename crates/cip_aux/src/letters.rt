@@ -17,7 +17,7 @@ use crate::units_at::UnitsAt;
 use crate::viewer::Viewer;
 use cip_digraph::Nodes;
 use cip_letters::{Turns, named};
-use cip_mol::{Descriptor, Geometry, Unit};
+use cip_mol::{Descriptor, Geometry};
 use std::alloc::{AllocError, Global};
 
 // A unit by its place in the record's units, at a vertex where it ends.
@@ -26,15 +26,6 @@ struct UnitHere<'a> {
     units: &'a UnitsAt<'a>,
     place: usize,
     vertex: u32,
-}
-
-impl<'a> UnitHere<'a> {
-    fn unit(&self) -> &Unit
-        requires { self.now.place < length self.now.units.now }
-        ensures { result.now ≡ unit_at self.now.units.now self.now.place }
-    {
-        self.units.unit(self.place)
-    }
 }
 
 // Keeps the turns of a unit at a node.
@@ -49,37 +40,7 @@ fn keep(kept: &mut KeptTurns, node: u32, place: usize, turns: Option<Turns>)
     }
 }
 
-// The turns of a unit, seen from the node. What constitution told is kept.
-fn seen_turns<N: Nodes, V: Viewer>(
-    alloc: Global,
-    inner: &Inner<'_, N>,
-    viewer: &mut V,
-    here: &UnitHere<'_>,
-    kept: &mut KeptTurns,
-) -> Result<Option<Turns>, AllocError>
-    requires ready { Ready inner.now inner.now.from }
-    requires vertex { here.now.vertex ≡ (node_at inner.now.sight.nodes inner.now.from).vertex }
-    requires low { here.now.place < length here.now.units.now }
-    requires joined { EndsJoin inner.now.sight.graph (unit_at here.now.units.now here.now.place).site }
-    requires stands { V.stands viewer.old inner.now.sight }
-    requires kept { AreKept inner.now.sight (sites_in here.now.units.now) kept.old.items }
-    ensures room { V.room viewer.new ≡ V.room viewer.old }
-    ensures stands { V.stands viewer.new inner.now.sight }
-    ensures kept { AreKept inner.now.sight (sites_in here.now.units.now) kept.new.items }
-    ensures kept_room { kept.new.room ≡ kept.old.room }
-    ensures turns { IfOk result (AreEndTurns inner.now inner.now.from false
-        (between_of (unit_at here.now.units.now here.now.place).site)
-        (nearer_first here.now.vertex (ends_of (unit_at here.now.units.now here.now.place).site))) }
-{
-    let ends = here.unit().site.ends();
-    let found = unit_turns(alloc, inner, viewer, here.vertex, &ends)?;
-    if found.by_constitution {
-        keep(kept, inner.from(), here.place, found.turns);
-    }
-    Ok(found.turns)
-}
-
-// The turns of a unit at the node: those that are kept, or else as they are seen.
+// The turns of a unit at the node: those that are kept, or else as they are seen. What constitution told is kept.
 fn turns_here<N: Nodes, V: Viewer>(
     alloc: Global,
     inner: &Inner<'_, N>,
@@ -103,7 +64,16 @@ fn turns_here<N: Nodes, V: Viewer>(
 {
     match kept.of(inner.from(), here.place) {
         Some(turn) => Ok(Some(turn.turns)),
-        None => seen_turns(alloc, inner, viewer, here, kept),
+        None => {
+            let ends = here.units.unit(here.place).site.ends();
+            let Ok(found) = unit_turns(alloc, inner, viewer, here.vertex, &ends) else {
+                return Err(AllocError);
+            };
+            if found.by_constitution {
+                keep(kept, inner.from(), here.place, found.turns);
+            }
+            Ok(found.turns)
+        }
     }
 }
 
@@ -127,11 +97,13 @@ fn unit_letter<N: Nodes, V: Viewer>(
     ensures letter { IfOk result (IsUnitLetter inner.now inner.now.from
         (unit_at here.now.units.now here.now.place)) }
 {
-    let unit = here.unit();
+    let unit = here.units.unit(here.place);
     match unit.geometry {
         Geometry::Unknown(_) => Ok(None),
         Geometry::Known(sense) => {
-            let turns = turns_here(alloc, inner, viewer, here, kept)?;
+            let Ok(turns) = turns_here(alloc, inner, viewer, here, kept) else {
+                return Err(AllocError);
+            };
             Ok(named(&unit.site.ends(), sense, turns))
         }
     }
@@ -165,10 +137,11 @@ pub fn first_letter<N: Nodes, V: Viewer>(
             place: *place,
             vertex,
         };
-        if let Some(letter) = unit_letter(alloc, inner, viewer, &here, kept)? {
-            return Ok(Some(letter));
+        match unit_letter(alloc, inner, viewer, &here, kept) {
+            Ok(None) => rest = others,
+            Ok(Some(letter)) => return Ok(Some(letter)),
+            Err(error) => return Err(error),
         }
-        rest = others;
     }
     Ok(None)
 }

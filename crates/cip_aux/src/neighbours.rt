@@ -69,11 +69,9 @@ fn ligand_parent<N: Nodes>(nodes: &N, node: u32, vertex: u32) -> Option<u32>
     ensures { result ≡ first_where (λ number. stands_for vertex (shape_at (N.nodes nodes.now) number))
         (parent_of (parents_of (N.nodes nodes.now)) node) }
 {
-    let parent = nodes.table().parent(node)?;
-    if is_ligand(nodes, parent, vertex) {
-        Some(parent)
-    } else {
-        None
+    match nodes.table().parent(node) {
+        Some(parent) if is_ligand(nodes, parent, vertex) => Some(parent),
+        _ => None,
     }
 }
 
@@ -117,7 +115,9 @@ pub fn ligands_at<N: Nodes>(
 {
     let mut numbers = SmallVec::new(alloc);
     for place in ligands.as_slice() {
-        numbers.push(ligand(nodes, node, *place))?;
+        let Ok(()) = numbers.push(ligand(nodes, node, *place)) else {
+            return Err(AllocError);
+        };
     }
     Ok(numbers)
 }

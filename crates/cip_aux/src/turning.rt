@@ -32,13 +32,14 @@ fn is_turned(pairs: &[Asked]) -> bool
 fn turns_of(pairs: &[Asked], turned: &[Asked]) -> Option<Turns>
     ensures { result ≡ turns_of (map side_at pairs.now) (map side_at turned.now) }
 {
-    if !are_decided(pairs) {
-        return None;
+    if are_decided(pairs) {
+        Some(Turns {
+            natural: is_turned(pairs),
+            turned: is_turned(turned),
+        })
+    } else {
+        None
     }
-    Some(Turns {
-        natural: is_turned(pairs),
-        turned: is_turned(turned),
-    })
 }
 
 impl FoundTurns {

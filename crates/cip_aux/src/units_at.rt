@@ -25,14 +25,6 @@ impl Model for Rows {
 }
 
 impl Rows {
-    fn new(alloc: Global) -> Rows
-        ensures { result ≡ [] }
-    {
-        Rows {
-            rows: Vec::new(alloc),
-        }
-    }
-
     // There are none at a number beyond the table.
     fn of(&self, vertex: u32) -> &[usize]
         ensures { result.now ≡ row self.now vertex }
@@ -63,7 +55,9 @@ impl Rows {
         ensures same { OnOk result ((other : ℕ) → row self.new other ≡ row self.old other) }
     {
         while self.len() <= vertex as usize {
-            self.push_empty()?;
+            let Ok(()) = self.push_empty() else {
+                return Err(AllocError);
+            };
         }
         Ok(())
     }
@@ -72,7 +66,9 @@ impl Rows {
         requires { vertex < length self.old }
         ensures { OnOk result (self.new ≡ with_last vertex place self.old) }
     {
-        self.rows[vertex as usize].push(place)?;
+        let Ok(()) = self.rows[vertex as usize].push(place) else {
+            return Err(AllocError);
+        };
         Ok(())
     }
 
@@ -80,7 +76,9 @@ impl Rows {
     fn add(&mut self, vertex: u32, place: usize) -> Result<(), AllocError>
         ensures { OnOk result (AreAdded (λ other. vertex == other) place self.old self.new) }
     {
-        self.reach(vertex)?;
+        let Ok(()) = self.reach(vertex) else {
+            return Err(AllocError);
+        };
         self.push(vertex, place)
     }
 }
@@ -91,7 +89,9 @@ fn add_site(rows: &mut Rows, site: &Site, place: usize) -> Result<(), AllocError
     match site {
         Site::Centre { at, .. } => rows.add(*at, place),
         Site::Bond { a, b, .. } | Site::Axis { a, b, .. } => {
-            rows.add(*a, place)?;
+            let Ok(()) = rows.add(*a, place) else {
+                return Err(AllocError);
+            };
             if a == b { Ok(()) } else { rows.add(*b, place) }
         }
     }
@@ -109,9 +109,13 @@ fn add_unit(rows: &mut Rows, unit: &Unit, place: usize) -> Result<(), AllocError
 fn rows_of(alloc: Global, units: &[Unit]) -> Result<Rows, AllocError>
     ensures { IfOk result (AreRows units.now units.now) }
 {
-    let mut rows = Rows::new(alloc);
+    let mut rows = Rows {
+        rows: Vec::new(alloc),
+    };
     for (place, unit) in units.iter().enumerate() {
-        add_unit(&mut rows, unit, place)?;
+        let Ok(()) = add_unit(&mut rows, unit, place) else {
+            return Err(AllocError);
+        };
     }
     Ok(rows)
 }
@@ -140,7 +144,9 @@ impl<'a> UnitsAt<'a> {
     pub fn new(alloc: Global, units: &'a [Unit]) -> Result<UnitsAt<'a>, AllocError>
         ensures { IfOk result (λ at. at ≡ units.now) }
     {
-        let rows = rows_of(alloc, units)?;
+        let Ok(rows) = rows_of(alloc, units) else {
+            return Err(AllocError);
+        };
         Ok(UnitsAt { units, rows })
     }
 

@@ -29,13 +29,9 @@ fn are_alike(trial: &Trial<'_, '_>, under: &mut Vec<bool>, a: &Ligand, b: &Ligan
     ensures alike { result ≡ are_alike_in trial.now a.now b.now }
     ensures room { vec_capacity under.old ≤ vec_capacity under.new }
 {
-    if part(trial.arena, trial.branches, a, b) {
-        return false;
-    }
-    if !is_closed_at(trial, under, a) {
-        return false;
-    }
-    is_closed_at(trial, under, b)
+    !part(trial.arena, trial.branches, a, b)
+        && is_closed_at(trial, under, a)
+        && is_closed_at(trial, under, b)
 }
 
 fn alike_from(

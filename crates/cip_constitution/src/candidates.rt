@@ -17,16 +17,10 @@ fn are_candidates(trial: &Trial<'_, '_>, under: &mut Vec<bool>, a: &Ligand, b: &
     ensures anew { result ≡ false → AreNotAnew trial.now a.now b.now }
     ensures room { vec_capacity under.old ≤ vec_capacity under.new }
 {
-    if part(trial.arena, trial.branches, a, b) {
-        return false;
-    }
-    if !one_may_end(trial, a, b) {
-        return false;
-    }
-    if !is_closed_at(trial, under, a) {
-        return false;
-    }
-    is_closed_at(trial, under, b)
+    !part(trial.arena, trial.branches, a, b)
+        && one_may_end(trial, a, b)
+        && is_closed_at(trial, under, a)
+        && is_closed_at(trial, under, b)
 }
 
 fn has_candidate_from(

@@ -27,22 +27,15 @@ fn is_atom_of_unit(arena: &Arena, units: &MarkedUnits<'_>, node: u32) -> bool
     }
 }
 
-// Whether a node keeps its branch open: an atom of a unit, or a node of the last sphere that has children.
-fn keeps_it_open(arena: &Arena, setting: &Setting<'_, '_>, node: u32) -> bool
-    requires holds { Holds setting.now.graph.now setting.now.positions.now arena.now }
-    requires within { node < length arena.now.nodes }
-    ensures { result ≡ is_open_in (told setting.now) arena.now node }
-{
-    is_atom_of_unit(arena, setting.units, node)
-        || (node >= arena.first() && arena.child_count(setting.graph, node) > 0)
-}
-
+// Whether a node of a branch keeps it open: an atom of a unit, or a node of the last sphere that has children.
 fn is_open(arena: &Arena, setting: &Setting<'_, '_>, node: u32, is_below: bool) -> bool
     requires holds { Holds setting.now.graph.now setting.now.positions.now arena.now }
     requires within { node < length arena.now.nodes }
     ensures { result ≡ (is_below && is_open_in (told setting.now) arena.now node) }
 {
-    is_below && keeps_it_open(arena, setting, node)
+    is_below
+        && (is_atom_of_unit(arena, setting.units, node)
+            || (node >= arena.first() && arena.child_count(setting.graph, node) > 0))
 }
 
 fn is_under_by(table: &Table, under: &[bool], top: u32, node: u32) -> bool

@@ -41,19 +41,20 @@ fn may_end_here(trial: &Trial<'_, '_>, branch: u32) -> bool
     requires keyed { HasKeys trial.now }
     ensures { result ≡ false → IsElsewhere trial.now branch }
 {
-    if !trial.branches.is_wanted(branch) {
-        return true;
-    }
-    let mut found = false;
-    for place in trial.branches.first()..trial.branches.len() {
-        if trial.branches.branch(place) == branch {
-            if goes_on(trial, place) {
-                return false;
+    if trial.branches.is_wanted(branch) {
+        let mut found = false;
+        for place in trial.branches.first()..trial.branches.len() {
+            if trial.branches.branch(place) == branch {
+                if goes_on(trial, place) {
+                    return false;
+                }
+                found = true;
             }
-            found = true;
         }
+        found
+    } else {
+        true
     }
-    found
 }
 
 fn ligand_may_end(trial: &Trial<'_, '_>, ligand: &Ligand) -> bool

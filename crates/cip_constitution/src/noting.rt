@@ -1,7 +1,6 @@
 // What Rule 1a decides between the branches of a root's ligands, noted at each sphere.
-ghost use Rattle.std.specs.Prelude.{◌≡◌, ◌<◌, ◌≤◌, ◌-◌, List, length, map, vec_capacity};
-ghost use Rattle.cip_constitution.specs.Noting.{branch_at, asked_by};
-ghost use Rattle.cip_constitution.specs.Standing.{number_at};
+ghost use Rattle.std.specs.Prelude.{◌≡◌, ◌<◌, ◌≤◌, ◌-◌, List, length, vec_capacity};
+ghost use Rattle.cip_constitution.specs.Noting.{branch_at};
 ghost use Rattle.cip_constitution.specs.Settling.{Setting};
 ghost use Rattle.cip_constitution.specs.Trials.{IsGrown, FollowsTo, NotesTo};
 ghost use Rattle.cip_constitution.specs.declared.pairs.Pair.{Pair as AnyPair};
@@ -10,44 +9,18 @@ use crate::pairs::Pair;
 use crate::standing::number_of;
 use cip_arena::Arena;
 use cip_branches::Branches;
-use cip_digraph::Nodes;
 use cip_letters::Asked;
 use cip_ligands::note;
 use cip_mol::{Ligand, Rule};
 
-/// The child of the root that stands for a vertex; the root where there is none.
-pub fn number_at<N: Nodes>(nodes: &N, vertex: u32) -> u32
-    requires { 0 < length (N.nodes nodes.now) }
-    ensures number { result ≡ number_at (N.nodes nodes.now) vertex }
-    ensures within { result < length (N.nodes nodes.now) }
-{
-    match number_of(nodes, &Ligand::Vertex(vertex)) {
-        Some(number) => number,
-        None => 0,
-    }
-}
-
+// The branch of the root's child that stands for a vertex.
 fn branch_at(arena: &Arena, vertex: u32) -> u32
     requires { 0 < length arena.now.nodes }
     ensures { result ≡ branch_at arena.now.nodes vertex }
 {
-    number_at(arena, vertex).saturating_sub(1)
-}
-
-// Asks for each pair by the branches of its vertices.
-fn ask(arena: &Arena, pairs: &[Pair], noted: &mut Vec<Asked>)
-    requires some { 0 < length arena.now.nodes }
-    requires room { length pairs.now ≤ vec_capacity noted.old }
-    ensures asked { noted.new.items ≡ map (asked_by (branch_at arena.now.nodes)) pairs.now }
-    ensures room { vec_capacity noted.old ≤ vec_capacity noted.new }
-{
-    noted.clear();
-    for pair in pairs {
-        noted.push_reserved(Asked {
-            first: branch_at(arena, pair.a),
-            second: branch_at(arena, pair.b),
-            decision: None,
-        });
+    match number_of(arena, &Ligand::Vertex(vertex)) {
+        Some(number) => number.saturating_sub(1),
+        None => 0,
     }
 }
 
@@ -59,7 +32,14 @@ pub(crate) fn begin_noting(arena: &Arena, pairs: &[Pair], noted: &mut Vec<Asked>
         → NotesTo setting arena.now 0 pairs.now noted.new.items }
     ensures room { vec_capacity noted.old ≤ vec_capacity noted.new }
 {
-    ask(arena, pairs, noted);
+    noted.clear();
+    for pair in pairs {
+        noted.push_reserved(Asked {
+            first: branch_at(arena, pair.a),
+            second: branch_at(arena, pair.b),
+            decision: None,
+        });
+    }
 }
 
 /// Notes what the branches' numbers tell in the last sphere.

@@ -1,6 +1,6 @@
 // Ligands tried by the numbers of their branches.
-ghost use Rattle.std.specs.Prelude.{◌≡◌, ◌<◌, ◌≤◌, ◌+◌, ◌-◌, ◌^◌, ℕ, false, [], length};
-ghost use Rattle.std.specs.Prelude.{vec_capacity, IfOk};
+ghost use Rattle.std.specs.Prelude.{◌≡◌, ◌<◌, ◌≤◌, ◌-◌, ℕ, false, [], length};
+ghost use Rattle.std.specs.Prelude.{IfOk};
 ghost use Rattle.cip_branches.specs.Deciding.{no_branches};
 ghost use Rattle.cip_constitution.specs.Pairs.{pairs_of};
 ghost use Rattle.cip_constitution.specs.Settling.{Setting as AnySetting, differs, has_alike};
@@ -66,15 +66,21 @@ impl Work {
           noted = [];
         }) }
     {
-        let nodes = both_of(
-            Vec::with_capacity(alloc, bound as usize),
-            reserve_pairs(alloc),
+        // all nodes but the root may have a place
+        let places = bound.saturating_sub(1);
+        let asked = both_of(
+            Vec::with_capacity(alloc, MOST_PAIRS),
+            Vec::with_capacity(alloc, MOST_PAIRS),
         );
-        let places = both_of(
-            reserve_branches(alloc, bound),
-            SavedRanks::reserve(alloc, place_count(bound)),
+        let followed = both_of(
+            Branches::reserve(alloc, places),
+            Column::reserve(alloc, bound),
         );
-        let ((under, (pairs, noted)), ((branches, tops), saved)) = both_of(nodes, places)?;
+        let nodes = both_of(Vec::with_capacity(alloc, bound as usize), asked);
+        let places = both_of(followed, SavedRanks::reserve(alloc, places));
+        let Ok(((under, (pairs, noted)), ((branches, tops), saved))) = both_of(nodes, places) else {
+            return Err(AllocError);
+        };
         Ok(Work {
             bound,
             branches,
@@ -157,49 +163,20 @@ impl Work {
             };
             has_candidates(&trial, &mut self.under)
         };
-        if !found {
-            return false;
-        }
-        take_both(&mut self.branches, &mut self.saved, arena, setting.rules);
-        let alike = {
-            let trial = Trial {
-                arena: &*arena,
-                branches: &self.branches,
-                setting: *setting,
+        if found {
+            take_both(&mut self.branches, &mut self.saved, arena, setting.rules);
+            let alike = {
+                let trial = Trial {
+                    arena: &*arena,
+                    branches: &self.branches,
+                    setting: *setting,
+                };
+                alike_each(&trial, &mut self.under)
             };
-            alike_each(&trial, &mut self.under)
-        };
-        self.branches.restore(&self.saved);
-        alike
+            self.branches.restore(&self.saved);
+            alike
+        } else {
+            false
+        }
     }
-}
-
-// All nodes but the root may have a place.
-fn place_count(bound: u32) -> u32
-    ensures count { result ≡ bound - 1 }
-    ensures few { result + 1 < 2 ^ 32 }
-{
-    bound.saturating_sub(1)
-}
-
-// Each two of four ligands, and what is decided between them.
-fn reserve_pairs(alloc: Global) -> Result<(Vec<Pair>, Vec<Asked>), AllocError>
-    ensures pairs { IfOk result (λ both. (both.0.items ≡ []) × (6 ≤ vec_capacity both.0)) }
-    ensures noted { IfOk result (λ both. (both.1.items ≡ []) × (6 ≤ vec_capacity both.1)) }
-{
-    both_of(
-        Vec::with_capacity(alloc, MOST_PAIRS),
-        Vec::with_capacity(alloc, MOST_PAIRS),
-    )
-}
-
-// The branches of the root's children, and a column of these.
-fn reserve_branches(alloc: Global, bound: u32) -> Result<(Branches, Column<u32>), AllocError>
-    ensures branches { IfOk result (λ both. both.0 ≡ no_branches (bound - 1)) }
-    ensures tops { IfOk result (λ both. both.1.room ≡ bound) }
-{
-    both_of(
-        Branches::reserve(alloc, place_count(bound)),
-        Column::reserve(alloc, bound),
-    )
 }

@@ -93,33 +93,14 @@ fn rank_settled(
         Settled::Over => Ok(Found::Told(Ranking::Over)),
         Settled::Tied => Ok(Found::Told(Ranking::Tied)),
         Settled::Ordered => {
-            rank_ordered(rooted, work, tables, branches)?;
+            // what Rule 1a decides between them was noted while they were settled
+            let Ok(()) = take_noted(work, branches, &mut tables.aside.noted) else {
+                return Err(AllocError);
+            };
             Ok(Found::Told(Ranking::Known))
         }
         Settled::Whole => rank_whole(alloc, rooted, work, tables, branches),
     }
-}
-
-// Ranks the ligands of a root that all differ by Rule 1a: what it decides was noted while they were settled.
-fn rank_ordered(
-    rooted: &Rooted<'_, '_>,
-    work: &Work,
-    tables: &mut Tables,
-    branches: &mut Branches,
-) -> Result<(), AllocError>
-    requires rooted { IsRooted rooted.now.setting.now rooted.now.root rooted.now.ligands.now rooted.now.arena.now }
-    requires settled { SettledAs (settled_by rooted.now.setting.now rooted.now.ligands.now) rooted.now.arena.now
-        Settled.Ordered }
-    requires pairs { work.now.pairs ≡ pairs_of rooted.now.ligands.now }
-    requires noted { Notes rooted.now.setting.now.graph rooted.now.setting.now.positions rooted.now.arena.now.root
-        rooted.now.arena.now.bound rooted.now.arena.now.sphere work.now.pairs work.now.noted }
-    requires room { HasRoom rooted.now.arena.now.bound tables.old }
-    ensures told { OnOk result (StandsAnyway (kept_of rooted.now.setting.now rooted.now.root rooted.now.ligands.now)
-        rooted.now.arena.now.bound tables.new.aside.noted.items Known) }
-    ensures standing { OnOk result (branches.new ≡ both_as tables.new.aside.noted.items) }
-    ensures room { HasRoom rooted.now.arena.now.bound tables.new }
-{
-    take_noted(work, branches, &mut tables.aside.noted)
 }
 
 /// Ranks the ligands of a root by its digraph, as far as they need it.

@@ -22,10 +22,12 @@ impl Aside {
     pub fn reserve(alloc: Global, places: u32) -> Result<Aside, AllocError>
         ensures { IfOk result (λ aside. aside.ranks.room ≡ places) }
     {
-        let (ranks, noted) = both_of(
+        let Ok((ranks, noted)) = both_of(
             SavedRanks::reserve(alloc, places),
             Vec::with_capacity(alloc, MOST_PAIRS),
-        )?;
+        ) else {
+            return Err(AllocError);
+        };
         Ok(Aside { ranks, noted })
     }
 }

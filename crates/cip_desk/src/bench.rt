@@ -35,13 +35,20 @@ impl Bench {
         requires { nodes < 2 ^ 31 }
         ensures { IfOk result (IsReady nodes) }
     {
-        let growing = both_of(Arena::reserve(alloc, nodes), Work::reserve(alloc, nodes))?;
-        let ((arena, work), tables) = both(growing, Tables::reserve(alloc, nodes))?;
+        let Ok(growing) = both_of(Arena::reserve(alloc, nodes), Work::reserve(alloc, nodes)) else {
+            return Err(AllocError);
+        };
+        let Ok(((arena, work), tables)) = both(growing, Tables::reserve(alloc, nodes)) else {
+            return Err(AllocError);
+        };
         Ok(Bench {
             arena,
             work,
             tables,
-            memo: Memo::new(),
+            memo: Memo {
+                root: None,
+                found: None,
+            },
         })
     }
 }
@@ -59,10 +66,11 @@ fn keep(
         bench.old.arena bench.old.work bench.old.tables found }
     ensures { IsReady told.now.bound bench.new }
 {
-    if !is_costly(&bench.arena, told.setting, found) {
-        return Ok(());
+    if is_costly(&bench.arena, told.setting, found) {
+        bench.memo.keep(alloc, told, found)
+    } else {
+        Ok(())
     }
-    bench.memo.keep(alloc, told, found)
 }
 
 // Forgets what was kept, grows the digraph of a root and ranks its ligands.
@@ -82,8 +90,12 @@ fn rank_other<L: Ledger>(
         steps.old steps.new }
 {
     bench.memo.found = None;
-    let found = rank_anew(alloc, told, bench, branches, steps)?;
-    keep(alloc, told, found, bench)?;
+    let Ok(found) = rank_anew(alloc, told, bench, branches, steps) else {
+        return Err(AllocError);
+    };
+    let Ok(()) = keep(alloc, told, found, bench) else {
+        return Err(AllocError);
+    };
     Ok(found.ranking())
 }
 

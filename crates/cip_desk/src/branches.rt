@@ -46,7 +46,12 @@ impl Branches {
             Vec::with_capacity(alloc, MOST_PAIRS),
             Vec::with_capacity(alloc, MOST_PAIRS),
         );
-        let ((natural, turned), numbered) = both_of(named, Vec::with_capacity(alloc, MOST_PAIRS))?;
+        let Ok(((natural, turned), numbered)) = both_of(
+            named,
+            Vec::with_capacity(alloc, MOST_PAIRS),
+        ) else {
+            return Err(AllocError);
+        };
         Ok(Branches {
             natural,
             turned,
@@ -62,15 +67,6 @@ impl Branches {
     {
         self.both_ways = false;
         copy(noted, &mut self.natural)
-    }
-
-    /// Takes what was noted of pairs by their branches: it is the same with R first and with S first.
-    pub fn take(&mut self, pairs: &[Pair], noted: &[Asked]) -> Result<(), AllocError>
-        ensures natural { OnOk result (self.new.natural ≡ by_vertices pairs.now noted.now) }
-        ensures turned { OnOk result (self.new.turned ≡ by_vertices pairs.now noted.now) }
-    {
-        self.both_ways = false;
-        name(pairs, noted, &mut self.natural)
     }
 
     /// Takes pairs that constitution left open, as all rules decide between them, both ways, by the descriptors of
@@ -92,17 +88,14 @@ impl Branches {
         ensures readings { readings.new.bound ≡ readings.old.bound }
     {
         self.both_ways = true;
-        copy(work.noted(), &mut self.numbered)?;
+        let Ok(()) = copy(work.noted(), &mut self.numbered) else {
+            return Err(AllocError);
+        };
         work.configure(readings, marks, self.numbered.as_mut_slice());
-        name(work.pairs(), self.numbered.as_slice(), &mut self.turned)?;
+        let Ok(()) = name(work.pairs(), self.numbered.as_slice(), &mut self.turned) else {
+            return Err(AllocError);
+        };
         name(work.pairs(), work.noted(), &mut self.natural)
-    }
-
-    /// Copies what is decided with R first.
-    pub fn copy_natural(&self, noted: &mut Vec<Asked>) -> Result<(), AllocError>
-        ensures { OnOk result (noted.new.items ≡ self.now.natural) }
-    {
-        copy(&self.natural, noted)
     }
 
     /// How the branches at two neighbours stand.
@@ -110,9 +103,8 @@ impl Branches {
         ensures { result ≡ standing_of self.now r_first a b }
     {
         if a == b {
-            return None;
-        }
-        if r_first || !self.both_ways {
+            None
+        } else if r_first || !self.both_ways {
             found_of(&self.natural, a, b)
         } else {
             found_of(&self.turned, a, b)
@@ -146,11 +138,13 @@ fn name(pairs: &[Pair], noted: &[Asked], named: &mut Vec<Asked>) -> Result<(), A
         let [one, later @ ..] = found else {
             return Ok(());
         };
-        named.push(Asked {
+        let Ok(()) = named.push(Asked {
             first: pair.a,
             second: pair.b,
             decision: one.decision,
-        })?;
+        }) else {
+            return Err(AllocError);
+        };
         rest = others;
         found = later;
     }
@@ -166,8 +160,10 @@ pub fn take_noted(
     ensures standing { OnOk result (branches.new ≡ both_as (by_vertices work.now.pairs work.now.noted)) }
     ensures kept { OnOk result (kept.new.items ≡ by_vertices work.now.pairs work.now.noted) }
 {
-    branches.take(work.pairs(), work.noted())?;
-    branches.copy_natural(kept)
+    let Ok(()) = name(work.pairs(), work.noted(), kept) else {
+        return Err(AllocError);
+    };
+    branches.take_named(kept)
 }
 
 /// Makes a list the same as another one.
@@ -175,6 +171,5 @@ pub fn copy<T: Copy>(items: &[T], other: &mut Vec<T>) -> Result<(), AllocError>
     ensures { OnOk result (other.new.items ≡ items.now) }
 {
     other.clear();
-    other.extend_from_slice(items)?;
-    Ok(())
+    other.extend_from_slice(items)
 }

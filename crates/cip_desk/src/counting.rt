@@ -40,9 +40,10 @@ fn count_beyond(root: &Root<'_>, edge: &Edge) -> u64
 {
     let other = edge.other_end(root.at);
     if root.at == other {
-        return 0;
+        0
+    } else {
+        count_below(root, other, Some(root.at))
     }
-    count_below(root, other, Some(root.at))
 }
 
 /// Whether the digraph of a root has at most so many nodes up to its second sphere.

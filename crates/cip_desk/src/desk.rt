@@ -47,8 +47,12 @@ impl Digraphs for Desk {
     ghost standing = { λ desk. standing_of desk.standing };
 
     fn reserve(alloc: Global, nodes: u32) -> Result<Desk, AllocError> {
-        let telling = both_of(Branches::reserve(alloc), Early::reserve(alloc))?;
-        let ((branches, early), bench) = both(telling, Bench::reserve(alloc, nodes))?;
+        let Ok(telling) = both_of(Branches::reserve(alloc), Early::reserve(alloc)) else {
+            return Err(AllocError);
+        };
+        let Ok(((branches, early), bench)) = both(telling, Bench::reserve(alloc, nodes)) else {
+            return Err(AllocError);
+        };
         Ok(Desk {
             bound: nodes,
             early,
@@ -74,12 +78,15 @@ impl Digraphs for Desk {
             bound: self.bound,
         };
         self.last_is_kept = false;
-        if rank_early(alloc, &told, &mut self.early, &mut self.branches)? {
-            return Ok(Ranking::Known);
+        match rank_early(alloc, &told, &mut self.early, &mut self.branches) {
+            Ok(true) => Ok(Ranking::Known),
+            Ok(false) => {
+                let ranking = rank_late(alloc, &told, &mut self.bench, &mut self.branches, steps);
+                self.last_is_kept = self.bench.memo.found.is_some();
+                ranking
+            }
+            Err(error) => Err(error),
         }
-        let ranking = rank_late(alloc, &told, &mut self.bench, &mut self.branches, steps);
-        self.last_is_kept = self.bench.memo.found.is_some();
-        ranking
     }
 
     fn decide(&self, a: u32, b: u32, r_first: bool) -> Option<Decision> {

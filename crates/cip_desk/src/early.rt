@@ -1,8 +1,7 @@
 // Roots whose ligands two spheres tell apart.
-ghost use Rattle.std.specs.Prelude.{◌≡◌, ◌≤◌, [], IfOk, OnOk, Ok, true};
+ghost use Rattle.std.specs.Prelude.{◌≡◌, ◌≤◌, [], IfOk, Ok, true};
 ghost use Rattle.cip_label.specs.Fitting.{IsFit};
 ghost use Rattle.cip_label.specs.Settings.{IsProper};
-ghost use Rattle.cip_desk.specs.Branches.{answers_of, branches_of};
 ghost use Rattle.cip_desk.specs.ToldEarly.{is_told_early, noted_early};
 
 use crate::counting::are_few;
@@ -11,7 +10,7 @@ use crate::root::Root;
 use crate::shown::{Shown, show_all};
 use cip_label::Setting;
 use cip_letters::{Asked, are_decided};
-use cip_mol::{Ligand, Ligands};
+use cip_mol::Ligands;
 use cip_rank::both_of;
 use std::alloc::{AllocError, Global};
 use std::marker::Model;
@@ -53,10 +52,12 @@ impl Early {
     pub fn reserve(alloc: Global) -> Result<Early, AllocError>
         ensures { IfOk result (λ early. early ≡ []) }
     {
-        let (shown, noted) = both_of(
+        let Ok((shown, noted)) = both_of(
             Vec::with_capacity(alloc, MOST_LIGANDS),
             Vec::with_capacity(alloc, MOST_PAIRS),
-        )?;
+        ) else {
+            return Err(AllocError);
+        };
         Ok(Early { shown, noted })
     }
 
@@ -78,20 +79,18 @@ impl Early {
             positions: rooted.setting.positions(),
             at: rooted.root,
         };
-        if !are_few(&root, rooted.bound) {
-            return Ok(false);
+        if are_few(&root, rooted.bound) {
+            let ligands = rooted.ligands.as_slice();
+            let Ok(()) = show_all(alloc, &root, ligands, &mut self.shown) else {
+                return Err(AllocError);
+            };
+            let Ok(()) = note_each(&self.shown, &mut self.noted) else {
+                return Err(AllocError);
+            };
+            Ok(are_decided(&self.noted))
+        } else {
+            Ok(false)
         }
-        self.note(alloc, &root, rooted.ligands.as_slice())?;
-        Ok(are_decided(&self.noted))
-    }
-
-    // Notes what two spheres decide between each two ligands.
-    fn note(&mut self, alloc: Global, root: &Root<'_>, ligands: &[Ligand]) -> Result<(), AllocError>
-        ensures { OnOk result (self.new ≡ answers_of (branches_of root.now.graph.now root.now.positions.now
-            root.now.at ligands.now)) }
-    {
-        show_all(alloc, root, ligands, &mut self.shown)?;
-        note_each(&self.shown, &mut self.noted)
     }
 
     /// The vertices of each two ligands, with what is decided between them.

@@ -4,7 +4,6 @@ ghost use Rattle.cip_desk.specs.Keeping.{kept_of};
 
 use crate::early::RootedLigands;
 use cip_digraph::{Graph, Positions};
-use cip_label::Setting;
 use cip_mol::{Ligand, Ligands, copy_ligands};
 use cip_rank::{Rules, both_of};
 use std::alloc::{AllocError, Global};
@@ -25,10 +24,12 @@ impl KeptRoot {
         ensures { IfOk result (λ kept. kept ≡ kept_of told.now.setting.now told.now.root told.now.ligands.now) }
     {
         let setting = told.setting;
-        let (graph, positions) = both_of(
+        let Ok((graph, positions)) = both_of(
             setting.graph().copy(alloc),
             setting.positions().copy(alloc),
-        )?;
+        ) else {
+            return Err(AllocError);
+        };
         Ok(KeptRoot {
             rules: setting.rules(),
             graph,
@@ -42,17 +43,10 @@ impl KeptRoot {
     pub fn is_of(&self, told: &RootedLigands<'_, '_>) -> bool
         ensures { result ≡ true → self.now ≡ kept_of told.now.setting.now told.now.root told.now.ligands.now }
     {
+        let setting = told.setting;
         self.root == told.root
             && are_same(self.ligands.as_slice(), told.ligands.as_slice())
-            && self.is_in(told.setting)
-    }
-
-    fn is_in(&self, setting: &Setting<'_>) -> bool
-        ensures rules { result ≡ true → self.now.rules ≡ setting.now.rules }
-        ensures graph { result ≡ true → self.now.graph ≡ setting.now.graph }
-        ensures positions { result ≡ true → self.now.positions ≡ setting.now.positions }
-    {
-        is_same_wording(self.rules, setting.rules())
+            && is_same_wording(self.rules, setting.rules())
             && self.graph.is_same(setting.graph())
             && self.positions.is_same(setting.positions())
     }
@@ -62,10 +56,8 @@ fn is_same_wording(one: Rules, other: Rules) -> bool
     ensures { result ≡ true → one ≡ other }
 {
     match (one, other) {
-        (Rules::Wording2013, Rules::Wording2013) => true,
-        (Rules::Wording2018, Rules::Wording2018) => true,
-        (Rules::Wording2013, Rules::Wording2018) => false,
-        (Rules::Wording2018, Rules::Wording2013) => false,
+        (Rules::Wording2013, Rules::Wording2013) | (Rules::Wording2018, Rules::Wording2018) => true,
+        _ => false,
     }
 }
 
@@ -75,8 +67,7 @@ fn is_same(one: Ligand, other: Ligand) -> bool
     match (one, other) {
         (Ligand::Vertex(a), Ligand::Vertex(b)) => a == b,
         (Ligand::LonePair, Ligand::LonePair) => true,
-        (Ligand::Vertex(_), Ligand::LonePair) => false,
-        (Ligand::LonePair, Ligand::Vertex(_)) => false,
+        _ => false,
     }
 }
 
@@ -86,14 +77,13 @@ fn are_same(ligands: &[Ligand], others: &[Ligand]) -> bool
     let mut rest = ligands;
     let mut more = others;
     while let [one, behind @ ..] = rest {
-        let [other, later @ ..] = more else {
-            return false;
-        };
-        if !is_same(*one, *other) {
-            return false;
+        match more {
+            [other, later @ ..] if is_same(*one, *other) => {
+                rest = behind;
+                more = later;
+            }
+            _ => return false,
         }
-        rest = behind;
-        more = later;
     }
     more.is_empty()
 }

@@ -1,5 +1,5 @@
 // What is kept of the root ranked last, where it was costly.
-ghost use Rattle.std.specs.Prelude.{◌≡◌, None, Some, IfSome, OnErr, OnOk};
+ghost use Rattle.std.specs.Prelude.{◌≡◌, Some, IfSome, OnErr, OnOk};
 ghost use Rattle.cip_desk.specs.Keeping.{kept_of, ranking_in};
 
 use crate::early::RootedLigands;
@@ -37,16 +37,6 @@ pub struct Memo {
 }
 
 impl Memo {
-    /// Nothing.
-    pub fn new() -> Memo
-        ensures { result ≡ record { root = None; found = None } }
-    {
-        Memo {
-            root: None,
-            found: None,
-        }
-    }
-
     /// Keeps what was found of a root.
     pub fn keep(
         &mut self,
@@ -59,7 +49,9 @@ impl Memo {
             ≡ Some (kept_of told.now.setting.now told.now.root told.now.ligands.now)) }
         ensures same { OnErr result (self.new ≡ self.old) }
     {
-        let kept = KeptRoot::of(alloc, told)?;
+        let Ok(kept) = KeptRoot::of(alloc, told) else {
+            return Err(AllocError);
+        };
         // what was kept before is let go by a call: written out here, column by column, it costs more to prove
         drop(mem::replace(&mut self.root, Some(kept)));
         self.found = Some(found);
@@ -72,9 +64,8 @@ impl Memo {
         ensures root { IfSome result (λ _. self.now.root
             ≡ Some (kept_of told.now.setting.now told.now.root told.now.ligands.now)) }
     {
-        let found = self.found?;
-        match &self.root {
-            Some(root) if root.is_of(told) => Some(found),
+        match (self.found, &self.root) {
+            (Some(found), Some(root)) if root.is_of(told) => Some(found),
             _ => None,
         }
     }

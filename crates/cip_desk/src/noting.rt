@@ -10,11 +10,13 @@ fn note_two(one: &Shown, other: &Shown, noted: &mut Vec<Asked>) -> Result<(), Al
     ensures { OnOk result (noted.new.items ≡ noted.old.items ++ answer_between one.now other.now) }
 {
     if one.vertex != other.vertex {
-        noted.push(Asked {
+        let Ok(()) = noted.push(Asked {
             first: one.vertex,
             second: other.vertex,
             decision: tell(one, other),
-        })?;
+        }) else {
+            return Err(AllocError);
+        };
     }
     Ok(())
 }
@@ -24,7 +26,9 @@ fn note_with_each(one: &Shown, branches: &[Shown], noted: &mut Vec<Asked>) -> Re
 {
     let mut rest = branches;
     while let [other, others @ ..] = rest {
-        note_two(one, other, noted)?;
+        let Ok(()) = note_two(one, other, noted) else {
+            return Err(AllocError);
+        };
         rest = others;
     }
     Ok(())
@@ -37,7 +41,9 @@ pub fn note_each(branches: &[Shown], noted: &mut Vec<Asked>) -> Result<(), Alloc
     noted.clear();
     let mut rest = branches;
     while let [one, others @ ..] = rest {
-        note_with_each(one, others, noted)?;
+        let Ok(()) = note_with_each(one, others, noted) else {
+            return Err(AllocError);
+        };
         rest = others;
     }
     Ok(())

@@ -62,12 +62,16 @@ pub fn recall(
 {
     match found {
         Found::Told(ranking) => {
-            branches.take_named(bench.tables.aside.noted.as_slice())?;
+            let Ok(()) = branches.take_named(bench.tables.aside.noted.as_slice()) else {
+                return Err(AllocError);
+            };
             Ok(ranking)
         }
         Found::Open => {
             bench.memo.found = None;
-            reopen(alloc, told, bench, branches)?;
+            let Ok(()) = reopen(alloc, told, bench, branches) else {
+                return Err(AllocError);
+            };
             bench.memo.found = Some(found);
             Ok(Ranking::Known)
         }

@@ -36,7 +36,9 @@ fn show(alloc: Global, root: &Root<'_>, vertex: u32) -> Result<Shown, AllocError
     ensures { IfOk result (λ shown. shown ≡ branch_at root.now.graph.now root.now.positions.now root.now.at vertex) }
 {
     let mut below = SmallVec::new(alloc);
-    put_below(root, vertex, &mut below)?;
+    let Ok(()) = put_below(root, vertex, &mut below) else {
+        return Err(AllocError);
+    };
     Ok(Shown {
         vertex,
         key: 6 * z_of(root.graph, vertex) as u32,
@@ -54,10 +56,15 @@ fn show_one(
         ++ branch_if root.now.graph.now root.now.positions.now root.now.at ligand.now) }
 {
     match ligand {
-        Ligand::LonePair => {}
-        Ligand::Vertex(vertex) => shown.push(show(alloc, root, *vertex)?)?,
+        Ligand::LonePair => Ok(()),
+        Ligand::Vertex(vertex) => {
+            let Ok(branch) = show(alloc, root, *vertex) else {
+                return Err(AllocError);
+            };
+            shown.push(branch)?;
+            Ok(())
+        }
     }
-    Ok(())
 }
 
 /// Shows the branches at ligands; a lone pair has none.
@@ -73,7 +80,9 @@ pub fn show_all(
     shown.clear();
     let mut rest = ligands;
     while let [ligand, others @ ..] = rest {
-        show_one(alloc, root, ligand, shown)?;
+        let Ok(()) = show_one(alloc, root, ligand, shown) else {
+            return Err(AllocError);
+        };
         rest = others;
     }
     Ok(())
@@ -84,13 +93,14 @@ fn decide(side: Ordering, sphere: u32) -> Option<Decision>
     ensures { result ≡ decided R1a (differing (sphere - 1) side) }
 {
     if side.is_eq() {
-        return None;
+        None
+    } else {
+        Some(Decision {
+            side,
+            rule: Rule::R1a,
+            sphere,
+        })
     }
-    Some(Decision {
-        side,
-        rule: Rule::R1a,
-        sphere,
-    })
 }
 
 /// What the nodes of two branches decide, and where these tie the sets below them. A set that ends first is lower.
@@ -99,10 +109,11 @@ pub fn tell(one: &Shown, other: &Shown) -> Option<Decision>
 {
     let side = one.key.cmp(&other.key);
     if side.is_ne() {
-        return decide(side, 1);
+        decide(side, 1)
+    } else {
+        decide(
+            compare_sets(one.below.as_slice(), other.below.as_slice()),
+            2,
+        )
     }
-    decide(
-        compare_sets(one.below.as_slice(), other.below.as_slice()),
-        2,
-    )
 }

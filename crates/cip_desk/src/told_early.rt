@@ -23,9 +23,11 @@ pub fn rank_early(
     ensures ranked { result ≡ Ok true → RankedAs rooted.now.setting.now rooted.now.bound rooted.now.root
         rooted.now.ligands.now (standing_of branches.new) Known }
 {
-    let told = early.tell(alloc, rooted)?;
-    if told {
-        branches.take_named(early.noted())?;
+    let told = early.tell(alloc, rooted);
+    if let Ok(true) = told {
+        let Ok(()) = branches.take_named(early.noted()) else {
+            return Err(AllocError);
+        };
     }
-    Ok(told)
+    told
 }

@@ -1,9 +1,8 @@
 // Roots that are ranked by their whole digraph.
 ghost use Rattle.std.specs.Prelude.{◌≡◌, ◌<◌, ◌≤◌, ◌^◌, ℕ, true, false, List, length, slice_index, IfOk, OnOk};
 ghost use Rattle.std.specs.List.{list_all};
-ghost use Rattle.cip_aux.specs.KeptTurns.{AreKept};
 ghost use Rattle.cip_aux.specs.Marking.{AreMarked, AreWanted, flag_at};
-ghost use Rattle.cip_aux.specs.Sights.{Sight, sight_of};
+ghost use Rattle.cip_aux.specs.Sights.{sight_of};
 ghost use Rattle.cip_branches.specs.Deciding.{AreFollowed};
 ghost use Rattle.cip_branches.specs.Saving.{saved_of};
 ghost use Rattle.cip_branches.specs.Standing.{WantedIn};
@@ -15,7 +14,6 @@ ghost use Rattle.cip_label.specs.Standing.{RankedAs};
 ghost use Rattle.cip_label.specs.declared.digraphs.Ranking.TheVariants.{Known};
 ghost use Rattle.cip_letters.specs.Asking.{is_decided};
 ghost use Rattle.cip_ligands.specs.Taking.{AreSame};
-ghost use Rattle.cip_mol.specs.declared.site.Site.{Site as AnySite};
 ghost use Rattle.cip_rows.specs.Keys.{AreKeyed};
 ghost use Rattle.cip_desk.specs.Desks.{settled_by};
 ghost use Rattle.cip_desk.specs.Keeping.{FoundAs, kept_of, ranking_in};
@@ -63,11 +61,23 @@ impl Tables {
         requires { nodes < 2 ^ 31 }
         ensures { IfOk result (HasRoom nodes) }
     {
-        let tables = both_of(reserve_read(alloc, nodes), reserve_kept(alloc, nodes))?;
-        let (((marks, readings), (turns, aside)), sights) = both(
+        let read = both_of(
+            Descriptors::reserve(alloc, nodes),
+            Readings::reserve(alloc, nodes),
+        );
+        let kept = both_of(
+            KeptTurns::reserve(alloc, nodes),
+            Aside::reserve(alloc, nodes),
+        );
+        let Ok(tables) = both_of(read, kept) else {
+            return Err(AllocError);
+        };
+        let Ok((((marks, readings), (turns, aside)), sights)) = both(
             tables,
             Sights::reserve(alloc, nodes),
-        )?;
+        ) else {
+            return Err(AllocError);
+        };
         Ok(Tables {
             sights,
             marks,
@@ -76,27 +86,6 @@ impl Tables {
             aside,
         })
     }
-}
-
-fn reserve_read(alloc: Global, nodes: u32) -> Result<(Descriptors, Readings), AllocError>
-    requires { nodes < 2 ^ 31 }
-    ensures marks { IfOk result (λ both. nodes ≤ both.0.bound) }
-    ensures readings { IfOk result (λ both. nodes ≤ both.1.bound) }
-{
-    both_of(
-        Descriptors::reserve(alloc, nodes),
-        Readings::reserve(alloc, nodes),
-    )
-}
-
-fn reserve_kept(alloc: Global, nodes: u32) -> Result<(KeptTurns, Aside), AllocError>
-    ensures turns { IfOk result (λ both. nodes ≤ both.0.room) }
-    ensures aside { IfOk result (λ both. nodes ≤ both.1.ranks.room) }
-{
-    both_of(
-        KeptTurns::reserve(alloc, nodes),
-        Aside::reserve(alloc, nodes),
-    )
 }
 
 /// Whether it costs much to find once more what was found of a root: its digraph is large, also beside the graph, which
@@ -147,7 +136,9 @@ fn find_marks(
     ensures turns { HaveTurns rooted.now.setting.now rooted.now.arena.now tables.new }
     ensures aside { tables.new.aside ≡ tables.old.aside }
 {
-    let mut flags = vec![in alloc; false; rooted.arena.len() as usize]?;
+    let Ok(mut flags) = vec![in alloc; false; rooted.arena.len() as usize] else {
+        return Err(AllocError);
+    };
     flag_nodes(work, rooted.arena.table(), flags.as_mut_slice());
     let found = find_flagged(alloc, rooted, flags.as_slice(), tables);
     drop(flags);
@@ -173,8 +164,10 @@ fn find_flagged(
     ensures turns { HaveTurns rooted.now.setting.now rooted.now.arena.now tables.new }
     ensures aside { tables.new.aside ≡ tables.old.aside }
 {
+    let Ok(units) = UnitsAt::new(alloc, rooted.setting.units().as_slice()) else {
+        return Err(AllocError);
+    };
     let whole = whole_of(rooted);
-    let units = UnitsAt::new(alloc, rooted.setting.units().as_slice())?;
     let wanted = Wanted {
         units: &units,
         flags,
@@ -218,29 +211,27 @@ pub fn rank_open(
     ensures turns { HaveTurns rooted.now.setting.now rooted.now.arena.now tables.new }
     ensures aside { tables.new.aside ≡ tables.old.aside }
 {
-    find_marks(alloc, rooted, work, tables)?;
+    let Ok(()) = find_marks(alloc, rooted, work, tables) else {
+        return Err(AllocError);
+    };
     branches.configure(work, &mut tables.readings, &tables.marks)
 }
 
-// Nothing is kept of the nodes inside; where they are many it will be.
-fn begin_turns(rooted: &Rooted<'_, '_>, turns: &mut KeptTurns)
-    requires room { length rooted.now.arena.now.nodes ≤ turns.old.room }
-    ensures none { (sight : Sight) (sites : List AnySite) → AreKept sight sites turns.new.items }
-    ensures room { turns.new.room ≡ turns.old.room }
+// Nothing is kept of the nodes inside, and no look is open; where the nodes are many both will be.
+fn begin_inside(rooted: &Rooted<'_, '_>, tables: &mut Tables)
+    requires fits { length rooted.now.arena.now.nodes ≤ rooted.now.arena.now.bound }
+    requires room { HasRoom rooted.now.arena.now.bound tables.old }
+    ensures turns { HaveTurns rooted.now.setting.now rooted.now.arena.now tables.new }
+    ensures aside { tables.new.aside ≡ tables.old.aside }
+    ensures room { HasRoom rooted.now.arena.now.bound tables.new }
 {
     if is_costly(rooted.arena, rooted.setting, Found::Open) {
-        turns.begin(rooted.arena.len());
+        let nodes = rooted.arena.len();
+        tables.turns.begin(nodes);
+        tables.sights.begin(nodes.saturating_mul(4));
     } else {
-        turns.forget();
-    }
-}
-
-// So many places have the looks inside that are kept open.
-fn places_kept(rooted: &Rooted<'_, '_>) -> u32 {
-    if is_costly(rooted.arena, rooted.setting, Found::Open) {
-        rooted.arena.len().saturating_mul(4)
-    } else {
-        0
+        tables.turns.forget();
+        tables.sights.begin(0);
     }
 }
 
@@ -255,8 +246,7 @@ fn set_aside(rooted: &Rooted<'_, '_>, work: &Work, tables: &mut Tables) -> Resul
     ensures noted { OnOk result (tables.new.aside.noted.items ≡ work.now.noted) }
     ensures room { HasRoom rooted.now.arena.now.bound tables.new }
 {
-    begin_turns(rooted, &mut tables.turns);
-    tables.sights.begin(places_kept(rooted));
+    begin_inside(rooted, tables);
     work.save(&mut tables.aside.ranks);
     copy(work.noted(), &mut tables.aside.noted)
 }
@@ -284,10 +274,17 @@ pub fn rank_whole(
     ensures room { HasRoom rooted.now.arena.now.bound tables.new }
 {
     if work.constitute(rooted.arena, rooted.setting.rules()) {
-        take_noted(work, branches, &mut tables.aside.noted)?;
-        return Ok(Found::Told(Ranking::Known));
+        let Ok(()) = take_noted(work, branches, &mut tables.aside.noted) else {
+            return Err(AllocError);
+        };
+        Ok(Found::Told(Ranking::Known))
+    } else {
+        let Ok(()) = set_aside(rooted, work, tables) else {
+            return Err(AllocError);
+        };
+        let Ok(()) = rank_open(alloc, rooted, work, tables, branches) else {
+            return Err(AllocError);
+        };
+        Ok(Found::Open)
     }
-    set_aside(rooted, work, tables)?;
-    rank_open(alloc, rooted, work, tables, branches)?;
-    Ok(Found::Open)
 }

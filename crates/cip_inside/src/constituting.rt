@@ -42,16 +42,17 @@ pub fn constitute<N: Nodes>(
 {
     follow_all(branches, whole, from.way, from.node, tops, asked);
     if are_decided(asked) {
-        return true;
+        true
+    } else {
+        count_steps(whole, from, branches.len(), steps);
+        let nodes = whole.nodes();
+        let distances = Distances {
+            whole,
+            way: from.way,
+            known: steps.as_slice(),
+            from: from.node,
+        };
+        let masses = ByMass { nodes };
+        decide_constitution(branches, &distances, &masses, asked)
     }
-    count_steps(whole, from, branches.len(), steps);
-    let nodes = whole.nodes();
-    let distances = Distances {
-        whole,
-        way: from.way,
-        known: steps.as_slice(),
-        from: from.node,
-    };
-    let masses = ByMass { nodes };
-    decide_constitution(branches, &distances, &masses, asked)
 }

@@ -1,11 +1,9 @@
 // The keys of Rule 1b, seen from a node.
-ghost use Rattle.std.specs.Prelude.{◌≡◌, ◌<◌, true, false, length, None, unwrap_or};
-ghost use Rattle.std.specs.Ordering.{int_cmp};
+ghost use Rattle.std.specs.Prelude.{◌≡◌, ◌<◌, true, false, length, None};
 ghost use Rattle.cip_aux.specs.Sights.{IsReal, path_at, sight_of};
 ghost use Rattle.cip_rows.specs.Parting.{has_flag};
-ghost use Rattle.cip_digraph.specs.digraph.NodeList.{parents_of, told_at};
+ghost use Rattle.cip_digraph.specs.digraph.NodeList.{parents_of};
 ghost use Rattle.cip_digraph.specs.digraph.View.{apart};
-ghost use Rattle.cip_digraph.specs.rules.Keys.{lower_precedes};
 ghost use Rattle.cip_aux.specs.Sources.{carrier_of, distance_node};
 ghost use Rattle.cip_inside.specs.Keys.{IsFlagged, IsMeet, KnowSteps, distance_at, distance_keys};
 
@@ -40,14 +38,6 @@ pub fn is_off(way: &[bool], node: u32) -> bool
     }
 }
 
-// Lower keys precede.
-#[tactic(auto, using(cip_ligands::proofs::NodeKeys::lower_cmp))]
-fn compare_down(a: u64, b: u64) -> Ordering
-    ensures { result ≡ int_cmp (lower_precedes a) (lower_precedes b) }
-{
-    b.cmp(&a)
-}
-
 fn carrier<N: Nodes>(nodes: &N, node: u32) -> u32
     requires { node < length (N.nodes nodes.now) }
     ensures { result ≡ carrier_of (N.nodes nodes.now) node }
@@ -58,16 +48,6 @@ fn carrier<N: Nodes>(nodes: &N, node: u32) -> u32
     }
 }
 
-fn counterpart<N: Nodes>(nodes: &N, node: u32) -> u32
-    requires { node < length (N.nodes nodes.now) }
-    ensures { result ≡ unwrap_or (told_at (N.nodes nodes.now) node).counterpart 0 }
-{
-    match nodes.counterpart(node) {
-        None => 0,
-        Some(counterpart) => counterpart,
-    }
-}
-
 // The real node whose distance is the key of a node.
 fn source<N: Nodes>(nodes: &N, rules: Rules, node: u32) -> u32
     requires { node < length (N.nodes nodes.now) }
@@ -75,9 +55,9 @@ fn source<N: Nodes>(nodes: &N, rules: Rules, node: u32) -> u32
 {
     match nodes.kind(node) {
         NodeKind::Real => node,
-        NodeKind::Closure => counterpart(nodes, node),
+        NodeKind::Closure => nodes.counterpart(node).unwrap_or(0),
         NodeKind::Multiple => match rules {
-            Rules::Wording2013 => counterpart(nodes, node),
+            Rules::Wording2013 => nodes.counterpart(node).unwrap_or(0),
             Rules::Wording2018 => carrier(nodes, node),
         },
         NodeKind::Delocalised => carrier(nodes, node),
@@ -85,31 +65,24 @@ fn source<N: Nodes>(nodes: &N, rules: Rules, node: u32) -> u32
 }
 
 impl<N: Nodes> Distances<'_, N> {
-    // Where the way from the root to a real node leaves the one to the node that is looked from.
-    fn climb(&self, node: u32) -> u32
+    // Where the way from the root to a real node leaves the one to the node that is looked from. Seen from the root, it
+    // is the root.
+    fn meet(&self, node: u32) -> u32
         requires real { IsReal (sight_of self.now.whole.now).nodes node }
         ensures { IsMeet (sight_of self.now.whole.now) self.now.from node result }
     {
         let nodes = self.whole.nodes();
         let table = nodes.table();
         let _count = table.len();
-        let mut at = node;
-        while is_off(self.way, at) {
-            at = parent_of(table, at);
-        }
-        at
-    }
-
-    // The same; seen from the root, it is the root.
-    fn meet(&self, node: u32) -> u32
-        requires real { IsReal (sight_of self.now.whole.now).nodes node }
-        ensures { IsMeet (sight_of self.now.whole.now) self.now.from node result }
-    {
-        let _nodes = self.whole.nodes();
         if self.from == 0 {
-            return 0;
+            0
+        } else {
+            let mut at = node;
+            while is_off(self.way, at) {
+                at = parent_of(table, at);
+            }
+            at
         }
-        self.climb(node)
     }
 
     // How many steps a real node is away.
@@ -154,6 +127,7 @@ impl<N: Nodes> Keyed for Distances<'_, N> {
 
     #[tactic(auto, using(crate::proofs::NodeKeys::distance_key_is))]
     fn compare(&self, a: u32, b: u32) -> Ordering {
-        compare_down(self.distance(a), self.distance(b))
+        // lower distances precede
+        self.distance(b).cmp(&self.distance(a))
     }
 }

@@ -52,10 +52,14 @@ fn configured<N: Nodes>(
     ensures same { AreSame near.old.now near.new.now }
     ensures bound { near.new.bound ≡ near.old.bound }
 {
-    let mut turned = SmallVec::<Asked, MOST_PAIRS>::from_slice(alloc, pairs)?;
+    let Ok(mut turned) = SmallVec::<Asked, MOST_PAIRS>::from_slice(alloc, pairs) else {
+        return Err(AllocError);
+    };
     let others = turned.as_mut_slice();
     configure(near, inner, node, pairs, others);
-    Ok(FoundTurns::of(pairs, others, false))
+    let found = FoundTurns::of(pairs, others, false);
+    drop(turned);
+    Ok(found)
 }
 
 // Lets the branches of an open look stand as constitution left them.
@@ -90,7 +94,10 @@ fn go_on<N: Nodes>(
     ensures open { IsOpen near.old.bound inner.now.sight (look_of look.new) }
     ensures near { near.new.bound ≡ near.old.bound }
 {
-    let mut pairs = SmallVec::<Asked, MOST_PAIRS>::from_slice(alloc, look.pairs.as_slice())?;
+    let Ok(mut pairs) = SmallVec::<Asked, MOST_PAIRS>::from_slice(alloc, look.pairs.as_slice())
+    else {
+        return Err(AllocError);
+    };
     let node = look.node;
     reopen(near, inner.whole(), look);
     let found = configured(alloc, near, inner, node, pairs.as_mut_slice());
@@ -99,31 +106,34 @@ fn go_on<N: Nodes>(
     found
 }
 
-// Asks about the same pairs by the branches of open ones alone, whose tops these are.
+// Asks about the same pairs by the branches of open ones alone, and hands back the tops of these.
 fn look_anew<N: Nodes>(
+    alloc: Global,
     near: &mut Near,
     whole: &Whole<'_, N>,
     asked: &Look<'_>,
     before: &[u32],
-    chosen: &[Option<u32>],
     pairs: &mut [Asked],
-)
+) -> Result<Tops, AllocError>
     requires room { length whole.now.told ≤ near.old.bound }
     requires node { asked.now.node < length whole.now.told }
     requires real { IsReal (sight_of whole.now).nodes asked.now.node }
     requires before { before.now ≡ near.old.tops }
-    requires chosen { chosen.now ≡ open_tops near.old.tops pairs.old }
     requires tops { near.old.tops ≡ asked_tops (parents_of whole.now.told) asked.now.ligands.now asked.now.node }
     requires left { LeavesOpen (sight_of whole.now) asked.now.node near.old.tops near.old.now pairs.old
         asked.now.ligands.now }
-    ensures tops { near.new.tops ≡ asked_tops (parents_of whole.now.told) chosen.now asked.now.node }
-    ensures left { LeavesOpen (sight_of whole.now) asked.now.node near.new.tops near.new.now pairs.new
-        asked.now.ligands.now }
+    ensures tops { IfOk result (λ tops. near.new.tops ≡ asked_tops (parents_of whole.now.told) tops.items asked.now.node) }
+    ensures left { IfOk result (λ tops. LeavesOpen (sight_of whole.now) asked.now.node near.new.tops near.new.now pairs.new
+        asked.now.ligands.now) }
     ensures bound { near.new.bound ≡ near.old.bound }
 {
-    near.begin(whole, asked.node, chosen);
+    let Ok(open) = open_tops(alloc, before, pairs) else {
+        return Err(AllocError);
+    };
+    near.begin(whole, asked.node, open.as_slice());
     move_all(near, before, pairs);
     near.constitution(whole, asked.node, pairs);
+    Ok(open)
 }
 
 // Begins anew with the branches of open pairs alone where the others hold most places, so that these needn't be kept.
@@ -146,20 +156,16 @@ fn narrowed<N: Nodes>(
         asked.now.ligands.now) }
     ensures bound { near.new.bound ≡ near.old.bound }
 {
-    if !near.is_sparse() {
-        return Tops::from_slice(alloc, asked.ligands);
+    if near.is_sparse() {
+        let Ok(before) = SmallVec::<u32, MOST_LIGANDS>::from_slice(alloc, near.tops()) else {
+            return Err(AllocError);
+        };
+        let open = look_anew(alloc, near, whole, asked, before.as_slice(), pairs);
+        drop(before);
+        open
+    } else {
+        Tops::from_slice(alloc, asked.ligands)
     }
-    let before = SmallVec::<u32, MOST_LIGANDS>::from_slice(alloc, near.tops())?;
-    let open = open_tops(alloc, before.as_slice(), pairs)?;
-    look_anew(
-        near,
-        whole,
-        asked,
-        before.as_slice(),
-        open.as_slice(),
-        pairs,
-    );
-    Ok(open)
 }
 
 // Takes the branches of a look, which constitution left open, and leaves others.
@@ -195,7 +201,9 @@ fn taken(
         SavedRanks::reserve(alloc, near.len()),
         kept.blank(alloc, near.room()),
     );
-    let (((tops, ligands), pairs), (mut ranks, mut branches)) = both_of(looked, places)?;
+    let Ok((((tops, ligands), pairs), (mut ranks, mut branches))) = both_of(looked, places) else {
+        return Err(AllocError);
+    };
     near.save(&mut ranks);
     near.swap(&mut branches);
     Ok(OpenLook {
@@ -229,8 +237,12 @@ fn keep<N: Nodes>(
     ensures open { AreOpen near.old.bound (sight_of whole.now) kept.new }
     ensures near { near.new.bound ≡ near.old.bound }
 {
-    let tops = narrowed(alloc, near, whole, asked, pairs)?;
-    let look = taken(alloc, near, asked, tops, pairs, kept)?;
+    let Ok(tops) = narrowed(alloc, near, whole, asked, pairs) else {
+        return Err(AllocError);
+    };
+    let Ok(look) = taken(alloc, near, asked, tops, pairs, kept) else {
+        return Err(AllocError);
+    };
     kept.push(look)
 }
 
@@ -252,12 +264,15 @@ fn look_on<N: Nodes>(
     ensures open { AreOpen near.old.bound inner.now.sight kept.new }
     ensures near { near.new.bound ≡ near.old.bound }
 {
-    if !kept.has_room(near.len()) {
-        return configured(alloc, near, inner, asked.node, pairs);
+    if kept.has_room(near.len()) {
+        let place = kept.len();
+        let Ok(()) = keep(alloc, near, inner.whole(), asked, pairs, kept) else {
+            return Err(AllocError);
+        };
+        kept.go_on(alloc, near, inner, place)
+    } else {
+        configured(alloc, near, inner, asked.node, pairs)
     }
-    let place = kept.len();
-    keep(alloc, near, inner.whole(), asked, pairs, kept)?;
-    kept.go_on(alloc, near, inner, place)
 }
 
 // Looks by branches that were begun.
@@ -280,12 +295,12 @@ fn look_at<N: Nodes>(
     ensures near { near.new.bound ≡ near.old.bound }
 {
     if near.is_empty() {
-        return Ok(FoundTurns::of(pairs, pairs, true));
+        Ok(FoundTurns::of(pairs, pairs, true))
+    } else if near.constitution(inner.whole(), asked.node, pairs) {
+        Ok(FoundTurns::of(pairs, pairs, true))
+    } else {
+        look_on(alloc, near, inner, asked, pairs, kept)
     }
-    if near.constitution(inner.whole(), asked.node, pairs) {
-        return Ok(FoundTurns::of(pairs, pairs, true));
-    }
-    look_on(alloc, near, inner, asked, pairs, kept)
 }
 
 /// Looks from a node at ligands, and keeps the look where constitution leaves it open and there is room.
@@ -305,7 +320,9 @@ pub fn look_first<N: Nodes>(
     ensures near { near.new.bound ≡ near.old.bound }
 {
     near.begin(inner.whole(), asked.node, asked.ligands);
-    let mut pairs = ask_all(alloc, near, asked.ligands)?;
+    let Ok(mut pairs) = ask_all(alloc, near, asked.ligands) else {
+        return Err(AllocError);
+    };
     let found = look_at(alloc, near, inner, asked, pairs.as_mut_slice(), kept);
     drop(pairs);
     found

@@ -42,7 +42,9 @@ fn push_if_open(tops: &[u32], pairs: &[Asked], top: u32, found: &mut Tops) -> Re
         ++ map Some (filter (is_open_top tops.now pairs.now) (top ∷ []))) }
 {
     if is_open_top(tops, pairs, top) {
-        found.push(Some(top))?;
+        let Ok(()) = found.push(Some(top)) else {
+            return Err(AllocError);
+        };
     }
     Ok(())
 }
@@ -54,7 +56,9 @@ pub fn open_tops(alloc: Global, tops: &[u32], pairs: &[Asked]) -> Result<Tops, A
 {
     let mut found = SmallVec::new(alloc);
     for top in tops {
-        push_if_open(tops, pairs, *top, &mut found)?;
+        let Ok(()) = push_if_open(tops, pairs, *top, &mut found) else {
+            return Err(AllocError);
+        };
     }
     Ok(found)
 }

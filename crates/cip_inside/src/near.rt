@@ -76,10 +76,12 @@ impl Near {
             Branches::reserve(alloc, bound),
         );
         let columns = both_of(nodes, places);
-        let (((way, steps), (tops, branches)), readings) = both_of(
+        let Ok((((way, steps), (tops, branches)), readings)) = both_of(
             columns,
             Readings::reserve(alloc, bound),
-        )?;
+        ) else {
+            return Err(AllocError);
+        };
         Ok(Near {
             bound,
             branches,

@@ -156,13 +156,19 @@ impl OpenLooks {
     }
 }
 
-// Its ranks are let go by a call: written out here, column by column, they cost more to prove.
+// What it has else is let go by calls: written out here, column by column, it costs more to prove.
 fn branches_of(look: OpenLook) -> Branches {
     let OpenLook {
+        ligands,
+        tops,
+        pairs,
         branches,
         ranks,
         ..
     } = look;
+    drop(ligands);
+    drop(tops);
+    drop(pairs);
     drop(ranks);
     branches
 }
@@ -178,8 +184,9 @@ fn fitting(alloc: Global, branches: Branches, room: u32) -> Result<Branches, All
     ensures { IfOk result (λ branches. branches.layers.kin.room ≡ room) }
 {
     if branches.room() == room {
-        return Ok(branches);
+        Ok(branches)
+    } else {
+        drop(branches);
+        Branches::reserve(alloc, room)
     }
-    drop(branches);
-    Branches::reserve(alloc, room)
 }

@@ -1,8 +1,7 @@
 // Whole digraphs looked at by the branches of nodes' ligands.
-ghost use Rattle.std.specs.Prelude.{◌≡◌, ◌<◌, ◌≤◌, ◌^◌, ℕ, List, [], true, false, IfOk, length, slice_index};
+ghost use Rattle.std.specs.Prelude.{◌≡◌, ◌<◌, ◌≤◌, ◌^◌, ℕ, List, [], false, IfOk, length};
 ghost use Rattle.std.specs.List.{AllByRecursion, list_all};
 ghost use Rattle.std.specs.declared.option.Option.{Option};
-ghost use Rattle.cip_rows.specs.Parting.{has_flag};
 ghost use Rattle.cip_mol.specs.declared.descriptor.Descriptor.{Descriptor as AnyDescriptor};
 ghost use Rattle.cip_digraph.specs.digraph.NodeList.{parents_of};
 ghost use Rattle.cip_letters.specs.declared.asked.Asked.{Asked as AnyAsked};
@@ -38,15 +37,6 @@ impl Model for Sights {
     ghost view = { λ sights. record { bound = sights.near.bound; looks = sights.kept } };
 }
 
-// Whether all branches that are wanted lead down from the node whose descriptors count.
-fn all_inside<N: Nodes>(near: &Near, inner: &Inner<'_, N>, node: u32) -> bool
-    ensures from { result ≡ true → inner.now.from ≡ node }
-    ensures behind { result ≡ true → (branch : ℕ) → branch < length near.now.tops
-        → has_flag near.now.now.wanted branch ≡ true → node < slice_index near.now.tops branch }
-{
-    inner.from() == node && near.leads_down(node)
-}
-
 // Decides pairs of branches that constitution leaves open, with the descriptors that count.
 pub(crate) fn configure<N: Nodes>(
     near: &mut Near,
@@ -68,17 +58,16 @@ pub(crate) fn configure<N: Nodes>(
     ensures same { AreSame near.old.now near.new.now }
     ensures bound { near.new.bound ≡ near.old.bound }
 {
-    if all_inside(near, inner, node) {
+    if inner.from() == node && near.leads_down(node) {
         near.configuration(inner.marks(), pairs, turned);
-        return;
+    } else {
+        let marks = MarksInside {
+            table: inner.whole().nodes().table(),
+            from: inner.from(),
+            marks: inner.marks(),
+        };
+        near.configuration(&marks, pairs, turned);
     }
-    let table = inner.whole().nodes().table();
-    let marks = MarksInside {
-        table,
-        from: inner.from(),
-        marks: inner.marks(),
-    };
-    near.configuration(&marks, pairs, turned);
 }
 
 impl Sights {
@@ -87,8 +76,11 @@ impl Sights {
         requires { bound < 2 ^ 31 }
         ensures { IfOk result (λ sights. sights ≡ record { bound = bound; looks = [] }) }
     {
+        let Ok(near) = Near::reserve(alloc, bound) else {
+            return Err(AllocError);
+        };
         Ok(Sights {
-            near: Near::reserve(alloc, bound)?,
+            near,
             kept: OpenLooks::none(alloc),
         })
     }

@@ -43,16 +43,17 @@ fn take_marked<M: Marked>(
     ensures kin { branches.new.layers.kin ≡ branches.old.layers.kin }
     ensures wanted { WantsNoMore branches.old branches.new }
 {
-    if !some_count(branches, marks, rule) {
+    if some_count(branches, marks, rule) {
+        let keys = MarkKeys {
+            rule,
+            r_first: true,
+            marks,
+        };
+        take_rule(branches, &keys, rule, asked)
+    } else {
         note(branches, rule, 0, asked);
-        return are_decided(asked);
+        are_decided(asked)
     }
-    let keys = MarkKeys {
-        rule,
-        r_first: true,
-        marks,
-    };
-    take_rule(branches, &keys, rule, asked)
 }
 
 // Rules 3 and 4a.
@@ -70,28 +71,7 @@ fn decide_before_readings<M: Marked>(
     ensures same { AreSame branches.old branches.new }
     ensures wanted { WantsNoMore branches.old branches.new }
 {
-    if take_marked(branches, marks, Rule::R3, asked) {
-        return true;
-    }
-    take_marked(branches, marks, Rule::R4a, asked)
-}
-
-// Rule 4b.
-fn decide_by_readings<M: Marked>(
-    branches: &Branches,
-    readings: &mut Readings,
-    marks: &M,
-    asked: &mut [Asked],
-) -> bool
-    requires followed { AreFollowed branches.now }
-    requires keyed { AreKeyed (length (M.marks marks.now)) branches.now.layers.kin }
-    requires room { length branches.now.layers.kin.ups ≤ readings.old.bound }
-    ensures decided { DecidesOn (M.marks marks.now) R4b R4c branches.now asked.old branches.now asked.new }
-    ensures all { result ≡ list_all is_decided asked.new }
-    ensures bound { readings.new.bound ≡ readings.old.bound }
-{
-    take_readings(branches, readings, marks, asked);
-    are_decided(asked)
+    take_marked(branches, marks, Rule::R3, asked) || take_marked(branches, marks, Rule::R4a, asked)
 }
 
 // Rules 4b and 4c.
@@ -112,10 +92,8 @@ fn decide_from_readings<M: Marked>(
     ensures wanted { WantsNoMore branches.old branches.new }
     ensures bound { readings.new.bound ≡ readings.old.bound }
 {
-    if decide_by_readings(branches, readings, marks, asked) {
-        return true;
-    }
-    take_marked(branches, marks, Rule::R4c, asked)
+    take_readings(branches, readings, marks, asked);
+    are_decided(asked) || take_marked(branches, marks, Rule::R4c, asked)
 }
 
 // All rules before the last one.
@@ -136,10 +114,8 @@ fn decide_before_last<M: Marked>(
     ensures wanted { WantsNoMore branches.old branches.new }
     ensures bound { readings.new.bound ≡ readings.old.bound }
 {
-    if decide_before_readings(branches, marks, asked) {
-        return true;
-    }
-    decide_from_readings(branches, readings, marks, asked)
+    decide_before_readings(branches, marks, asked)
+        || decide_from_readings(branches, readings, marks, asked)
 }
 
 // Rule 5, both ways.
@@ -160,29 +136,29 @@ fn decide_last<M: Marked>(
     ensures same { AreSame branches.old branches.new }
     ensures bound { readings.new.bound ≡ readings.old.bound }
 {
-    if !some_count(branches, marks, Rule::R5) {
+    if some_count(branches, marks, Rule::R5) {
+        let keys = MarkKeys {
+            rule: Rule::R5,
+            r_first: true,
+            marks,
+        };
+        let turned_keys = MarkKeys {
+            rule: Rule::R5,
+            r_first: false,
+            marks,
+        };
+        take_both_ways(
+            branches,
+            &mut readings.saved,
+            &keys,
+            &turned_keys,
+            asked,
+            turned,
+        );
+    } else {
         note(branches, Rule::R5, 0, asked);
         turned.copy_from_slice(asked);
-        return;
     }
-    let keys = MarkKeys {
-        rule: Rule::R5,
-        r_first: true,
-        marks,
-    };
-    let turned_keys = MarkKeys {
-        rule: Rule::R5,
-        r_first: false,
-        marks,
-    };
-    take_both_ways(
-        branches,
-        &mut readings.saved,
-        &keys,
-        &turned_keys,
-        asked,
-        turned,
-    );
 }
 
 // Rules 3 to 5, the last one both ways.
@@ -204,9 +180,9 @@ fn decide_marked<M: Marked>(
 {
     if decide_before_last(branches, readings, marks, asked) {
         turned.copy_from_slice(asked);
-        return;
+    } else {
+        decide_last(branches, readings, marks, asked, turned);
     }
-    decide_last(branches, readings, marks, asked, turned);
 }
 
 /// Takes Rules 3 to 5 in turn over branches that stand by Rule 2, by the descriptors of their nodes, each only as far as
@@ -236,7 +212,7 @@ pub fn decide_configuration<M: Marked>(
 {
     if are_unmarked(branches, marks) {
         turned.copy_from_slice(asked);
-        return;
+    } else {
+        decide_marked(branches, readings, marks, asked, turned);
     }
-    decide_marked(branches, readings, marks, asked, turned);
 }

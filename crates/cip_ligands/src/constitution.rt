@@ -40,8 +40,5 @@ pub fn decide_constitution<D: Keyed, M: Keyed>(
     ensures kin { branches.new.layers.kin ≡ branches.old.layers.kin }
     ensures wanted { WantsNoMore branches.old branches.new }
 {
-    if take_rule(branches, distances, Rule::R1b, asked) {
-        return true;
-    }
-    take_rule(branches, masses, Rule::R2, asked)
+    take_rule(branches, distances, Rule::R1b, asked) || take_rule(branches, masses, Rule::R2, asked)
 }

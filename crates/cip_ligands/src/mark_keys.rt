@@ -1,6 +1,5 @@
 // Rules 3, 4a, 4c and 5 as keys of nodes.
-ghost use Rattle.std.specs.Prelude.{◌≡◌, ◌<◌, length, pos, true, None};
-ghost use Rattle.std.specs.List.{slice_index_or};
+ghost use Rattle.std.specs.Prelude.{◌≡◌, length, pos};
 ghost use Rattle.cip_ligands.specs.Orders.{mark_key};
 
 use crate::marked::Marked;
@@ -30,16 +29,6 @@ pub struct MarkKeys<'a, M: Marked> {
     pub marks: &'a M,
 }
 
-impl<M: Marked> MarkKeys<'_, M> {
-    fn value(&self, node: u32) -> u8
-        requires { node < length (M.marks self.now.marks.now) }
-        ensures { pos result ≡ mark_key self.now.r_first self.now.rule
-            (slice_index_or (M.marks self.now.marks.now) node None) }
-    {
-        mark_value(self.rule, self.r_first, self.marks.mark(node))
-    }
-}
-
 impl<M: Marked> Keyed for MarkKeys<'_, M> {
     ghost use Rattle.std.specs.Prelude.{map};
 
@@ -48,6 +37,9 @@ impl<M: Marked> Keyed for MarkKeys<'_, M> {
     ghost key = { λ keys. map (mark_key keys.r_first keys.rule) (M.marks keys.marks.now) };
 
     fn compare(&self, a: u32, b: u32) -> Ordering {
-        compare_values(self.value(a), self.value(b))
+        compare_values(
+            mark_value(self.rule, self.r_first, self.marks.mark(a)),
+            mark_value(self.rule, self.r_first, self.marks.mark(b)),
+        )
     }
 }

@@ -14,18 +14,19 @@ fn noted(branches: &Branches, rule: Rule, depth: u32, asked: Asked) -> Asked
     ensures { result ≡ with_found (found_between branches.now.layers.ranked.numbers rule depth) asked }
 {
     if asked.decision.is_some() {
-        return asked;
-    }
-    match branches.order(asked.first, asked.second) {
-        Ordering::Equal => asked,
-        side => Asked {
-            decision: Some(Decision {
-                side,
-                rule,
-                sphere: depth + 1,
-            }),
-            ..asked
-        },
+        asked
+    } else {
+        match branches.order(asked.first, asked.second) {
+            Ordering::Equal => asked,
+            side => Asked {
+                decision: Some(Decision {
+                    side,
+                    rule,
+                    sphere: depth + 1,
+                }),
+                ..asked
+            },
+        }
     }
 }
 

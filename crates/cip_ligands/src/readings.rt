@@ -14,7 +14,7 @@ ghost use Rattle.cip_letters.specs.Asking.{AreWithin, is_decided, with_found};
 ghost use Rattle.cip_ligands.specs.Deciding.{AreDecidedBy};
 ghost use Rattle.cip_ligands.specs.Marked.{AreMarksOf};
 ghost use Rattle.cip_ligands.specs.Orders.{decided_by};
-ghost use Rattle.cip_ligands.specs.Readings.{twin_of, side_of, is_second, s_higher, base_of, reading_of, read_as, between};
+ghost use Rattle.cip_ligands.specs.Readings.{twin_of, side_of, s_higher, base_of, reading_of, read_as, between};
 ghost use Rattle.cip_ligands.specs.Readings.{reading_key, reading_keys, AreTwinsAside, ComparesReadings, TakesReadings};
 ghost use Rattle.cip_ligands.specs.Taking.{TakesRule};
 
@@ -27,7 +27,7 @@ use cip_branches::{Branches, SavedRanks};
 use cip_digraph::Decision;
 use cip_letters::{Asked, are_decided};
 use cip_mol::Rule;
-use cip_rank::{Keyed, both};
+use cip_rank::{Keyed, both_of};
 use cip_rows::Column;
 use std::alloc::{AllocError, Global};
 use std::cmp::Ordering;
@@ -64,15 +64,17 @@ impl Readings {
         requires { bound < 2 ^ 31 }
         ensures { IfOk result (λ readings. readings.bound ≡ bound) }
     {
-        let ranks = both(
-            Branches::reserve(alloc, bound + bound)?,
+        let ranks = both_of(
+            Branches::reserve(alloc, bound + bound),
             SavedRanks::reserve(alloc, bound + bound),
-        )?;
-        let columns = both(ranks, Column::reserve(alloc, bound))?;
-        let (((twins, saved), sides), values) = both(
-            columns,
+        );
+        let columns = both_of(
+            Column::reserve(alloc, bound),
             Column::reserve(alloc, bound + bound),
-        )?;
+        );
+        let Ok(((twins, saved), (sides, values))) = both_of(ranks, columns) else {
+            return Err(AllocError);
+        };
         Ok(Readings {
             bound,
             twins,
@@ -192,21 +194,19 @@ fn ask_sides(branches: &Branches, sides: &mut Column<Asked>)
     }
 }
 
-// Whether the second of the two readings that a pair asks about is the higher one.
-fn is_second(one: Asked) -> bool
-    ensures { result ≡ is_second one.decision }
-{
-    match one.decision {
-        Some(found) => found.side == Ordering::Less,
-        None => false,
-    }
-}
-
 // Whether the reading with S is the higher one of a branch.
 fn is_s_higher(sides: &[Asked], branch: u32) -> bool
     ensures { result ≡ has_flag (s_higher sides.now) branch }
 {
-    (branch as usize) < sides.len() && is_second(sides[branch as usize])
+    match sides.get(branch as usize) {
+        Some(
+            Asked {
+                decision: Some(found),
+                ..
+            },
+        ) => found.side == Ordering::Less,
+        _ => false,
+    }
 }
 
 // The lower or the higher reading of a branch.
@@ -411,11 +411,11 @@ pub fn take_readings<M: Marked>(
 {
     // Counting the places tells that branches can be doubled.
     let _places = branches.count();
-    if !some_count(branches, marks, Rule::R5) {
+    if some_count(branches, marks, Rule::R5) {
+        take_both(branches, readings, marks, asked);
+    } else {
         note(branches, Rule::R4b, 0, asked);
-        return;
     }
-    take_both(branches, readings, marks, asked);
 }
 
 /// The same, of nodes of any kind: the rule is taken over both readings, where there is a branch.
@@ -435,21 +435,20 @@ pub(crate) fn take_both<M: Marked>(
     ensures tops { length branches.now.wanted ≤ length branches.now.layers.kin.ups }
     ensures bound { readings.new.bound ≡ readings.old.bound }
 {
-    if branches.len() == 0 {
-        return;
+    if branches.len() > 0 {
+        let _branches = branches.branch_count();
+        write_values(branches, marks, &mut readings.values);
+        let keys = ReadingKeys {
+            branches,
+            marks,
+            values: readings.values.as_slice(),
+        };
+        take_with(
+            &keys,
+            &mut readings.twins,
+            &mut readings.saved,
+            &mut readings.sides,
+            asked,
+        );
     }
-    let _branches = branches.branch_count();
-    write_values(branches, marks, &mut readings.values);
-    let keys = ReadingKeys {
-        branches,
-        marks,
-        values: readings.values.as_slice(),
-    };
-    take_with(
-        &keys,
-        &mut readings.twins,
-        &mut readings.saved,
-        &mut readings.sides,
-        asked,
-    );
 }

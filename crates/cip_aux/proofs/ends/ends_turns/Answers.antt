@@ -24,8 +24,8 @@ returns-in_default-clause-turns g c =
     (sym c.in_default.is ∙ c.far_end.ensures
     ∙ (λ i. far_number (shape_at (told i)) (parents_of (told i)) (c.from-node.ensures i) ends.between ends.far.at)))
 
-pub turns_at-requires-2-clause-ready : goal.turns_at-requires-2-clause-ready
-turns_at-requires-2-clause-ready g c =
+pub turns_at-requires-else-is_none-clause-ready : goal.turns_at-requires-else-is_none-clause-ready
+turns_at-requires-else-is_none-clause-ready g c =
     let inner = c.args.inner.now in
     let ends = c.args.ends.now in
     let told = c.nodes.ensures.told ∙ ap (λ (s : Sight). s.told) c.whole.ensures in
@@ -37,21 +37,21 @@ pub returns-then-is_none-clause-turns : goal.returns-then-is_none-clause-turns
 returns-then-is_none-clause-turns g c =
     let inner = c.args.inner.now in
     let ends = c.args.ends.now in
-    let one = c.in_ok-one.one in
+    let one = c.in-Ok.one in
     let told = c.nodes.ensures.told ∙ ap (λ (s : Sight). s.told) c.whole.ensures in
     near_ties inner inner.from c.requires.ready ends.between ends.far.at ends.near.ligands.now ends.far.ligands.now ends.near.at
     c.in-Some.other one.by_constitution one.turns c.if-is_none.ensures
     (sym c.in-Some.is ∙ c.far_end.ensures
     ∙ (λ i. far_number (shape_at (told i)) (parents_of (told i)) (c.from-node.ensures i) ends.between ends.far.at))
     (subst (λ n. AreRootTurns inner n one.by_constitution ends.near.ligands.now one.turns) c.from-node.ensures
-    c.in_ok-one.ensures.turns)
+    c.in-Ok.ensures.turns)
 
-pub returns-clause-turns : goal.returns-clause-turns
-returns-clause-turns g c =
+pub returns-in-Ok-turns_at-clause-turns : goal.returns-in-Ok-turns_at-clause-turns
+returns-in-Ok-turns_at-clause-turns g c =
     let inner = c.args.inner.now in
     let ends = c.args.ends.now in
-    let one = c.in_ok-one.one in
-    let two = c.in_ok-two.two in
+    let one = c.in-Ok.one in
+    let two = c.in-Ok-turns_at.two in
     let told = c.nodes.ensures.told ∙ ap (λ (s : Sight). s.told) c.whole.ensures in
     subst (λ (found : FoundTurns). AreEndTurns inner inner.from found.by_constitution (option_to_list ends.between)
     (end_at ends.near.at ends.near.ligands.now ∷ end_at ends.far.at ends.far.ligands.now ∷ []) found.turns)
@@ -61,8 +61,8 @@ returns-clause-turns g c =
     (sym c.in-Some.is ∙ c.far_end.ensures
     ∙ (λ i. far_number (shape_at (told i)) (parents_of (told i)) (c.from-node.ensures i) ends.between ends.far.at))
     (subst (λ n. AreRootTurns inner n one.by_constitution ends.near.ligands.now one.turns) c.from-node.ensures
-    c.in_ok-one.ensures.turns)
-    c.in_ok-two.ensures.turns)
+    c.in-Ok.ensures.turns)
+    c.in-Ok-turns_at.ensures.turns)
 
 pub returns-in_default-clause-room : goal.returns-in_default-clause-room
 returns-in_default-clause-room g c = refl
@@ -76,11 +76,11 @@ turns_at-requires-clause-ready g c = subst (Ready c.args.inner.now) (sym c.from-
 pub turns_at-requires-clause-stands : goal.turns_at-requires-clause-stands
 turns_at-requires-clause-stands g c = c.requires.stands
 
-pub returns-in_err-one-clause-room : goal.returns-in_err-one-clause-room
-returns-in_err-one-clause-room g c = c.turns_at.ensures.room
+pub returns-in_default-turns_at-clause-room : goal.returns-in_default-turns_at-clause-room
+returns-in_default-turns_at-clause-room g c = c.turns_at.ensures.room
 
-pub returns-in_err-one-clause-stands : goal.returns-in_err-one-clause-stands
-returns-in_err-one-clause-stands g c = c.turns_at.ensures.stands
+pub returns-in_default-turns_at-clause-stands : goal.returns-in_default-turns_at-clause-stands
+returns-in_default-turns_at-clause-stands g c = c.turns_at.ensures.stands
 
 pub returns-then-is_none-clause-room : goal.returns-then-is_none-clause-room
 returns-then-is_none-clause-room g c = c.turns_at.ensures.room
@@ -88,17 +88,17 @@ returns-then-is_none-clause-room g c = c.turns_at.ensures.room
 pub returns-then-is_none-clause-stands : goal.returns-then-is_none-clause-stands
 returns-then-is_none-clause-stands g c = c.turns_at.ensures.stands
 
-pub turns_at-requires-2-clause-stands : goal.turns_at-requires-2-clause-stands
-turns_at-requires-2-clause-stands g c = c.turns_at.ensures.stands
+pub turns_at-requires-else-is_none-clause-stands : goal.turns_at-requires-else-is_none-clause-stands
+turns_at-requires-else-is_none-clause-stands g c = c.turns_at.ensures.stands
 
-pub returns-in_err-two-clause-room : goal.returns-in_err-two-clause-room
-returns-in_err-two-clause-room g c = c.turns_at-2.ensures.room ∙ c.turns_at.ensures.room
+pub returns-in_default-turns_at-2-clause-room : goal.returns-in_default-turns_at-2-clause-room
+returns-in_default-turns_at-2-clause-room g c = c.turns_at-else-is_none.ensures.room ∙ c.turns_at.ensures.room
 
-pub returns-in_err-two-clause-stands : goal.returns-in_err-two-clause-stands
-returns-in_err-two-clause-stands g c = c.turns_at-2.ensures.stands
+pub returns-in_default-turns_at-2-clause-stands : goal.returns-in_default-turns_at-2-clause-stands
+returns-in_default-turns_at-2-clause-stands g c = c.turns_at-else-is_none.ensures.stands
 
-pub returns-clause-room : goal.returns-clause-room
-returns-clause-room g c = c.turns_at-2.ensures.room ∙ c.turns_at.ensures.room
+pub returns-in-Ok-turns_at-clause-room : goal.returns-in-Ok-turns_at-clause-room
+returns-in-Ok-turns_at-clause-room g c = c.turns_at-else-is_none.ensures.room ∙ c.turns_at.ensures.room
 
-pub returns-clause-stands : goal.returns-clause-stands
-returns-clause-stands g c = c.turns_at-2.ensures.stands
+pub returns-in-Ok-turns_at-clause-stands : goal.returns-in-Ok-turns_at-clause-stands
+returns-in-Ok-turns_at-clause-stands g c = c.turns_at-else-is_none.ensures.stands

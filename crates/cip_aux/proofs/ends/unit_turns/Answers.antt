@@ -1,13 +1,48 @@
+use Rattle.cip_aux.specs.declared.viewer.FoundTurns.{FoundTurns}
+use Rattle.cip_aux.specs.Marking.{AreRootTurns, AreEndTurns}
+use Rattle.cip_digraph.specs.rules.Auxiliary.{nearer_first}
+use Rattle.cip_digraph.specs.units.Ends.{end_at}
+use Rattle.std.specs.Prelude.{IfOk}
+use Rattle.cip_mol.specs.Ends.{between_in}
+use Rattle.cip_mol.specs.declared.ends.Ends.{Ends}
+use Rattle.cip_letters.specs.LentEnds.{ends_in}
+use Rattle.std.proofs.Common.{[], ◌∷◌, sym, subst}
+use Rattle.cip_aux.proofs.EndTurns.{centre_is}
+use Rattle.cip_aux.proofs.NodeMarks.{ok_by}
+use Rattle.cip_aux.specs.Inner.{Ready}
 use Rattle.cip_aux.proofs.ends.unit_turns.Goals as goal
+
+pub returns-then-end-vertex-clause-turns : goal.returns-then-end-vertex-clause-turns
+returns-then-end-vertex-clause-turns g c =
+    let inner = c.args.inner.now in
+    let ends = nearer_first c.args.vertex (end_at c.in-One.end.at c.in-One.end.ligands.now ∷ []) in
+    subst (λ (of : Ends). IfOk c.turns_at.result (λ found. AreEndTurns inner inner.from found.by_constitution
+    (between_in of) (nearer_first c.args.vertex (ends_in of)) found.turns)) (sym c.in-One.is) (ok_by
+    (λ (found : FoundTurns). AreRootTurns inner c.from.result found.by_constitution c.in-One.end.ligands.now
+    found.turns)
+    (λ (found : FoundTurns). AreEndTurns inner inner.from found.by_constitution [] ends found.turns) c.turns_at.result
+    (λ found are.
+    centre_is inner c.from.result c.in-One.end.at c.args.vertex found.by_constitution c.in-One.end.ligands.now
+    found.turns c.if-end-vertex.true c.from.ensures are)
+    c.turns_at.ensures.turns)
+
+pub turns_at-requires-clause-ready : goal.turns_at-requires-clause-ready
+turns_at-requires-clause-ready g c = subst (Ready c.args.inner.now) (sym c.from.ensures) c.requires.ready
+
+pub turns_at-requires-clause-stands : goal.turns_at-requires-clause-stands
+turns_at-requires-clause-stands g c = c.requires.stands
+
+pub returns-then-end-vertex-clause-room : goal.returns-then-end-vertex-clause-room
+returns-then-end-vertex-clause-room g c = c.turns_at.ensures.room
+
+pub returns-then-end-vertex-clause-stands : goal.returns-then-end-vertex-clause-stands
+returns-then-end-vertex-clause-stands g c = c.turns_at.ensures.stands
 
 pub two_ends-requires-clause-ready : goal.two_ends-requires-clause-ready
 two_ends-requires-clause-ready g c = c.requires.ready
 
 pub returns-in-Two-clause-stands : goal.returns-in-Two-clause-stands
 returns-in-Two-clause-stands g c = c.two_ends.ensures.stands
-
-pub one_end-requires-clause-ready : goal.one_end-requires-clause-ready
-one_end-requires-clause-ready g c = c.requires.ready
 
 pub returns-in-Two-clause-room : goal.returns-in-Two-clause-room
 returns-in-Two-clause-room g c = c.two_ends.ensures.room

@@ -40,8 +40,8 @@ loop-done-preserved g c =
       kept = c.wanted_mark.ensures.kept;
       kept_room = c.wanted_mark.ensures.kept_room ∙ c.loop-done.invariant.kept_room;
       marks = subst (are (count - (c.loop-done.done + 1))) (sym (ap (λ (marks : Marks). marks.marks) c.set.ensures))
-          (subst (λ k. are k (slice_set old node c.in_ok-mark.mark)) next
-          (one_more sight all flags node old c.in_ok-mark.mark low c.in_ok-mark.ensures.mark
+          (subst (λ k. are k (slice_set old node c.in-Ok.mark)) next
+          (one_more sight all flags node old c.in-Ok.mark low c.in-Ok.ensures.mark
           (subst (λ k. are k old) now c.loop-done.invariant.marks)));
     }
 
@@ -71,14 +71,14 @@ wanted_mark-requires-clause-stands g c = c.loop-done.invariant.stands
 pub wanted_mark-requires-clause-kept : goal.wanted_mark-requires-clause-kept
 wanted_mark-requires-clause-kept g c = c.loop-done.invariant.kept
 
-pub returns-in_err-mark-clause-room : goal.returns-in_err-mark-clause-room
-returns-in_err-mark-clause-room g c = c.wanted_mark.ensures.room ∙ c.loop-done.invariant.room
+pub returns-in_default-clause-room : goal.returns-in_default-clause-room
+returns-in_default-clause-room g c = c.wanted_mark.ensures.room ∙ c.loop-done.invariant.room
 
-pub returns-in_err-mark-clause-stands : goal.returns-in_err-mark-clause-stands
-returns-in_err-mark-clause-stands g c = c.wanted_mark.ensures.stands
+pub returns-in_default-clause-stands : goal.returns-in_default-clause-stands
+returns-in_default-clause-stands g c = c.wanted_mark.ensures.stands
 
-pub returns-in_err-mark-clause-kept : goal.returns-in_err-mark-clause-kept
-returns-in_err-mark-clause-kept g c = c.wanted_mark.ensures.kept
+pub returns-in_default-clause-kept : goal.returns-in_default-clause-kept
+returns-in_default-clause-kept g c = c.wanted_mark.ensures.kept
 
 pub clear-requires : goal.clear-requires
 clear-requires g c =
@@ -117,11 +117,11 @@ set-requires g c =
     let len = c.loop-done.invariant.marks.len in
     omega (arith, many, len, c.loop-done-test.true)
 
-pub returns-in_err-mark-clause-bound : goal.returns-in_err-mark-clause-bound
-returns-in_err-mark-clause-bound g c = c.loop-done.invariant.bound
+pub returns-in_default-clause-bound : goal.returns-in_default-clause-bound
+returns-in_default-clause-bound g c = c.loop-done.invariant.bound
 
-pub returns-in_err-mark-clause-kept_room : goal.returns-in_err-mark-clause-kept_room
-returns-in_err-mark-clause-kept_room g c = c.wanted_mark.ensures.kept_room ∙ c.loop-done.invariant.kept_room
+pub returns-in_default-clause-kept_room : goal.returns-in_default-clause-kept_room
+returns-in_default-clause-kept_room g c = c.wanted_mark.ensures.kept_room ∙ c.loop-done.invariant.kept_room
 
 pub returns-clause-room : goal.returns-clause-room
 returns-clause-room g c = c.loop-done.invariant.room

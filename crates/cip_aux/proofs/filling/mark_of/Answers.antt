@@ -36,8 +36,8 @@ returns-then-node-eq0-clause-mark g c =
     (sym first)
     (root_mark inner.sight c.requires.shows c.args.units.now (subst (IsReal inner.sight.nodes) first atom.0))
 
-pub returns-clause-mark : goal.returns-clause-mark
-returns-clause-mark g c =
+pub returns-else-node-eq0-clause-mark : goal.returns-else-node-eq0-clause-mark
+returns-else-node-eq0-clause-mark g c =
     let inner = c.args.inner.now in
     let all = c.args.units.now in
     let told = c.nodes.ensures.told ∙ ap (λ (s : Sight). s.told) c.whole.ensures in
@@ -61,17 +61,17 @@ first_letter-requires-clause-kept g c = c.requires.kept
 pub first_letter-requires-clause-stands : goal.first_letter-requires-clause-stands
 first_letter-requires-clause-stands g c = c.requires.stands
 
-pub returns-clause-stands : goal.returns-clause-stands
-returns-clause-stands g c = c.first_letter.ensures.stands
+pub returns-else-node-eq0-clause-stands : goal.returns-else-node-eq0-clause-stands
+returns-else-node-eq0-clause-stands g c = c.first_letter.ensures.stands
 
-pub returns-clause-room : goal.returns-clause-room
-returns-clause-room g c = c.first_letter.ensures.room
+pub returns-else-node-eq0-clause-room : goal.returns-else-node-eq0-clause-room
+returns-else-node-eq0-clause-room g c = c.first_letter.ensures.room
 
-pub returns-clause-kept_room : goal.returns-clause-kept_room
-returns-clause-kept_room g c = c.first_letter.ensures.kept_room
+pub returns-else-node-eq0-clause-kept_room : goal.returns-else-node-eq0-clause-kept_room
+returns-else-node-eq0-clause-kept_room g c = c.first_letter.ensures.kept_room
 
-pub returns-clause-kept : goal.returns-clause-kept
-returns-clause-kept g c = c.first_letter.ensures.kept
+pub returns-else-node-eq0-clause-kept : goal.returns-else-node-eq0-clause-kept
+returns-else-node-eq0-clause-kept g c = c.first_letter.ensures.kept
 
 pub returns-then-node-eq0-clause-kept_room : goal.returns-then-node-eq0-clause-kept_room
 returns-then-node-eq0-clause-kept_room g c = refl

@@ -17,11 +17,11 @@ mark_of-requires-clause-below g c =
       from = c.args.behind.now.node;
       marks = c.args.behind.now.marks.now.marks;
     })
-    c.requires.shows all c.args.wanted.now.flags.now c.requires.wanted (sym c.is_at.ensures ∙ c.if-not-is_at.false)
+    c.requires.shows all c.args.wanted.now.flags.now c.requires.wanted (sym c.is_at.ensures ∙ c.if-is_at.true)
     c.requires.behind)
 
-pub returns-clause-mark : goal.returns-clause-mark
-returns-clause-mark g c =
+pub returns-then-is_at-clause-mark : goal.returns-then-is_at-clause-mark
+returns-then-is_at-clause-mark g c =
     let all = c.args.wanted.now.units.now in
     let sight = sight_of c.args.whole.now in
     let inner = c.new-inner.result in
@@ -30,7 +30,7 @@ returns-clause-mark g c =
     (λ mark. mark ≡ cond (flag_at c.args.wanted.now.flags.now c.args.behind.now.node) found None) c.mark_of.result
     (λ mark e.
     e ∙ ap (λ (of : Inner). node_mark of.sight all (node_at of.sight.nodes of.from)) c.new-inner.ensures
-    ∙ sym (ap (λ b. cond b found None) (sym c.is_at.ensures ∙ c.if-not-is_at.false)))
+    ∙ sym (ap (λ b. cond b found None) (sym c.is_at.ensures ∙ c.if-is_at.true)))
     c.mark_of.ensures.mark
 
 pub mark_of-requires-clause-shows : goal.mark_of-requires-clause-shows
@@ -56,33 +56,33 @@ mark_of-requires-clause-kept g c =
     subst (λ (inner : Inner). AreKept inner.sight (sites_in c.args.wanted.now.units.now) c.args.kept.now.items)
     (sym c.new-inner.ensures) c.requires.kept
 
-pub returns-clause-room : goal.returns-clause-room
-returns-clause-room g c = c.mark_of.ensures.room
+pub returns-then-is_at-clause-room : goal.returns-then-is_at-clause-room
+returns-then-is_at-clause-room g c = c.mark_of.ensures.room
 
-pub returns-clause-stands : goal.returns-clause-stands
-returns-clause-stands g c =
+pub returns-then-is_at-clause-stands : goal.returns-then-is_at-clause-stands
+returns-then-is_at-clause-stands g c =
     subst (λ (inner : Inner). g.V.Viewer.stands c.mark_of.new.viewer inner.sight) c.new-inner.ensures
     c.mark_of.ensures.stands
 
-pub returns-clause-kept : goal.returns-clause-kept
-returns-clause-kept g c =
+pub returns-then-is_at-clause-kept : goal.returns-then-is_at-clause-kept
+returns-then-is_at-clause-kept g c =
     subst (λ (inner : Inner). AreKept inner.sight (sites_in c.args.wanted.now.units.now) c.mark_of.new.kept.items)
     c.new-inner.ensures c.mark_of.ensures.kept
 
-pub returns-clause-kept_room : goal.returns-clause-kept_room
-returns-clause-kept_room g c = c.mark_of.ensures.kept_room
+pub returns-then-is_at-clause-kept_room : goal.returns-then-is_at-clause-kept_room
+returns-then-is_at-clause-kept_room g c = c.mark_of.ensures.kept_room
 
-pub returns-then-not-is_at-clause-room : goal.returns-then-not-is_at-clause-room
-returns-then-not-is_at-clause-room g c = refl
+pub returns-else-is_at-clause-room : goal.returns-else-is_at-clause-room
+returns-else-is_at-clause-room g c = refl
 
-pub returns-then-not-is_at-clause-stands : goal.returns-then-not-is_at-clause-stands
-returns-then-not-is_at-clause-stands g c = c.requires.stands
+pub returns-else-is_at-clause-stands : goal.returns-else-is_at-clause-stands
+returns-else-is_at-clause-stands g c = c.requires.stands
 
-pub returns-then-not-is_at-clause-kept : goal.returns-then-not-is_at-clause-kept
-returns-then-not-is_at-clause-kept g c = c.requires.kept
+pub returns-else-is_at-clause-kept : goal.returns-else-is_at-clause-kept
+returns-else-is_at-clause-kept g c = c.requires.kept
 
-pub returns-then-not-is_at-clause-mark : goal.returns-then-not-is_at-clause-mark
-returns-then-not-is_at-clause-mark g c =
+pub returns-else-is_at-clause-mark : goal.returns-else-is_at-clause-mark
+returns-else-is_at-clause-mark g c =
     let sight = sight_of c.args.whole.now in
     let found = node_mark sight c.args.wanted.now.units.now (node_at sight.nodes c.args.behind.now.node) in
-    sym (ap (λ b. cond b found None) (sym c.is_at.ensures ∙ c.if-not-is_at.true))
+    sym (ap (λ b. cond b found None) (sym c.is_at.ensures ∙ c.if-is_at.false))

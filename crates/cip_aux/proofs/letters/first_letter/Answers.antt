@@ -28,8 +28,8 @@ loop-rest-preserved g c =
       kept_room = c.unit_letter.ensures.kept_room ∙ c.loop-rest.invariant.kept_room;
       low = all_rest (λ place. place < length all) c.loop-rest.rest.now (search rules) c.loop-rest.invariant.low;
       left = none_here inner inner.from all c.loop-rest.rest.now _ (search rules)
-          (subst (IsUnitLetter inner inner.from (unit_at all _)) c.in_default-2.is
-          c.in_ok-letter.ensures.letter)
+          (subst (IsUnitLetter inner inner.from (unit_at all _)) c.in-Ok-None.field-0-is
+          c.in-Ok-None.ensures.letter)
           c.loop-rest.invariant.left;
     }
 
@@ -45,17 +45,17 @@ unit_letter-requires-clause-stands g c = c.loop-rest.invariant.stands
 pub unit_letter-requires-clause-kept : goal.unit_letter-requires-clause-kept
 unit_letter-requires-clause-kept g c = c.loop-rest.invariant.kept
 
-pub returns-in_err-letter-clause-room : goal.returns-in_err-letter-clause-room
-returns-in_err-letter-clause-room g c = c.unit_letter.ensures.room ∙ c.loop-rest.invariant.room
+pub returns-in-Err-clause-room : goal.returns-in-Err-clause-room
+returns-in-Err-clause-room g c = c.unit_letter.ensures.room ∙ c.loop-rest.invariant.room
 
-pub returns-in_err-letter-clause-stands : goal.returns-in_err-letter-clause-stands
-returns-in_err-letter-clause-stands g c = c.unit_letter.ensures.stands
+pub returns-in-Err-clause-stands : goal.returns-in-Err-clause-stands
+returns-in-Err-clause-stands g c = c.unit_letter.ensures.stands
 
-pub returns-in_err-letter-clause-kept : goal.returns-in_err-letter-clause-kept
-returns-in_err-letter-clause-kept g c = c.unit_letter.ensures.kept
+pub returns-in-Err-clause-kept : goal.returns-in-Err-clause-kept
+returns-in-Err-clause-kept g c = c.unit_letter.ensures.kept
 
-pub returns-in_err-letter-clause-kept_room : goal.returns-in_err-letter-clause-kept_room
-returns-in_err-letter-clause-kept_room g c =
+pub returns-in-Err-clause-kept_room : goal.returns-in-Err-clause-kept_room
+returns-in-Err-clause-kept_room g c =
     c.unit_letter.ensures.kept_room ∙ c.loop-rest.invariant.kept_room
 
 pub returns-clause-room : goal.returns-clause-room
@@ -70,17 +70,17 @@ returns-clause-kept g c = c.loop-rest.invariant.kept
 pub returns-clause-kept_room : goal.returns-clause-kept_room
 returns-clause-kept_room g c = c.loop-rest.invariant.kept_room
 
-pub returns-in-Some-clause-room : goal.returns-in-Some-clause-room
-returns-in-Some-clause-room g c = c.unit_letter.ensures.room ∙ c.loop-rest.invariant.room
+pub returns-in-Ok-Some-clause-room : goal.returns-in-Ok-Some-clause-room
+returns-in-Ok-Some-clause-room g c = c.unit_letter.ensures.room ∙ c.loop-rest.invariant.room
 
-pub returns-in-Some-clause-stands : goal.returns-in-Some-clause-stands
-returns-in-Some-clause-stands g c = c.unit_letter.ensures.stands
+pub returns-in-Ok-Some-clause-stands : goal.returns-in-Ok-Some-clause-stands
+returns-in-Ok-Some-clause-stands g c = c.unit_letter.ensures.stands
 
-pub returns-in-Some-clause-kept : goal.returns-in-Some-clause-kept
-returns-in-Some-clause-kept g c = c.unit_letter.ensures.kept
+pub returns-in-Ok-Some-clause-kept : goal.returns-in-Ok-Some-clause-kept
+returns-in-Ok-Some-clause-kept g c = c.unit_letter.ensures.kept
 
-pub returns-in-Some-clause-kept_room : goal.returns-in-Some-clause-kept_room
-returns-in-Some-clause-kept_room g c = c.unit_letter.ensures.kept_room ∙ c.loop-rest.invariant.kept_room
+pub returns-in-Ok-Some-clause-kept_room : goal.returns-in-Ok-Some-clause-kept_room
+returns-in-Ok-Some-clause-kept_room g c = c.unit_letter.ensures.kept_room ∙ c.loop-rest.invariant.kept_room
 
 pub returns-clause-letter : goal.returns-clause-letter
 returns-clause-letter g c = grind (arith, common_steps)

@@ -1,45 +1,85 @@
-use Rattle.std.proofs.Common.{◌∙◌, sym, refl}
-use Rattle.cip_aux.proofs.Keeping.{found_told}
+use Rattle.std.proofs.Common.{◌∙◌, ap, sym, refl, subst, true, false}
+use Rattle.cip_mol.specs.Ends.{between_in, between_of}
+use Rattle.cip_mol.specs.declared.site.Unit as units
+use Rattle.cip_digraph.specs.rules.Auxiliary.{nearer_first}
+use Rattle.cip_letters.specs.LentEnds.{ends_in}
+use Rattle.cip_aux.specs.Marking.{AreEndTurns}
+use Rattle.cip_aux.specs.UnitsAt.{unit_at}
+use Rattle.cip_aux.proofs.Keeping.{found_told, lent_turns, told_kept}
+use Rattle.cip_aux.proofs.LentEnds.{lent_joined}
 use Rattle.cip_aux.proofs.letters.turns_here.Goals as goal
+
+pub unit_turns-requires-clause-joined : goal.unit_turns-requires-clause-joined
+unit_turns-requires-clause-joined g c =
+    let here = c.args.here.now in
+    let site = ap (λ (unit : units.Unit). unit.site) c.unit.ensures in
+    lent_joined c.args.inner.now.sight.graph c.ends-ends.result (unit_at here.units.now here.place).site
+    (c.ends-ends.ensures.site ∙ site) (c.ends-ends.ensures.between ∙ ap between_of site) c.requires.joined
+
+pub returns-then-found-clause-kept : goal.returns-then-found-clause-kept
+returns-then-found-clause-kept g c =
+    let inner = c.args.inner.now in
+    let here = c.args.here.now in
+    let found = c.in-Ok.found in
+    let all = here.units.now in
+    let site = ap (λ (unit : units.Unit). unit.site) c.unit.ensures in
+    told_kept inner here.vertex all here.place c.requires.vertex found.turns c.args.kept.now c.keep.new.kept
+    c.from-then-found.result c.from-then-found.ensures
+    (lent_turns inner here.vertex true found.turns c.ends-ends.result (unit_at all here.place).site
+    (c.ends-ends.ensures.site ∙ site) (c.ends-ends.ensures.between ∙ ap between_of site)
+    (subst (λ b. AreEndTurns inner inner.from b (between_in c.ends-ends.result)
+    (nearer_first here.vertex (ends_in c.ends-ends.result)) found.turns) c.if-found.true c.in-Ok.ensures.turns))
+    c.requires.kept c.keep.ensures.none c.keep.ensures.some
+
+pub unit_turns-requires-clause-ready : goal.unit_turns-requires-clause-ready
+unit_turns-requires-clause-ready g c = c.requires.ready
+
+pub unit_turns-requires-clause-vertex : goal.unit_turns-requires-clause-vertex
+unit_turns-requires-clause-vertex g c = c.requires.vertex
+
+pub unit_turns-requires-clause-stands : goal.unit_turns-requires-clause-stands
+unit_turns-requires-clause-stands g c = c.requires.stands
+
+pub returns-in_default-clause-room : goal.returns-in_default-clause-room
+returns-in_default-clause-room g c = c.unit_turns.ensures.room
+
+pub returns-in_default-clause-stands : goal.returns-in_default-clause-stands
+returns-in_default-clause-stands g c = c.unit_turns.ensures.stands
+
+pub returns-in_default-clause-kept : goal.returns-in_default-clause-kept
+returns-in_default-clause-kept g c = c.requires.kept
+
+pub returns-then-found-clause-room : goal.returns-then-found-clause-room
+returns-then-found-clause-room g c = c.unit_turns.ensures.room
+
+pub returns-then-found-clause-stands : goal.returns-then-found-clause-stands
+returns-then-found-clause-stands g c = c.unit_turns.ensures.stands
+
+pub returns-else-found-clause-room : goal.returns-else-found-clause-room
+returns-else-found-clause-room g c = c.unit_turns.ensures.room
+
+pub returns-else-found-clause-stands : goal.returns-else-found-clause-stands
+returns-else-found-clause-stands g c = c.unit_turns.ensures.stands
+
+pub returns-else-found-clause-kept : goal.returns-else-found-clause-kept
+returns-else-found-clause-kept g c = c.requires.kept
+
+pub returns-else-found-clause-turns : goal.returns-else-found-clause-turns
+returns-else-found-clause-turns g c =
+    let inner = c.args.inner.now in
+    let here = c.args.here.now in
+    let found = c.in-Ok.found in
+    let site = ap (λ (unit : units.Unit). unit.site) c.unit.ensures in
+    lent_turns inner here.vertex false found.turns c.ends-ends.result (unit_at here.units.now here.place).site
+    (c.ends-ends.ensures.site ∙ site) (c.ends-ends.ensures.between ∙ ap between_of site)
+    (subst (λ b. AreEndTurns inner inner.from b (between_in c.ends-ends.result)
+    (nearer_first here.vertex (ends_in c.ends-ends.result)) found.turns) c.if-found.false c.in-Ok.ensures.turns)
 
 pub returns-in-Some-clause-turns : goal.returns-in-Some-clause-turns
 returns-in-Some-clause-turns g c =
     let here = c.args.here.now in
     found_told c.args.inner.now here.vertex here.units.now here.place c.requires.vertex c.args.kept.now.items
     c.from.result c.in-Some.turn c.from.ensures c.requires.kept (sym c.of.ensures ∙ c.in-Some.is)
-
-pub seen_turns-requires-clause-kept : goal.seen_turns-requires-clause-kept
-seen_turns-requires-clause-kept g c = c.requires.kept
-
-pub seen_turns-requires-clause-low : goal.seen_turns-requires-clause-low
-seen_turns-requires-clause-low g c = c.requires.low
-
-pub seen_turns-requires-clause-ready : goal.seen_turns-requires-clause-ready
-seen_turns-requires-clause-ready g c = c.requires.ready
-
-pub seen_turns-requires-clause-stands : goal.seen_turns-requires-clause-stands
-seen_turns-requires-clause-stands g c = c.requires.stands
-
-pub seen_turns-requires-clause-joined : goal.seen_turns-requires-clause-joined
-seen_turns-requires-clause-joined g c = c.requires.joined
-
-pub seen_turns-requires-clause-vertex : goal.seen_turns-requires-clause-vertex
-seen_turns-requires-clause-vertex g c = c.requires.vertex
-
-pub returns-in-None-clause-turns : goal.returns-in-None-clause-turns
-returns-in-None-clause-turns g c = c.seen_turns.ensures.turns
-
-pub returns-in-None-clause-kept_room : goal.returns-in-None-clause-kept_room
-returns-in-None-clause-kept_room g c = c.seen_turns.ensures.kept_room
-
-pub returns-in-None-clause-kept : goal.returns-in-None-clause-kept
-returns-in-None-clause-kept g c = c.seen_turns.ensures.kept
-
-pub returns-in-None-clause-room : goal.returns-in-None-clause-room
-returns-in-None-clause-room g c = c.seen_turns.ensures.room
-
-pub returns-in-None-clause-stands : goal.returns-in-None-clause-stands
-returns-in-None-clause-stands g c = c.seen_turns.ensures.stands
 
 pub returns-in-Some-clause-kept_room : goal.returns-in-Some-clause-kept_room
 returns-in-Some-clause-kept_room g c = refl

@@ -6,20 +6,20 @@ use Rattle.cip_aux.specs.UnitsAt.{unit_at}
 use Rattle.cip_aux.proofs.UnitLetters.{known_letter}
 use Rattle.cip_aux.proofs.letters.unit_letter.Goals as goal
 
-pub returns-in_ok-turns-in-Known-clause-letter : goal.returns-in_ok-turns-in-Known-clause-letter
-returns-in_ok-turns-in-Known-clause-letter g c =
+pub returns-in-Ok-clause-letter : goal.returns-in-Ok-clause-letter
+returns-in-Ok-clause-letter g c =
     let inner = c.args.inner.now in
     let here = c.args.here.now in
     let unit = unit_at here.units.now here.place in
     let sense = c.in-Known.sense in
-    let turns = c.in_ok-turns-in-Known.turns in
+    let turns = c.in-Ok.turns in
     let same = c.unit-unit.ensures in
     subst (IsUnitLetter inner inner.from unit)
     (ap (λ (of : units.Unit). turned_letter of.site sense turns) (sym same)
     ∙ ap (λ site. turned_letter site sense turns) (sym c.ends.ensures.site) ∙ sym c.named.ensures)
     (known_letter inner inner.from c.requires.ready unit sense here.vertex turns
     (sym (ap (λ (of : units.Unit). of.geometry) same) ∙ c.in-Known.is) c.requires.vertex
-    c.in_ok-turns-in-Known.ensures.turns)
+    c.in-Ok.ensures.turns)
 
 pub turns_here-requires-clause-stands : goal.turns_here-requires-clause-stands
 turns_here-requires-clause-stands g c = c.requires.stands
@@ -39,29 +39,29 @@ turns_here-requires-clause-joined g c = c.requires.joined
 pub turns_here-requires-clause-low : goal.turns_here-requires-clause-low
 turns_here-requires-clause-low g c = c.requires.low
 
-pub returns-in_ok-turns-in-Known-clause-kept_room : goal.returns-in_ok-turns-in-Known-clause-kept_room
-returns-in_ok-turns-in-Known-clause-kept_room g c = c.turns_here.ensures.kept_room
+pub returns-in-Ok-clause-kept_room : goal.returns-in-Ok-clause-kept_room
+returns-in-Ok-clause-kept_room g c = c.turns_here.ensures.kept_room
 
-pub returns-in_err-turns-in-Known-clause-kept_room : goal.returns-in_err-turns-in-Known-clause-kept_room
-returns-in_err-turns-in-Known-clause-kept_room g c = c.turns_here.ensures.kept_room
+pub returns-in_default-clause-kept_room : goal.returns-in_default-clause-kept_room
+returns-in_default-clause-kept_room g c = c.turns_here.ensures.kept_room
 
-pub returns-in_err-turns-in-Known-clause-stands : goal.returns-in_err-turns-in-Known-clause-stands
-returns-in_err-turns-in-Known-clause-stands g c = c.turns_here.ensures.stands
+pub returns-in_default-clause-stands : goal.returns-in_default-clause-stands
+returns-in_default-clause-stands g c = c.turns_here.ensures.stands
 
-pub returns-in_ok-turns-in-Known-clause-stands : goal.returns-in_ok-turns-in-Known-clause-stands
-returns-in_ok-turns-in-Known-clause-stands g c = c.turns_here.ensures.stands
+pub returns-in-Ok-clause-stands : goal.returns-in-Ok-clause-stands
+returns-in-Ok-clause-stands g c = c.turns_here.ensures.stands
 
-pub returns-in_err-turns-in-Known-clause-kept : goal.returns-in_err-turns-in-Known-clause-kept
-returns-in_err-turns-in-Known-clause-kept g c = c.turns_here.ensures.kept
+pub returns-in_default-clause-kept : goal.returns-in_default-clause-kept
+returns-in_default-clause-kept g c = c.turns_here.ensures.kept
 
-pub returns-in_err-turns-in-Known-clause-room : goal.returns-in_err-turns-in-Known-clause-room
-returns-in_err-turns-in-Known-clause-room g c = c.turns_here.ensures.room
+pub returns-in_default-clause-room : goal.returns-in_default-clause-room
+returns-in_default-clause-room g c = c.turns_here.ensures.room
 
-pub returns-in_ok-turns-in-Known-clause-kept : goal.returns-in_ok-turns-in-Known-clause-kept
-returns-in_ok-turns-in-Known-clause-kept g c = c.turns_here.ensures.kept
+pub returns-in-Ok-clause-kept : goal.returns-in-Ok-clause-kept
+returns-in-Ok-clause-kept g c = c.turns_here.ensures.kept
 
-pub returns-in_ok-turns-in-Known-clause-room : goal.returns-in_ok-turns-in-Known-clause-room
-returns-in_ok-turns-in-Known-clause-room g c = c.turns_here.ensures.room
+pub returns-in-Ok-clause-room : goal.returns-in-Ok-clause-room
+returns-in-Ok-clause-room g c = c.turns_here.ensures.room
 
 pub returns-in-Unknown-clause-kept : goal.returns-in-Unknown-clause-kept
 returns-in-Unknown-clause-kept g c = c.requires.kept

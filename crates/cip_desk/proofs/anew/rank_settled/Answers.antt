@@ -1,10 +1,12 @@
-use Rattle.std.proofs.Common.{sym, subst, refl}
+use Rattle.std.proofs.Common.{List, sym, ap, ◌∙◌, subst, refl}
 use Rattle.cip_constitution.specs.Settling.{SettledAs}
 use Rattle.cip_label.specs.Standing.{RankedAs}
 use Rattle.cip_label.specs.declared.digraphs.Ranking.TheVariants.{Known}
 use Rattle.cip_desk.specs.Desks.{settled_by}
-use Rattle.cip_desk.specs.Standing.{Standing, standing_of}
-use Rattle.cip_desk.proofs.Anyway.{over_anyway, tied_anyway}
+use Rattle.cip_letters.specs.declared.asked.Asked.{Asked}
+use Rattle.cip_desk.specs.Keeping.{StandsAnyway, kept_of}
+use Rattle.cip_desk.specs.Standing.{Standing, both_as, standing_of}
+use Rattle.cip_desk.proofs.Anyway.{ordered_anyway, over_anyway, tied_anyway}
 use Rattle.cip_desk.proofs.SettledRoots.{over_ranked, tied_ranked}
 use Rattle.cip_desk.proofs.anew.rank_settled.Goals as goal
 
@@ -41,18 +43,29 @@ returns-in-Tied-clause-ranking c =
     (subst (SettledAs (settled_by rooted.setting.now rooted.ligands.now) rooted.arena.now) c.in-Tied.is
     c.requires.settled) c.requires.rooted.fits
 
-pub returns-in_ok-rank_ordered-in-Ordered-clause-ranking : goal.returns-in_ok-rank_ordered-in-Ordered-clause-ranking
-returns-in_ok-rank_ordered-in-Ordered-clause-ranking c =
+pub returns-in-Ok-clause-found : goal.returns-in-Ok-clause-found
+returns-in-Ok-clause-found c =
     let rooted = c.args.rooted.now in
+    let setting = rooted.setting.now in
+    let ligands = rooted.ligands.now in
+    let arena = rooted.arena.now in
+    let work = c.args.work.now in
+    subst (λ (noted : List Asked). StandsAnyway (kept_of setting rooted.root ligands) arena.bound noted Known)
+    (sym c.in-Ok.ensures.kept) (ordered_anyway setting rooted.root ligands arena c.requires.rooted rooted.proper
+    (subst (SettledAs (settled_by setting ligands) arena) c.in-Ordered.is c.requires.settled) work.pairs work.noted
+    c.requires.pairs (c.requires.noted c.in-Ordered.is))
+
+pub returns-in-Ok-clause-ranking : goal.returns-in-Ok-clause-ranking
+returns-in-Ok-clause-ranking c =
+    let rooted = c.args.rooted.now in
+    let told = returns-in-Ok-clause-found c in
+    let noted = c.in-Ok.ensures in
     subst (λ (s : Standing). RankedAs rooted.setting.now rooted.arena.now.bound rooted.root rooted.ligands.now
-    (standing_of s) Known) (sym c.in_ok-rank_ordered-in-Ordered.ensures.standing)
-    (c.in_ok-rank_ordered-in-Ordered.ensures.told.each rooted.setting.now.units c.args.rooted.now.proper.sites)
+    (standing_of s) Known) (ap both_as noted.kept ∙ sym noted.standing)
+    (told.each rooted.setting.now.units rooted.proper.sites)
 
 pub rank_whole-requires-clause-followed : goal.rank_whole-requires-clause-followed
 rank_whole-requires-clause-followed c = c.requires.followed c.in-Whole.is
-
-pub rank_ordered-requires-clause-noted : goal.rank_ordered-requires-clause-noted
-rank_ordered-requires-clause-noted c = c.requires.noted c.in-Ordered.is
 
 pub returns-in-Whole-clause-ranking : goal.returns-in-Whole-clause-ranking
 returns-in-Whole-clause-ranking c = c.rank_whole.ensures.ranking
@@ -60,5 +73,5 @@ returns-in-Whole-clause-ranking c = c.rank_whole.ensures.ranking
 pub returns-in-Whole-clause-found : goal.returns-in-Whole-clause-found
 returns-in-Whole-clause-found c = c.rank_whole.ensures.found
 
-pub returns-in_ok-rank_ordered-in-Ordered-clause-work : goal.returns-in_ok-rank_ordered-in-Ordered-clause-work
-returns-in_ok-rank_ordered-in-Ordered-clause-work c = refl
+pub returns-in-Ok-clause-work : goal.returns-in-Ok-clause-work
+returns-in-Ok-clause-work c = refl

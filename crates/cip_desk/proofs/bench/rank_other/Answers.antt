@@ -1,10 +1,10 @@
 use Rattle.cip_desk.proofs.bench.rank_other.Goals as goal
 
-pub returns-in_err-keep-clause-cost : goal.returns-in_err-keep-clause-cost
-returns-in_err-keep-clause-cost g c = c.rank_anew.ensures.cost
+pub returns-in_default-keep-clause-cost : goal.returns-in_default-keep-clause-cost
+returns-in_default-keep-clause-cost g c = c.rank_anew.ensures.cost
 
-pub returns-in_err-found-clause-cost : goal.returns-in_err-found-clause-cost
-returns-in_err-found-clause-cost g c = c.rank_anew.ensures.cost
+pub returns-in_default-clause-cost : goal.returns-in_default-clause-cost
+returns-in_default-clause-cost g c = c.rank_anew.ensures.cost
 
 pub returns-clause-cost : goal.returns-clause-cost
 returns-clause-cost g c = c.rank_anew.ensures.cost

@@ -3,8 +3,8 @@ use Rattle.cip_desk.specs.Keeping.{FoundAs, StandsAnyway, kept_of}
 use Rattle.cip_desk.proofs.Ready.{found_kept, told_ranked}
 use Rattle.cip_desk.proofs.recalling.recall.Goals as goal
 
-pub returns-in_ok-take_named-in-Told-clause-ranking : goal.returns-in_ok-take_named-in-Told-clause-ranking
-returns-in_ok-take_named-in-Told-clause-ranking c =
+pub returns-in-Ok-clause-ranking : goal.returns-in-Ok-clause-ranking
+returns-in-Ok-clause-ranking c =
     let told = c.args.told.now in
     let bench = c.args.bench.now in
     let kept = kept_of told.setting.now told.root told.ligands.now in
@@ -14,8 +14,8 @@ returns-in_ok-take_named-in-Told-clause-ranking c =
     told_ranked told.setting.now told.root told.ligands.now told.bound noted c.in-Told.ranking c.take_named.new.self
     told.proper
     (subst (λ bound. StandsAnyway kept bound noted c.in-Told.ranking) c.requires.ready.room.arena found)
-    (c.in_ok-take_named-in-Told.ensures.natural ∙ c.as_slice.ensures.value)
-    (c.in_ok-take_named-in-Told.ensures.turned ∙ c.as_slice.ensures.value)
+    (c.in-Ok.ensures.natural ∙ c.as_slice.ensures.value)
+    (c.in-Ok.ensures.turned ∙ c.as_slice.ensures.value)
 
 pub reopen-requires-clause-stands : goal.reopen-requires-clause-stands
 reopen-requires-clause-stands c =

@@ -14,9 +14,9 @@ pub auxiliaries-found-requires-clause-kept : goal.auxiliaries-found-requires-cla
 auxiliaries-found-requires-clause-kept c =
     let setting = c.args.rooted.now.setting.now in
     let arena = c.args.rooted.now.arena.now in
-    let all = c.in_ok-units.ensures ∙ c.as_slice.ensures ∙ c.units.ensures.value in
+    let all = c.in-Ok.ensures ∙ c.as_slice.ensures ∙ c.units.ensures.value in
     same_kept (sight_of (whole_at setting arena)) (sight_of c.whole_of-whole.result)
-    (sites_of setting.graph setting.positions) (sites_in c.in_ok-units.units) c.args.tables.now.turns.items
+    (sites_of setting.graph setting.positions) (sites_in c.in-Ok.units) c.args.tables.now.turns.items
     (ap sight_of (sym c.whole_of-whole.ensures)) (sym (ap sites_in all ∙ c.units.ensures.proper.sites))
     c.requires.turns.0
 
@@ -30,9 +30,9 @@ pub returns-clause-turns : goal.returns-clause-turns
 returns-clause-turns c =
     let setting = c.args.rooted.now.setting.now in
     let arena = c.args.rooted.now.arena.now in
-    let all = c.in_ok-units.ensures ∙ c.as_slice.ensures ∙ c.units.ensures.value in
+    let all = c.in-Ok.ensures ∙ c.as_slice.ensures ∙ c.units.ensures.value in
     let looks = c.auxiliaries-found.new.viewer.looks in (
-      same_kept (sight_of c.whole_of-whole.result) (sight_of (whole_at setting arena)) (sites_in c.in_ok-units.units)
+      same_kept (sight_of c.whole_of-whole.result) (sight_of (whole_at setting arena)) (sites_in c.in-Ok.units)
           (sites_of setting.graph setting.positions) c.auxiliaries-found.new.kept.items
           (ap sight_of c.whole_of-whole.ensures) (ap sites_in all ∙ c.units.ensures.proper.sites)
           c.auxiliaries-found.ensures.kept,
@@ -44,11 +44,11 @@ pub returns-clause-marks : goal.returns-clause-marks
 returns-clause-marks c =
     let flags = c.args.flags.now in
     let marks = c.auxiliaries-found.new.marks.marks in
-    let all = c.in_ok-units.ensures ∙ c.as_slice.ensures ∙ c.units.ensures.value in
+    let all = c.in-Ok.ensures ∙ c.as_slice.ensures ∙ c.units.ensures.value in
     on_ok c.auxiliaries-found.result c.auxiliaries-found.ensures.marks
     (λ are. subst (λ (whole : Whole). AreMarked (sight_of whole) c.args.rooted.now.setting.now.units flags 0 marks)
     c.whole_of-whole.ensures
     (subst (λ (us : List units.Unit). AreMarked (sight_of c.whole_of-whole.result) us flags 0 marks) all are))
 
-pub returns-in_err-units-clause-room : goal.returns-in_err-units-clause-room
-returns-in_err-units-clause-room c = c.requires.room
+pub returns-in_default-clause-room : goal.returns-in_default-clause-room
+returns-in_default-clause-room c = c.requires.room

@@ -15,10 +15,10 @@ returns-clause-marks c =
     let work = c.args.work.now in
     let flags = c.flag_nodes.new.flags in
     let marks = c.find_flagged-found.new.tables.marks.marks in
-    let count : c.in_ok-flags.flags.len ≡ length flags = search rules in
+    let count : c.in-Ok.flags.len ≡ length flags = search rules in
     let wanted : c.as_slice.result.now ≡ flags = c.as_slice.ensures.value
-    ∙ ap (λ n. take n (flags ++ drop (length flags) c.in_ok-flags.flags.items)) count
-    ∙ take-append_seam flags (drop (length flags) c.in_ok-flags.flags.items) in
+    ∙ ap (λ n. take n (flags ++ drop (length flags) c.in-Ok.flags.items)) count
+    ∙ take-append_seam flags (drop (length flags) c.in-Ok.flags.items) in
     on_ok c.find_flagged-found.result c.find_flagged-found.ensures.marks
     (λ are. have_marks setting arena c.requires.rooted.holds work.pairs work.branched work.noted
     c.requires.constituted flags marks c.flag_nodes.ensures.flagged

@@ -20,11 +20,11 @@ returns-clause-ranked c =
     (λ (root : ℕ). RankedAs setting arena.bound root ligands (standing_of standing) Known) c.requires.rooted.at
     (late_ranked setting ligands arena c.requires.rooted.holds c.args.rooted.now.proper.sound fit
     c.requires.rooted.fits c.requires.settled c.args.work.now c.requires.pairs c.requires.constituted
-    c.requires.undone c.find_marks.new.tables.marks.marks c.in_ok-find_marks.ensures.marks standing ordered))
+    c.requires.undone c.find_marks.new.tables.marks.marks c.in-Ok.ensures.marks standing ordered))
 
 pub configure-requires-clause-keyed : goal.configure-requires-clause-keyed
 configure-requires-clause-keyed c =
-    subst (λ n. AreKeyed n c.args.work.now.branched.layers.kin) (sym c.in_ok-find_marks.ensures.marks.len)
+    subst (λ n. AreKeyed n c.args.work.now.branched.layers.kin) (sym c.in-Ok.ensures.marks.len)
     c.requires.constituted.keyed
 
 pub returns-clause-pairs : goal.returns-clause-pairs

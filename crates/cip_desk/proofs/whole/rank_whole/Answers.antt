@@ -12,8 +12,8 @@ use Rattle.cip_desk.proofs.Anyway.{early_anyway, whole_anyway}
 use Rattle.cip_desk.proofs.OpenRoots.{opened}
 use Rattle.cip_desk.proofs.whole.rank_whole.Goals as goal
 
-pub returns-then-constitute-clause-found : goal.returns-then-constitute-clause-found
-returns-then-constitute-clause-found c =
+pub returns-in-Ok-clause-found : goal.returns-in-Ok-clause-found
+returns-in-Ok-clause-found c =
     let setting = c.args.rooted.now.setting.now in
     let root = c.args.rooted.now.root in
     let ligands = c.args.rooted.now.ligands.now in
@@ -26,19 +26,19 @@ returns-then-constitute-clause-found c =
     c.requires.settled trying (c.constitute.ensures.pairs ∙ c.requires.pairs) constituted
     (sym c.constitute.ensures.all ∙ c.if-constitute.true) in
     subst (λ (noted : List Asked). StandsAnyway (kept_of setting root ligands) arena.bound noted Known)
-    (sym c.in_ok-take_noted.ensures.kept) told
+    (sym c.in-Ok.ensures.kept) told
 
-pub returns-then-constitute-clause-ranking : goal.returns-then-constitute-clause-ranking
-returns-then-constitute-clause-ranking c =
+pub returns-in-Ok-clause-ranking : goal.returns-in-Ok-clause-ranking
+returns-in-Ok-clause-ranking c =
     let rooted = c.args.rooted.now in
-    let told = returns-then-constitute-clause-found c in
-    let noted = c.in_ok-take_noted.ensures in
+    let told = returns-in-Ok-clause-found c in
+    let noted = c.in-Ok.ensures in
     subst (λ (s : Standing). RankedAs rooted.setting.now rooted.arena.now.bound rooted.root rooted.ligands.now
     (standing_of s) Known) (ap both_as noted.kept ∙ sym noted.standing) (told.each rooted.setting.now.units
     rooted.proper.sites)
 
-pub returns-clause-found : goal.returns-clause-found
-returns-clause-found c =
+pub returns-in-Ok-rank_open-clause-found : goal.returns-in-Ok-rank_open-clause-found
+returns-in-Ok-rank_open-clause-found c =
     let setting = c.args.rooted.now.setting.now in
     let root = c.args.rooted.now.root in
     let ligands = c.args.rooted.now.ligands.now in
@@ -53,11 +53,11 @@ returns-clause-found c =
     opened kept arena c.requires.rooted.holds c.requires.rooted.at c.requires.rooted.fits
     (whole_anyway setting root ligands arena c.requires.rooted c.args.rooted.now.proper c.requires.settled)
     trying.branched trying.noted c.rank_open.new.work c.rank_open.new.tables c.args.tables.now.aside.ranks.room
-    (c.in_ok-rank_open.ensures.pairs ∙ are)
+    (c.in-Ok-rank_open.ensures.pairs ∙ are)
     (ap (λ (aside : Aside). aside.ranks) aside ∙ c.set_aside.ensures.ranks) c.set_aside.ensures.count
-    c.in_ok-rank_open.ensures.same
-    (ap (λ (aside : Aside). aside.noted.items) aside ∙ c.in_ok-set_aside.ensures.noted)
-    c.in_ok-rank_open.ensures.len
+    c.in-Ok-rank_open.ensures.same
+    (ap (λ (aside : Aside). aside.noted.items) aside ∙ c.in-Ok-set_aside.ensures.noted)
+    c.in-Ok-rank_open.ensures.len
     (subst (λ (pairs : List Pair). AreConstituted setting.rules setting.graph setting.positions arena pairs
     trying.branched trying.noted) are constituted)
     (sym c.constitute.ensures.all ∙ c.if-constitute.false) c.rank_open.ensures.turns
@@ -91,14 +91,14 @@ rank_open-requires-clause-room c = c.set_aside.ensures.room
 pub rank_open-requires-clause-turns : goal.rank_open-requires-clause-turns
 rank_open-requires-clause-turns c = c.set_aside.ensures.turns
 
-pub returns-in_err-set_aside-clause-room : goal.returns-in_err-set_aside-clause-room
-returns-in_err-set_aside-clause-room c = c.set_aside.ensures.room
+pub returns-in_default-set_aside-clause-room : goal.returns-in_default-set_aside-clause-room
+returns-in_default-set_aside-clause-room c = c.set_aside.ensures.room
 
-pub returns-in_err-rank_open-clause-room : goal.returns-in_err-rank_open-clause-room
-returns-in_err-rank_open-clause-room c = c.rank_open.ensures.room
+pub returns-in_default-rank_open-clause-room : goal.returns-in_default-rank_open-clause-room
+returns-in_default-rank_open-clause-room c = c.rank_open.ensures.room
 
-pub returns-clause-ranking : goal.returns-clause-ranking
-returns-clause-ranking c = c.in_ok-rank_open.ensures.ranked
+pub returns-in-Ok-rank_open-clause-ranking : goal.returns-in-Ok-rank_open-clause-ranking
+returns-in-Ok-rank_open-clause-ranking c = c.in-Ok-rank_open.ensures.ranked
 
-pub returns-clause-room : goal.returns-clause-room
-returns-clause-room c = c.rank_open.ensures.room
+pub returns-in-Ok-rank_open-clause-room : goal.returns-in-Ok-rank_open-clause-room
+returns-in-Ok-rank_open-clause-room c = c.rank_open.ensures.room

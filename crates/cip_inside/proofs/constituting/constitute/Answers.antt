@@ -31,8 +31,8 @@ decide_constitution-requires-clause-masses_keyed g c =
     subst (λ (all : List Told). AreKeyed (length all) c.follow_all.new.branches.layers.kin)
     (sym c.nodes-nodes.ensures.told) c.follow_all.ensures.followed.placed.keyed
 
-pub returns-clause-constituted : goal.returns-clause-constituted
-returns-clause-constituted g c =
+pub returns-else-are_decided-clause-constituted : goal.returns-else-are_decided-clause-constituted
+returns-else-are_decided-clause-constituted g c =
     let sight = sight_of c.args.whole.now in
     let tops = c.args.tops.now in
     let node = c.args.from.now.node in
@@ -52,8 +52,8 @@ returns-clause-constituted g c =
     (sym c.nodes-nodes.ensures.told)
     (masses_are sight node tops begin within old c.follow_all.new.asked followed shows mark)))
 
-pub returns-clause-room : goal.returns-clause-room
-returns-clause-room g c = ap (λ (k : Kin). k.room) c.decide_constitution.ensures.kin ∙ c.follow_all.ensures.room
+pub returns-else-are_decided-clause-room : goal.returns-else-are_decided-clause-room
+returns-else-are_decided-clause-room g c = ap (λ (k : Kin). k.room) c.decide_constitution.ensures.kin ∙ c.follow_all.ensures.room
 
 pub follow_all-requires-clause-within : goal.follow_all-requires-clause-within
 follow_all-requires-clause-within g c = c.requires.within
@@ -64,11 +64,11 @@ count_steps-requires-clause-few g c = omega (arith, c.requires.room, c.requires.
 pub count_steps-requires-clause-room : goal.count_steps-requires-clause-room
 count_steps-requires-clause-room g c = c.requires.steps_room
 
-pub returns-clause-steps_room : goal.returns-clause-steps_room
-returns-clause-steps_room g c = c.count_steps.ensures.room
+pub returns-else-are_decided-clause-steps_room : goal.returns-else-are_decided-clause-steps_room
+returns-else-are_decided-clause-steps_room g c = c.count_steps.ensures.room
 
-pub returns-clause-all : goal.returns-clause-all
-returns-clause-all g c = c.decide_constitution.ensures.all
+pub returns-else-are_decided-clause-all : goal.returns-else-are_decided-clause-all
+returns-else-are_decided-clause-all g c = c.decide_constitution.ensures.all
 
 pub count_steps-requires-clause-way : goal.count_steps-requires-clause-way
 count_steps-requires-clause-way g c = c.requires.way

@@ -7,14 +7,14 @@ use Rattle.cip_inside.proofs.keeping.configured.Goals as goal
 pub returns-clause-turns : goal.returns-clause-turns
 returns-clause-turns g c = λ ligands left.
     let inner = c.args.inner.now in
-    subst (AreSeenTurns inner c.args.node ligands) (sym c.of.ensures)
+    subst (AreSeenTurns inner c.args.node ligands) (sym c.of-found.ensures)
     (ordered_seen inner c.args.node c.args.near.now.tops left.asked ligands left.tell c.configure.new.pairs
     c.configure.new.turned (λ mark agrees.
     c.configure.ensures.ordered left.asked mark left.within left.constituted left.undone agrees))
 
 pub configure-requires-clause-len : goal.configure-requires-clause-len
 configure-requires-clause-len g c =
-    ap (λ (pairs : List Asked). length pairs) (c.as_mut_slice-others.ensures.value ∙ c.in_ok-turned.ensures.ok)
+    ap (λ (pairs : List Asked). length pairs) (c.as_mut_slice-others.ensures.value ∙ c.in-Ok.ensures.ok)
 
 pub configure-requires-clause-placed : goal.configure-requires-clause-placed
 configure-requires-clause-placed g c = c.requires.placed

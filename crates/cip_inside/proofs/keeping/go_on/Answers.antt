@@ -21,7 +21,7 @@ returns-clause-turns g c =
     c.configured-found.ensures.turns c.args.look.now.ligands.items
     (stands_open c.args.near.now.bound c.args.inner.now.sight (sight_of c.whole.result.now) (look_of c.args.look.now)
     c.requires.open c.reopen.new.near _ c.reopen.ensures.near c.whole.ensures _
-    (c.as_mut_slice.ensures.value ∙ c.in_ok-pairs.ensures.ok ∙ c.as_slice.ensures))
+    (c.as_mut_slice.ensures.value ∙ c.in-Ok.ensures.ok ∙ c.as_slice.ensures))
 
 pub returns-clause-open : goal.returns-clause-open
 returns-clause-open g c =
@@ -59,8 +59,8 @@ configured-found-requires-clause-tops g c =
     ∙ ap (λ (s : Sight). looked_at s (look_of look)) c.whole.ensures))
     (asked_tops_are parents look.tops.items look.node)
 
-pub returns-in_err-pairs-clause-open : goal.returns-in_err-pairs-clause-open
-returns-in_err-pairs-clause-open g c = c.requires.open
+pub returns-in_default-clause-open : goal.returns-in_default-clause-open
+returns-in_default-clause-open g c = c.requires.open
 
 pub returns-clause-near : goal.returns-clause-near
 returns-clause-near g c =

@@ -8,18 +8,18 @@ use Rattle.cip_inside.proofs.keeping.keep.Goals as goal
 pub narrowed-requires-clause-room : goal.narrowed-requires-clause-room
 narrowed-requires-clause-room g c = c.requires.open.room
 
-pub returns-in_err-tops-clause-open : goal.returns-in_err-tops-clause-open
-returns-in_err-tops-clause-open g c = c.requires.open
+pub returns-in_default-clause-open : goal.returns-in_default-clause-open
+returns-in_default-clause-open g c = c.requires.open
 
-pub returns-in_err-look-clause-open : goal.returns-in_err-look-clause-open
-returns-in_err-look-clause-open g c =
-    subst (AreOpen c.args.near.now.bound (sight_of c.args.whole.now)) (sym c.in_err-look.ensures.kept) c.requires.open
+pub returns-in_default-taken-clause-open : goal.returns-in_default-taken-clause-open
+returns-in_default-taken-clause-open g c =
+    subst (AreOpen c.args.near.now.bound (sight_of c.args.whole.now)) (sym c.taken.ensures.kept) c.requires.open
 
 pub returns-clause-more : goal.returns-clause-more
 returns-clause-more g c =
     subst (λ (before : List Look). OnOk c.push.result (length c.push.new.self ≡ length before + 1))
-    c.in_ok-look.ensures.kept
-    (one_longer c.push.result c.taken.new.kept c.push.new.self (look_of c.in_ok-look.look) c.push.ensures.added)
+    c.in-Ok-taken.ensures.kept
+    (one_longer c.push.result c.taken.new.kept c.push.new.self (look_of c.in-Ok-taken.look) c.push.ensures.added)
 
 pub returns-clause-open : goal.returns-clause-open
 returns-clause-open g c =
@@ -27,21 +27,21 @@ returns-clause-open g c =
     let sight = sight_of c.args.whole.now in
     let asked = c.args.asked.now in
     let near = c.narrowed.new.near in
-    let taken = c.in_ok-look.ensures in
-    pushed_open bound sight c.push.result c.taken.new.kept c.push.new.self (look_of c.in_ok-look.look)
+    let taken = c.in-Ok-taken.ensures in
+    pushed_open bound sight c.push.result c.taken.new.kept c.push.new.self (look_of c.in-Ok-taken.look)
     c.push.ensures.added c.push.ensures.refused
-    (subst (AreOpen bound sight) (sym c.in_ok-look.ensures.kept) c.requires.open)
-    (opened bound sight (look_of c.in_ok-look.look) asked.node asked.ligands.now c.in_ok-tops.tops.items near.tops
+    (subst (AreOpen bound sight) (sym c.in-Ok-taken.ensures.kept) c.requires.open)
+    (opened bound sight (look_of c.in-Ok-taken.look) asked.node asked.ligands.now c.in-Ok.tops.items near.tops
     near.now c.narrowed.new.pairs taken.node taken.ligands taken.looked taken.pairs taken.branches taken.ranks
-    taken.numbers (taken.room ∙ c.in_ok-tops.ensures.bound) c.in_ok-tops.ensures.tops c.in_ok-tops.ensures.left)
+    taken.numbers (taken.room ∙ c.in-Ok.ensures.bound) c.in-Ok.ensures.tops c.in-Ok.ensures.left)
 
 pub returns-clause-last : goal.returns-clause-last
 returns-clause-last g c =
     let asked = c.args.asked.now in
     subst (λ (before : List Look). OnOk c.push.result ((l : Look) → slice_get c.push.new.self (length before) ≡ Some l
-    → (l.node ≡ asked.node) × (l.ligands ≡ asked.ligands.now))) c.in_ok-look.ensures.kept
-    (last_is c.push.result c.taken.new.kept c.push.new.self (look_of c.in_ok-look.look) asked.node asked.ligands.now
-    c.push.ensures.added c.in_ok-look.ensures.node c.in_ok-look.ensures.ligands)
+    → (l.node ≡ asked.node) × (l.ligands ≡ asked.ligands.now))) c.in-Ok-taken.ensures.kept
+    (last_is c.push.result c.taken.new.kept c.push.new.self (look_of c.in-Ok-taken.look) asked.node asked.ligands.now
+    c.push.ensures.added c.in-Ok-taken.ensures.node c.in-Ok-taken.ensures.ligands)
 
 pub narrowed-requires-clause-left : goal.narrowed-requires-clause-left
 narrowed-requires-clause-left g c = c.requires.left

@@ -3,6 +3,7 @@ use Rattle.std.specs.declared.option.Option.{Option}
 use Rattle.cip_aux.specs.Sights.{sight_of}
 use Rattle.cip_digraph.specs.digraph.NodeList.{parents_of}
 use Rattle.cip_inside.specs.Near.{Nearing, asked_tops, AreTops}
+use Rattle.cip_inside.specs.Narrowing.{open_tops}
 use Rattle.cip_inside.proofs.Narrowed.{narrowed_open, narrowed_within}
 use Rattle.cip_inside.proofs.AskedTops.{asked_tops_are}
 use Rattle.cip_inside.proofs.keeping.look_anew.Goals as goal
@@ -15,7 +16,8 @@ constitution-requires-clause-within g c =
     narrowed_within sight asked.node near.tops asked.ligands.now c.requires.tops near.now c.args.pairs.now
     asked.ligands.now c.requires.left c.args.before.now c.begin.new.self.tops c.move_all.new.pairs c.requires.before
     (ap (λ (n : Nearing). n.tops) c.begin.ensures
-    ∙ ap (λ (ls : List (Option ℕ)). asked_tops (parents_of sight.told) ls asked.node) c.requires.chosen)
+    ∙ ap (λ (ls : List (Option ℕ)). asked_tops (parents_of sight.told) ls asked.node)
+    (c.as_slice.ensures ∙ c.in-Ok.ensures ∙ ap (λ (tops : List ℕ). open_tops tops c.args.pairs.now) c.requires.before))
     c.move_all.ensures
 
 pub returns-clause-left : goal.returns-clause-left
@@ -26,7 +28,8 @@ returns-clause-left g c =
     narrowed_open sight asked.node near.tops asked.ligands.now c.requires.tops near.now c.args.pairs.now
     asked.ligands.now c.requires.left c.args.before.now c.begin.new.self.tops c.move_all.new.pairs c.requires.before
     (ap (λ (n : Nearing). n.tops) c.begin.ensures
-    ∙ ap (λ (ls : List (Option ℕ)). asked_tops (parents_of sight.told) ls asked.node) c.requires.chosen)
+    ∙ ap (λ (ls : List (Option ℕ)). asked_tops (parents_of sight.told) ls asked.node)
+    (c.as_slice.ensures ∙ c.in-Ok.ensures ∙ ap (λ (tops : List ℕ). open_tops tops c.args.pairs.now) c.requires.before))
     c.move_all.ensures c.constitution.new.self.tops c.constitution.new.self.now c.constitution.new.asked
     c.constitution.ensures.tops c.constitution.ensures.constituted
 
@@ -40,7 +43,7 @@ constitution-requires-clause-room g c =
 pub constitution-requires-clause-tops : goal.constitution-requires-clause-tops
 constitution-requires-clause-tops g c =
     subst (λ (near : Nearing). AreTops (parents_of c.args.whole.now.told) c.args.asked.now.node near.tops) (sym
-    c.begin.ensures) (asked_tops_are (parents_of c.args.whole.now.told) c.args.chosen.now c.args.asked.now.node)
+    c.begin.ensures) (asked_tops_are (parents_of c.args.whole.now.told) c.as_slice.result.now c.args.asked.now.node)
 
 pub begin-requires-clause-room : goal.begin-requires-clause-room
 begin-requires-clause-room g c = c.requires.room
@@ -50,3 +53,9 @@ constitution-requires-clause-real g c = c.requires.real
 
 pub begin-requires-clause-node : goal.begin-requires-clause-node
 begin-requires-clause-node g c = c.requires.node
+
+pub returns-clause-tops : goal.returns-clause-tops
+returns-clause-tops g c =
+    let parents = parents_of c.args.whole.now.told in
+    c.constitution.ensures.tops ∙ ap (λ (near : Nearing). near.tops) c.begin.ensures
+    ∙ ap (λ (tops : List (Option ℕ)). asked_tops parents tops c.args.asked.now.node) c.as_slice.ensures

@@ -76,16 +76,16 @@ pub look_on-requires-clause-open : goal.look_on-requires-clause-open
 look_on-requires-clause-open g c =
     subst (λ n. AreOpen n c.args.inner.now.sight c.args.kept.now) (sym c.constitution.ensures.bound) c.requires.open
 
-pub returns-clause-open : goal.returns-clause-open
-returns-clause-open g c =
+pub returns-else-constitution-clause-open : goal.returns-else-constitution-clause-open
+returns-else-constitution-clause-open g c =
     subst (λ n. AreOpen n c.args.inner.now.sight c.look_on.new.kept) c.constitution.ensures.bound
     c.look_on.ensures.open
 
-pub returns-clause-turns : goal.returns-clause-turns
-returns-clause-turns g c = c.look_on.ensures.turns
+pub returns-else-constitution-clause-turns : goal.returns-else-constitution-clause-turns
+returns-else-constitution-clause-turns g c = c.look_on.ensures.turns
 
-pub returns-clause-near : goal.returns-clause-near
-returns-clause-near g c = c.look_on.ensures.near ∙ c.constitution.ensures.bound
+pub returns-else-constitution-clause-near : goal.returns-else-constitution-clause-near
+returns-else-constitution-clause-near g c = c.look_on.ensures.near ∙ c.constitution.ensures.bound
 
 pub constitution-requires-clause-tops : goal.constitution-requires-clause-tops
 constitution-requires-clause-tops g c =

@@ -17,15 +17,15 @@ look_at-found-requires-clause-tops g c =
     ∙ ap (λ (s : Sight). asked_tops (parents_of s.told) asked.ligands.now asked.node) c.whole.ensures
 
 pub look_at-found-requires-clause-pairs : goal.look_at-found-requires-clause-pairs
-look_at-found-requires-clause-pairs g c = c.as_mut_slice.ensures.value ∙ c.in_ok-pairs.ensures
+look_at-found-requires-clause-pairs g c = c.as_mut_slice.ensures.value ∙ c.in-Ok.ensures
 
 pub look_at-found-requires-clause-open : goal.look_at-found-requires-clause-open
 look_at-found-requires-clause-open g c =
     subst (λ n. AreOpen n c.args.inner.now.sight c.args.kept.now) (sym (ap (λ (n : Nearing). n.bound) c.begin.ensures))
     c.requires.open
 
-pub returns-in_err-pairs-clause-open : goal.returns-in_err-pairs-clause-open
-returns-in_err-pairs-clause-open g c = c.requires.open
+pub returns-in_default-clause-open : goal.returns-in_default-clause-open
+returns-in_default-clause-open g c = c.requires.open
 
 pub returns-clause-turns : goal.returns-clause-turns
 returns-clause-turns g c = c.look_at-found.ensures.turns

@@ -36,29 +36,29 @@ keep-requires-clause-open g c =
 
 pub go_on-requires-clause-ready : goal.go_on-requires-clause-ready
 go_on-requires-clause-ready g c = λ look at.
-    subst (Ready c.args.inner.now) (sym (c.in_ok-keep.ensures.last look
+    subst (Ready c.args.inner.now) (sym (c.in-Ok.ensures.last look
     (subst (λ n. slice_get c.keep.new.kept n ≡ Some look) c.len-place.ensures at)).0) c.requires.ready
 
 pub go_on-requires-clause-open : goal.go_on-requires-clause-open
 go_on-requires-clause-open g c =
-    subst (λ n. AreOpen n c.args.inner.now.sight c.keep.new.kept) (sym c.in_ok-keep.ensures.near)
-    (subst (λ (s : Sight). AreOpen c.args.near.now.bound s c.keep.new.kept) c.whole.ensures c.in_ok-keep.ensures.open)
+    subst (λ n. AreOpen n c.args.inner.now.sight c.keep.new.kept) (sym c.in-Ok.ensures.near)
+    (subst (λ (s : Sight). AreOpen c.args.near.now.bound s c.keep.new.kept) c.whole.ensures c.in-Ok.ensures.open)
 
-pub returns-in_err-keep-clause-open : goal.returns-in_err-keep-clause-open
-returns-in_err-keep-clause-open g c =
-    subst (λ (s : Sight). AreOpen c.args.near.now.bound s c.keep.new.kept) c.whole.ensures c.in_err-keep.ensures.open
+pub returns-in_default-clause-open : goal.returns-in_default-clause-open
+returns-in_default-clause-open g c =
+    subst (λ (s : Sight). AreOpen c.args.near.now.bound s c.keep.new.kept) c.whole.ensures c.keep.ensures.open
 
-pub returns-clause-open : goal.returns-clause-open
-returns-clause-open g c =
-    subst (λ n. AreOpen n c.args.inner.now.sight c.go_on.new.self) c.in_ok-keep.ensures.near c.go_on.ensures.open
+pub returns-in-Ok-clause-open : goal.returns-in-Ok-clause-open
+returns-in-Ok-clause-open g c =
+    subst (λ n. AreOpen n c.args.inner.now.sight c.go_on.new.self) c.in-Ok.ensures.near c.go_on.ensures.open
 
-pub returns-clause-turns : goal.returns-clause-turns
-returns-clause-turns g c =
+pub returns-in-Ok-clause-turns : goal.returns-in-Ok-clause-turns
+returns-in-Ok-clause-turns g c =
     let inner = c.args.inner.now in
     let place = c.len-place.ensures in
-    let more = c.in_ok-keep.ensures.more in
+    let more = c.in-Ok.ensures.more in
     let found = some_at c.keep.new.kept c.len-place.result (omega (arith, place, more)) in
-    let last = c.in_ok-keep.ensures.last found.0
+    let last = c.in-Ok.ensures.last found.0
     (subst (λ n. slice_get c.keep.new.kept n ≡ Some found.0) place found.1) in
     subst (λ (n : ℕ). IfOk c.go_on.result (AreSeenTurns inner n c.args.asked.now.ligands.now)) last.0
     (subst (λ (ls : List (Option ℕ)). IfOk c.go_on.result (AreSeenTurns inner found.0.node ls)) last.1
@@ -79,23 +79,23 @@ configured-requires-clause-tops g c =
 pub configured-requires-clause-placed : goal.configured-requires-clause-placed
 configured-requires-clause-placed g c = c.requires.left.constituted.placed
 
-pub returns-then-not-has_room-clause-turns : goal.returns-then-not-has_room-clause-turns
-returns-then-not-has_room-clause-turns g c = c.configured.ensures.turns c.args.asked.now.ligands.now c.requires.left
+pub returns-else-has_room-clause-turns : goal.returns-else-has_room-clause-turns
+returns-else-has_room-clause-turns g c = c.configured.ensures.turns c.args.asked.now.ligands.now c.requires.left
 
-pub returns-then-not-has_room-clause-open : goal.returns-then-not-has_room-clause-open
-returns-then-not-has_room-clause-open g c = c.requires.open
+pub returns-else-has_room-clause-open : goal.returns-else-has_room-clause-open
+returns-else-has_room-clause-open g c = c.requires.open
 
-pub returns-then-not-has_room-clause-near : goal.returns-then-not-has_room-clause-near
-returns-then-not-has_room-clause-near g c = c.configured.ensures.bound
+pub returns-else-has_room-clause-near : goal.returns-else-has_room-clause-near
+returns-else-has_room-clause-near g c = c.configured.ensures.bound
 
-pub returns-in_err-keep-clause-near : goal.returns-in_err-keep-clause-near
-returns-in_err-keep-clause-near g c = c.in_err-keep.ensures.near
+pub returns-in_default-clause-near : goal.returns-in_default-clause-near
+returns-in_default-clause-near g c = c.keep.ensures.near
 
-pub returns-clause-near : goal.returns-clause-near
-returns-clause-near g c = c.go_on.ensures.near ∙ c.in_ok-keep.ensures.near
+pub returns-in-Ok-clause-near : goal.returns-in-Ok-clause-near
+returns-in-Ok-clause-near g c = c.go_on.ensures.near ∙ c.in-Ok.ensures.near
 
 pub keep-requires-clause-node : goal.keep-requires-clause-node
 keep-requires-clause-node g c = grind (arith, common_steps)
 
 pub go_on-requires-clause-place : goal.go_on-requires-clause-place
-go_on-requires-clause-place g c = omega (arith, c.len-place.ensures, c.in_ok-keep.ensures.more)
+go_on-requires-clause-place g c = omega (arith, c.len-place.ensures, c.in-Ok.ensures.more)

@@ -24,5 +24,5 @@ returns-clause-looked c = grind (arith, common_steps)
 pub returns-clause-pairs : goal.returns-clause-pairs
 returns-clause-pairs c = grind (arith, common_steps)
 
-pub returns-in_err-tops-clause-bound : goal.returns-in_err-tops-clause-bound
-returns-in_err-tops-clause-bound c = refl
+pub returns-in_default-clause-bound : goal.returns-in_default-clause-bound
+returns-in_default-clause-bound c = refl

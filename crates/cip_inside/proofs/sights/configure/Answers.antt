@@ -12,35 +12,35 @@ use Rattle.cip_inside.specs.Near.{marked_by}
 use Rattle.cip_inside.proofs.Configured.{counted_are, counted_keyed, marks_are}
 use Rattle.cip_inside.proofs.sights.configure.Goals as goal
 
-pub returns-then-all_inside-clause-ordered : goal.returns-then-all_inside-clause-ordered
-returns-then-all_inside-clause-ordered g c = λ begin mark within is undone agrees.
+pub returns-then-leads_down-clause-ordered : goal.returns-then-leads_down-clause-ordered
+returns-then-leads_down-clause-ordered g c = λ begin mark within is undone agrees.
     let inner = c.args.inner.now in
     let near = c.args.near.now in
     c.configuration.ensures.decided inner.sight c.args.node begin mark within is undone
     (subst (λ (marks : List (Option Descriptor)). AreMarksOf (node_at inner.sight.nodes) (marked_by mark) marks
     near.now) (sym c.marks.ensures)
     (marks_are inner c.args.node c.requires.ready near.tops c.requires.tops near.now c.requires.placed
-    (c.all_inside.ensures.from c.if-all_inside.true) (c.all_inside.ensures.behind c.if-all_inside.true) mark agrees))
+    (sym c.from.ensures ∙ c.if-from-node.true) (c.leads_down.ensures.down c.if-leads_down.true) mark agrees))
 
-pub configuration-requires-2-clause-keyed : goal.configuration-requires-2-clause-keyed
-configuration-requires-2-clause-keyed g c =
+pub configuration-requires-else-from-node-clause-keyed : goal.configuration-requires-else-from-node-clause-keyed
+configuration-requires-else-from-node-clause-keyed g c =
     let inner = c.args.inner.now in
     let near = c.args.near.now in
-    let parents = c.table-table.ensures
+    let parents = c.table.ensures
     ∙ ap parents_of (c.nodes.ensures.told ∙ ap (λ (s : Sight). s.told) c.whole.ensures) in
     subst (λ (marks : List (Option Descriptor)). AreKeyed (length marks) near.now.layers.kin)
-    (sym (λ i. marks_below (parents i) (c.from.ensures i) (c.marks-2.ensures i)))
+    (sym (λ i. marks_below (parents i) (c.from-else-from-node.ensures i) (c.marks-else-from-node.ensures i)))
     (counted_keyed inner c.args.node c.requires.ready near.tops near.now c.requires.placed)
 
-pub returns-clause-ordered : goal.returns-clause-ordered
-returns-clause-ordered g c = λ begin mark within is undone agrees.
+pub returns-else-from-node-clause-ordered : goal.returns-else-from-node-clause-ordered
+returns-else-from-node-clause-ordered g c = λ begin mark within is undone agrees.
     let inner = c.args.inner.now in
     let near = c.args.near.now in
-    let parents = c.table-table.ensures
+    let parents = c.table.ensures
     ∙ ap parents_of (c.nodes.ensures.told ∙ ap (λ (s : Sight). s.told) c.whole.ensures) in
-    c.configuration-2.ensures.decided inner.sight c.args.node begin mark within is undone
+    c.configuration-else-from-node.ensures.decided inner.sight c.args.node begin mark within is undone
     (subst (λ (marks : List (Option Descriptor)). AreMarksOf (node_at inner.sight.nodes) (marked_by mark) marks
-    near.now) (sym (λ i. marks_below (parents i) (c.from.ensures i) (c.marks-2.ensures i)))
+    near.now) (sym (λ i. marks_below (parents i) (c.from-else-from-node.ensures i) (c.marks-else-from-node.ensures i)))
     (counted_are inner c.args.node c.requires.ready near.tops near.now c.requires.placed mark agrees))
 
 pub configuration-requires-clause-followed : goal.configuration-requires-clause-followed
@@ -62,36 +62,36 @@ configuration-requires-clause-room g c =
 pub configuration-requires-clause-len : goal.configuration-requires-clause-len
 configuration-requires-clause-len g c = c.requires.len
 
-pub returns-then-all_inside-clause-same : goal.returns-then-all_inside-clause-same
-returns-then-all_inside-clause-same g c = c.configuration.ensures.same
+pub returns-then-leads_down-clause-same : goal.returns-then-leads_down-clause-same
+returns-then-leads_down-clause-same g c = c.configuration.ensures.same
 
-pub returns-then-all_inside-clause-bound : goal.returns-then-all_inside-clause-bound
-returns-then-all_inside-clause-bound g c = c.configuration.ensures.bound
+pub returns-then-leads_down-clause-bound : goal.returns-then-leads_down-clause-bound
+returns-then-leads_down-clause-bound g c = c.configuration.ensures.bound
 
 pub invariant_of-marks : goal.invariant_of-marks
 invariant_of-marks g c =
     let ready = c.requires.ready in
-    let parents = c.table-table.ensures
+    let parents = c.table.ensures
     ∙ ap parents_of (c.nodes.ensures.told ∙ ap (λ (s : Sight). s.told) c.whole.ensures) in
     record {
-      len = ap (λ (marks : List (Option Descriptor)). length marks) c.marks-2.ensures ∙ ready.marks
+      len = ap (λ (marks : List (Option Descriptor)). length marks) c.marks-else-from-node.ensures ∙ ready.marks
           ∙ ready.shows.told.len ∙ sym (ap (λ (ps : List ℕ). length ps) parents);
     }
 
-pub configuration-requires-2-clause-followed : goal.configuration-requires-2-clause-followed
-configuration-requires-2-clause-followed g c = c.requires.placed.followed
+pub configuration-requires-else-from-node-clause-followed : goal.configuration-requires-else-from-node-clause-followed
+configuration-requires-else-from-node-clause-followed g c = c.requires.placed.followed
 
-pub configuration-requires-2-clause-room : goal.configuration-requires-2-clause-room
-configuration-requires-2-clause-room g c =
+pub configuration-requires-else-from-node-clause-room : goal.configuration-requires-else-from-node-clause-room
+configuration-requires-else-from-node-clause-room g c =
     let few = c.requires.placed.few in
     let room = c.requires.room in
     omega (arith, few, room)
 
-pub configuration-requires-2-clause-len : goal.configuration-requires-2-clause-len
-configuration-requires-2-clause-len g c = c.requires.len
+pub configuration-requires-else-from-node-clause-len : goal.configuration-requires-else-from-node-clause-len
+configuration-requires-else-from-node-clause-len g c = c.requires.len
 
-pub returns-clause-same : goal.returns-clause-same
-returns-clause-same g c = c.configuration-2.ensures.same
+pub returns-else-from-node-clause-same : goal.returns-else-from-node-clause-same
+returns-else-from-node-clause-same g c = c.configuration-else-from-node.ensures.same
 
-pub returns-clause-bound : goal.returns-clause-bound
-returns-clause-bound g c = c.configuration-2.ensures.bound
+pub returns-else-from-node-clause-bound : goal.returns-else-from-node-clause-bound
+returns-else-from-node-clause-bound g c = c.configuration-else-from-node.ensures.bound

@@ -13,21 +13,21 @@ returns-then-decide_before_readings-clause-decided g c =
     c.decide_before_readings.ensures.decided
     (sym c.decide_before_readings.ensures.all ∙ c.if-decide_before_readings.true)
 
-pub returns-clause-decided : goal.returns-clause-decided
-returns-clause-decided g c =
+pub returns-else-decide_before_readings-clause-decided : goal.returns-else-decide_before_readings-clause-decided
+returns-else-decide_before_readings-clause-decided g c =
     decides_more (g.M.Marked.marks c.args.marks.now) R3 R4b R5 c.args.branches.now c.decide_before_readings.new.branches
     c.decide_from_readings.new.branches c.args.asked.now c.decide_before_readings.new.asked
     c.decide_from_readings.new.asked c.decide_before_readings.ensures.decided
     (sym c.decide_before_readings.ensures.all ∙ c.if-decide_before_readings.false)
     c.decide_before_readings.ensures.kin c.decide_before_readings.ensures.wanted c.decide_from_readings.ensures.decided
 
-pub returns-clause-wanted : goal.returns-clause-wanted
-returns-clause-wanted g c =
+pub returns-else-decide_before_readings-clause-wanted : goal.returns-else-decide_before_readings-clause-wanted
+returns-else-decide_before_readings-clause-wanted g c =
     fewer_still c.args.branches.now c.decide_before_readings.new.branches c.decide_from_readings.new.branches
     c.decide_before_readings.ensures.wanted c.decide_from_readings.ensures.wanted
 
-pub returns-clause-same : goal.returns-clause-same
-returns-clause-same g c =
+pub returns-else-decide_before_readings-clause-same : goal.returns-else-decide_before_readings-clause-same
+returns-else-decide_before_readings-clause-same g c =
     same_then c.args.branches.now c.decide_before_readings.new.branches c.decide_from_readings.new.branches
     c.decide_before_readings.ensures.same c.decide_from_readings.ensures.same
 
@@ -44,11 +44,11 @@ decide_from_readings-requires-clause-keyed g c =
 pub decide_before_readings-requires-clause-keyed : goal.decide_before_readings-requires-clause-keyed
 decide_before_readings-requires-clause-keyed g c = c.requires.keyed
 
-pub returns-clause-bound : goal.returns-clause-bound
-returns-clause-bound g c = c.decide_from_readings.ensures.bound
+pub returns-else-decide_before_readings-clause-bound : goal.returns-else-decide_before_readings-clause-bound
+returns-else-decide_before_readings-clause-bound g c = c.decide_from_readings.ensures.bound
 
-pub returns-clause-all : goal.returns-clause-all
-returns-clause-all g c = c.decide_from_readings.ensures.all
+pub returns-else-decide_before_readings-clause-all : goal.returns-else-decide_before_readings-clause-all
+returns-else-decide_before_readings-clause-all g c = c.decide_from_readings.ensures.all
 
-pub returns-clause-followed : goal.returns-clause-followed
-returns-clause-followed g c = c.decide_from_readings.ensures.followed
+pub returns-else-decide_before_readings-clause-followed : goal.returns-else-decide_before_readings-clause-followed
+returns-else-decide_before_readings-clause-followed g c = c.decide_from_readings.ensures.followed

@@ -16,43 +16,43 @@ returns-then-take_marked-clause-decided g c =
     (decides_one marks R3 R4a refl refl (λ seen. refl) (λ seen node. refl) old now asked new c.take_marked.ensures.taken)
     (sym c.take_marked.ensures.all ∙ c.if-take_marked.true)
 
-pub returns-clause-decided : goal.returns-clause-decided
-returns-clause-decided g c =
+pub returns-else-take_marked-clause-decided : goal.returns-else-take_marked-clause-decided
+returns-else-take_marked-clause-decided g c =
     let marks = g.M.Marked.marks c.args.marks.now in
     let old = c.args.branches.now in
     let mid = c.take_marked.new.branches in
-    let now = c.take_marked-2.new.branches in
+    let now = c.take_marked-else-take_marked.new.branches in
     let asked = c.args.asked.now in
     let half = c.take_marked.new.asked in
-    let new = c.take_marked-2.new.asked in
+    let new = c.take_marked-else-take_marked.new.asked in
     decides_more marks R3 R4a R4b old mid now asked half new
     (decides_one marks R3 R4a refl refl (λ seen. refl) (λ seen node. refl) old mid asked half
     c.take_marked.ensures.taken)
     (sym c.take_marked.ensures.all ∙ c.if-take_marked.false) c.take_marked.ensures.kin c.take_marked.ensures.wanted
     (decides_one marks R4a R4b refl refl (λ seen. refl) (λ seen node. refl) mid now half new
-    c.take_marked-2.ensures.taken)
+    c.take_marked-else-take_marked.ensures.taken)
 
-pub returns-clause-wanted : goal.returns-clause-wanted
-returns-clause-wanted g c = fewer_still c.args.branches.now c.take_marked.new.branches c.take_marked-2.new.branches
-    c.take_marked.ensures.wanted c.take_marked-2.ensures.wanted
+pub returns-else-take_marked-clause-wanted : goal.returns-else-take_marked-clause-wanted
+returns-else-take_marked-clause-wanted g c = fewer_still c.args.branches.now c.take_marked.new.branches c.take_marked-else-take_marked.new.branches
+    c.take_marked.ensures.wanted c.take_marked-else-take_marked.ensures.wanted
 
 pub returns-then-take_marked-clause-same : goal.returns-then-take_marked-clause-same
 returns-then-take_marked-clause-same g c =
     same_marked (g.M.Marked.marks c.args.marks.now) true R3 c.args.branches.now c.args.asked.now
     c.take_marked.new.branches c.take_marked.new.asked c.take_marked.ensures.taken
 
-pub returns-clause-same : goal.returns-clause-same
-returns-clause-same g c =
+pub returns-else-take_marked-clause-same : goal.returns-else-take_marked-clause-same
+returns-else-take_marked-clause-same g c =
     let marks = g.M.Marked.marks c.args.marks.now in
     let mid = c.take_marked.new.branches in
-    let now = c.take_marked-2.new.branches in
+    let now = c.take_marked-else-take_marked.new.branches in
     same_then c.args.branches.now mid now
     (same_marked marks true R3 c.args.branches.now c.args.asked.now mid c.take_marked.new.asked
     c.take_marked.ensures.taken)
-    (same_marked marks true R4a mid c.take_marked.new.asked now c.take_marked-2.new.asked c.take_marked-2.ensures.taken)
+    (same_marked marks true R4a mid c.take_marked.new.asked now c.take_marked-else-take_marked.new.asked c.take_marked-else-take_marked.ensures.taken)
 
-pub take_marked-requires-2-clause-keyed : goal.take_marked-requires-2-clause-keyed
-take_marked-requires-2-clause-keyed g c =
+pub take_marked-requires-else-take_marked-clause-keyed : goal.take_marked-requires-else-take_marked-clause-keyed
+take_marked-requires-else-take_marked-clause-keyed g c =
     subst (AreKeyed (length (g.M.Marked.marks c.args.marks.now))) (sym c.take_marked.ensures.kin) c.requires.keyed
 
 pub take_marked-requires-clause-keyed : goal.take_marked-requires-clause-keyed

@@ -14,8 +14,8 @@ returns-then-are_unmarked-clause-decided g c seen named node count begin within 
           bare false,
     )
 
-pub returns-clause-decided : goal.returns-clause-decided
-returns-clause-decided g c seen named node count begin within before known =
+pub returns-else-are_unmarked-clause-decided : goal.returns-else-are_unmarked-clause-decided
+returns-else-are_unmarked-clause-decided g c seen named node count begin within before known =
     c.decide_marked.ensures.decided.each seen named node count begin within before known
 
 pub returns-then-are_unmarked-clause-same : goal.returns-then-are_unmarked-clause-same
@@ -36,11 +36,11 @@ decide_marked-requires-clause-followed g c = c.requires.followed
 pub decide_marked-requires-clause-room : goal.decide_marked-requires-clause-room
 decide_marked-requires-clause-room g c = c.requires.room
 
-pub returns-clause-kin : goal.returns-clause-kin
-returns-clause-kin g c = c.decide_marked.ensures.kin
+pub returns-else-are_unmarked-clause-kin : goal.returns-else-are_unmarked-clause-kin
+returns-else-are_unmarked-clause-kin g c = c.decide_marked.ensures.kin
 
-pub returns-clause-bound : goal.returns-clause-bound
-returns-clause-bound g c = c.decide_marked.ensures.bound
+pub returns-else-are_unmarked-clause-bound : goal.returns-else-are_unmarked-clause-bound
+returns-else-are_unmarked-clause-bound g c = c.decide_marked.ensures.bound
 
-pub returns-clause-same : goal.returns-clause-same
-returns-clause-same g c = c.decide_marked.ensures.same
+pub returns-else-are_unmarked-clause-same : goal.returns-else-are_unmarked-clause-same
+returns-else-are_unmarked-clause-same g c = c.decide_marked.ensures.same

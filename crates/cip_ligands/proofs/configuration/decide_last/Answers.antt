@@ -5,43 +5,43 @@ use Rattle.cip_ligands.proofs.MarkedKeys.{taken_by_marks, taken_by_none, uncount
 use Rattle.cip_ligands.proofs.TakenSteps.{same_branches, same_still}
 use Rattle.cip_ligands.proofs.configuration.decide_last.Goals as goal
 
-pub returns-then-not-some_count-clause-decided : goal.returns-then-not-some_count-clause-decided
-returns-then-not-some_count-clause-decided g c = record {
+pub returns-else-some_count-clause-decided : goal.returns-else-some_count-clause-decided
+returns-else-some_count-clause-decided g c = record {
   now = c.args.branches.now;
   takes = taken_by_none (g.M.Marked.marks c.args.marks.now) c.args.branches.now c.args.asked.now c.note.new.asked true R5
-      c.requires.followed (c.some_count.ensures.none c.if-not-some_count.true) c.note.ensures;
+      c.requires.followed (c.some_count.ensures.none c.if-some_count.false) c.note.ensures;
 }
 
-pub returns-then-not-some_count-clause-turned : goal.returns-then-not-some_count-clause-turned
-returns-then-not-some_count-clause-turned g c =
+pub returns-else-some_count-clause-turned : goal.returns-else-some_count-clause-turned
+returns-else-some_count-clause-turned g c =
     let marks = g.M.Marked.marks c.args.marks.now in
     let begin = c.args.branches.now in
     record {
       now = begin;
       takes = taken_by_none marks begin c.args.asked.now c.copy_from_slice.new.self false R5 c.requires.followed
-          (uncounted_turned marks begin (c.some_count.ensures.none c.if-not-some_count.true))
+          (uncounted_turned marks begin (c.some_count.ensures.none c.if-some_count.false))
           (c.copy_from_slice.ensures.after ∙ c.note.ensures);
     }
 
-pub returns-clause-decided : goal.returns-clause-decided
-returns-clause-decided g c = record {
+pub returns-then-some_count-clause-decided : goal.returns-then-some_count-clause-decided
+returns-then-some_count-clause-decided g c = record {
   now = c.take_both_ways.ensures.decided.now;
   takes = taken_by_marks (g.M.Marked.marks c.args.marks.now) c.args.branches.now c.args.asked.now
       c.take_both_ways.new.asked true R5 c.take_both_ways.ensures.decided.now c.take_both_ways.ensures.decided.takes;
 }
 
-pub returns-clause-turned : goal.returns-clause-turned
-returns-clause-turned g c = record {
+pub returns-then-some_count-clause-turned : goal.returns-then-some_count-clause-turned
+returns-then-some_count-clause-turned g c = record {
   now = c.take_both_ways.new.branches;
   takes = taken_by_marks (g.M.Marked.marks c.args.marks.now) c.args.branches.now c.args.asked.now
       c.take_both_ways.new.turned false R5 c.take_both_ways.new.branches c.take_both_ways.ensures.turned;
 }
 
-pub returns-then-not-some_count-clause-same : goal.returns-then-not-some_count-clause-same
-returns-then-not-some_count-clause-same g c = same_still c.args.branches.now
+pub returns-else-some_count-clause-same : goal.returns-else-some_count-clause-same
+returns-else-some_count-clause-same g c = same_still c.args.branches.now
 
-pub returns-clause-same : goal.returns-clause-same
-returns-clause-same g c =
+pub returns-then-some_count-clause-same : goal.returns-then-some_count-clause-same
+returns-then-some_count-clause-same g c =
     same_branches c.args.branches.now _ R5 c.args.asked.now c.take_both_ways.new.branches c.take_both_ways.new.turned
     c.take_both_ways.ensures.turned
 
@@ -73,11 +73,11 @@ invariant_of-readings g c = record {
   values_room = c.readings.invariant.values_room;
 }
 
-pub returns-clause-kin : goal.returns-clause-kin
-returns-clause-kin g c = c.take_both_ways.ensures.kin
+pub returns-then-some_count-clause-kin : goal.returns-then-some_count-clause-kin
+returns-then-some_count-clause-kin g c = c.take_both_ways.ensures.kin
 
-pub returns-clause-bound : goal.returns-clause-bound
-returns-clause-bound g c = ap (λ (r : Readied). r.bound) c.readings.view_is
+pub returns-then-some_count-clause-bound : goal.returns-then-some_count-clause-bound
+returns-then-some_count-clause-bound g c = ap (λ (r : Readied). r.bound) c.readings.view_is
 
 pub some_count-requires-clause-keyed : goal.some_count-requires-clause-keyed
 some_count-requires-clause-keyed g c = c.requires.keyed

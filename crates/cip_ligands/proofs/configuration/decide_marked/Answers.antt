@@ -19,8 +19,8 @@ returns-then-decide_before_last-clause-decided g c = record {
       );
 }
 
-pub returns-clause-decided : goal.returns-clause-decided
-returns-clause-decided g c = record {
+pub returns-else-decide_before_last-clause-decided : goal.returns-else-decide_before_last-clause-decided
+returns-else-decide_before_last-clause-decided g c = record {
   each = λ seen named node count begin within before known.
       let marks = g.M.Marked.marks c.args.marks.now in
       let mid = c.decide_before_last.new.branches in
@@ -38,8 +38,8 @@ returns-clause-decided g c = record {
       );
 }
 
-pub returns-clause-same : goal.returns-clause-same
-returns-clause-same g c =
+pub returns-else-decide_before_last-clause-same : goal.returns-else-decide_before_last-clause-same
+returns-else-decide_before_last-clause-same g c =
     same_then c.args.branches.now c.decide_before_last.new.branches c.decide_last.new.branches
     c.decide_before_last.ensures.same c.decide_last.ensures.same
 

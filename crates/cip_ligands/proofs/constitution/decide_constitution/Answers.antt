@@ -15,8 +15,8 @@ returns-then-take_rule-clause-decided g c seen named node count begin within bef
     new before (g.D.Keyed.key c.args.distances.now) apart c.take_rule.ensures.taken) (sym c.take_rule.ensures.all
     ∙ c.if-take_rule.true)
 
-pub returns-clause-decided : goal.returns-clause-decided
-returns-clause-decided g c seen named node count begin within before apart heavy =
+pub returns-else-take_rule-clause-decided : goal.returns-else-take_rule-clause-decided
+returns-else-take_rule-clause-decided g c seen named node count begin within before apart heavy =
     let old = c.args.branches.now in
     let asked = c.args.asked.now in
     let distances = g.D.Keyed.key c.args.distances.now in
@@ -27,16 +27,16 @@ returns-clause-decided g c seen named node count begin within before apart heavy
     distances apart c.take_rule.ensures.taken in
     let known = keys_stay seen true named node count begin within (R1a ∷ []) R1b refl old mid asked half before distances
     apart c.take_rule.ensures.taken seen.mass masses heavy in
-    ready_next seen true named node count begin within R2 R3 refl refl refl mid c.take_rule-2.new.branches half
-    c.take_rule-2.new.asked (ready.stands (sym c.take_rule.ensures.all ∙ c.if-take_rule.false)) masses known
-    c.take_rule-2.ensures.taken
+    ready_next seen true named node count begin within R2 R3 refl refl refl mid c.take_rule-else-take_rule.new.branches half
+    c.take_rule-else-take_rule.new.asked (ready.stands (sym c.take_rule.ensures.all ∙ c.if-take_rule.false)) masses known
+    c.take_rule-else-take_rule.ensures.taken
 
-pub returns-clause-wanted : goal.returns-clause-wanted
-returns-clause-wanted g c = fewer_still c.args.branches.now c.take_rule.new.branches c.take_rule-2.new.branches
-    c.take_rule.ensures.wanted c.take_rule-2.ensures.wanted
+pub returns-else-take_rule-clause-wanted : goal.returns-else-take_rule-clause-wanted
+returns-else-take_rule-clause-wanted g c = fewer_still c.args.branches.now c.take_rule.new.branches c.take_rule-else-take_rule.new.branches
+    c.take_rule.ensures.wanted c.take_rule-else-take_rule.ensures.wanted
 
-pub take_rule-requires-2-clause-keyed : goal.take_rule-requires-2-clause-keyed
-take_rule-requires-2-clause-keyed g c =
+pub take_rule-requires-else-take_rule-clause-keyed : goal.take_rule-requires-else-take_rule-clause-keyed
+take_rule-requires-else-take_rule-clause-keyed g c =
     subst (AreKeyed (g.M.Keyed.nodes c.args.masses.now)) (sym c.take_rule.ensures.kin) c.requires.masses_keyed
 
 pub returns-then-take_rule-clause-wanted : goal.returns-then-take_rule-clause-wanted

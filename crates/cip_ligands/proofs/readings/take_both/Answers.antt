@@ -36,17 +36,17 @@ invariant_of-readings g c = record {
   values_room = c.write_values.ensures.room ∙ c.readings.invariant.values_room;
 }
 
-pub returns-clause-taken : goal.returns-clause-taken
-returns-clause-taken g c = λ some. c.take_with.ensures.taken
+pub returns-then-len-gt0-clause-taken : goal.returns-then-len-gt0-clause-taken
+returns-then-len-gt0-clause-taken g c = λ some. c.take_with.ensures.taken
 
-pub returns-clause-may : goal.returns-clause-may
-returns-clause-may g c = λ some. c.take_with.ensures.may
+pub returns-then-len-gt0-clause-may : goal.returns-then-len-gt0-clause-may
+returns-then-len-gt0-clause-may g c = λ some. c.take_with.ensures.may
 
-pub returns-clause-tops : goal.returns-clause-tops
-returns-clause-tops g c = c.branch_count-branches.ensures.tops
+pub returns-then-len-gt0-clause-tops : goal.returns-then-len-gt0-clause-tops
+returns-then-len-gt0-clause-tops g c = c.branch_count-branches.ensures.tops
 
-pub returns-clause-bound : goal.returns-clause-bound
-returns-clause-bound g c = ap (λ (r : Readied). r.bound) c.readings.view_is
+pub returns-then-len-gt0-clause-bound : goal.returns-then-len-gt0-clause-bound
+returns-then-len-gt0-clause-bound g c = ap (λ (r : Readied). r.bound) c.readings.view_is
 
 pub write_values-requires-clause-keyed : goal.write_values-requires-clause-keyed
 write_values-requires-clause-keyed g c = c.requires.keyed

@@ -10,15 +10,15 @@ use Rattle.cip_ligands.proofs.FoundWithin.{all_within, same_found}
 use Rattle.cip_ligands.proofs.ReadingsFound.{readings_found, readings_none, none_asked}
 use Rattle.cip_ligands.proofs.readings.take_readings.Goals as goal
 
-pub returns-then-not-some_count-clause-found : goal.returns-then-not-some_count-clause-found
-returns-then-not-some_count-clause-found g c seen named node count begin rules within before marked =
+pub returns-else-some_count-clause-found : goal.returns-else-some_count-clause-found
+returns-else-some_count-clause-found g c seen named node count begin rules within before marked =
     let from = c.args.branches.now in
     let asked = c.args.asked.now in
     let all = subst (AllByRecursion (AreWithin (length from.wanted))) (sym before.noted)
     (all_within (decided_in_turn seen true rules node) (length from.wanted) begin
     (subst (λ n. AllByRecursion (AreWithin n) begin) (sym before.tops) within)) in
     readings_none seen named from c.requires.followed c.count-places.ensures.may before.stands before.ended before.tall
-    (g.M.Marked.marks c.args.marks.now) marked (c.some_count.ensures.none c.if-not-some_count.true) asked c.note.new.asked
+    (g.M.Marked.marks c.args.marks.now) marked (c.some_count.ensures.none c.if-some_count.false) asked c.note.new.asked
     all c.note.ensures
     ∙ same_found (decided_by seen true R4b (node_in named from)) (decided_by seen true R4b node)
     (AreWithin (length from.wanted))
@@ -26,8 +26,8 @@ returns-then-not-some_count-clause-found g c seen named node count begin rules w
     one.first)
     ∙ ap (λ n. decided R4b (difference_by seen true (node one.first) n R4b)) (before.nodes one.second)) asked all
 
-pub returns-clause-found : goal.returns-clause-found
-returns-clause-found g c seen named node count begin rules within before marked =
+pub returns-then-some_count-clause-found : goal.returns-then-some_count-clause-found
+returns-then-some_count-clause-found g c seen named node count begin rules within before marked =
     let from = c.args.branches.now in
     let asked = c.args.asked.now in
     let took = c.take_both.ensures in
@@ -63,5 +63,5 @@ some_count-requires-clause-keyed g c = c.requires.keyed
 pub take_both-requires-clause-room : goal.take_both-requires-clause-room
 take_both-requires-clause-room g c = c.requires.room
 
-pub returns-clause-bound : goal.returns-clause-bound
-returns-clause-bound g c = c.take_both.ensures.bound
+pub returns-then-some_count-clause-bound : goal.returns-then-some_count-clause-bound
+returns-then-some_count-clause-bound g c = c.take_both.ensures.bound

@@ -39,8 +39,8 @@ alike_each-alike-requires-clause-room c =
     let wide = c.has_candidates-found.ensures.room in
     omega (arith, bound, held, wide, c.requires.grown.fits, c.requires.room)
 
-pub invariant_of-self : goal.invariant_of-self
-invariant_of-self c =
+pub invariant_of-self-else-found : goal.invariant_of-self-else-found
+invariant_of-self-else-found c =
     let room = c.self.invariant in
     let held = room.under in
     let wide = c.has_candidates-found.ensures.room in
@@ -54,14 +54,14 @@ invariant_of-self c =
       under = omega (arith, held, wide);
     }
 
-pub returns-then-not-found-clause-result : goal.returns-then-not-found-clause-result
-returns-then-not-found-clause-result c =
+pub returns-else-found-clause-result : goal.returns-else-found-clause-result
+returns-else-found-clause-result c =
     let s = c.args.setting.now in
     let a = c.args.arena.now in
     let branched = c.args.self.now.branched in
     let grown = c.requires.grown in
     let anew = subst (λ (w : Trying). EachPair (NotAnew s.rules s.graph.now s.positions.now s.units.now a w.branched)
-    s.ligands.now) c.self.view_is (c.has_candidates-found.ensures.anew c.if-not-found.true) in
+    s.ligands.now) c.self.view_is (c.has_candidates-found.ensures.anew c.if-found.false) in
     sym (none_anew s.graph.now s.positions.now a grown.holds grown.some grown.sound grown.fits grown.last branched
     c.requires.followed s.rules s.units.now grown.root s.ligands.now anew c.requires.before)
 
@@ -77,8 +77,8 @@ restore-requires c =
       wanted = ap (λ (s : Saved). length s.wanted) saved ∙ sym same.count;
     }
 
-pub invariant_of-self-2 : goal.invariant_of-self-2
-invariant_of-self-2 c =
+pub invariant_of-self : goal.invariant_of-self
+invariant_of-self c =
     let begin = c.self.inside.branches in
     let same = same_both begin c.args.setting.now.rules c.args.arena.now.nodes c.take_both.new.branches
     c.take_both.ensures.taken in
@@ -100,8 +100,8 @@ invariant_of-self-2 c =
       under = omega (arith, held, one, two);
     }
 
-pub returns-clause-result : goal.returns-clause-result
-returns-clause-result c =
+pub returns-then-found-clause-result : goal.returns-then-found-clause-result
+returns-then-found-clause-result c =
     let s = c.args.setting.now in
     let a = c.args.arena.now in
     let branched = c.args.self.now.branched in
@@ -118,8 +118,8 @@ returns-clause-result c =
     (seen_at s.rules s.graph.now s.positions.now s.units.now a.root).height (a.sphere - 1) (omega (arith, far)))
     s.ligands.now
 
-pub returns-clause-kept : goal.returns-clause-kept
-returns-clause-kept c =
+pub returns-then-found-clause-kept : goal.returns-then-found-clause-kept
+returns-then-found-clause-kept c =
     let begin = c.self.inside.branches in
     let same = same_both begin c.args.setting.now.rules c.args.arena.now.nodes c.take_both.new.branches
     c.take_both.ensures.taken in

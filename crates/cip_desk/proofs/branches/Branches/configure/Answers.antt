@@ -21,7 +21,7 @@ returns-clause-ordered c =
       ordered = subst (λ (asked : List Asked). AreOrdered work c.args.marks.now.marks c.configure.new.self.noted asked)
           (sym turned) c.configure.ensures.ordered;
       natural = natural ∙ (λ k. by_vertices ((c.pairs-2.ensures ∙ c.configure.ensures.pairs) k) (c.noted-2.ensures k));
-      turned = c.in_ok-name.ensures ∙ ap (λ pairs. by_vertices pairs c.as_slice.result.now)
+      turned = c.in-Ok-name.ensures ∙ ap (λ pairs. by_vertices pairs c.as_slice.result.now)
           (c.pairs.ensures ∙ c.configure.ensures.pairs);
     })
 
@@ -43,8 +43,8 @@ configure-requires-clause-followed c = c.requires.followed
 pub configure-requires-clause-room : goal.configure-requires-clause-room
 configure-requires-clause-room c = c.requires.room
 
-pub returns-in_err-name-clause-readings : goal.returns-in_err-name-clause-readings
-returns-in_err-name-clause-readings c = c.configure.ensures.readings
+pub returns-in_default-name-clause-readings : goal.returns-in_default-name-clause-readings
+returns-in_default-name-clause-readings c = c.configure.ensures.readings
 
 pub returns-clause-readings : goal.returns-clause-readings
 returns-clause-readings c = c.configure.ensures.readings

@@ -10,19 +10,19 @@ use Rattle.cip_desk.proofs.desk.DeskDigraphs.rank.Goals as goal
 pub rank_late-ranking-requires-clause-fit : goal.rank_late-ranking-requires-clause-fit
 rank_late-ranking-requires-clause-fit g c = c.requires.fit
 
-pub returns-then-branch-clause-kept : goal.returns-then-branch-clause-kept
-returns-then-branch-clause-kept g c = ap (λ (held : Held). held.bound) c.self.view_is
+pub returns-in-Ok-true-clause-kept : goal.returns-in-Ok-true-clause-kept
+returns-in-Ok-true-clause-kept g c = ap (λ (held : Held). held.bound) c.self.view_is
 
-pub returns-clause-kept : goal.returns-clause-kept
-returns-clause-kept g c = ap (λ (held : Held). held.bound) c.self.view_is
+pub returns-in-Ok-false-clause-kept : goal.returns-in-Ok-false-clause-kept
+returns-in-Ok-false-clause-kept g c = ap (λ (held : Held). held.bound) c.self.view_is
 
-pub returns-clause-ranking : goal.returns-clause-ranking
-returns-clause-ranking g c =
+pub returns-in-Ok-false-clause-ranking : goal.returns-in-Ok-false-clause-ranking
+returns-in-Ok-false-clause-ranking g c =
     subst (λ (held : Held). IfOk c.rank_late-ranking.result (RankedAs c.args.setting.now held.bound c.args.root
     c.args.ligands.now (standing_of c.rank_late-ranking.new.branches))) c.self.view_is
     c.rank_late-ranking.ensures.ranking
 
-pub returns-clause-cost : goal.returns-clause-cost
-returns-clause-cost g c =
+pub returns-in-Ok-false-clause-cost : goal.returns-in-Ok-false-clause-cost
+returns-in-Ok-false-clause-cost g c =
     subst (λ (held : Held). Rises c.args.setting.now held.bound (end_at c.args.root c.args.ligands.now ∷ [])
     c.args.steps.now c.rank_late-ranking.new.steps) c.self.view_is c.rank_late-ranking.ensures.cost

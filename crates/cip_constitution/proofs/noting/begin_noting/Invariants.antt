@@ -1,6 +1,6 @@
 use Rattle.std.proofs.Common.{◌≡◌, ◌≤◌, ◌++◌, drop, map, vec_capacity}
 use Rattle.cip_constitution.specs.Noting.{branch_at, asked_by}
-use Rattle.cip_constitution.proofs.noting.ask.Given as goal
+use Rattle.cip_constitution.proofs.noting.begin_noting.Given as goal
 
 abbrev pub invariant-loop-pair : goal.invariant-loop-pair
 invariant-loop-pair l = record {
