@@ -19,13 +19,13 @@ pub(crate) fn show_in_plane(directions: &[Vec2], marks: &[Sign]) -> Geometry
     ensures { result ≡ in_plane directions.now marks.now }
 {
     if has_clash(directions) {
-        return Geometry::Unknown(Cause::Coincident);
+        Geometry::Unknown(Cause::Coincident)
+    } else if has_mark(marks) {
+        show_by_order(directions, marks)
+    } else {
+        // Most centres have no mark: the order of their directions isn't looked for.
+        Geometry::Unknown(Cause::NoMark)
     }
-    // Most centres have no mark: the order of their directions isn't looked for.
-    if !has_mark(marks) {
-        return Geometry::Unknown(Cause::NoMark);
-    }
-    show_by_order(directions, marks)
 }
 
 // By the marks in the counterclockwise order of the directions.
@@ -46,11 +46,12 @@ fn show_by_places(reentrant: bool, places: &[usize], marks: &[Sign]) -> Geometry
     requires marks { length marks.now ≡ length places.now }
     ensures { result ≡ by_votes reentrant places.now (votes places.now marks.now) }
 {
-    if places.len() != 4 {
-        return show_by_votes(reentrant, places, marks);
+    if places.len() == 4 {
+        let votes = turned_by_place(places, marks);
+        show_by_votes(reentrant, places, votes.as_slice())
+    } else {
+        show_by_votes(reentrant, places, marks)
     }
-    let votes = turned_by_place(places, marks);
-    show_by_votes(reentrant, places, votes.as_slice())
 }
 
 // The places of directions in their counterclockwise order.
@@ -93,15 +94,14 @@ fn show_by_votes(reentrant: bool, places: &[usize], votes: &[Sign]) -> Geometry
     ensures { result ≡ by_votes reentrant places.now votes.now }
 {
     if has_plus(votes) && has_minus(votes) {
-        return Geometry::Unknown(Cause::Contradictory);
+        Geometry::Unknown(Cause::Contradictory)
+    } else if reentrant {
+        Geometry::Unknown(Cause::Reentrant)
+    } else if has_plus(votes) || has_minus(votes) {
+        Geometry::Known(sense_of(turned(inversions(places), common(votes))))
+    } else {
+        Geometry::Unknown(Cause::NoMark)
     }
-    if reentrant {
-        return Geometry::Unknown(Cause::Reentrant);
-    }
-    if !has_plus(votes) && !has_minus(votes) {
-        return Geometry::Unknown(Cause::NoMark);
-    }
-    Geometry::Known(sense_of(turned(inversions(places), common(votes))))
 }
 
 fn has_plus(votes: &[Sign]) -> bool

@@ -47,12 +47,12 @@ fn show_pairs(sign: PairSign, between: Vec3, firsts: &[Vec3], seconds: &[Vec3]) 
     ensures { result ≡ by_pairs (pair_sign sign between) firsts.now seconds.now }
 {
     if has_flat_pair(sign, between, firsts, seconds) {
-        return Geometry::Unknown(Cause::Coincident);
+        Geometry::Unknown(Cause::Coincident)
+    } else if keeps_sign(sign, between, firsts, seconds) {
+        Geometry::Unknown(Cause::Contradictory)
+    } else {
+        shown_by(pair_sign(sign, between, firsts[0], seconds[0]))
     }
-    if keeps_sign(sign, between, firsts, seconds) {
-        return Geometry::Unknown(Cause::Contradictory);
-    }
-    shown_by(pair_sign(sign, between, firsts[0], seconds[0]))
 }
 
 /// What a sign shows: that of nought that points coincide.
