@@ -96,9 +96,12 @@ fn is_any_on_line(axis: Vec3, ligands: &[Vec3]) -> bool
     requires ligands { All IsSmall3 ligands.now }
     ensures { result ≡ list_any (λ ligand. is_zero (flank axis ligand)) ligands.now }
 {
-    ligands
-        .iter()
-        .any(|ligand| flank(axis, *ligand) == Sign::Zero)
+    for ligand in ligands {
+        if matches!(flank(axis, *ligand), Sign::Zero) {
+            return true;
+        }
+    }
+    false
 }
 
 fn lies_on_one_side(axis: Vec3, marks: &[Sign], ligands: &[Vec3]) -> bool
@@ -140,11 +143,8 @@ fn lead(marks: &[Sign]) -> Sign
     requires { 0 < length marks.now }
     ensures { result ≡ lead marks.now }
 {
-    if marks[0] != Sign::Zero {
-        marks[0]
-    } else if marks.len() > 1 {
-        opposite(marks[1])
-    } else {
-        Sign::Zero
+    match marks {
+        [Sign::Zero, second, ..] => opposite(*second),
+        _ => marks[0],
     }
 }

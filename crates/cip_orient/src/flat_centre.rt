@@ -1,5 +1,5 @@
 // Centres drawn in the plane.
-ghost use Rattle.std.specs.Prelude.{◌≡◌, ◌≤◌, ◌<◌, All, length};
+ghost use Rattle.std.specs.Prelude.{◌≡◌, ◌≤◌, ◌<◌, All, count_by, length, nat_lt};
 ghost use Rattle.cip_num.specs.Around.{places};
 ghost use Rattle.cip_num.specs.Plane.{IsSmall};
 ghost use Rattle.cip_mol.specs.FlatCentres.{by_votes, common, has_minus, has_plus, in_plane, inversions, is_left, is_marked_inside, is_reentrant, lies_between, turned, turned_by_place, votes};
@@ -107,13 +107,13 @@ fn show_by_votes(reentrant: bool, places: &[usize], votes: &[Sign]) -> Geometry
 fn has_plus(votes: &[Sign]) -> bool
     ensures { result ≡ has_plus votes.now }
 {
-    votes.iter().any(|vote| *vote == Sign::Plus)
+    votes.contains(&Sign::Plus)
 }
 
 fn has_minus(votes: &[Sign]) -> bool
     ensures { result ≡ has_minus votes.now }
 {
-    votes.iter().any(|vote| *vote == Sign::Minus)
+    votes.contains(&Sign::Minus)
 }
 
 fn common(votes: &[Sign]) -> Sign
@@ -129,10 +129,9 @@ fn common(votes: &[Sign]) -> Sign
 fn sense_of(sign: Sign) -> Sense
     ensures { result ≡ sense_of sign }
 {
-    if sign == Sign::Minus {
-        Sense::Minus
-    } else {
-        Sense::Plus
+    match sign {
+        Sign::Minus => Sense::Minus,
+        _ => Sense::Plus,
     }
 }
 
@@ -143,10 +142,21 @@ fn inversions(places: &[usize]) -> usize
 {
     let mut count = 0;
     for (number, place) in places.iter().enumerate() {
-        count += places[number + 1..]
-            .iter()
-            .filter(|later| **later < *place)
-            .count();
+        count += lower_places(*place, &places[number + 1..]);
+    }
+    count
+}
+
+// How many places are lower than this one.
+fn lower_places(place: usize, places: &[usize]) -> usize
+    ensures value { result ≡ count_by (λ other. nat_lt other place) places.now }
+    ensures few { result ≤ length places.now }
+{
+    let mut count = 0;
+    for other in places {
+        if *other < place {
+            count += 1;
+        }
     }
     count
 }
@@ -186,5 +196,5 @@ fn is_left(one: Vec2, other: Vec2) -> bool
     requires other { IsSmall other }
     ensures { result ≡ is_left one other }
 {
-    side(one, other) == Sign::Plus
+    matches!(side(one, other), Sign::Plus)
 }
