@@ -92,17 +92,18 @@ fn is_biaryl(
 ) -> Result<bool, AllocError>
     ensures { IfOk result (λ found. found ≡ is_biaryl graph.now positions.now a edge.now) }
 {
-    if !can_be_biaryl(graph, positions, a, edge) {
-        return Ok(false);
+    if can_be_biaryl(graph, positions, a, edge) {
+        let b = edge.other_end(a);
+        let small = is_in_small_ring(graph, a, b, reached)?;
+        if small || are_three_hindered(alloc, graph, a, b) {
+            let lies_in_ring = is_in_ring(graph, a, b, reached)?;
+            Ok(!lies_in_ring && are_three_hindered(alloc, graph, a, b))
+        } else {
+            Ok(false)
+        }
+    } else {
+        Ok(false)
     }
-    let b = edge.other_end(a);
-    if !is_in_small_ring(graph, a, b, reached)? && !are_three_hindered(alloc, graph, a, b) {
-        return Ok(false);
-    }
-    if is_in_ring(graph, a, b, reached)? {
-        return Ok(false);
-    }
-    Ok(are_three_hindered(alloc, graph, a, b))
 }
 
 // Whether a bond is a unit by its ends.

@@ -19,12 +19,13 @@ pub fn chain_over(alloc: Global, graph: &Graph, a: u32, next: u32) -> Result<Vec
     let mut at = next;
     for _ in 0..most {
         chain.push(at)?;
-        if !leads_on(graph, before, at) {
+        if leads_on(graph, before, at) {
+            let on = next_atom(graph, before, at);
+            before = at;
+            at = on;
+        } else {
             return Ok(chain);
         }
-        let on = next_atom(graph, before, at);
-        before = at;
-        at = on;
     }
     Ok(chain)
 }

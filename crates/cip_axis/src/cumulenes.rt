@@ -77,15 +77,16 @@ fn push_over(
         ++ one_cumulene source.now.molecule.now source.now.graph.now (chain_over source.now.graph.now a next)) }
 {
     // Most double bonds lead no further: for these no chain is made.
-    if !leads_on(source.graph, a, next) {
-        return Ok(());
-    }
-    // Reading the vertices tells that there are few.
-    let _count = source.graph.vertices().len();
-    let chain = chain_over(alloc, source.graph, a, next)?;
-    if is_cumulene(source.graph, &chain, reached)? {
-        let unit = cumulene_unit(source.molecule, source.graph, &chain);
-        units.push(unit)
+    if leads_on(source.graph, a, next) {
+        // Reading the vertices tells that there are few.
+        let _count = source.graph.vertices().len();
+        let chain = chain_over(alloc, source.graph, a, next)?;
+        if is_cumulene(source.graph, &chain, reached)? {
+            let unit = cumulene_unit(source.molecule, source.graph, &chain);
+            units.push(unit)
+        } else {
+            Ok(())
+        }
     } else {
         Ok(())
     }
@@ -95,10 +96,11 @@ fn is_cumulene(graph: &Graph, chain: &[u32], reached: &mut VertexSet) -> Result<
     requires rings { any_bond (is_in_ring graph.now) chain.now ≡ first_in_ring graph.now chain.now }
     ensures { IfOk result (λ found. found ≡ is_cumulene graph.now chain.now) }
 {
-    if !can_be_cumulene(graph, chain) {
-        return Ok(false);
+    if can_be_cumulene(graph, chain) {
+        Ok(!lies_in_ring(graph, chain, reached)?)
+    } else {
+        Ok(false)
     }
-    Ok(!lies_in_ring(graph, chain, reached)?)
 }
 
 // Whether a bond of a chain lies in a ring. One is asked: a ring through the first goes through all.
@@ -115,11 +117,12 @@ fn can_be_cumulene(graph: &Graph, chain: &[u32]) -> bool
     ensures { result ≡ can_be_cumulene graph.now chain.now }
 {
     if chain.len() < 4 {
-        return false;
+        false
+    } else {
+        let a = chain[0];
+        let b = chain[chain.len() - 1];
+        a < b && is_axis_end(graph, chain, a) && is_axis_end(graph, chain, b)
     }
-    let a = chain[0];
-    let b = chain[chain.len() - 1];
-    a < b && is_axis_end(graph, chain, a) && is_axis_end(graph, chain, b)
 }
 
 fn cumulene_unit(molecule: &Molecule, graph: &Graph, chain: &[u32]) -> FurtherUnit
@@ -150,9 +153,10 @@ fn cumulene_geometry(molecule: &Molecule, chain: &[u32], site: &FurtherSite) -> 
     ensures { result ≡ cumulene_geometry molecule.now chain.now site.now }
 {
     if has_crossed(molecule, chain) {
-        return Geometry::Unknown(Cause::Either);
+        Geometry::Unknown(Cause::Either)
+    } else {
+        orient_ends(molecule, &site.ends())
     }
-    orient_ends(molecule, &site.ends())
 }
 
 // Whether a double bond of a chain is itself marked as undecided.

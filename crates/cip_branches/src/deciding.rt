@@ -180,7 +180,7 @@ impl Branches {
     pub fn any_wanted(&self) -> bool
         ensures { result ≡ list_any (λ flag. flag) self.now.wanted }
     {
-        self.wanted.as_slice().iter().any(|flag| *flag)
+        self.wanted.as_slice().contains(&true)
     }
 
     /// The number of a branch, the higher one precedes; 0 where there is no such branch.

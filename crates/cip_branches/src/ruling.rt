@@ -40,9 +40,10 @@ impl Spheres {
         let from = self.first_row(far + 1);
         let to = self.first_row(far + 2);
         if self.stands_by(keys, from, to) {
-            return false;
+            false
+        } else {
+            self.pass(keys, far, last) == 0
         }
-        self.pass(keys, far, last) == 0
     }
 }
 

@@ -32,7 +32,7 @@ impl Spheres {
         ensures room { self.new.ranked.room ≡ self.old.ranked.room }
     {
         let flags = &mut self.flags;
-        if !stir_above(
+        if stir_above(
             &self.family,
             &self.order,
             self.before.as_slice(),
@@ -40,19 +40,20 @@ impl Spheres {
             past,
             &mut flags.items,
         ) {
-            return false;
+            let sets = &mut self.sets;
+            refine_sphere(
+                &self.family,
+                &mut self.order,
+                from,
+                to,
+                &flags.items,
+                &mut sets.items,
+            );
+            clear_flags(&mut flags.items, from, to);
+            true
+        } else {
+            false
         }
-        let sets = &mut self.sets;
-        refine_sphere(
-            &self.family,
-            &mut self.order,
-            from,
-            to,
-            &flags.items,
-            &mut sets.items,
-        );
-        clear_flags(&mut flags.items, from, to);
-        true
     }
 
     /// Refines all spheres up to `far` by the one behind, which has its new numbers. Where a sphere stands, so do all

@@ -1,5 +1,5 @@
 -- Texts that are put one behind the other.
-use Rattle.std.proofs.Common.{◌≡◌, ◌++◌, ℕ, List, append_assoc, refl, ◌∙◌}
+use Rattle.std.proofs.Common.{◌≡◌, ◌++◌, ℕ, List, append_assoc, refl, ap, ◌∙◌}
 
 pub two_joined : (a b c : List ℕ) → (a ++ b) ++ c ≡ a ++ (b ++ c)
 two_joined a b c = append_assoc a b c
@@ -15,6 +15,8 @@ five_joined a b c d e =
       append_assoc c d e,
     ) refl
 
-pub six_joined : (a b c d e f : List ℕ)
-    → ((((a ++ b) ++ c) ++ d) ++ e) ++ f ≡ a ++ (b ++ (c ++ (d ++ (e ++ f))))
-six_joined a b c d e f = append_assoc (((a ++ b) ++ c) ++ d) e f ∙ five_joined a b c d (e ++ f)
+-- a body with its end, and what follows it
+pub record_joined : (a b c d e f : List ℕ)
+    → (((a ++ (b ++ c)) ++ d) ++ e) ++ f ≡ a ++ (b ++ (c ++ (d ++ (e ++ f))))
+record_joined a b c d e f =
+    five_joined a (b ++ c) d e f ∙ ap (λ rest. a ++ rest) (append_assoc b c (d ++ (e ++ f)))

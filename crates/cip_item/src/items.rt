@@ -81,12 +81,12 @@ fn take_line(splitter: &mut Splitter, content: &[u8]) -> Result<(), AllocError>
         splitter.part = part;
         splitter.first = splitter.number;
         splitter.number += 1;
-        return Ok(());
+    } else {
+        let next = splitter.part.behind(content);
+        splitter.number += 1;
+        close_before(splitter, next)?;
+        splitter.part = next;
     }
-    let next = splitter.part.behind(content);
-    splitter.number += 1;
-    close_before(splitter, next)?;
-    splitter.part = next;
     Ok(())
 }
 
@@ -102,7 +102,8 @@ fn close_before(splitter: &mut Splitter, next: Part) -> Result<(), AllocError>
             past: splitter.number,
             label: splitter.part.is_label_item(),
         };
-        splitter.items.push(item)?;
+        splitter.items.push(item)
+    } else {
+        Ok(())
     }
-    Ok(())
 }

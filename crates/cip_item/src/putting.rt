@@ -45,12 +45,10 @@ fn put_record(text: &mut Vec<u8>, lines: &RecordLines, values: &Texts) -> Result
     ensures { OnOk result (text.new.items ≡ text.old.items ++ with_item lines.now values.now) }
 {
     let end = line_end_for(lines.bytes());
-    text.extend_from_slice(lines.body())?;
-    text.extend_from_slice(missing_end(end, lines.body()))?;
+    put_line(text, lines.body(), missing_end(end, lines.body()))?;
     text.extend_from_slice(gap(end, lines.contents()))?;
     put_item(text, end, values)?;
-    text.extend_from_slice(lines.closing())?;
-    Ok(())
+    text.extend_from_slice(lines.closing())
 }
 
 fn room_for(values: &Texts) -> usize
@@ -71,8 +69,7 @@ fn put_item(text: &mut Vec<u8>, end: &[u8], values: &Texts) -> Result<(), AllocE
     put_heading(text)?;
     text.extend_from_slice(end)?;
     put_values(text, end, values)?;
-    text.extend_from_slice(end)?;
-    Ok(())
+    text.extend_from_slice(end)
 }
 
 #[tactic(auto, unfolding(crate::specs::Putting::heading), using(crate::proofs::Joining::two_joined))]
@@ -80,8 +77,7 @@ fn put_heading(text: &mut Vec<u8>) -> Result<(), AllocError>
     ensures { OnOk result (text.new.items ≡ text.old.items ++ heading) }
 {
     text.extend_from_slice(b"> ".as_slice())?;
-    text.extend_from_slice(LABEL_NAME)?;
-    Ok(())
+    text.extend_from_slice(LABEL_NAME)
 }
 
 // One line for each value.
@@ -99,8 +95,7 @@ fn put_line(text: &mut Vec<u8>, content: &[u8], end: &[u8]) -> Result<(), AllocE
     ensures { OnOk result (text.new.items ≡ text.old.items ++ (content.now ++ end.now)) }
 {
     text.extend_from_slice(content)?;
-    text.extend_from_slice(end)?;
-    Ok(())
+    text.extend_from_slice(end)
 }
 
 // The line end of a record, by its first LF.

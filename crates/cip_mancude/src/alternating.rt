@@ -115,11 +115,8 @@ fn alternating_partner(graph: &Graph, vertex: u32) -> Option<u32>
     ensures { result ≡ alternating_partner graph.now vertex }
 {
     let edges = graph.edges_at(vertex);
-    if edges.len() > MOST_BONDS {
-        return None;
-    }
     match sole_counted(edges) {
-        Some(edge) if edge.order == 2 => Some(edge.other_end(vertex)),
+        Some(edge) if edge.order == 2 && edges.len() <= MOST_BONDS => Some(edge.other_end(vertex)),
         _ => None,
     }
 }

@@ -27,16 +27,22 @@ pub fn positions(alloc: Global, graph: &Graph) -> Result<Positions, AllocError>
     ensures { IfOk result (λ positions. positions ≡ positions_of graph.now) }
 {
     // No atom alternates without counted bonds.
-    if !has_counted(graph) {
-        return Positions::none(alloc, graph.vertices().len());
+    if has_counted(graph) {
+        set_all(alloc, graph)
+    } else {
+        Positions::none(alloc, graph.vertices().len())
     }
-    set_all(alloc, graph)
 }
 
 fn has_counted(graph: &Graph) -> bool
     ensures { result ≡ list_any (λ edge. edge.counted) graph.now.edges }
 {
-    graph.edges().iter().any(|edge| edge.counted)
+    for edge in graph.edges() {
+        if edge.counted {
+            return true;
+        }
+    }
+    false
 }
 
 // Sets the positions of each vertex.
@@ -117,12 +123,12 @@ fn is_position(
         (λ found. found ≡ ((other == double.partner) || closes_ring alternation.now double.vertex other)) }
 {
     if other == double.partner {
-        return Ok(true);
+        Ok(true)
+    } else if other < double.vertex {
+        Ok(holds(before.of(other), double.vertex))
+    } else {
+        closes_ring(alloc, alternation, double.vertex, other, reached)
     }
-    if other < double.vertex {
-        return Ok(holds(before.of(other), double.vertex));
-    }
-    closes_ring(alloc, alternation, double.vertex, other, reached)
 }
 
 fn holds(positions: &[u32], vertex: u32) -> bool

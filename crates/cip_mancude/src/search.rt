@@ -23,15 +23,16 @@ pub fn closes_ring(
     let Some(next) = alternation.partner(vertex) else {
         return Ok(false);
     };
-    if !can_close(alternation, vertex, next, other) {
-        return Ok(false);
+    if can_close(alternation, vertex, next, other) {
+        // Each way meets the atom with which it begins.
+        let aim = Aim {
+            target: other,
+            third: vertex,
+        };
+        finds_ring(alloc, alternation, aim, next, MOST_DOUBLES, reached)
+    } else {
+        Ok(false)
     }
-    // Each way meets the atom with which it begins.
-    let aim = Aim {
-        target: other,
-        third: vertex,
-    };
-    finds_ring(alloc, alternation, aim, next, MOST_DOUBLES, reached)
 }
 
 // Whether a single bond joins two atoms that alternate, as the partner of the one does.
@@ -62,11 +63,10 @@ fn finds_ring(
     path.push(aim.third);
     path.push(next);
     if reaches_soon(alternation, aim, most, &mut path, next) {
-        return Ok(true);
+        Ok(true)
+    } else if has_walk(alternation, aim.target, most, next, reached)? {
+        Ok(reaches_by(alternation, aim, most, &mut path, next))
+    } else {
+        Ok(false)
     }
-    let walks = has_walk(alternation, aim.target, most, next, reached)?;
-    if !walks {
-        return Ok(false);
-    }
-    Ok(reaches_by(alternation, aim, most, &mut path, next))
 }

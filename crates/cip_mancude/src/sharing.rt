@@ -23,17 +23,13 @@ pub fn share_ring(alloc: Global, graph: &Graph, vertex: u32, third: u32) -> bool
     ensures { result ≡ share_ring graph.now vertex third }
 {
     let alternation = Alternation::bare(alloc, graph);
-    if !alternation.alternates(third) {
-        return false;
+    match alternation.partner(vertex) {
+        Some(next) if alternation.alternates(third) && alternation.alternates(next) => {
+            let start = Start { vertex, next };
+            ring_along(alloc, &alternation, MOST_DOUBLES, third, start)
+        }
+        _ => false,
     }
-    let Some(next) = alternation.partner(vertex) else {
-        return false;
-    };
-    if !alternation.alternates(next) {
-        return false;
-    }
-    let start = Start { vertex, next };
-    ring_along(alloc, &alternation, MOST_DOUBLES, third, start)
 }
 
 fn ring_along(alloc: Global, alternation: &Alternation, most: u32, third: u32, start: Start) -> bool
@@ -63,15 +59,16 @@ fn ring_meets(
     requires most { most ≤ 11 }
     ensures { result ≡ ring_meets alternation.now most third start.vertex other }
 {
-    if !alternation.alternates(other) || other == start.next {
-        return false;
+    if alternation.alternates(other) && other != start.next {
+        let mut path = Path::new(alloc);
+        path.push(start.vertex);
+        path.push(start.next);
+        let aim = Aim {
+            target: other,
+            third,
+        };
+        reaches_early(alternation, aim, most, &mut path, start.next)
+    } else {
+        false
     }
-    let mut path = Path::new(alloc);
-    path.push(start.vertex);
-    path.push(start.next);
-    let aim = Aim {
-        target: other,
-        third,
-    };
-    reaches_early(alternation, aim, most, &mut path, start.next)
 }

@@ -57,8 +57,8 @@ fn add_behind(
 ) -> Result<(), AllocError>
     ensures { OnOk result (reached.new ≡ with_new reached.old (onward_of alternation.now next)) }
 {
-    let Some(other) = alternation.partner(next) else {
-        return Ok(());
-    };
-    reached.insert_if(alternation.alternates(other), other)
+    match alternation.partner(next) {
+        Some(other) => reached.insert_if(alternation.alternates(other), other),
+        None => Ok(()),
+    }
 }

@@ -22,11 +22,12 @@ pub(crate) fn show_axis(molecule: &Molecule, ends: &TwoEnds<'_>) -> Geometry
         ends.now.far.ligands.now }
 {
     if has_either(molecule, ends.near.at) || has_either(molecule, ends.far.at) {
-        return Geometry::Unknown(Cause::Either);
+        Geometry::Unknown(Cause::Either)
+    } else {
+        let near = drawn_end(molecule, &ends.near);
+        let far = drawn_end(molecule, &ends.far);
+        show_drawn_axis(molecule, &near, &far)
     }
-    let near = drawn_end(molecule, &ends.near);
-    let far = drawn_end(molecule, &ends.far);
-    show_drawn_axis(molecule, &near, &far)
 }
 
 // By the twists of the drawn ligands, or in the plane by their marks.

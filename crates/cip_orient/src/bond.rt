@@ -17,9 +17,10 @@ pub(crate) fn show_bond(molecule: &Molecule, ends: &TwoEnds<'_>) -> Geometry
 {
     let (a, b) = (ends.near.at, ends.far.at);
     if has_either(molecule, a) || has_either(molecule, b) || is_crossed(molecule, a, b) {
-        return Geometry::Unknown(Cause::Either);
+        Geometry::Unknown(Cause::Either)
+    } else {
+        let near = drawn_end(molecule, &ends.near);
+        let far = drawn_end(molecule, &ends.far);
+        show_drawn_pairs(molecule, PairSign::Sides, &near, &far)
     }
-    let near = drawn_end(molecule, &ends.near);
-    let far = drawn_end(molecule, &ends.far);
-    show_drawn_pairs(molecule, PairSign::Sides, &near, &far)
 }

@@ -24,10 +24,11 @@ pub(crate) fn show_centre(molecule: &Molecule, centre: &End<'_>) -> Geometry
 {
     let at = centre.at;
     if has_either(molecule, at) {
-        return Geometry::Unknown(Cause::Either);
+        Geometry::Unknown(Cause::Either)
+    } else {
+        let drawn = drawn_of(molecule, centre.ligands);
+        show_drawn(molecule, at, &drawn)
     }
-    let drawn = drawn_of(molecule, centre.ligands);
-    show_drawn(molecule, at, &drawn)
 }
 
 // By the numbers of its drawn ligands.

@@ -29,18 +29,16 @@ pub(crate) fn show_by_marks(
     ensures { result ≡ by_marks axis marks.now other_marks.now firsts.now seconds.now }
 {
     if is_coincident(axis, marks, other_marks, firsts, seconds) {
-        return Geometry::Unknown(Cause::Coincident);
+        Geometry::Unknown(Cause::Coincident)
+    } else if is_contradictory(axis, marks, other_marks, firsts, seconds) {
+        Geometry::Unknown(Cause::Contradictory)
+    } else if has_mark(marks) {
+        shown_by(volume(axis, upright(lead(marks)), seconds[0]))
+    } else if has_mark(other_marks) {
+        shown_by(volume(axis, firsts[0], upright(lead(other_marks))))
+    } else {
+        Geometry::Unknown(Cause::NoMark)
     }
-    if is_contradictory(axis, marks, other_marks, firsts, seconds) {
-        return Geometry::Unknown(Cause::Contradictory);
-    }
-    if has_mark(marks) {
-        return shown_by(volume(axis, upright(lead(marks)), seconds[0]));
-    }
-    if has_mark(other_marks) {
-        return shown_by(volume(axis, firsts[0], upright(lead(other_marks))));
-    }
-    Geometry::Unknown(Cause::NoMark)
 }
 
 fn is_coincident(
@@ -98,9 +96,12 @@ fn is_any_on_line(axis: Vec3, ligands: &[Vec3]) -> bool
     requires ligands { All IsSmall3 ligands.now }
     ensures { result ≡ list_any (λ ligand. is_zero (flank axis ligand)) ligands.now }
 {
-    ligands
-        .iter()
-        .any(|ligand| flank(axis, *ligand) == Sign::Zero)
+    for ligand in ligands {
+        if matches!(flank(axis, *ligand), Sign::Zero) {
+            return true;
+        }
+    }
+    false
 }
 
 fn lies_on_one_side(axis: Vec3, marks: &[Sign], ligands: &[Vec3]) -> bool
@@ -142,12 +143,8 @@ fn lead(marks: &[Sign]) -> Sign
     requires { 0 < length marks.now }
     ensures { result ≡ lead marks.now }
 {
-    if marks[0] != Sign::Zero {
-        return marks[0];
-    }
-    if marks.len() > 1 {
-        opposite(marks[1])
-    } else {
-        Sign::Zero
+    match marks {
+        [Sign::Zero, second, ..] => opposite(*second),
+        _ => marks[0],
     }
 }

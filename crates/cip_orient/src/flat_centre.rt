@@ -1,5 +1,5 @@
 // Centres drawn in the plane.
-ghost use Rattle.std.specs.Prelude.{◌≡◌, ◌≤◌, ◌<◌, All, length};
+ghost use Rattle.std.specs.Prelude.{◌≡◌, ◌≤◌, ◌<◌, All, count_by, length, nat_lt};
 ghost use Rattle.cip_num.specs.Around.{places};
 ghost use Rattle.cip_num.specs.Plane.{IsSmall};
 ghost use Rattle.cip_mol.specs.FlatCentres.{by_votes, common, has_minus, has_plus, in_plane, inversions, is_left, is_marked_inside, is_reentrant, lies_between, turned, turned_by_place, votes};
@@ -19,13 +19,13 @@ pub(crate) fn show_in_plane(directions: &[Vec2], marks: &[Sign]) -> Geometry
     ensures { result ≡ in_plane directions.now marks.now }
 {
     if has_clash(directions) {
-        return Geometry::Unknown(Cause::Coincident);
+        Geometry::Unknown(Cause::Coincident)
+    } else if has_mark(marks) {
+        show_by_order(directions, marks)
+    } else {
+        // Most centres have no mark: the order of their directions isn't looked for.
+        Geometry::Unknown(Cause::NoMark)
     }
-    // Most centres have no mark: the order of their directions isn't looked for.
-    if !has_mark(marks) {
-        return Geometry::Unknown(Cause::NoMark);
-    }
-    show_by_order(directions, marks)
 }
 
 // By the marks in the counterclockwise order of the directions.
@@ -46,11 +46,12 @@ fn show_by_places(reentrant: bool, places: &[usize], marks: &[Sign]) -> Geometry
     requires marks { length marks.now ≡ length places.now }
     ensures { result ≡ by_votes reentrant places.now (votes places.now marks.now) }
 {
-    if places.len() != 4 {
-        return show_by_votes(reentrant, places, marks);
+    if places.len() == 4 {
+        let votes = turned_by_place(places, marks);
+        show_by_votes(reentrant, places, votes.as_slice())
+    } else {
+        show_by_votes(reentrant, places, marks)
     }
-    let votes = turned_by_place(places, marks);
-    show_by_votes(reentrant, places, votes.as_slice())
 }
 
 // The places of directions in their counterclockwise order.
@@ -93,27 +94,26 @@ fn show_by_votes(reentrant: bool, places: &[usize], votes: &[Sign]) -> Geometry
     ensures { result ≡ by_votes reentrant places.now votes.now }
 {
     if has_plus(votes) && has_minus(votes) {
-        return Geometry::Unknown(Cause::Contradictory);
+        Geometry::Unknown(Cause::Contradictory)
+    } else if reentrant {
+        Geometry::Unknown(Cause::Reentrant)
+    } else if has_plus(votes) || has_minus(votes) {
+        Geometry::Known(sense_of(turned(inversions(places), common(votes))))
+    } else {
+        Geometry::Unknown(Cause::NoMark)
     }
-    if reentrant {
-        return Geometry::Unknown(Cause::Reentrant);
-    }
-    if !has_plus(votes) && !has_minus(votes) {
-        return Geometry::Unknown(Cause::NoMark);
-    }
-    Geometry::Known(sense_of(turned(inversions(places), common(votes))))
 }
 
 fn has_plus(votes: &[Sign]) -> bool
     ensures { result ≡ has_plus votes.now }
 {
-    votes.iter().any(|vote| *vote == Sign::Plus)
+    votes.contains(&Sign::Plus)
 }
 
 fn has_minus(votes: &[Sign]) -> bool
     ensures { result ≡ has_minus votes.now }
 {
-    votes.iter().any(|vote| *vote == Sign::Minus)
+    votes.contains(&Sign::Minus)
 }
 
 fn common(votes: &[Sign]) -> Sign
@@ -129,10 +129,9 @@ fn common(votes: &[Sign]) -> Sign
 fn sense_of(sign: Sign) -> Sense
     ensures { result ≡ sense_of sign }
 {
-    if sign == Sign::Minus {
-        Sense::Minus
-    } else {
-        Sense::Plus
+    match sign {
+        Sign::Minus => Sense::Minus,
+        _ => Sense::Plus,
     }
 }
 
@@ -143,10 +142,21 @@ fn inversions(places: &[usize]) -> usize
 {
     let mut count = 0;
     for (number, place) in places.iter().enumerate() {
-        count += places[number + 1..]
-            .iter()
-            .filter(|later| **later < *place)
-            .count();
+        count += lower_places(*place, &places[number + 1..]);
+    }
+    count
+}
+
+// How many places are lower than this one.
+fn lower_places(place: usize, places: &[usize]) -> usize
+    ensures value { result ≡ count_by (λ other. nat_lt other place) places.now }
+    ensures few { result ≤ length places.now }
+{
+    let mut count = 0;
+    for other in places {
+        if *other < place {
+            count += 1;
+        }
     }
     count
 }
@@ -186,5 +196,5 @@ fn is_left(one: Vec2, other: Vec2) -> bool
     requires other { IsSmall other }
     ensures { result ≡ is_left one other }
 {
-    side(one, other) == Sign::Plus
+    matches!(side(one, other), Sign::Plus)
 }

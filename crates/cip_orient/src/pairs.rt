@@ -47,12 +47,12 @@ fn show_pairs(sign: PairSign, between: Vec3, firsts: &[Vec3], seconds: &[Vec3]) 
     ensures { result ≡ by_pairs (pair_sign sign between) firsts.now seconds.now }
 {
     if has_flat_pair(sign, between, firsts, seconds) {
-        return Geometry::Unknown(Cause::Coincident);
+        Geometry::Unknown(Cause::Coincident)
+    } else if keeps_sign(sign, between, firsts, seconds) {
+        Geometry::Unknown(Cause::Contradictory)
+    } else {
+        shown_by(pair_sign(sign, between, firsts[0], seconds[0]))
     }
-    if keeps_sign(sign, between, firsts, seconds) {
-        return Geometry::Unknown(Cause::Contradictory);
-    }
-    shown_by(pair_sign(sign, between, firsts[0], seconds[0]))
 }
 
 /// What a sign shows: that of nought that points coincide.
@@ -84,9 +84,12 @@ fn has_flat_pair(sign: PairSign, between: Vec3, firsts: &[Vec3], seconds: &[Vec3
     requires seconds { All IsSmall3 seconds.now }
     ensures { result ≡ has_flat_pair (pair_sign sign between) firsts.now seconds.now }
 {
-    firsts
-        .iter()
-        .any(|first| is_flat_with_any(sign, between, *first, seconds))
+    for first in firsts {
+        if is_flat_with_any(sign, between, *first, seconds) {
+            return true;
+        }
+    }
+    false
 }
 
 fn is_flat_with_any(sign: PairSign, between: Vec3, first: Vec3, seconds: &[Vec3]) -> bool
@@ -95,7 +98,12 @@ fn is_flat_with_any(sign: PairSign, between: Vec3, first: Vec3, seconds: &[Vec3]
     requires seconds { All IsSmall3 seconds.now }
     ensures { result ≡ list_any (λ second. is_zero (pair_sign sign between first second)) seconds.now }
 {
-    seconds.iter().any(|second| pair_sign(sign, between, first, *second) == Sign::Zero)
+    for second in seconds {
+        if matches!(pair_sign(sign, between, first, *second), Sign::Zero) {
+            return true;
+        }
+    }
+    false
 }
 
 fn keeps_sign(sign: PairSign, between: Vec3, firsts: &[Vec3], seconds: &[Vec3]) -> bool
@@ -115,7 +123,12 @@ fn keeps_for_a_first(sign: PairSign, between: Vec3, firsts: &[Vec3], seconds: &[
     ensures { result ≡ list_any (λ first. are_two_alike (λ second. pair_sign sign between first second) seconds.now)
         firsts.now }
 {
-    firsts.iter().any(|first| has_two_seconds_alike(sign, between, *first, seconds))
+    for first in firsts {
+        if has_two_seconds_alike(sign, between, *first, seconds) {
+            return true;
+        }
+    }
+    false
 }
 
 fn keeps_for_a_second(sign: PairSign, between: Vec3, firsts: &[Vec3], seconds: &[Vec3]) -> bool
@@ -125,7 +138,12 @@ fn keeps_for_a_second(sign: PairSign, between: Vec3, firsts: &[Vec3], seconds: &
     ensures { result ≡ list_any (λ second. are_two_alike (λ first. pair_sign sign between first second) firsts.now)
         seconds.now }
 {
-    seconds.iter().any(|second| has_two_firsts_alike(sign, between, firsts, *second))
+    for second in seconds {
+        if has_two_firsts_alike(sign, between, firsts, *second) {
+            return true;
+        }
+    }
+    false
 }
 
 fn has_two_seconds_alike(sign: PairSign, between: Vec3, first: Vec3, seconds: &[Vec3]) -> bool

@@ -8,7 +8,12 @@ use crate::splitting::begins_with;
 pub fn is_blank(content: &[u8]) -> bool
     ensures { result ≡ is_blank content.now }
 {
-    content.iter().all(|byte| *byte == b' ' || *byte == b'\t')
+    for byte in content {
+        if !matches!(byte, b' ' | b'\t') {
+            return false;
+        }
+    }
+    true
 }
 
 /// Whether a line's content ends a record: `$$$$`, and spaces at most behind it.
@@ -42,5 +47,10 @@ fn is_word(word: &[u8], content: &[u8]) -> bool
 fn are_spaces(text: &[u8]) -> bool
     ensures { result ≡ are_spaces text.now }
 {
-    text.iter().all(|byte| *byte == b' ')
+    for byte in text {
+        if *byte != b' ' {
+            return false;
+        }
+    }
+    true
 }

@@ -12,8 +12,7 @@ pub fn push_right(line: &mut Vec<u8>, width: usize, text: &[u8]) -> Result<(), A
     for column in text.len()..width {
         line.push(b' ')?;
     }
-    line.extend_from_slice(text)?;
-    Ok(())
+    line.extend_from_slice(text)
 }
 
 /// A number of ten-thousandths with four decimals.

@@ -27,10 +27,11 @@ pub fn push_bonds(
         ++ units_at sketch.now.molecule.now (bond_sites sketch.now.graph.now sketch.now.positions.now a)) }
 {
     // Most atoms are no first end: their bonds aren't looked at.
-    if !can_begin(sketch, a) {
-        return Ok(());
+    if can_begin(sketch, a) {
+        push_bonds_from(sketch, a, reached, units)
+    } else {
+        Ok(())
     }
-    push_bonds_from(sketch, a, reached, units)
 }
 
 fn can_begin(sketch: &Sketch<'_>, a: u32) -> bool
@@ -108,10 +109,11 @@ fn is_bond_unit(
     requires { b ≡ other_end a edge.now }
     ensures { IfOk result (λ found. found ≡ is_bond_unit graph.now positions.now a edge.now) }
 {
-    if !can_be_bond_unit(graph, positions, a, b, edge) {
-        return Ok(false);
+    if can_be_bond_unit(graph, positions, a, b, edge) {
+        Ok(!is_in_small_ring(graph, a, b, reached)?)
+    } else {
+        Ok(false)
     }
-    Ok(!is_in_small_ring(graph, a, b, reached)?)
 }
 
 // Whether a bond is a unit if it lies in no small ring.

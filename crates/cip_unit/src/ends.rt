@@ -60,11 +60,13 @@ pub fn has_end_bonds(graph: &Graph, unit: &[u32], atom: u32) -> bool
 fn multiple_count(graph: &Graph, atom: u32) -> usize
     ensures { result ≡ length (multiples graph.now atom) }
 {
-    graph
-        .edges_at(atom)
-        .iter()
-        .filter(|edge| edge.order >= 2)
-        .count()
+    let mut count = 0;
+    for edge in graph.edges_at(atom) {
+        if edge.order >= 2 {
+            count += 1;
+        }
+    }
+    count
 }
 
 fn is_outside(unit: &[u32], atom: u32) -> bool

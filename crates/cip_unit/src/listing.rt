@@ -64,17 +64,23 @@ fn push_all_doubles(
         (units.new ≡ with_axes sketch.now.molecule.now sketch.now.graph.now atoms
         (with_bonds sketch.now.molecule.now sketch.now.graph.now sketch.now.positions.now atoms units.old)) }
 {
-    if !has_double(sketch.graph) {
-        return Ok(());
+    if has_double(sketch.graph) {
+        push_all_bonds(alloc, sketch, atoms, units)?;
+        push_all_axes(sketch, atoms, units)
+    } else {
+        Ok(())
     }
-    push_all_bonds(alloc, sketch, atoms, units)?;
-    push_all_axes(sketch, atoms, units)
 }
 
 fn has_double(graph: &Graph) -> bool
     ensures { result ≡ has_double graph.now }
 {
-    graph.edges().iter().any(|edge| edge.order == 2)
+    for edge in graph.edges() {
+        if edge.order == 2 {
+            return true;
+        }
+    }
+    false
 }
 
 fn push_all_bonds(
@@ -103,10 +109,11 @@ fn push_all_axes(sketch: &Sketch<'_>, atoms: u32, units: &mut Units) -> Result<(
     requires leads { LeadsToAtoms sketch.now.graph.now }
     ensures { OnOk result (units.new ≡ with_axes sketch.now.molecule.now sketch.now.graph.now atoms units.old) }
 {
-    if !has_allene(sketch.graph, atoms) {
-        return Ok(());
+    if has_allene(sketch.graph, atoms) {
+        push_each_axis(sketch, atoms, units)
+    } else {
+        Ok(())
     }
-    push_each_axis(sketch, atoms, units)
 }
 
 fn has_allene(graph: &Graph, atoms: u32) -> bool

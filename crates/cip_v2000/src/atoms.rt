@@ -58,19 +58,15 @@ fn symbol(line: &[u8]) -> &[u8]
     ensures { result.now ≡ field 32 34 line.now }
 {
     if line.len() < 34 {
-        return columns(line, 32, 34);
+        columns(line, 32, 34)
+    } else {
+        match (line[31] == b' ', line[32] == b' ', line[33] == b' ') {
+            (false, true, true) => &line[31..32],
+            (true, true, false) => &line[33..34],
+            (false, false, true) => &line[31..33],
+            _ => columns(line, 32, 34),
+        }
     }
-    let (first, second, third) = (line[31], line[32], line[33]);
-    if first != b' ' && second == b' ' && third == b' ' {
-        return &line[31..32];
-    }
-    if first == b' ' && second == b' ' && third != b' ' {
-        return &line[33..34];
-    }
-    if first != b' ' && second != b' ' && third == b' ' {
-        return &line[31..33];
-    }
-    columns(line, 32, 34)
 }
 
 // The mass difference in columns 35 and 36, which is 0 in nearly every line.
@@ -79,9 +75,10 @@ fn mass_difference(line: &[u8]) -> Option<i8>
     ensures range { IfSome result (λ difference. unsigned_abs difference ≤ 4) }
 {
     if line.len() >= 36 && line[34] == b' ' && line[35] == b'0' {
-        return Some(0);
+        Some(0)
+    } else {
+        signed(3, 4, columns(line, 35, 36))
     }
-    signed(3, 4, columns(line, 35, 36))
 }
 
 // The isotope of an element with a mass difference.

@@ -51,17 +51,18 @@ fn property_in(line: &[u8]) -> Option<Property>
     ensures long { IfSome result (λ _. 6 ≤ length line.now) }
 {
     if line.len() < 6 || line[0] != b'M' {
-        return None;
-    }
-    let columns = &line[..6];
-    if columns == b"M  CHG".as_slice() {
-        Some(Property::Charges)
-    } else if columns == b"M  RAD".as_slice() {
-        Some(Property::Radicals)
-    } else if columns == b"M  ISO".as_slice() {
-        Some(Property::Isotopes)
-    } else {
         None
+    } else {
+        let columns = &line[..6];
+        if columns == b"M  CHG".as_slice() {
+            Some(Property::Charges)
+        } else if columns == b"M  RAD".as_slice() {
+            Some(Property::Radicals)
+        } else if columns == b"M  ISO".as_slice() {
+            Some(Property::Isotopes)
+        } else {
+            None
+        }
     }
 }
 

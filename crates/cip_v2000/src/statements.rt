@@ -39,13 +39,23 @@ pub fn settle(alloc: Global, pairs: &[Pair], lines: &[AtomLine]) -> Result<Vec<A
 fn state_charges(pairs: &[Pair]) -> bool
     ensures { result ≡ state_charges pairs.now }
 {
-    pairs.iter().any(|pair| !is_isotope(pair.states))
+    for pair in pairs {
+        if !is_isotope(pair.states) {
+            return true;
+        }
+    }
+    false
 }
 
 fn state_isotopes(pairs: &[Pair]) -> bool
     ensures { result ≡ state_isotopes pairs.now }
 {
-    pairs.iter().any(|pair| is_isotope(pair.states))
+    for pair in pairs {
+        if is_isotope(pair.states) {
+            return true;
+        }
+    }
+    false
 }
 
 fn is_isotope(states: Statement) -> bool

@@ -7,10 +7,10 @@ pub are_three_hindered-requires-clause-a : goal.are_three_hindered-requires-clau
 unfolding is_biaryl
 are_three_hindered-requires-clause-a c = grind (arith, common_steps)
 
-pub returns-then-not-are_three_hindered : goal.returns-then-not-are_three_hindered
+pub are_three_hindered-requires-then-not-lies_in_ring-clause-a : goal.are_three_hindered-requires-then-not-lies_in_ring-clause-a
 unfolding is_biaryl
-returns-then-not-are_three_hindered c = grind (arith, common_steps)
+are_three_hindered-requires-then-not-lies_in_ring-clause-a c = grind (arith, common_steps)
 
-pub are_three_hindered-requires-2-clause-a : goal.are_three_hindered-requires-2-clause-a
+pub returns-then-not-lies_in_ring : goal.returns-then-not-lies_in_ring
 unfolding is_biaryl
-are_three_hindered-requires-2-clause-a c = grind (arith, common_steps)
+returns-then-not-lies_in_ring c = grind (arith, common_steps)

@@ -22,12 +22,12 @@ is_unit c =
     ap (is_cumulene c.args.source.now.graph.now) (sym c.deref.ensures.value) ∙ sym c.in_ok-is_cumulene.ensures
     ∙ c.if-branch.true
 
-pub returns-then-not-leads_on : goal.returns-then-not-leads_on
-returns-then-not-leads_on c =
+pub returns : goal.returns
+returns c =
     let source = c.args.source.now in
     let units = c.args.units.now in
     sym (ap (λ more. units ++ more)
-    (short_none source.molecule.now source.graph.now c.args.a c.args.next (sym c.if-not-leads_on.ensures))
+    (short_none source.molecule.now source.graph.now c.args.a c.args.next (sym c.leads_on.ensures ∙ c.if-leads_on.false))
     ∙ append-nil units)
 
 pub is_cumulene-requires : goal.is_cumulene-requires

@@ -10,5 +10,5 @@ returns-then-other-double-2 c =
     c.args.before.now _ _ c.requires.partner c.requires.near c.requires.below c.if-other-double-2.true
     (ne_eqb c.args.other c.args.double.partner c.if-other-double.false) c.of.ensures.value c.holds.ensures
 
-pub returns : goal.returns
-returns c = grind (arith, common_steps)
+pub returns-else-other-double-2 : goal.returns-else-other-double-2
+returns-else-other-double-2 c = grind (arith, common_steps)

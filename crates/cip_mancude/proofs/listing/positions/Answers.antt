@@ -2,7 +2,7 @@ use Rattle.std.proofs.Common.{◌∙◌, sym}
 use Rattle.cip_mancude.proofs.Listed.{all_none}
 use Rattle.cip_mancude.proofs.listing.positions.Goals as goal
 
-pub returns-then-not-has_counted : goal.returns-then-not-has_counted
-returns-then-not-has_counted c =
-    rw (all_none c.args.graph.now (sym c.has_counted.ensures ∙ c.if-not-has_counted.true))
+pub returns-else-has_counted : goal.returns-else-has_counted
+returns-else-has_counted c =
+    rw (all_none c.args.graph.now (sym c.has_counted.ensures ∙ c.if-has_counted.false))
     (rw c.vertices.ensures.value at c.none.ensures)

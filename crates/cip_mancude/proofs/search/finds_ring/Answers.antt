@@ -11,13 +11,13 @@ returns-then-reaches_soon c =
     (c.push-2.ensures
     ∙ ap (λ path. c.args.next ∷ path) (c.push.ensures ∙ ap (λ path. c.args.aim.third ∷ path) c.new-path.ensures))
 
-pub returns-then-not-walks : goal.returns-then-not-walks
-returns-then-not-walks c =
-    no_ring c.args.alternation.now c.args.aim.target c.args.most (c.args.next ∷ c.args.aim.third ∷ []) c.args.next
-    (sym c.in_ok-walks.ensures ∙ c.if-not-walks.true)
-
 pub returns : goal.returns
 returns c =
+    no_ring c.args.alternation.now c.args.aim.target c.args.most (c.args.next ∷ c.args.aim.third ∷ []) c.args.next
+    (sym c.in_ok-has_walk.ensures ∙ c.if-branch.false)
+
+pub returns-then-branch : goal.returns-then-branch
+returns-then-branch c =
     c.reaches_by.ensures.value
     ∙ begun_with c.args.alternation.now c.args.aim.third c.args.next c.args.aim.target c.args.most _
     (c.reaches_soon.ensures.path ∙ c.push-2.ensures

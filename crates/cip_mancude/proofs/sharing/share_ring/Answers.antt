@@ -8,10 +8,6 @@ pub ring_along-requires-clause-next : goal.ring_along-requires-clause-next
 unfolding share_ring
 ring_along-requires-clause-next c = grind (arith, common_steps, none_shared)
 
-pub returns-then-not-alternates : goal.returns-then-not-alternates
-unfolding share_ring
-returns-then-not-alternates c = grind (arith, common_steps, none_shared)
-
 pub returns : goal.returns
 unfolding share_ring
 returns c = grind (arith, common_steps, none_shared)

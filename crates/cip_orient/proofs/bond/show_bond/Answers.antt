@@ -1,16 +1,22 @@
-use Rattle.std.proofs.Common.{sym, ◌∙◌, arith}
+use Rattle.std.proofs.Common.{◌≡◌, ◌∙◌, false, arith}
+use Rattle.cip_mol.specs.Marks.{has_either, is_crossed}
 use Rattle.cip_orient.specs.declared.pairs.PairSign.TheVariants.{Sides}
 use Rattle.cip_orient.specs.PairSigns.{by_drawn_pairs}
 use Rattle.cip_orient.proofs.Undecided.{none}
 use Rattle.std.proofs.lemmas.Grind.{common_steps}
 use Rattle.cip_orient.proofs.bond.show_bond.Goals as goal
 
-pub returns : goal.returns
-returns c =
+pub returns-else-is_crossed : goal.returns-else-is_crossed
+returns-else-is_crossed c =
+    let bonds = c.args.molecule.now.bonds in
+    let a = c.args.ends.now.near.at in
+    let b = c.args.ends.now.far.at in
+    let near : has_either a bonds ≡ false = grind (arith, common_steps) in
+    let far : has_either b bonds ≡ false = grind (arith, common_steps) in
+    let plain : is_crossed a b bonds ≡ false = grind (arith, common_steps) in
     c.show_drawn_pairs.ensures
     ∙ (λ i. by_drawn_pairs Sides c.args.molecule.now.atoms (c.drawn_end-near.ensures.is i) (c.drawn_end-far.ensures.is i))
-    ∙ none _ _ _ _ _ (sym c.has_either.ensures ∙ c.if-has_either.false)
-    (sym c.has_either-else-has_either.ensures ∙ c.if-has_either-2.false) (sym c.is_crossed.ensures ∙ c.if-is_crossed.false)
+    ∙ none _ _ _ _ _ near far plain
 
 pub show_drawn_pairs-requires-clause-near : goal.show_drawn_pairs-requires-clause-near
 show_drawn_pairs-requires-clause-near c = grind (arith, common_steps)

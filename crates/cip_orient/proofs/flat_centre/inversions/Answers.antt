@@ -7,6 +7,3 @@ loop-number-preserved c = grind (arith, common_steps)
 
 pub returns : goal.returns
 returns c = grind (arith, common_steps)
-
-pub count-count-requires-clause-fits : goal.count-count-requires-clause-fits
-count-count-requires-clause-fits c = grind (arith, common_steps)

@@ -8,12 +8,12 @@ use Rattle.cip_orient.proofs.NoMarks.{shows_none}
 use Rattle.std.proofs.lemmas.Grind.{common_steps}
 use Rattle.cip_orient.proofs.flat_centre.show_in_plane.Goals as goal
 
-pub returns-then-not-has_mark : goal.returns-then-not-has_mark
-returns-then-not-has_mark c =
+pub returns-else-has_mark : goal.returns-else-has_mark
+returns-else-has_mark c =
     let directions = c.args.directions.now in
     let marks = c.args.marks.now in
     let clear : has_clash directions ≡ false = sym c.has_clash.ensures ∙ c.if-has_clash.false in
-    let unmarked : has_mark marks ≡ false = sym c.has_mark.ensures ∙ c.if-not-has_mark.true in
+    let unmarked : has_mark marks ≡ false = sym c.has_mark.ensures ∙ c.if-has_mark.false in
     sym (ap (λ b. cond b (Unknown Coincident) (by_order directions marks)) clear ∙ shows_none directions marks unmarked)
 
 pub show_by_order-requires-clause-some : goal.show_by_order-requires-clause-some

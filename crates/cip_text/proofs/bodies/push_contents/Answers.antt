@@ -1,6 +1,5 @@
-use Rattle.std.proofs.Common.{◌++◌, ◌∷◌, [], ◌∙◌, Bor, List, ℕ, ap, append-nil, arith, length, length-append, map, sym}
+use Rattle.std.proofs.Common.{◌++◌, ◌∷◌, [], ◌∙◌, Bor, List, ℕ, ap, arith, length, length-append, sym}
 use Rattle.std.proofs.lemmas.List.{map-append}
-use Rattle.cip_text.specs.Lines.{content_of}
 use Rattle.cip_text.specs.Slices.{texts}
 use Rattle.cip_text.proofs.Halves.{content_more}
 use Rattle.cip_text.proofs.bodies.push_contents.Goals as goal

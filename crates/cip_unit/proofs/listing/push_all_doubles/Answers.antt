@@ -3,13 +3,13 @@ use Rattle.cip_unit.proofs.NoDoubles.{nothing_more}
 use Rattle.std.proofs.lemmas.Grind.{common_steps}
 use Rattle.cip_unit.proofs.listing.push_all_doubles.Goals as goal
 
-pub returns-then-not-has_double : goal.returns-then-not-has_double
-returns-then-not-has_double c =
-    nothing_more c.args.sketch.now.graph.now (sym c.has_double.ensures ∙ c.if-not-has_double.true)
+pub returns-else-has_double : goal.returns-else-has_double
+returns-else-has_double c =
+    nothing_more c.args.sketch.now.graph.now (sym c.has_double.ensures ∙ c.if-has_double.false)
     c.args.sketch.now.molecule.now c.args.sketch.now.positions.now c.args.atoms c.args.units.now
 
 pub push_all_axes-requires-clause-leads : goal.push_all_axes-requires-clause-leads
 push_all_axes-requires-clause-leads c = grind (arith, common_steps)
 
-pub returns : goal.returns
-returns c = grind (arith, common_steps)
+pub returns-in_ok-push_all_bonds : goal.returns-in_ok-push_all_bonds
+returns-in_ok-push_all_bonds c = grind (arith, common_steps)

@@ -2,7 +2,7 @@ use Rattle.std.proofs.Common.{◌≡◌, ◌≤◌, ◌∙◌, ℕ, List, Option
 use Rattle.std.specs.Prelude.{ℤ, unsigned_abs}
 use Rattle.std.specs.Option.{ok_or}
 use Rattle.std.proofs.lemmas.Int.{ints, to_z-of_z}
-use Rattle.cip_elem.specs.Symbols.{IsElement, element_of}
+use Rattle.cip_elem.specs.Symbols.{element_of}
 use Rattle.cip_elem.specs.declared.symbols.Element.{Element}
 use Rattle.cip_mol.specs.declared.refusal.ReadCause.{ReadCause}
 use Rattle.cip_mol.specs.declared.refusal.ReadCause.TheVariants.{Symbol, AtomField}

@@ -1,4 +1,4 @@
-use Rattle.std.proofs.Common.{◌≡◌, ◌+◌, ◌∙◌, ℕ, List, Option, Some, None, refl, sym}
+use Rattle.std.proofs.Common.{◌≡◌, ◌+◌, ◌∙◌, ℕ, List, Option, sym}
 use Rattle.std.specs.Prelude.{slice_get}
 use Rattle.cip_text.specs.Slices.{texts}
 use Rattle.cip_v2000.specs.PropertyLines.{pair_at, pair_from}

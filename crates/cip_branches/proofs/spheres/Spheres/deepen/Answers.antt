@@ -59,28 +59,28 @@ returns-then-stands_by-clause-deeper g c =
 pub returns-then-stands_by-clause-reached : goal.returns-then-stands_by-clause-reached
 returns-then-stands_by-clause-reached g c = (λ is. absurd (false≢true is), λ all. absurd (none_stirred all))
 
-pub returns-clause-deeper : goal.returns-clause-deeper
-returns-clause-deeper g c =
+pub returns-else-stands_by-clause-deeper : goal.returns-else-stands_by-clause-deeper
+returns-else-stands_by-clause-deeper g c =
     let now = c.pass.new.self in
     rw c.pass.ensures.others
     (deeper_is c.args.self.now c.args.last c.requires.ranked now.ranked now.before c.pass.ensures.before c.args.far
     c.requires.far (g.K.Keyed.key c.args.keys.now) c.pass.ensures.passed c.pass.ensures.places c.pass.ensures.spheres
     c.pass.ensures.room)
 
-pub returns-clause-ranked : goal.returns-clause-ranked
-returns-clause-ranked g c =
+pub returns-else-stands_by-clause-ranked : goal.returns-else-stands_by-clause-ranked
+returns-else-stands_by-clause-ranked g c =
     let now = c.pass.new.self in
     rw c.pass.ensures.others
     (deeper_ranked c.args.self.now c.args.last c.requires.ranked now.ranked now.before c.pass.ensures.before c.args.far
     c.requires.far (g.K.Keyed.key c.args.keys.now) c.pass.ensures.passed c.pass.ensures.places c.pass.ensures.spheres)
 
-pub returns-clause-reached : goal.returns-clause-reached
-returns-clause-reached g c =
+pub returns-else-stands_by-clause-reached : goal.returns-else-stands_by-clause-reached
+returns-else-stands_by-clause-reached g c =
     let first = c.args.self.now in
     first_is first.kin.ups first.ranked.rows first.starts c.pass.result c.args.far first.ranked.numbers
     first.ranked.numbers c.pass.new.self.ranked.numbers
     (subst (λ ns. IsInnermost first.kin.ups first.ranked.rows first.starts c.pass.result c.args.far ns
     first.ranked.numbers c.pass.new.self.ranked.numbers) c.requires.ranked.before c.pass.ensures.inner)
 
-pub returns-clause-tops : goal.returns-clause-tops
-returns-clause-tops g c = λ not. c.pass.ensures.tops (not_first c.pass.result not)
+pub returns-else-stands_by-clause-tops : goal.returns-else-stands_by-clause-tops
+returns-else-stands_by-clause-tops g c = λ not. c.pass.ensures.tops (not_first c.pass.result not)

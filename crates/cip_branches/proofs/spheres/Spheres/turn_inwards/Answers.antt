@@ -107,47 +107,47 @@ stir_above-requires-clause-flags c =
     column.items) c.flags.view_is) in
     omega (arith, inside, c.requires.behind, c.self.invariant.rows_len, c.self.invariant.flags_len, len)
 
-pub returns-then-not-stir_above-clause-ordered : goal.returns-then-not-stir_above-clause-ordered
-returns-then-not-stir_above-clause-ordered c =
-    let at = (goal.at.returns-then-not-stir_above-clause-ordered c).After-stir_above in
+pub returns-else-stir_above-clause-ordered : goal.returns-else-stir_above-clause-ordered
+returns-else-stir_above-clause-ordered c =
+    let at = (goal.at.returns-else-stir_above-clause-ordered c).After-stir_above in
     rw (sym c.self.view_is)
-    ((flagged_here at).stands (c.stir_above.ensures.none c.if-not-stir_above.true))
+    ((flagged_here at).stands (c.stir_above.ensures.none c.if-stir_above.false))
 
 -- where nothing is looked at, no flag was set
 still : (c : After-stir_above) → c.stir_above.result ≡ false → c.stir_above.new.flags ≡ c.self.inside.flags.items
 still c not = c.stir_above.ensures.none not ∙ c.deref_mut.ensures.value
     ∙ ap (λ (column : Reserved Bool). column.items) c.flags.view_is
 
-pub returns-then-not-stir_above-clause-looked : goal.returns-then-not-stir_above-clause-looked
-returns-then-not-stir_above-clause-looked c =
+pub returns-else-stir_above-clause-looked : goal.returns-else-stir_above-clause-looked
+returns-else-stir_above-clause-looked c =
     let none = subst NoFlags (sym (c.deref_mut.ensures.value ∙ ap (λ (column : Reserved Bool). column.items)
     c.flags.view_is)) c.self.invariant.none in (
       λ is. absurd (false≢true is),
       λ found. absurd (none_above c.self.inside.family.ups c.self.inside.order.rows c.as_slice.result.now
           c.self.inside.order.numbers c.args.to c.args.past c.deref_mut.result.now c.stir_above.new.flags
-          c.stir_above.ensures.stirred none (c.stir_above.ensures.none c.if-not-stir_above.true)
+          c.stir_above.ensures.stirred none (c.stir_above.ensures.none c.if-stir_above.false)
           (above c.as_slice.ensures c.self.view_is found)),
     )
 
-pub returns-then-not-stir_above-clause-kept : goal.returns-then-not-stir_above-clause-kept
-returns-then-not-stir_above-clause-kept c =
+pub returns-else-stir_above-clause-kept : goal.returns-else-stir_above-clause-kept
+returns-else-stir_above-clause-kept c =
     rw (sym c.self.view_is) (kept_itself c.args.from c.args.to c.self.inside.order.rows c.self.inside.order.numbers
     (classed c.self.view_is c.requires.classed))
 
-pub returns-then-not-stir_above-clause-room : goal.returns-then-not-stir_above-clause-room
-returns-then-not-stir_above-clause-room c = ap (λ (s : Layers). s.ranked.room) c.self.view_is
+pub returns-else-stir_above-clause-room : goal.returns-else-stir_above-clause-room
+returns-else-stir_above-clause-room c = ap (λ (s : Layers). s.ranked.room) c.self.view_is
 
-pub invariant_of-flags : goal.invariant_of-flags
-invariant_of-flags c =
-    let at = (goal.at.invariant_of-flags c).After-stir_above in
+pub invariant_of-flags-else-stir_above : goal.invariant_of-flags-else-stir_above
+invariant_of-flags-else-stir_above c =
+    let at = (goal.at.invariant_of-flags-else-stir_above c).After-stir_above in
     let fits : length c.flags.inside.items.items ≤ c.flags.inside.room = c.flags.invariant.1 in
     let many = as_many at in (c.flags.invariant.0, rw (set_flags at) (omega (arith, fits, many)), c.flags.invariant.2)
 
-pub invariant_of-self : goal.invariant_of-self
-invariant_of-self c =
-    let at = (goal.at.invariant_of-self c).After-stir_above in
+pub invariant_of-self-else-stir_above : goal.invariant_of-self-else-stir_above
+invariant_of-self-else-stir_above c =
+    let at = (goal.at.invariant_of-self-else-stir_above c).After-stir_above in
     let was = c.self.invariant in
-    let same = set_flags at ∙ still at c.if-not-stir_above.true in
+    let same = set_flags at ∙ still at c.if-stir_above.false in
     record {
       few = was.few;
       fits = was.fits;
@@ -185,7 +185,7 @@ refine_sphere-requires-clause-family c = sym c.self.invariant.numbers_len
 
 pub refine_sphere-requires-clause-sets : goal.refine_sphere-requires-clause-sets
 refine_sphere-requires-clause-sets c =
-    ap (λ (ns : List ℕ). length ns) c.deref_mut-2.ensures.value
+    ap (λ (ns : List ℕ). length ns) c.deref_mut-then-stir_above.ensures.value
     ∙ ap (λ (column : Reserved ℕ). length column.items) c.sets.view_is
     ∙ c.self.invariant.sets_len ∙ sym c.self.invariant.numbers_len
 
@@ -209,12 +209,12 @@ refine_sphere-requires-clause-calm c =
     (IsRow c.self.inside.order.rows c.args.from c.args.to) (λ number. has_flag fs number ≡ false)
     c.self.inside.order.numbers) (sym (read at.After-deref)) (flagged_here at.After-stir_above).calm
 
-pub invariant_of-flags-2 : goal.invariant_of-flags-2
-invariant_of-flags-2 c =
-    let at = (goal.at.invariant_of-flags-2 c).After-stir_above in
-    let read = c.deref_mut-3.ensures.value ∙ set_flags at in
+pub invariant_of-flags : goal.invariant_of-flags
+invariant_of-flags c =
+    let at = (goal.at.invariant_of-flags c).After-stir_above in
+    let read = c.deref_mut-then-stir_above-2.ensures.value ∙ set_flags at in
     let left = with_items_is (with_items c.flags.inside.items c.stir_above.new.flags) c.clear_flags.new.flags
-    (c.clear_flags.auto.flags ∙ c.deref_mut-3.ensures.len) in
+    (c.clear_flags.auto.flags ∙ c.deref_mut-then-stir_above-2.ensures.len) in
     let fits : length c.flags.inside.items.items ≤ c.flags.inside.room = c.flags.invariant.1 in
     let many = c.clear_flags.auto.flags ∙ ap (λ (fs : List Bool). length fs) read ∙ as_many at in
     (c.flags.invariant.0, rw left (omega (arith, fits, many)), c.flags.invariant.2)
@@ -222,24 +222,24 @@ invariant_of-flags-2 c =
 pub invariant_of-sets : goal.invariant_of-sets
 invariant_of-sets c =
     let sets = with_items_is c.sets.inside.items c.refine_sphere.new.sets
-    (c.refine_sphere.auto.sets ∙ c.deref_mut-2.ensures.len) in
+    (c.refine_sphere.auto.sets ∙ c.deref_mut-then-stir_above.ensures.len) in
     let fits : length c.sets.inside.items.items ≤ c.sets.inside.room = c.sets.invariant.1 in
-    let many = c.refine_sphere.auto.sets ∙ ap (λ (ns : List ℕ). length ns) c.deref_mut-2.ensures.value in
+    let many = c.refine_sphere.auto.sets ∙ ap (λ (ns : List ℕ). length ns) c.deref_mut-then-stir_above.ensures.value in
     (c.sets.invariant.0, rw sets (omega (arith, fits, many)), c.sets.invariant.2)
 
-pub invariant_of-self-2 : goal.invariant_of-self-2
-invariant_of-self-2 c =
+pub invariant_of-self : goal.invariant_of-self
+invariant_of-self c =
     let was = c.self.invariant in
     let kept = c.refine_sphere.ensures.kept in
-    let read : c.deref_mut-3.result.now ≡ c.stir_above.new.flags = c.deref_mut-3.ensures.value
+    let read : c.deref_mut-then-stir_above-2.result.now ≡ c.stir_above.new.flags = c.deref_mut-then-stir_above-2.ensures.value
     ∙ with_items_is c.flags.inside.items
     c.stir_above.new.flags (c.stir_above.auto.flags ∙ c.deref_mut.ensures.len) in
     let left : (with_items (with_items c.flags.inside.items c.stir_above.new.flags) c.clear_flags.new.flags).items
     ≡ c.clear_flags.new.flags = with_items_is (with_items c.flags.inside.items c.stir_above.new.flags)
-    c.clear_flags.new.flags (c.clear_flags.auto.flags ∙ c.deref_mut-3.ensures.len) in
+    c.clear_flags.new.flags (c.clear_flags.auto.flags ∙ c.deref_mut-then-stir_above-2.ensures.len) in
     let sets : (with_items c.sets.inside.items c.refine_sphere.new.sets).items ≡ c.refine_sphere.new.sets =
     with_items_is c.sets.inside.items c.refine_sphere.new.sets
-    (c.refine_sphere.auto.sets ∙ c.deref_mut-2.ensures.len) in
+    (c.refine_sphere.auto.sets ∙ c.deref_mut-then-stir_above.ensures.len) in
     record {
       few = was.few;
       fits = was.fits;
@@ -257,25 +257,25 @@ invariant_of-self-2 c =
           read ∙ c.stir_above.auto.flags ∙ ap (λ (fs : List Bool). length fs) c.deref_mut.ensures.value
           ∙ ap (λ (column : Reserved Bool). length column.items) c.flags.view_is ∙ was.flags_len;
       sets_len = ap (λ (ns : List ℕ). length ns) sets ∙ c.refine_sphere.auto.sets ∙ ap (λ (ns : List ℕ). length ns)
-          c.deref_mut-2.ensures.value ∙ ap (λ (column : Reserved ℕ). length column.items) c.sets.view_is
+          c.deref_mut-then-stir_above.ensures.value ∙ ap (λ (column : Reserved ℕ). length column.items) c.sets.view_is
           ∙ was.sets_len;
-      none = subst NoFlags (sym left) ((flagged_here (goal.at.invariant_of-self-2 c).After-stir_above).cleared
+      none = subst NoFlags (sym left) ((flagged_here (goal.at.invariant_of-self c).After-stir_above).cleared
           c.clear_flags.new.flags c.clear_flags.ensures.cleared
           (λ row has. subst (λ (fs : List Bool). has_flag fs row ≡ true) read (c.clear_flags.ensures.fewer row has)));
     }
 
-pub returns-clause-ordered : goal.returns-clause-ordered
-returns-clause-ordered c =
+pub returns-then-stir_above-clause-ordered : goal.returns-then-stir_above-clause-ordered
+returns-then-stir_above-clause-ordered c =
     rw (sym c.self.view_is) c.refine_sphere.ensures.ordered
 
-pub returns-clause-looked : goal.returns-clause-looked
-returns-clause-looked c = (
-  λ is. seen_above c.as_slice.ensures c.self.view_is (c.stir_above.ensures.some c.if-not-stir_above.false),
+pub returns-then-stir_above-clause-looked : goal.returns-then-stir_above-clause-looked
+returns-then-stir_above-clause-looked c = (
+  λ is. seen_above c.as_slice.ensures c.self.view_is (c.stir_above.ensures.some c.if-stir_above.true),
   λ found. refl,
 )
 
-pub returns-clause-still : goal.returns-clause-still
-returns-clause-still c = λ not. absurd (false≢true (sym not))
+pub returns-then-stir_above-clause-still : goal.returns-then-stir_above-clause-still
+returns-then-stir_above-clause-still c = λ not. absurd (false≢true (sym not))
 
 pub clear_flags-requires-clause-ordered : goal.clear_flags-requires-clause-ordered
 clear_flags-requires-clause-ordered c = c.requires.ordered
@@ -284,16 +284,16 @@ pub clear_flags-requires-clause-within : goal.clear_flags-requires-clause-within
 clear_flags-requires-clause-within c =
     let at = (goal.at.clear_flags-requires-clause-within c).After-stir_above in
     let rows = within c.self.view_is c.requires.within in
-    let len = ap (λ (fs : List Bool). length fs) (c.deref_mut-3.ensures.value ∙ with_items_is c.flags.inside.items
+    let len = ap (λ (fs : List Bool). length fs) (c.deref_mut-then-stir_above-2.ensures.value ∙ with_items_is c.flags.inside.items
     c.stir_above.new.flags (c.stir_above.auto.flags ∙ c.deref_mut.ensures.len)) ∙ flags_long at in
     omega (arith, rows, c.requires.behind, c.self.invariant.rows_len, len)
 
-pub returns-clause-kept : goal.returns-clause-kept
-returns-clause-kept c =
+pub returns-then-stir_above-clause-kept : goal.returns-then-stir_above-clause-kept
+returns-then-stir_above-clause-kept c =
     rw (sym c.self.view_is) c.refine_sphere.ensures.kept
 
-pub returns-clause-others : goal.returns-clause-others
-returns-clause-others c = ap (λ (s : Layers). record s { ranked = c.refine_sphere.new.order }) c.self.view_is
+pub returns-then-stir_above-clause-others : goal.returns-then-stir_above-clause-others
+returns-then-stir_above-clause-others c = ap (λ (s : Layers). record s { ranked = c.refine_sphere.new.order }) c.self.view_is
 
-pub returns-clause-room : goal.returns-clause-room
-returns-clause-room c = c.refine_sphere.ensures.room ∙ ap (λ (s : Layers). s.ranked.room) c.self.view_is
+pub returns-then-stir_above-clause-room : goal.returns-then-stir_above-clause-room
+returns-then-stir_above-clause-room c = c.refine_sphere.ensures.room ∙ ap (λ (s : Layers). s.ranked.room) c.self.view_is
