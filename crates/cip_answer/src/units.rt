@@ -72,13 +72,18 @@ fn label_each<D: Digraphs, L: Ledger>(
     let mut answers = UnitAnswers::new(alloc);
     let units = setting.units().as_slice();
     for (place, unit) in units.iter().enumerate() {
-        let outcome = outcome_of(alloc, labeller, setting, place as u32, images, steps)?;
-        answers.push(UnitAnswer {
+        let Ok(outcome) = outcome_of(alloc, labeller, setting, place as u32, images, steps) else {
+            return Err(AllocError);
+        };
+        let answer = UnitAnswer {
             name: name_of(&unit.site),
             site: unit.site.copy(),
             drawn: setting.graph().drawn(),
             outcome,
-        })?;
+        };
+        let Ok(()) = answers.push(answer) else {
+            return Err(AllocError);
+        };
     }
     Ok(answers)
 }
