@@ -17,6 +17,8 @@ use cip_print::{Answer, UnitAnswer};
 use cip_rank::Rules;
 use cip_text::RecordLines;
 use std::alloc::{AllocError, Global};
+use std::marker::Brand;
+use std::sync::ledger::Blank;
 
 /// The answer to a record that has no label items. Whoever grows and ranks the digraphs: a desk is large, so a program
 /// names one in one place.
@@ -59,7 +61,7 @@ fn answer_drawn<D: Digraphs>(
     let Ok(setting) = Setting::new(alloc, drawn.graph(), drawn.positions(), units, rules) else {
         return Err(AllocError);
     };
-    match label_units(alloc, labeller, &setting) {
+    match label_units::<D, Brand>(alloc, labeller, &setting, Blank::new(1)) {
         Ok(answers) => Ok(Answer::Labelled(answers)),
         Err(fault) => Err(fault),
     }

@@ -80,29 +80,14 @@ fn answer_further<D: Digraphs>(
     let Ok(setting) = Setting::new(alloc, drawn.graph(), drawn.positions(), units, rules) else {
         return Err(AllocError);
     };
-    match label_all(alloc, labeller, &setting, further) {
+    match label_all::<D, Brand>(alloc, labeller, &setting, further, Blank::new(1)) {
         Ok(answers) => Ok(Answer::Labelled(answers)),
         Err(fault) => Err(fault),
     }
 }
 
-// Further units, each with its outcome.
-fn label_all<D: Digraphs>(
-    alloc: Global,
-    labeller: &mut Labeller<D>,
-    setting: &Setting<'_>,
-    units: &[FurtherUnit],
-) -> Result<UnitAnswers, AllocError>
-    requires fit { AreFurtherFit setting.now.graph units.now }
-    requires few { length units.now < 2 ^ 32 }
-    ensures answers { IfOk result (λ answers. answers ≡ map (further_answer setting.now labeller.old) units.now) }
-    ensures kept { labeller.new ≡ labeller.old }
-{
-    label_counted::<D, Brand>(alloc, labeller, setting, units, Blank::new(1))
-}
-
-// The same with a counter of steps.
-fn label_counted<D: Digraphs, L: Ledger>(
+// Further units, each with its outcome, with a counter of steps.
+fn label_all<D: Digraphs, L: Ledger>(
     alloc: Global,
     labeller: &mut Labeller<D>,
     setting: &Setting<'_>,

@@ -9,28 +9,10 @@ use cip_label::{Digraphs, Labeller, Setting};
 use cip_print::{UnitAnswer, UnitAnswers, name_of};
 use cip_rank::Steps;
 use std::alloc::{AllocError, Global};
-use std::marker::Brand;
 use std::sync::ledger::{Blank, Ledger};
 
-/// The units of a setting, each with its outcome.
-pub fn label_units<D: Digraphs>(
-    alloc: Global,
-    labeller: &mut Labeller<D>,
-    setting: &Setting<'_>,
-) -> Result<UnitAnswers, AllocError>
-    requires drawn { setting.now.positions ≡ positions_of setting.now.graph }
-    requires few { length setting.now.units < 2 ^ 32 - 1 }
-    ensures answers { IfOk result
-        (λ answers. answers ≡ unit_answers setting.now.rules labeller.old setting.now.graph setting.now.positions
-        setting.now.units) }
-    ensures few { IfOk result (λ answers. length answers < 2 ^ 32 - 1) }
-    ensures kept { labeller.new ≡ labeller.old }
-{
-    label_counted::<D, Brand>(alloc, labeller, setting, Blank::new(1))
-}
-
-// The same with a counter of steps.
-fn label_counted<D: Digraphs, L: Ledger>(
+/// The units of a setting, each with its outcome, with a counter of steps.
+pub fn label_units<D: Digraphs, L: Ledger>(
     alloc: Global,
     labeller: &mut Labeller<D>,
     setting: &Setting<'_>,
