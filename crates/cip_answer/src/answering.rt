@@ -17,6 +17,8 @@ use cip_print::{Answer, UnitAnswer};
 use cip_rank::Rules;
 use cip_text::RecordLines;
 use std::alloc::{AllocError, Global};
+use std::marker::Brand;
+use std::sync::ledger::Blank;
 
 /// The answer to a record that has no label items. Whoever grows and ranks the digraphs: a desk is large, so a program
 /// names one in one place.
@@ -32,14 +34,15 @@ pub fn label_within<D: Digraphs>(
     ensures room { IfOk result HasRoom }
     ensures kept { labeller.new ≡ labeller.old }
 {
-    match Drawn::read(alloc, lines.contents())? {
-        Ok(drawn) => {
+    match Drawn::read(alloc, lines.contents()) {
+        Ok(Ok(drawn)) => {
             let answer = answer_drawn(alloc, labeller, &drawn, rules);
             // given back by a call of its own, which is quicker to prove than an end that owns it
             drop(drawn);
             answer
         }
-        Err(fault) => Ok(Answer::Refused(fault)),
+        Ok(Err(fault)) => Ok(Answer::Refused(fault)),
+        Err(fault) => Err(fault),
     }
 }
 
@@ -55,8 +58,13 @@ fn answer_drawn<D: Digraphs>(
     ensures kept { labeller.new ≡ labeller.old }
 {
     let units = drawn.units().list();
-    let setting = Setting::new(alloc, drawn.graph(), drawn.positions(), units, rules)?;
-    Ok(Answer::Labelled(label_units(alloc, labeller, &setting)?))
+    let Ok(setting) = Setting::new(alloc, drawn.graph(), drawn.positions(), units, rules) else {
+        return Err(AllocError);
+    };
+    match label_units::<D, Brand>(alloc, labeller, &setting, Blank::new(1)) {
+        Ok(answers) => Ok(Answer::Labelled(answers)),
+        Err(fault) => Err(fault),
+    }
 }
 
 /// Whether a record is refused, or a digraph of it is larger than the bound.

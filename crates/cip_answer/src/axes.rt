@@ -32,8 +32,14 @@ pub fn axes_text_within<D: Digraphs>(
     ensures flagged { IfOk result (λ axes. axes.flagged ≡ is_flagged_without_items rules labeller.old lines.now) }
     ensures kept { labeller.new ≡ labeller.old }
 {
-    let answer = further_of_lines(alloc, labeller, lines.contents(), rules)?;
-    let text = Bytes::from_vec(explain_text(alloc, &answer, number)?);
-    let flagged = is_flagged(&answer);
-    Ok(AxesText { text, flagged })
+    let Ok(answer) = further_of_lines(alloc, labeller, lines.contents(), rules) else {
+        return Err(AllocError);
+    };
+    match explain_text(alloc, &answer, number) {
+        Ok(text) => Ok(AxesText {
+            text: Bytes::from_vec(text),
+            flagged: is_flagged(&answer),
+        }),
+        Err(fault) => Err(fault),
+    }
 }

@@ -32,14 +32,15 @@ pub fn further_of_lines<D: Digraphs>(
     ensures answer { IfOk result (λ answer. answer ≡ further_of_lines rules labeller.old (texts lines.now)) }
     ensures kept { labeller.new ≡ labeller.old }
 {
-    match Drawn::read(alloc, lines)? {
-        Ok(drawn) => {
+    match Drawn::read(alloc, lines) {
+        Ok(Ok(drawn)) => {
             let answer = answer_drawn(alloc, labeller, &drawn, rules);
             // given back by a call of its own, which is quicker to prove than an end that owns it
             drop(drawn);
             answer
         }
-        Err(fault) => Ok(Answer::Refused(fault)),
+        Ok(Err(fault)) => Ok(Answer::Refused(fault)),
+        Err(fault) => Err(fault),
     }
 }
 
@@ -54,7 +55,9 @@ fn answer_drawn<D: Digraphs>(
     ensures answer { IfOk result (λ answer. answer ≡ further_of_molecule rules labeller.old drawn.now) }
     ensures kept { labeller.new ≡ labeller.old }
 {
-    let further = further(alloc, drawn.molecule(), drawn.graph(), drawn.positions())?;
+    let Ok(further) = further(alloc, drawn.molecule(), drawn.graph(), drawn.positions()) else {
+        return Err(AllocError);
+    };
     let answer = answer_further(alloc, labeller, drawn, further.list(), rules);
     drop(further);
     answer
@@ -74,27 +77,17 @@ fn answer_further<D: Digraphs>(
     ensures kept { labeller.new ≡ labeller.old }
 {
     let units = drawn.units().list();
-    let setting = Setting::new(alloc, drawn.graph(), drawn.positions(), units, rules)?;
-    Ok(Answer::Labelled(label_all(alloc, labeller, &setting, further)?))
+    let Ok(setting) = Setting::new(alloc, drawn.graph(), drawn.positions(), units, rules) else {
+        return Err(AllocError);
+    };
+    match label_all::<D, Brand>(alloc, labeller, &setting, further, Blank::new(1)) {
+        Ok(answers) => Ok(Answer::Labelled(answers)),
+        Err(fault) => Err(fault),
+    }
 }
 
-// Further units, each with its outcome.
-fn label_all<D: Digraphs>(
-    alloc: Global,
-    labeller: &mut Labeller<D>,
-    setting: &Setting<'_>,
-    units: &[FurtherUnit],
-) -> Result<UnitAnswers, AllocError>
-    requires fit { AreFurtherFit setting.now.graph units.now }
-    requires few { length units.now < 2 ^ 32 }
-    ensures answers { IfOk result (λ answers. answers ≡ map (further_answer setting.now labeller.old) units.now) }
-    ensures kept { labeller.new ≡ labeller.old }
-{
-    label_counted::<D, Brand>(alloc, labeller, setting, units, Blank::new(1))
-}
-
-// The same with a counter of steps.
-fn label_counted<D: Digraphs, L: Ledger>(
+// Further units, each with its outcome, with a counter of steps.
+fn label_all<D: Digraphs, L: Ledger>(
     alloc: Global,
     labeller: &mut Labeller<D>,
     setting: &Setting<'_>,
@@ -128,13 +121,18 @@ fn label_each<D: Digraphs, L: Ledger>(
 {
     let mut answers = UnitAnswers::new(alloc);
     for unit in units {
-        let outcome = label_further(alloc, labeller, setting, unit, steps)?;
-        answers.push(UnitAnswer {
+        let Ok(outcome) = label_further(alloc, labeller, setting, unit, steps) else {
+            return Err(AllocError);
+        };
+        let answer = UnitAnswer {
             name: further_name(&unit.site),
             site: like(&unit.site),
             drawn: setting.graph().drawn(),
             outcome,
-        })?;
+        };
+        let Ok(()) = answers.push(answer) else {
+            return Err(AllocError);
+        };
     }
     Ok(answers)
 }

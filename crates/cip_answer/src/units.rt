@@ -9,28 +9,10 @@ use cip_label::{Digraphs, Labeller, Setting};
 use cip_print::{UnitAnswer, UnitAnswers, name_of};
 use cip_rank::Steps;
 use std::alloc::{AllocError, Global};
-use std::marker::Brand;
 use std::sync::ledger::{Blank, Ledger};
 
-/// The units of a setting, each with its outcome.
-pub fn label_units<D: Digraphs>(
-    alloc: Global,
-    labeller: &mut Labeller<D>,
-    setting: &Setting<'_>,
-) -> Result<UnitAnswers, AllocError>
-    requires drawn { setting.now.positions ≡ positions_of setting.now.graph }
-    requires few { length setting.now.units < 2 ^ 32 - 1 }
-    ensures answers { IfOk result
-        (λ answers. answers ≡ unit_answers setting.now.rules labeller.old setting.now.graph setting.now.positions
-        setting.now.units) }
-    ensures few { IfOk result (λ answers. length answers < 2 ^ 32 - 1) }
-    ensures kept { labeller.new ≡ labeller.old }
-{
-    label_counted::<D, Brand>(alloc, labeller, setting, Blank::new(1))
-}
-
-// The same with a counter of steps.
-fn label_counted<D: Digraphs, L: Ledger>(
+/// The units of a setting, each with its outcome, with a counter of steps.
+pub fn label_units<D: Digraphs, L: Ledger>(
     alloc: Global,
     labeller: &mut Labeller<D>,
     setting: &Setting<'_>,
@@ -72,13 +54,18 @@ fn label_each<D: Digraphs, L: Ledger>(
     let mut answers = UnitAnswers::new(alloc);
     let units = setting.units().as_slice();
     for (place, unit) in units.iter().enumerate() {
-        let outcome = outcome_of(alloc, labeller, setting, place as u32, images, steps)?;
-        answers.push(UnitAnswer {
+        let Ok(outcome) = outcome_of(alloc, labeller, setting, place as u32, images, steps) else {
+            return Err(AllocError);
+        };
+        let answer = UnitAnswer {
             name: name_of(&unit.site),
             site: unit.site.copy(),
             drawn: setting.graph().drawn(),
             outcome,
-        })?;
+        };
+        let Ok(()) = answers.push(answer) else {
+            return Err(AllocError);
+        };
     }
     Ok(answers)
 }

@@ -77,10 +77,13 @@ fn mark_centre<D: Digraphs>(
     ensures kept { labeller.new ≡ labeller.old }
 {
     if molecule.is_spatial() {
-        return Ok(Err(CentreRefusal::ThreeD));
+        Ok(Err(CentreRefusal::ThreeD))
+    } else {
+        match bare(alloc, molecule, request.atom) {
+            Ok(bare) => mark_bare(alloc, labeller, &bare, site, request),
+            Err(fault) => Err(fault),
+        }
     }
-    let bare = bare(alloc, molecule, request.atom)?;
-    mark_bare(alloc, labeller, &bare, site, request)
 }
 
 // In the drawing without marks, which stays with the caller, so that no end of this function gives it back.
@@ -97,11 +100,13 @@ fn mark_bare<D: Digraphs>(
     ensures kept { labeller.new ≡ labeller.old }
 {
     if shows_coincident(orient(alloc, bare, site)) {
-        return Ok(Err(CentreRefusal::Coincident));
-    }
-    match chosen(alloc, bare, request.atom, site)? {
-        Some(neighbour) => mark_ligand(alloc, labeller, bare, neighbour, request),
-        None => Ok(Err(CentreRefusal::NoBond)),
+        Ok(Err(CentreRefusal::Coincident))
+    } else {
+        match chosen(alloc, bare, request.atom, site) {
+            Ok(Some(neighbour)) => mark_ligand(alloc, labeller, bare, neighbour, request),
+            Ok(None) => Ok(Err(CentreRefusal::NoBond)),
+            Err(fault) => Err(fault),
+        }
     }
 }
 
@@ -119,8 +124,12 @@ fn mark_ligand<D: Digraphs>(
         (found_at request.rules labeller.old (marked bare.now request.atom neighbour Up) request.atom)) }
     ensures kept { labeller.new ≡ labeller.old }
 {
-    let up = marked(alloc, bare, request.atom, neighbour, Mark::Up)?;
-    let drawn = Drawn::of(alloc, up)?;
+    let Ok(up) = marked(alloc, bare, request.atom, neighbour, Mark::Up) else {
+        return Err(AllocError);
+    };
+    let Ok(drawn) = Drawn::of(alloc, up) else {
+        return Err(AllocError);
+    };
     let answer = mark_drawn(alloc, labeller, &drawn, neighbour, request);
     // given back by a call of its own, which is quicker to prove than an end that owns it
     drop(drawn);
@@ -140,8 +149,10 @@ fn mark_drawn<D: Digraphs>(
         ≡ by_outcome request.letter neighbour (found_at request.rules labeller.old drawn.now request.atom)) }
     ensures kept { labeller.new ≡ labeller.old }
 {
-    let outcome = find(alloc, labeller, drawn, request.atom, request.rules)?;
-    Ok(by_outcome(request.letter, neighbour, &outcome))
+    match find(alloc, labeller, drawn, request.atom, request.rules) {
+        Ok(outcome) => Ok(by_outcome(request.letter, neighbour, &outcome)),
+        Err(fault) => Err(fault),
+    }
 }
 
 fn by_outcome(

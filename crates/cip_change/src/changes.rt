@@ -102,8 +102,10 @@ fn push_changed_line(
     if are_drawn_alike(old, new) {
         text.extend_from_slice(line)
     } else {
-        let written = with_bond(alloc, new, line)?;
-        text.extend_from_slice(&written)
+        match with_bond(alloc, new, line) {
+            Ok(written) => text.extend_from_slice(&written),
+            Err(fault) => Err(fault),
+        }
     }
 }
 
@@ -112,8 +114,12 @@ fn push_changed_line(
 fn with_bond(alloc: Global, bond: Bond, line: &[u8]) -> Result<Vec<u8>, AllocError>
     ensures { IfOk result (λ written. written.items ≡ with_bond bond line.now) }
 {
-    let first = with_number(alloc, 1, u64::from(bond.a) + 1, line)?;
-    let second = with_number(alloc, 4, u64::from(bond.b) + 1, &first)?;
+    let Ok(first) = with_number(alloc, 1, u64::from(bond.a) + 1, line) else {
+        return Err(AllocError);
+    };
+    let Ok(second) = with_number(alloc, 4, u64::from(bond.b) + 1, &first) else {
+        return Err(AllocError);
+    };
     with_number(
         alloc,
         10,
@@ -133,7 +139,9 @@ pub(crate) fn with_number(
     requires few { first ≤ 10 }
     ensures { IfOk result (λ written. written.items ≡ with_columns first (first + 2) (decimal number) line.now) }
 {
-    let text = format!(in alloc; "{number}")?;
+    let Ok(text) = format!(in alloc; "{number}") else {
+        return Err(AllocError);
+    };
     with_columns(alloc, first, first + 2, text.as_bytes(), line)
 }
 

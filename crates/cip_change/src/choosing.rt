@@ -36,7 +36,10 @@ fn first_eligible(
     ensures { IfOk result (λ found. found ≡ first_where (is_eligible bare.now atom site.now) numbers.now) }
 {
     for number in numbers {
-        if is_eligible(alloc, bare, atom, site, *number)? {
+        let Ok(eligible) = is_eligible(alloc, bare, atom, site, *number) else {
+            return Err(AllocError);
+        };
+        if eligible {
             return Ok(Some(*number));
         }
     }
@@ -53,11 +56,16 @@ fn is_eligible(
     requires { IsSite (length bare.now.atoms) site.now }
     ensures { IfOk result (λ found. found ≡ is_eligible bare.now atom site.now neighbour) }
 {
-    if !has_free(bare.bonds(), atom, neighbour) {
-        return Ok(false);
+    if has_free(bare.bonds(), atom, neighbour) {
+        let Ok(up) = marked(alloc, bare, atom, neighbour, Mark::Up) else {
+            return Err(AllocError);
+        };
+        let shown = orient(alloc, &up, site);
+        drop(up);
+        Ok(!shows_reentrant(shown))
+    } else {
+        Ok(false)
     }
-    let up = marked(alloc, bare, atom, neighbour, Mark::Up)?;
-    Ok(!shows_reentrant(orient(alloc, &up, site)))
 }
 
 fn has_free(bonds: &[Bond], atom: u32, neighbour: u32) -> bool

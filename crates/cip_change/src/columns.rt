@@ -1,5 +1,5 @@
 // Columns of a line that are written anew.
-ghost use Rattle.std.specs.Prelude.{◌≡◌, ◌≤◌, ◌<◌, ◌++◌, ◌+◌, IfOk, OnOk, length, drop, slice_index_or};
+ghost use Rattle.std.specs.Prelude.{◌≡◌, ◌≤◌, ◌<◌, ◌++◌, ◌+◌, [], IfOk, OnOk, length, drop, slice_index_or};
 ghost use Rattle.cip_change.specs.Columns.{filled, with_columns};
 
 use cip_text::push_right;
@@ -7,7 +7,6 @@ use std::alloc::{AllocError, Global};
 
 /// A line in which a text stands in the columns from the first to the last, counted from 1, right. A line that is
 /// shorter is filled with spaces; all else is as before.
-#[tactic(auto, unfolding(crate::specs::Columns::with_columns))]
 pub fn with_columns(
     alloc: Global,
     first: usize,
@@ -20,11 +19,33 @@ pub fn with_columns(
     requires few { last ≤ 80 }
     ensures { IfOk result (λ written. written.items ≡ with_columns first last text.now line.now) }
 {
-    let mut written = Vec::with_capacity(alloc, line.len().max(last))?;
-    push_filled(&mut written, first - 1, line)?;
-    push_right(&mut written, last + 1 - first, text)?;
-    written.extend_from_slice(behind(last, line))?;
-    Ok(written)
+    let Ok(mut written) = Vec::with_capacity(alloc, line.len().max(last)) else {
+        return Err(AllocError);
+    };
+    match push_columns(&mut written, first, last, text, line) {
+        Ok(()) => Ok(written),
+        Err(fault) => Err(fault),
+    }
+}
+
+// Adds such a line to a text that is empty yet.
+#[tactic(auto, unfolding(crate::specs::Columns::with_columns))]
+fn push_columns(
+    written: &mut Vec<u8>,
+    first: usize,
+    last: usize,
+    text: &[u8],
+    line: &[u8],
+) -> Result<(), AllocError>
+    requires begins { 1 ≤ first }
+    requires within { first ≤ last }
+    requires few { last ≤ 80 }
+    requires none { written.old.items ≡ [] }
+    ensures { OnOk result (written.new.items ≡ with_columns first last text.now line.now) }
+{
+    push_filled(written, first - 1, line)?;
+    push_right(written, last + 1 - first, text)?;
+    written.extend_from_slice(behind(last, line))
 }
 
 // Adds the first columns of a line, with a space for each that it lacks.

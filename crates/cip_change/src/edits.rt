@@ -1,5 +1,5 @@
 // A record whose lines are edited.
-ghost use Rattle.std.specs.Prelude.{◌≡◌, ◌≤◌, ◌<◌, ◌^◌, ◌++◌, ◌+◌, List, ℕ, IfOk, OnOk, length};
+ghost use Rattle.std.specs.Prelude.{◌≡◌, ◌≤◌, ◌<◌, ◌^◌, ◌++◌, ◌+◌, [], List, ℕ, IfOk, OnOk, length};
 ghost use Rattle.cip_text.specs.Lines.{content_of, end_of};
 ghost use Rattle.cip_change.specs.Edits.{Edit, edited};
 
@@ -30,17 +30,34 @@ pub fn edit_record<E: LineEdit>(
 ) -> Result<Vec<u8>, AllocError>
     ensures { IfOk result (λ text. text.items ≡ edited (E.edit edit.now) bytes.now) }
 {
-    let mut text = Vec::with_capacity(alloc, bytes.len())?;
+    let Ok(mut text) = Vec::with_capacity(alloc, bytes.len()) else {
+        return Err(AllocError);
+    };
+    match push_edited(alloc, edit, bytes, &mut text) {
+        Ok(()) => Ok(text),
+        Err(fault) => Err(fault),
+    }
+}
+
+// Adds the edited record to a text that is empty yet.
+fn push_edited<E: LineEdit>(
+    alloc: Global,
+    edit: &E,
+    bytes: &[u8],
+    text: &mut Vec<u8>,
+) -> Result<(), AllocError>
+    requires { text.old.items ≡ [] }
+    ensures { OnOk result (text.new.items ≡ edited (E.edit edit.now) bytes.now) }
+{
     let mut rest = bytes;
     let mut number = 0;
     while let Some((line, behind)) = split_body_line(rest) {
-        edit.push(alloc, &mut text, number, without_end(line))?;
+        edit.push(alloc, text, number, without_end(line))?;
         text.extend_from_slice(line_end(line))?;
         rest = behind;
         number += 1;
     }
-    text.extend_from_slice(rest)?;
-    Ok(text)
+    text.extend_from_slice(rest)
 }
 
 // The end of a line.

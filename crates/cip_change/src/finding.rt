@@ -63,7 +63,9 @@ fn find_at<D: Digraphs>(
     ensures kept { labeller.new ≡ labeller.old }
 {
     let units = drawn.units().list();
-    let setting = Setting::new(alloc, drawn.graph(), drawn.positions(), units, rules)?;
+    let Ok(setting) = Setting::new(alloc, drawn.graph(), drawn.positions(), units, rules) else {
+        return Err(AllocError);
+    };
     label_counted::<D, Brand>(alloc, labeller, &setting, place, Blank::new(1))
 }
 

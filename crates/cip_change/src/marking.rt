@@ -19,7 +19,9 @@ pub fn with_mark(
 ) -> Result<Molecule, AllocError>
     ensures { IfOk result (λ m. m ≡ with_mark molecule.now atom neighbour mark) }
 {
-    let bare = bare(alloc, molecule, atom)?;
+    let Ok(bare) = bare(alloc, molecule, atom) else {
+        return Err(AllocError);
+    };
     marked(alloc, &bare, atom, neighbour, mark)
 }
 

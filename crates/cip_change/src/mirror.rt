@@ -49,13 +49,15 @@ fn answer_drawn(
     ensures { IfOk result (λ answer. answer ≡ answer_drawn lines.now molecule.now) }
 {
     if is_v3000(lines.contents()) {
-        return Ok(MirrorAnswer::Refused(MirrorRefusal::OnlyV2000));
+        Ok(MirrorAnswer::Refused(MirrorRefusal::OnlyV2000))
+    } else if has_too_high(molecule.atoms()) {
+        Ok(MirrorAnswer::Refused(MirrorRefusal::Width))
+    } else {
+        match mirrored(alloc, molecule, lines.bytes()) {
+            Ok(text) => Ok(MirrorAnswer::Written(Bytes::from_vec(text))),
+            Err(fault) => Err(fault),
+        }
     }
-    if has_too_high(molecule.atoms()) {
-        return Ok(MirrorAnswer::Refused(MirrorRefusal::Width));
-    }
-    let text = mirrored(alloc, molecule, lines.bytes())?;
-    Ok(MirrorAnswer::Written(Bytes::from_vec(text)))
 }
 
 fn mirrored(alloc: Global, molecule: &Molecule, bytes: &[u8]) -> Result<Vec<u8>, AllocError>

@@ -52,7 +52,9 @@ fn push_atom_line(alloc: Global, text: &mut Vec<u8>, line: &[u8]) -> Result<(), 
 {
     match decimal4(columns(line, 21, 30)) {
         Ok(z) if z != 0 => {
-            let written = with_height(alloc, -z, line)?;
+            let Ok(written) = with_height(alloc, -z, line) else {
+                return Err(AllocError);
+            };
             text.extend_from_slice(&written)
         }
         _ => text.extend_from_slice(line),
@@ -74,7 +76,9 @@ fn push_bond_line(alloc: Global, text: &mut Vec<u8>, line: &[u8]) -> Result<(), 
 {
     match mirrored_code(line) {
         Some(code) => {
-            let written = with_number(alloc, 10, u64::from(code), line)?;
+            let Ok(written) = with_number(alloc, 10, u64::from(code), line) else {
+                return Err(AllocError);
+            };
             text.extend_from_slice(&written)
         }
         None => text.extend_from_slice(line),
@@ -95,9 +99,9 @@ fn mirrored_code(line: &[u8]) -> Option<u32>
 fn other_mark(order: Option<u32>, code: Option<u32>) -> Option<u32>
     ensures { result ≡ other_mark order code }
 {
-    match (order?, code?) {
-        (1, 1) => Some(6),
-        (1, 6) => Some(1),
+    match (order, code) {
+        (Some(1), Some(1)) => Some(6),
+        (Some(1), Some(6)) => Some(1),
         _ => None,
     }
 }

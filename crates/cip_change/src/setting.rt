@@ -62,14 +62,15 @@ fn set_lines<D: Digraphs>(
         ≡ set_without_items asked.rules labeller.old asked.atom asked.letter lines.now) }
     ensures kept { labeller.new ≡ labeller.old }
 {
-    match Drawn::read(alloc, lines.contents())? {
-        Ok(drawn) => {
+    match Drawn::read(alloc, lines.contents()) {
+        Ok(Ok(drawn)) => {
             let answer = answer_drawn(alloc, labeller, lines, &drawn, asked);
             // given back by a call of its own, which is quicker to prove than an end that owns it
             drop(drawn);
             answer
         }
-        Err(fault) => Ok(SetAnswer::Refused(SetRefusal::Grammar(fault))),
+        Ok(Err(fault)) => Ok(SetAnswer::Refused(SetRefusal::Grammar(fault))),
+        Err(fault) => Err(fault),
     }
 }
 
@@ -86,17 +87,17 @@ fn answer_drawn<D: Digraphs>(
     ensures kept { labeller.new ≡ labeller.old }
 {
     if is_v3000(lines.contents()) {
-        return Ok(SetAnswer::Refused(SetRefusal::OnlyV2000));
+        Ok(SetAnswer::Refused(SetRefusal::OnlyV2000))
+    } else if asked.atom == 0 {
+        Ok(SetAnswer::Refused(SetRefusal::NoCentre))
+    } else {
+        let request = Request {
+            atom: asked.atom - 1,
+            letter: asked.letter,
+            rules: asked.rules,
+        };
+        set_mark(alloc, labeller, drawn, request, lines.bytes())
     }
-    if asked.atom == 0 {
-        return Ok(SetAnswer::Refused(SetRefusal::NoCentre));
-    }
-    let request = Request {
-        atom: asked.atom - 1,
-        letter: asked.letter,
-        rules: asked.rules,
-    };
-    set_mark(alloc, labeller, drawn, request, lines.bytes())
 }
 
 // The record with the mark that is answered, where one is.
@@ -112,12 +113,13 @@ fn set_mark<D: Digraphs>(
         (mark_asked request.rules labeller.old drawn.now request.atom request.letter)) }
     ensures kept { labeller.new ≡ labeller.old }
 {
-    match mark_asked(alloc, labeller, drawn, request)? {
-        Ok(marked) => {
-            let text = changed(alloc, drawn.molecule(), request.atom, marked, bytes)?;
-            Ok(SetAnswer::Written(Bytes::from_vec(text)))
-        }
-        Err(refusal) => Ok(SetAnswer::Refused(refusal_of(refusal))),
+    match mark_asked(alloc, labeller, drawn, request) {
+        Ok(Ok(marked)) => match changed(alloc, drawn.molecule(), request.atom, marked, bytes) {
+            Ok(text) => Ok(SetAnswer::Written(Bytes::from_vec(text))),
+            Err(fault) => Err(fault),
+        },
+        Ok(Err(refusal)) => Ok(SetAnswer::Refused(refusal_of(refusal))),
+        Err(fault) => Err(fault),
     }
 }
 
@@ -132,7 +134,9 @@ fn changed(
     ensures { IfOk result (λ text. text.items
         ≡ changed_record molecule.now (with_mark molecule.now atom marked.neighbour marked.mark).bonds bytes.now) }
 {
-    let drawn = with_mark(alloc, molecule, atom, marked.neighbour, marked.mark)?;
+    let Ok(drawn) = with_mark(alloc, molecule, atom, marked.neighbour, marked.mark) else {
+        return Err(AllocError);
+    };
     changed_record(alloc, molecule, drawn.bonds(), bytes)
 }
 

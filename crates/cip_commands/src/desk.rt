@@ -55,7 +55,9 @@ impl<D: Digraphs + Drop> Desk<D> {
         ensures { OnOk result (self.new ≡ nodes) }
     {
         if self.nodes != nodes {
-            let desk = Desk::reserve(alloc, nodes)?;
+            let Ok(desk) = Desk::reserve(alloc, nodes) else {
+                return Err(AllocError);
+            };
             // given back by a call of its own: written out here it takes a minute to prove
             drop(mem::replace(self, desk));
         }
@@ -136,7 +138,9 @@ impl<D: Digraphs + Drop> Desk<D> {
         ensures answer { IfOk result (λ answer. answer ≡ answer_by rules self.old bytes.now) }
         ensures kept { self.new ≡ self.old }
     {
-        let bare = without_label_items(alloc, bytes)?;
+        let Ok(bare) = without_label_items(alloc, bytes) else {
+            return Err(AllocError);
+        };
         let answer = self.answer_bare(alloc, &bare, rules);
         // given back by a call of its own, which is quicker to prove than an end that owns it
         drop(bare);
@@ -154,7 +158,9 @@ impl<D: Digraphs + Drop> Desk<D> {
         ensures answer { IfOk result (λ answer. answer ≡ answer_without_items rules self.old bytes.now) }
         ensures kept { self.new ≡ self.old }
     {
-        let lines = RecordLines::new(alloc, bytes)?;
+        let Ok(lines) = RecordLines::new(alloc, bytes) else {
+            return Err(AllocError);
+        };
         let answer = self.label(alloc, &lines, rules);
         drop(lines);
         answer

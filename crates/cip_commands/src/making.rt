@@ -32,6 +32,5 @@ fn write_record<K: Sink>(alloc: Global, start: u32, number: u32, sink: &mut K) -
     ensures later { K.faults sink.old ≤ K.faults sink.new }
 {
     let bytes = record(alloc, start, number)?;
-    push_all(sink, &bytes).map_err(|_| Stop::WriteFault)?;
-    Ok(())
+    push_all(sink, &bytes).map_err(|_| Stop::WriteFault)
 }

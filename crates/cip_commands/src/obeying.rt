@@ -43,7 +43,7 @@ pub fn obey<
     act::<D, R, G, S, K>(alone, settings.action(), limits, source, sink)
 }
 
-// Does what a command does, with as many workers.
+// Does what a command does, with as many workers as it says.
 fn act<D: Digraphs + Drop + Send + Sync, R: Threads + Sync, G: Gate + Sync, S: Source, K: Sink>(
     alone: &Crew<'_, R, G>,
     action: Action,
@@ -60,12 +60,6 @@ fn act<D: Digraphs + Drop + Send + Sync, R: Threads + Sync, G: Gate + Sync, S: S
     ensures untouched { reads_by action ≡ false → source.new ≡ source.old }
     ensures bounded { TakesAtMost (limits.input + 1) (S.left source.old) (S.left source.new) }
 {
-    let crew = Crew {
-        rt: alone.rt,
-        alloc: alone.alloc,
-        gate: alone.gate,
-        workers: workers_of(&action),
-    };
     match action {
         Action::Read(task, labelling) => {
             let asked: Asked<D> = Asked {
@@ -73,23 +67,33 @@ fn act<D: Digraphs + Drop + Send + Sync, R: Threads + Sync, G: Gate + Sync, S: S
                 labelling,
                 digraphs: PhantomData,
             };
-            answer_records(&crew, &asked, limits, source, sink)
+            answer_records(
+                &with_workers(alone, labelling.workers),
+                &asked,
+                limits,
+                source,
+                sink,
+            )
         }
-        Action::Make(series) => make(crew.alloc, series, sink),
+        Action::Make(series) => make(alone.alloc, series, sink),
         Action::Trial(series, labelling) => {
+            let crew = with_workers(alone, labelling.workers);
             try_made::<D, R, G, K>(&crew, &Trial { series, labelling }, sink)
         }
         Action::Help => help(sink),
     }
 }
 
-// How many workers there are: one where the command has none.
-fn workers_of(action: &Action) -> u8
-    ensures { 1 ≤ result }
+// The same crew of so many workers.
+fn with_workers<'a, R, G>(alone: &Crew<'a, R, G>, workers: u8) -> Crew<'a, R, G>
+    requires { 1 ≤ workers }
+    ensures { result.workers ≡ workers }
 {
-    match action {
-        Action::Read(_, labelling) | Action::Trial(_, labelling) => labelling.workers,
-        Action::Make(_) | Action::Help => 1,
+    Crew {
+        rt: alone.rt,
+        alloc: alone.alloc,
+        gate: alone.gate,
+        workers,
     }
 }
 

@@ -40,7 +40,9 @@ impl<D: Digraphs + Drop + Send> Teller for Asked<D> {
         bytes: &[u8],
     ) -> Result<Told<Note>, AllocError> {
         // A desk of `new_desk` fits already, and nothing is taken; but the contract allows any desk.
-        desk.fit(alloc, self.labelling.nodes)?;
+        let Ok(()) = desk.fit(alloc, self.labelling.nodes) else {
+            return Err(AllocError);
+        };
         self.tell_record(alloc, desk, number, bytes)
     }
 
@@ -62,14 +64,22 @@ impl<D: Digraphs + Drop> Asked<D> {
         requires fit { desk.old ≡ self.now.labelling.nodes }
         ensures { IfOk result (λ told. told ≡ telling (manner_of self.now.task self.now.labelling) number bytes.now) }
     {
-        let lines = RecordLines::new(alloc, bytes)?;
-        if !has_label_item(&lines) {
-            return self.tell_lines(alloc, desk, number, &lines);
+        let Ok(lines) = RecordLines::new(alloc, bytes) else {
+            return Err(AllocError);
+        };
+        if has_label_item(&lines) {
+            let bare = lines_without_label_items(alloc, &lines);
+            // the lines of the record go before those of its copy come: a record has up to 16 million
+            drop(lines);
+            match bare {
+                Ok(bare) => self.tell_bare(alloc, desk, number, &bare),
+                Err(fault) => Err(fault),
+            }
+        } else {
+            let told = self.tell_lines(alloc, desk, number, &lines);
+            drop(lines);
+            told
         }
-        let bare = lines_without_label_items(alloc, &lines)?;
-        // the lines of the record go before those of its copy come: a record has up to 16 million
-        drop(lines);
-        self.tell_bare(alloc, desk, number, &bare)
     }
 
     // What is told of a copy without label items, which stays with the caller.
@@ -84,7 +94,9 @@ impl<D: Digraphs + Drop> Asked<D> {
         requires fit { desk.old ≡ self.now.labelling.nodes }
         ensures { IfOk result (λ told. told ≡ told_bare self.now.labelling self.now.task number bytes.now) }
     {
-        let lines = RecordLines::new(alloc, bytes)?;
+        let Ok(lines) = RecordLines::new(alloc, bytes) else {
+            return Err(AllocError);
+        };
         let told = self.tell_lines(alloc, desk, number, &lines);
         drop(lines);
         told
@@ -103,14 +115,13 @@ impl<D: Digraphs + Drop> Asked<D> {
         ensures { IfOk result (λ told. told ≡ told_bare self.now.labelling self.now.task number lines.now) }
     {
         match self.task {
-            Task::Annotate => self.annotate(alloc, desk, lines, None),
-            Task::Explain => self.explain(alloc, desk, number, lines),
             Task::Set {
                 number: named,
                 atom,
                 letter,
             } if number == u64::from(named) => self.set(alloc, desk, lines, atom, letter),
-            Task::Set { .. } => self.annotate(alloc, desk, lines, None),
+            Task::Annotate | Task::Set { .. } => self.annotate(alloc, desk, lines, None),
+            Task::Explain => self.explain(alloc, desk, number, lines),
             Task::Mirror => self.mirror(alloc, desk, lines),
             Task::Groups => self.group(alloc, desk, number, lines),
             Task::Axes => self.seek(alloc, desk, number, lines),
@@ -130,7 +141,9 @@ impl<D: Digraphs + Drop> Asked<D> {
         ensures { IfOk result (λ told. told
             ≡ annotate_change self.now.labelling (record { bytes = lines.now; note = note })) }
     {
-        let answer = desk.label(alloc, lines, self.labelling.rules)?;
+        let Ok(answer) = desk.label(alloc, lines, self.labelling.rules) else {
+            return Err(AllocError);
+        };
         let told = self.with_answer(alloc, lines, &answer, note);
         // given back by a call of its own, which is quicker to prove than an end that owns it
         drop(answer);
@@ -150,7 +163,9 @@ impl<D: Digraphs + Drop> Asked<D> {
         ensures { IfOk result (λ told. told
             ≡ annotate_change self.now.labelling (record { bytes = text.now; note = note })) }
     {
-        let lines = RecordLines::new(alloc, text)?;
+        let Ok(lines) = RecordLines::new(alloc, text) else {
+            return Err(AllocError);
+        };
         let told = self.annotate(alloc, desk, &lines, note);
         drop(lines);
         told
@@ -171,8 +186,12 @@ impl<D: Digraphs + Drop> Asked<D> {
         }) }
     {
         let Labelling { nodes, rules, .. } = self.labelling;
-        let values = item_values(alloc, answer, nodes, rules)?;
-        let text = lines_with_item(alloc, lines, &values)?;
+        let Ok(values) = item_values(alloc, answer, nodes, rules) else {
+            return Err(AllocError);
+        };
+        let Ok(text) = lines_with_item(alloc, lines, &values) else {
+            return Err(AllocError);
+        };
         let flagged = is_flagged(answer);
         Ok(Told {
             text,
@@ -191,7 +210,9 @@ impl<D: Digraphs + Drop> Asked<D> {
         requires fit { desk.old ≡ self.now.labelling.nodes }
         ensures { IfOk result (λ told. told ≡ explain_bare self.now.labelling number lines.now) }
     {
-        let answer = desk.label(alloc, lines, self.labelling.rules)?;
+        let Ok(answer) = desk.label(alloc, lines, self.labelling.rules) else {
+            return Err(AllocError);
+        };
         let told = explained(alloc, &answer, number);
         drop(answer);
         told
@@ -211,14 +232,15 @@ impl<D: Digraphs + Drop> Asked<D> {
         ensures { IfOk result (λ told. told
             ≡ annotate_change self.now.labelling (set_bare self.now.labelling 0 atom letter 0 lines.now)) }
     {
-        match desk.set(alloc, lines, atom, letter, self.labelling.rules)? {
-            SetAnswer::Written(text) => {
+        match desk.set(alloc, lines, atom, letter, self.labelling.rules) {
+            Ok(SetAnswer::Written(text)) => {
                 self.annotate_text(alloc, desk, text.as_slice(), Some(Note::Changed))
             }
-            SetAnswer::Refused(refusal) => {
+            Ok(SetAnswer::Refused(refusal)) => {
                 let note = Note::Missing(Missed::NotSet(refusal));
                 self.annotate(alloc, desk, lines, Some(note))
             }
+            Err(fault) => Err(fault),
         }
     }
 
@@ -234,14 +256,15 @@ impl<D: Digraphs + Drop> Asked<D> {
         ensures { IfOk result (λ told. told
             ≡ annotate_change self.now.labelling (mirror_bare self.now.labelling lines.now)) }
     {
-        match mirror_lines(alloc, lines)? {
-            MirrorAnswer::Written(text) => {
+        match mirror_lines(alloc, lines) {
+            Ok(MirrorAnswer::Written(text)) => {
                 self.annotate_text(alloc, desk, text.as_slice(), None)
             }
-            MirrorAnswer::Refused(_) => {
+            Ok(MirrorAnswer::Refused(_)) => {
                 let note = Note::Missing(Missed::NotMirrored);
                 self.annotate(alloc, desk, lines, Some(note))
             }
+            Err(fault) => Err(fault),
         }
     }
 
@@ -256,7 +279,9 @@ impl<D: Digraphs + Drop> Asked<D> {
         requires fit { desk.old ≡ self.now.labelling.nodes }
         ensures { IfOk result (λ told. told ≡ groups_bare self.now.labelling number lines.now) }
     {
-        let told = desk.groups(alloc, lines, number, self.labelling.rules)?;
+        let Ok(told) = desk.groups(alloc, lines, number, self.labelling.rules) else {
+            return Err(AllocError);
+        };
         Ok(plain(told.text.into_vec(), told.flagged))
     }
 
@@ -272,7 +297,9 @@ impl<D: Digraphs + Drop> Asked<D> {
         requires fit { desk.old ≡ self.now.labelling.nodes }
         ensures { IfOk result (λ told. told ≡ axes_bare self.now.labelling number lines.now) }
     {
-        let told = desk.axes(alloc, lines, number, self.labelling.rules)?;
+        let Ok(told) = desk.axes(alloc, lines, number, self.labelling.rules) else {
+            return Err(AllocError);
+        };
         Ok(plain(told.text.into_vec(), told.flagged))
     }
 }

@@ -34,8 +34,12 @@ impl<D: Digraphs + Drop + Send> Job for Numbered<D> {
     #[tactic(auto, unfolding(crate::specs::Trying::made_answer))]
     fn work(&self, desk: &mut Desk<D>) -> Result<Answer, AllocError> {
         // A desk of `new_clerks` fits already, and nothing is taken; but the contract allows any desk.
-        desk.fit(self.alloc, self.trial.labelling.nodes)?;
-        let bytes = record(self.alloc, self.trial.series.start, self.number)?;
+        let Ok(()) = desk.fit(self.alloc, self.trial.labelling.nodes) else {
+            return Err(AllocError);
+        };
+        let Ok(bytes) = record(self.alloc, self.trial.series.start, self.number) else {
+            return Err(AllocError);
+        };
         let answer = desk.answer(self.alloc, &bytes, self.trial.labelling.rules);
         // given back by a call of its own, which is quicker to prove than an end that owns them
         drop(bytes);
@@ -54,10 +58,16 @@ pub fn write_summary<D: Digraphs + Drop + Send + Sync, R: Threads + Sync, G: Gat
         (K.taken sink.old) (K.taken sink.new) }
     ensures fault { IsErrOf result Stop.WriteFault → Rose (K.faults sink.old) (K.faults sink.new) }
 {
-    let count = count_made::<D, R, G>(crew, trial)?;
-    let line = count.tally.line(crew.alloc)?;
-    push_all(sink, &line).map_err(|_| Stop::WriteFault)?;
-    Ok(count.flagged)
+    let Ok(count) = count_made::<D, R, G>(crew, trial) else {
+        return Err(Stop::Memory);
+    };
+    let Ok(line) = count.tally.line(crew.alloc) else {
+        return Err(Stop::Memory);
+    };
+    match push_all(sink, &line) {
+        Ok(()) => Ok(count.flagged),
+        Err(_) => Err(Stop::WriteFault),
+    }
 }
 
 // How many units of the records so far have which outcome, and whether one of the records is flagged.
@@ -104,7 +114,9 @@ fn count_made<D: Digraphs + Drop + Send + Sync, R: Threads + Sync, G: Gate + Syn
     ensures { IfOk result (λ count. count
         ≡ counted (answers_to trial.now.series trial.now.labelling trial.now.series.records)) }
 {
-    let mut clerks = new_clerks::<D>(crew.alloc, trial.labelling.nodes, crew.workers)?;
+    let Ok(mut clerks) = new_clerks::<D>(crew.alloc, trial.labelling.nodes, crew.workers) else {
+        return Err(AllocError);
+    };
     let count = count_batches(crew, trial, &mut clerks);
     // given back by a call of its own, which is quicker to prove than this function's end
     drop(clerks);
@@ -127,7 +139,10 @@ fn count_batches<D: Digraphs + Drop + Send + Sync, R: Threads + Sync, G: Gate + 
     };
     let mut done = 0;
     while done < trial.series.records {
-        done += count_batch(crew, trial, done, clerks, &mut count)?;
+        let Ok(more) = count_batch(crew, trial, done, clerks, &mut count) else {
+            return Err(AllocError);
+        };
+        done += more;
     }
     Ok(count)
 }
@@ -151,8 +166,12 @@ fn count_batch<D: Digraphs + Drop + Send + Sync, R: Threads + Sync, G: Gate + Sy
     ensures within { IfOk result (λ more. done + more ≤ trial.now.series.records) }
     ensures clerks { length clerks.new ≡ length clerks.old }
 {
-    let jobs = next_jobs(crew.alloc, trial, done, crew.workers)?;
-    let answers = map_batch(crew.rt, crew.alloc, &jobs, clerks, crew.gate)?;
+    let Ok(jobs) = next_jobs(crew.alloc, trial, done, crew.workers) else {
+        return Err(AllocError);
+    };
+    let Ok(answers) = map_batch(crew.rt, crew.alloc, &jobs, clerks, crew.gate) else {
+        return Err(AllocError);
+    };
     count.add_all(&answers);
     Ok(jobs.len() as u32)
 }
@@ -167,9 +186,14 @@ fn new_clerks<D: Digraphs + Drop>(
     requires bounded { nodes ≤ 1000000 }
     ensures { IfOk result (λ clerks. length clerks.items ≡ workers) }
 {
-    let mut clerks = Vec::with_capacity(alloc, workers as usize)?;
+    let Ok(mut clerks) = Vec::with_capacity(alloc, workers as usize) else {
+        return Err(AllocError);
+    };
     while clerks.len() < workers as usize {
-        clerks.push(Worker::new(alloc, Desk::reserve(alloc, nodes)?))?;
+        let Ok(desk) = Desk::reserve(alloc, nodes) else {
+            return Err(AllocError);
+        };
+        clerks.push(Worker::new(alloc, desk))?;
     }
     Ok(clerks)
 }
@@ -194,14 +218,19 @@ fn next_jobs<D>(
         .series
         .records
         .min(done + RECORDS * u32::from(workers));
-    let mut jobs = Vec::with_capacity(alloc, (end - done) as usize)?;
+    let Ok(mut jobs) = Vec::with_capacity(alloc, (end - done) as usize) else {
+        return Err(AllocError);
+    };
     for before in done..end {
-        jobs.push(Numbered {
+        let job = Numbered {
             alloc,
             trial: *trial,
             number: before + 1,
             digraphs: PhantomData,
-        })?;
+        };
+        let Ok(()) = jobs.push(job) else {
+            return Err(AllocError);
+        };
     }
     Ok(jobs)
 }

@@ -24,7 +24,10 @@ pub fn decide_each<D: Digraphs>(
 {
     let mut decided = SmallVec::new(alloc);
     for (place, one) in ligands.iter().enumerate() {
-        push_decided(digraphs, *one, &ligands[place + 1..], r_first, &mut decided)?;
+        let Ok(()) = push_decided(digraphs, *one, &ligands[place + 1..], r_first, &mut decided)
+        else {
+            return Err(AllocError);
+        };
     }
     Ok(decided)
 }
@@ -95,7 +98,10 @@ fn decided_between(
 ) -> Option<Decision>
     ensures { result ≡ slice_index_or decided.now (pair_place count first second) None }
 {
-    *decided.get(pair_place(count, first, second))?
+    match decided.get(pair_place(count, first, second)) {
+        Some(decision) => *decision,
+        None => None,
+    }
 }
 
 /// How the ligands at two of so many places stand.

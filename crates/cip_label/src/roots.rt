@@ -1,5 +1,7 @@
 // The ranked ligands of a root.
-ghost use Rattle.std.specs.Prelude.{◌≡◌, ◌≤◌, ◌∷◌, [], true, IfOk, length};
+ghost use Rattle.std.specs.Prelude.{◌≡◌, ◌≤◌, ◌∷◌, [], false, true, IfOk, length};
+ghost use Rattle.std.specs.List.{list_any};
+ghost use Rattle.cip_digraph.specs.units.Ranked.{is_tie};
 ghost use Rattle.cip_letters.specs.LentEnds.{as_end};
 ghost use Rattle.cip_label.specs.Fitting.{IsFit};
 ghost use Rattle.cip_label.specs.Labelling.{ranked_root};
@@ -47,10 +49,11 @@ pub fn rank_root<D: Digraphs, L: Ledger>(
 {
     // Reading the graph tells that it is sound.
     let _graph = setting.graph();
-    match digraphs.rank(alloc, setting, root.at, root.ligands, steps)? {
-        Ranking::Over => Ok(Ranked::Over),
-        Ranking::Tied => Ok(Ranked::Tie),
-        Ranking::Known => ranked_by(alloc, digraphs, root.ligands),
+    match digraphs.rank(alloc, setting, root.at, root.ligands, steps) {
+        Ok(Ranking::Over) => Ok(Ranked::Over),
+        Ok(Ranking::Tied) => Ok(Ranked::Tie),
+        Ok(Ranking::Known) => ranked_by(alloc, digraphs, root.ligands),
+        Err(fault) => Err(fault),
     }
 }
 
@@ -62,13 +65,32 @@ fn ranked_by<D: Digraphs>(
 ) -> Result<Ranked, AllocError>
     ensures { IfOk result (λ ranked. ranked ≡ ranked_once (D.standing digraphs.now) ligands.now) }
 {
-    let each = decide_each(alloc, digraphs, ligands.as_slice(), true)?;
+    let Ok(each) = decide_each(alloc, digraphs, ligands.as_slice(), true) else {
+        return Err(AllocError);
+    };
     let decided = each.as_slice();
     if has_tie(decided) {
-        return Ok(Ranked::Tie);
+        Ok(Ranked::Tie)
+    } else {
+        ranked_without_tie(alloc, digraphs, ligands, decided)
     }
+}
+
+// Where no two of them tie.
+fn ranked_without_tie<D: Digraphs>(
+    alloc: Global,
+    digraphs: &D,
+    ligands: &Ligands,
+    decided: &[Option<Decision>],
+) -> Result<Ranked, AllocError>
+    requires decided { decided.now ≡ decided_each (D.standing digraphs.now) true ligands.now }
+    requires known { list_any is_tie decided.now ≡ false }
+    ensures { IfOk result (λ ranked. ranked ≡ ranked_once (D.standing digraphs.now) ligands.now) }
+{
     let places = ranked(alloc, decided, ligands.len());
-    let turned = ranked_turned(alloc, digraphs, ligands, decided, &places)?;
+    let Ok(turned) = ranked_turned(alloc, digraphs, ligands, decided, &places) else {
+        return Err(AllocError);
+    };
     let reason = reason_along(decided, ligands.len(), &places);
     Ok(Ranked::Ordered {
         places,
@@ -91,9 +113,12 @@ fn ranked_turned<D: Digraphs>(
     ensures { IfOk result (λ turned. turned
         ≡ ranked_in (length ligands.now) (turned_each (D.standing digraphs.now) ligands.now)) }
 {
-    if !has_rule_5(decided) {
-        return Ok(copied(places));
+    if has_rule_5(decided) {
+        match decide_each(alloc, digraphs, ligands.as_slice(), false) {
+            Ok(turned) => Ok(ranked(alloc, turned.as_slice(), ligands.len())),
+            Err(fault) => Err(fault),
+        }
+    } else {
+        Ok(copied(places))
     }
-    let turned = decide_each(alloc, digraphs, ligands.as_slice(), false)?;
-    Ok(ranked(alloc, turned.as_slice(), ligands.len()))
 }

@@ -43,12 +43,15 @@ impl<'a> Setting<'a> {
         ensures { IfOk result (λ setting. setting ≡ setting_of rules graph.now positions.now units.now) }
     {
         let count = graph.vertices().len() as u32;
-        Ok(Setting {
-            rules,
-            graph,
-            positions,
-            units: MarkedUnits::of(alloc, units, count)?,
-        })
+        match MarkedUnits::of(alloc, units, count) {
+            Ok(units) => Ok(Setting {
+                rules,
+                graph,
+                positions,
+                units,
+            }),
+            Err(fault) => Err(fault),
+        }
     }
 
     /// The wording of the rules.

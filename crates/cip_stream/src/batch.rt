@@ -139,7 +139,9 @@ impl<'a, T: Teller + Sync> Batch<'a, T> {
         ensures fault { IsErrOf result Stop.WriteFault → Rose (K.faults sink.old) (K.faults sink.new) }
         ensures later { K.faults sink.old ≤ K.faults sink.new }
     {
-        let found = desks.answer(&self.waiting)?;
+        let Ok(found) = desks.answer(&self.waiting) else {
+            return Err(Stop::Memory);
+        };
         write_all(self.alloc, &found, sink)
     }
 
@@ -174,7 +176,10 @@ pub fn answer_waiting<'a, R: Threads + Sync, G: Gate + Sync, T: Teller + Sync, K
 {
     let mut verdict = Verdict::clear();
     while let Some(next) = framer.next() {
-        verdict = verdict.and(take_record(desks, next.bytes, batch, sink)?);
+        match take_record(desks, next.bytes, batch, sink) {
+            Ok(answered) => verdict = verdict.and(answered),
+            Err(stop) => return Err(stop),
+        }
     }
     Ok(verdict)
 }
@@ -194,11 +199,14 @@ fn take_record<'a, R: Threads + Sync, G: Gate + Sync, T: Teller + Sync, K: Sink>
     ensures fault { IsErrOf result Stop.WriteFault → Rose (K.faults sink.old) (K.faults sink.new) }
     ensures later { K.faults sink.old ≤ K.faults sink.new }
 {
-    batch.push(bytes)?;
-    if !batch.is_full() {
-        return Ok(Verdict::clear());
+    let Ok(()) = batch.push(bytes) else {
+        return Err(Stop::Memory);
+    };
+    if batch.is_full() {
+        answer_batch(desks, batch, sink)
+    } else {
+        Ok(Verdict::clear())
     }
-    answer_batch(desks, batch, sink)
 }
 
 /// Answers the records of a batch, writes the answers in the order of the records, and empties the batch. Says what
@@ -219,9 +227,13 @@ pub fn answer_batch<'a, R: Threads + Sync, G: Gate + Sync, T: Teller + Sync, K: 
     ensures fault { IsErrOf result Stop.WriteFault → Rose (K.faults sink.old) (K.faults sink.new) }
     ensures later { K.faults sink.old ≤ K.faults sink.new }
 {
-    let verdict = batch.answer(desks, sink)?;
-    batch.empty();
-    Ok(verdict)
+    match batch.answer(desks, sink) {
+        Ok(verdict) => {
+            batch.empty();
+            Ok(verdict)
+        }
+        Err(stop) => Err(stop),
+    }
 }
 
 /// Answers all records that wait, those in the framer behind those of the batch. Says what they add to the end of the
@@ -239,9 +251,10 @@ pub fn answer_rest<'a, R: Threads + Sync, G: Gate + Sync, T: Teller + Sync, K: S
     ensures fault { IsErrOf result Stop.WriteFault → Rose (K.faults sink.old) (K.faults sink.new) }
     ensures later { K.faults sink.old ≤ K.faults sink.new }
 {
-    let verdict = answer_waiting(desks, framer, batch, sink)?;
-    let behind = answer_batch(desks, batch, sink)?;
-    Ok(verdict.and(behind))
+    match answer_waiting(desks, framer, batch, sink) {
+        Ok(verdict) => verdict.then(answer_batch(desks, batch, sink)),
+        Err(stop) => Err(stop),
+    }
 }
 
 /// Answers the last batch, into which a last record without its terminator line goes, and writes blank lines behind it
@@ -286,9 +299,13 @@ fn answer_with_blank<'a, R: Threads + Sync, G: Gate + Sync, T: Teller + Sync, K:
     ensures fault { IsErrOf result Stop.WriteFault → Rose (K.faults sink.old) (K.faults sink.new) }
     ensures later { K.faults sink.old ≤ K.faults sink.new }
 {
-    let verdict = answer_batch(desks, batch, sink)?;
-    write_blank(batch.keeps_blank(), lines, sink)?;
-    Ok(verdict)
+    match answer_batch(desks, batch, sink) {
+        Ok(verdict) => match write_blank(batch.keeps_blank(), lines, sink) {
+            Ok(()) => Ok(verdict),
+            Err(stop) => Err(stop),
+        },
+        Err(stop) => Err(stop),
+    }
 }
 
 // Answers the last batch, into which a record without its terminator line goes.
@@ -306,7 +323,9 @@ fn answer_with_last<'a, R: Threads + Sync, G: Gate + Sync, T: Teller + Sync, K: 
     ensures fault { IsErrOf result Stop.WriteFault → Rose (K.faults sink.old) (K.faults sink.new) }
     ensures later { K.faults sink.old ≤ K.faults sink.new }
 {
-    batch.push(last.bytes)?;
+    let Ok(()) = batch.push(last.bytes) else {
+        return Err(Stop::Memory);
+    };
     answer_batch(desks, batch, sink)
 }
 
@@ -318,8 +337,9 @@ fn write_blank<K: Sink>(kept: bool, bytes: &[u8], sink: &mut K) -> Result<(), St
     ensures fault { IsErrOf result Stop.WriteFault → Rose (K.faults sink.old) (K.faults sink.new) }
     ensures later { K.faults sink.old ≤ K.faults sink.new }
 {
-    if !kept {
-        return Ok(());
+    if kept {
+        push_all(sink, bytes).map_err(|_| Stop::WriteFault)
+    } else {
+        Ok(())
     }
-    push_all(sink, bytes).map_err(|_| Stop::WriteFault)
 }

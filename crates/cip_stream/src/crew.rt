@@ -39,8 +39,13 @@ impl<'a, R, G, T: Teller> Model for Desks<'a, R, G, T> {
 impl<'a, R: Threads + Sync, G: Gate + Sync, T: Teller + Sync> Desks<'a, R, G, T> {
     /// Takes memory for each worker's desk.
     pub fn reserve(crew: &'a Crew<'a, R, G>, teller: &T) -> Result<Desks<'a, R, G, T>, AllocError> {
-        let workers = new_workers(crew.alloc, teller, crew.workers)?;
-        Ok(Desks { crew, workers })
+        let Ok(mut workers) = Vec::with_capacity(crew.alloc, crew.workers as usize) else {
+            return Err(AllocError);
+        };
+        match add_workers(crew.alloc, teller, crew.workers, &mut workers) {
+            Ok(()) => Ok(Desks { crew, workers }),
+            Err(fault) => Err(fault),
+        }
     }
 
     /// What is found for each of some records.
@@ -54,20 +59,7 @@ impl<'a, R: Threads + Sync, G: Gate + Sync, T: Teller + Sync> Desks<'a, R, G, T>
     }
 }
 
-// So many workers, each with a desk of its own.
-fn new_workers<T: Teller>(
-    alloc: Global,
-    teller: &T,
-    count: u8,
-) -> Result<Vec<Worker<T::Desk, Told<T::Note>>>, AllocError>
-    ensures { IfOk result (λ v. length v.items ≡ count) }
-{
-    let mut workers = Vec::with_capacity(alloc, count as usize)?;
-    add_workers(alloc, teller, count, &mut workers)?;
-    Ok(workers)
-}
-
-// Adds workers until there are so many. They stay with the caller, so that want of memory gives none back here.
+// Adds workers, each with a desk of its own, until there are so many. They stay with the caller, so that want of memory gives none back here.
 fn add_workers<T: Teller>(
     alloc: Global,
     teller: &T,
@@ -78,7 +70,10 @@ fn add_workers<T: Teller>(
     ensures { OnOk result (length workers.new.items ≡ count) }
 {
     while workers.len() < count as usize {
-        workers.push(Worker::new(alloc, teller.new_desk(alloc)?))?;
+        let Ok(desk) = teller.new_desk(alloc) else {
+            return Err(AllocError);
+        };
+        workers.push(Worker::new(alloc, desk))?;
     }
     Ok(())
 }

@@ -67,10 +67,16 @@ pub fn feed_next<S: Source>(
         return Ok(Turn::Last(Halt::End));
     }
     let within = (count as u64).min(room) as usize;
-    match feed(framer, front(piece, within))? {
-        Fed::TooLong => Ok(Turn::Last(Halt::Limit)),
-        Fed::Fits if count as u64 <= room => Ok(Turn::Piece(count as u64)),
-        Fed::Fits => Ok(Turn::Last(Halt::Limit)),
+    match feed(framer, front(piece, within)) {
+        Ok(Fed::TooLong) => Ok(Turn::Last(Halt::Limit)),
+        Ok(Fed::Fits) => {
+            if count as u64 <= room {
+                Ok(Turn::Piece(count as u64))
+            } else {
+                Ok(Turn::Last(Halt::Limit))
+            }
+        }
+        Err(stop) => Err(stop),
     }
 }
 

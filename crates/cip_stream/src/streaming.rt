@@ -42,8 +42,12 @@ pub fn answer_stream<R: Threads + Sync, G: Gate + Sync, T: Teller + Sync, S: Sou
     ensures source_fault { IsErrOf result Stop.ReadFault → Rose (S.faults source.old) (S.faults source.new) }
     ensures sink_fault { IsErrOf result Stop.WriteFault → Rose (K.faults sink.old) (K.faults sink.new) }
 {
-    let piece = new_piece(crew.alloc)?;
-    let mut desks = Desks::reserve(crew, teller)?;
+    let Ok(piece) = new_piece(crew.alloc) else {
+        return Err(Stop::Memory);
+    };
+    let Ok(mut desks) = Desks::reserve(crew, teller) else {
+        return Err(Stop::Memory);
+    };
     let mut inflow = Inflow {
         alloc: crew.alloc,
         piece,
@@ -100,14 +104,18 @@ fn answer_pieces<'a, R: Threads + Sync, G: Gate + Sync, T: Teller + Sync, S: Sou
     let mut room = limits.input;
     let mut verdict = Verdict::clear();
     loop {
-        match feed_next(source, &mut inflow.piece, &mut inflow.framer, room)? {
-            Turn::Piece(count) => {
-                verdict = verdict.and(answer_waiting(desks, &mut inflow.framer, batch, sink)?);
+        match feed_next(source, &mut inflow.piece, &mut inflow.framer, room) {
+            Ok(Turn::Piece(count)) => {
+                match answer_waiting(desks, &mut inflow.framer, batch, sink) {
+                    Ok(answered) => verdict = verdict.and(answered),
+                    Err(stop) => return Err(stop),
+                }
                 room -= count;
             }
-            Turn::Last(halt) => {
+            Ok(Turn::Last(halt)) => {
                 return verdict.then(answer_halted(halt, desks, inflow, batch, sink));
             }
+            Err(stop) => return Err(stop),
         }
     }
 }

@@ -29,7 +29,9 @@ pub fn write_all<N: Copy, K: Sink>(
     ensures fault { IsErrOf result Stop.WriteFault → Rose (K.faults sink.old) (K.faults sink.new) }
     ensures later { K.faults sink.old ≤ K.faults sink.new }
 {
-    let mut joined = Joined::with_room(alloc, room_for(found))?;
+    let Ok(mut joined) = Joined::with_room(alloc, room_for(found)) else {
+        return Err(Stop::Memory);
+    };
     match write_joined(found, &mut joined, sink) {
         Ok(verdict) => Ok(verdict),
         Err(_) => Err(Stop::WriteFault),
@@ -64,10 +66,15 @@ fn write_joined<N: Copy, K: Sink>(
 {
     let mut verdict = Verdict::clear();
     for one in found {
-        verdict = verdict.and(push_text(one, joined, sink)?);
+        match push_text(one, joined, sink) {
+            Ok(told) => verdict = verdict.and(told),
+            Err(failed) => return Err(failed),
+        }
     }
-    joined.flush(sink)?;
-    Ok(verdict)
+    match joined.flush(sink) {
+        Ok(()) => Ok(verdict),
+        Err(failed) => Err(failed),
+    }
 }
 
 // Puts the text of a record behind those that wait.
@@ -82,6 +89,8 @@ fn push_text<N: Copy, K: Sink>(
     ensures prefix { OnErr result (AppendsPrefix (K.taken sink.old) (K.taken sink.new) (joined.old ++ one.now.text)) }
     ensures cause { HasCause (K.faults sink.old) (K.faults sink.new) result }
 {
-    joined.push(&one.text, sink)?;
-    Ok(one.verdict)
+    match joined.push(&one.text, sink) {
+        Ok(()) => Ok(one.verdict),
+        Err(failed) => Err(failed),
+    }
 }

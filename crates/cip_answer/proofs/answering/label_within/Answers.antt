@@ -3,6 +3,6 @@ use Rattle.std.proofs.lemmas.Grind.{common_steps}
 use Rattle.cip_answer.specs.Answers.{answer_without_items}
 use Rattle.cip_answer.proofs.answering.label_within.Goals as goal
 
-pub returns-in-Ok-clause-answer : goal.returns-in-Ok-clause-answer
+pub returns-in-Ok-Ok-clause-answer : goal.returns-in-Ok-Ok-clause-answer
 unfolding answer_without_items
-returns-in-Ok-clause-answer g c = grind (arith, common_steps)
+returns-in-Ok-Ok-clause-answer g c = grind (arith, common_steps)

@@ -13,18 +13,18 @@ loop-unit-preserved g c =
     let bound = c.args.labeller.now in
     let unit = c.unit-item.result in
     record {
-      so_far = c.in_ok-push.ensures.added
+      so_far = c.in-Ok-push.ensures.added
           ∙ (λ i. c.loop-unit.invariant.so_far i ++ record {
             name = c.further_name.ensures i;
             site = c.like.ensures i;
             drawn = (c.drawn.ensures.value ∙ ap (λ (graph : Graph). graph.drawn) c.graph.ensures.value) i;
-            outcome = (c.in_ok-outcome.ensures.outcome
+            outcome = (c.in-Ok.ensures.outcome
                 ∙ ap (λ (b : ℕ). further_outcome setting b unit) c.loop-unit.invariant.kept) i;
           } ∷ [])
           ∙ ap (λ answer. map (further_answer setting bound) (take c.loop-unit.unit-index c.args.units.now) ++ answer ∷ [])
           (ap (further_answer setting bound) c.unit-item.is)
           ∙ sym (map_more (further_answer setting bound) c.args.units.now c.loop-unit.unit-index unit c.loop-unit-test.true);
-      kept = c.in_ok-outcome.ensures.kept ∙ c.loop-unit.invariant.kept;
+      kept = c.in-Ok.ensures.kept ∙ c.loop-unit.invariant.kept;
     }
 
 pub push-requires : goal.push-requires
@@ -38,8 +38,8 @@ returns-clause-answers g c =
     ∙ ap (map (further_answer c.args.setting.now c.args.labeller.now))
     (take_all c.loop-unit.unit-index c.args.units.now c.loop-unit-test.false)
 
-pub returns-in_err-push-clause-kept : goal.returns-in_err-push-clause-kept
-returns-in_err-push-clause-kept g c = grind (arith, common_steps)
+pub returns-in_default-push-clause-kept : goal.returns-in_default-push-clause-kept
+returns-in_default-push-clause-kept g c = grind (arith, common_steps)
 
 pub label_further-requires : goal.label_further-requires
 label_further-requires g c = grind (arith, common_steps)

@@ -17,20 +17,20 @@ push-requires g c =
 pub loop-place-preserved : goal.loop-place-preserved
 loop-place-preserved g c = record {
   so_far =
-      c.in_ok-push.ensures.added
+      c.in-Ok-push.ensures.added
       ∙ next_unit c.args.setting.now c.args.labeller.now c.loop-place.labeller c.loop-place.answers
       c.loop-place.place c.as_slice-units.result.now c.index-units-place.result c.name_of.result c.copy.result
       c.drawn.result
-      c.in_ok-outcome.outcome c.loop-place.invariant.so_far
+      c.in-Ok.outcome c.loop-place.invariant.so_far
       (subst (λ units. c.loop-place.place < length units) c.loop-place.invariant.all c.loop-place-test.true)
       c.loop-place.invariant.all c.index-units-place.is c.name_of.ensures c.copy.ensures
       (c.drawn.ensures.value ∙ ap (λ (graph : Graph). graph.drawn) c.graph.ensures.value) c.loop-place.invariant.kept
-      c.in_ok-outcome.ensures.outcome;
+      c.in-Ok.ensures.outcome;
   all = c.loop-place.invariant.all;
   kept = c.outcome_of.ensures.kept ∙ c.loop-place.invariant.kept;
   found =
       subst (λ bound. AreFound c.args.setting.now bound c.outcome_of.new.images) c.loop-place.invariant.kept
-      c.in_ok-outcome.ensures.found;
+      c.in-Ok.ensures.found;
 }
 
 pub outcome_of-requires-clause-place : goal.outcome_of-requires-clause-place
@@ -58,5 +58,5 @@ returns-clause-few g c =
 pub loop-place-init : goal.loop-place-init
 loop-place-init g c = grind (arith, common_steps)
 
-pub returns-in_err-outcome-clause-kept : goal.returns-in_err-outcome-clause-kept
-returns-in_err-outcome-clause-kept g c = grind (arith, common_steps)
+pub returns-in_default-clause-kept : goal.returns-in_default-clause-kept
+returns-in_default-clause-kept g c = grind (arith, common_steps)

@@ -36,17 +36,17 @@ pub mark_ligand-requires : goal.mark_ligand-requires
 mark_ligand-requires g c =
     let is = c.requires.1 in
     stands_told c.requires.0 c.args.request.atom c.args.bare.now c.args.site.now is.is_bare is.there is.centre
-    c.in-Some.neighbour
+    c.in-Ok-Some.neighbour
 
-pub returns-in-Some-clause-answer : goal.returns-in-Some-clause-answer
-returns-in-Some-clause-answer g c =
+pub returns-in-Ok-Some-clause-answer : goal.returns-in-Ok-Some-clause-answer
+returns-in-Ok-Some-clause-answer g c =
     let asked = c.args.request in
     IfOk-weaker c.mark_ligand.result
     (λ (answer : Result Marked CentreRefusal).
     answer
-    ≡ by_outcome asked.letter c.in-Some.neighbour
+    ≡ by_outcome asked.letter c.in-Ok-Some.neighbour
     (found_at asked.rules c.args.labeller.now
-    (marked c.args.bare.now asked.atom c.in-Some.neighbour Up)
+    (marked c.args.bare.now asked.atom c.in-Ok-Some.neighbour Up)
     asked.atom))
     (λ answer. (drawing : Drawing) → IsBareAt drawing asked.atom c.args.bare.now c.args.site.now
     → answer ≡ mark_centre asked.rules c.args.labeller.now drawing asked.atom asked.letter)
@@ -58,17 +58,17 @@ returns-in-Some-clause-answer g c =
     ∙ sym c.shows_coincident.ensures ∙ c.if-shows_coincident.false in
     told
     ∙ outcome_told drawing asked.atom c.args.bare.now c.args.site.now is.is_bare is.there asked.rules
-    c.args.labeller.now asked.letter c.in-Some.neighbour
+    c.args.labeller.now asked.letter c.in-Ok-Some.neighbour
     ∙ sym
     (by_ligand asked.rules c.args.labeller.now drawing asked.atom asked.letter is.flat clear
-    (Some c.in-Some.neighbour)
-    (sym c.in-Some.is
-    ∙ chosen_told drawing asked.atom c.args.bare.now c.args.site.now is.is_bare is.there c.in_ok-neighbour.field-0
-    c.in_ok-neighbour.ensures)))
+    (Some c.in-Ok-Some.neighbour)
+    (sym c.in-Ok-Some.field-0-is
+    ∙ chosen_told drawing asked.atom c.args.bare.now c.args.site.now is.is_bare is.there c.in-Ok-Some.field-0
+    c.in-Ok-Some.ensures)))
     c.mark_ligand.ensures.answer
 
-pub returns-in-None-clause-answer : goal.returns-in-None-clause-answer
-returns-in-None-clause-answer g c = λ drawing is.
+pub returns-in-Ok-None-clause-answer : goal.returns-in-Ok-None-clause-answer
+returns-in-Ok-None-clause-answer g c = λ drawing is.
     let asked = c.args.request in
     let clear : has_clash (directions drawing asked.atom) ≡ false =
     sym
@@ -77,6 +77,6 @@ returns-in-None-clause-answer g c = λ drawing is.
     ∙ sym c.shows_coincident.ensures ∙ c.if-shows_coincident.false in
     sym
     (by_ligand asked.rules c.args.labeller.now drawing asked.atom asked.letter is.flat clear None
-    (sym c.in-None.is
-    ∙ chosen_told drawing asked.atom c.args.bare.now c.args.site.now is.is_bare is.there c.in_ok-neighbour.field-0
-    c.in_ok-neighbour.ensures))
+    (sym c.in-Ok-None.field-0-is
+    ∙ chosen_told drawing asked.atom c.args.bare.now c.args.site.now is.is_bare is.there c.in-Ok-None.field-0
+    c.in-Ok-None.ensures))

@@ -14,23 +14,23 @@ mark_bare-requires g c = (
   record {
     flat = sym c.is_spatial.ensures ∙ c.if-is_spatial.false;
     centre = c.requires.centre;
-    is_bare = c.in_ok-bare.ensures;
+    is_bare = c.in-Ok.ensures;
     there = c.requires.site;
   },
 )
 
-pub returns-clause-answer : goal.returns-clause-answer
-returns-clause-answer g c =
+pub returns-in-Ok-clause-answer : goal.returns-in-Ok-clause-answer
+returns-in-Ok-clause-answer g c =
     let asked = c.args.request in
     IfOk-weaker c.mark_bare.result
     (λ (answer : Result Marked CentreRefusal). (drawing : Drawing)
-    → IsBareAt drawing asked.atom c.in_ok-bare.bare c.args.site.now
+    → IsBareAt drawing asked.atom c.in-Ok.bare c.args.site.now
     → answer ≡ mark_centre asked.rules c.args.labeller.now drawing asked.atom asked.letter)
     (λ answer. answer ≡ mark_centre asked.rules c.args.labeller.now c.args.molecule.now asked.atom asked.letter)
     (λ answer told. told c.args.molecule.now (record {
       flat = sym c.is_spatial.ensures ∙ c.if-is_spatial.false;
       centre = c.requires.centre;
-      is_bare = c.in_ok-bare.ensures;
+      is_bare = c.in-Ok.ensures;
       there = c.requires.site;
     }))
     c.mark_bare.ensures.answer

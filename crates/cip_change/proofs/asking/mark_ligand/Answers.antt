@@ -11,4 +11,4 @@ returns-clause-answer g c =
     subst
     (λ (d : Drawing). IfOk c.mark_drawn-answer.result (λ answer.
     answer ≡ by_outcome asked.letter c.args.neighbour (found_at asked.rules c.args.labeller.now d asked.atom)))
-    (c.in_ok-drawn.ensures ∙ c.in_ok-up.ensures) c.mark_drawn-answer.ensures.answer
+    (c.in-Ok-of.ensures ∙ c.in-Ok.ensures) c.mark_drawn-answer.ensures.answer

@@ -5,5 +5,5 @@ use Rattle.cip_change.proofs.changes.push_changed_line.Goals as goal
 pub returns-then-are_drawn_alike : goal.returns-then-are_drawn_alike
 returns-then-are_drawn_alike c = grind (arith, common_steps)
 
-pub returns-in_ok-written : goal.returns-in_ok-written
-returns-in_ok-written c = grind (arith, common_steps)
+pub returns-in-Ok : goal.returns-in-Ok
+returns-in-Ok c = grind (arith, common_steps)

@@ -8,5 +8,5 @@ returns c = grind (arith, common_steps)
 pub loop-number-preserved : goal.loop-number-preserved
 loop-number-preserved c = grind (arith, common_steps)
 
-pub returns-then-branch : goal.returns-then-branch
-returns-then-branch c = grind (arith, common_steps)
+pub returns-then-eligible : goal.returns-then-eligible
+returns-then-eligible c = grind (arith, common_steps)

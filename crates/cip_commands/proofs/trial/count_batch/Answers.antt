@@ -6,32 +6,32 @@ use Rattle.cip_commands.proofs.trial.count_batch.Goals as goal
 
 pub add_all-requires : goal.add_all-requires
 add_all-requires g c =
-    let jobs = c.in_ok-jobs.jobs.items in
-    let answers = c.in_ok-answers.answers.items in
+    let jobs = c.in-Ok.jobs.items in
+    let answers = c.in-Ok-map_batch.answers.items in
     let same : c.deref.result.now ≡ jobs = search rules in
-    let found : answers ≡ map answer_of jobs = c.in_ok-answers.ensures.answers ∙ ap (map answer_of) same in
+    let found : answers ≡ map answer_of jobs = c.in-Ok-map_batch.ensures.answers ∙ ap (map answer_of) same in
     let here : c.deref-2.result.now ≡ answers = search rules in
     let many : length c.deref-2.result.now ≡ length jobs =
     ap length here ∙ ap length found ∙ length-map jobs answer_of in
-    record { few = omega (arith, c.requires.records, many, c.in_ok-jobs.ensures.few) }
+    record { few = omega (arith, c.requires.records, many, c.in-Ok.ensures.few) }
 
 pub returns-clause-counted : goal.returns-clause-counted
 returns-clause-counted g c =
     let trial = c.args.trial.now in
-    let jobs = c.in_ok-jobs.jobs.items in
-    let answers = c.in_ok-answers.answers.items in
+    let jobs = c.in-Ok.jobs.items in
+    let answers = c.in-Ok-map_batch.answers.items in
     let same : c.deref.result.now ≡ jobs = search rules in
-    let found : answers ≡ map answer_of jobs = c.in_ok-answers.ensures.answers ∙ ap (map answer_of) same in
+    let found : answers ≡ map answer_of jobs = c.in-Ok-map_batch.ensures.answers ∙ ap (map answer_of) same in
     batch_counted (answers_to trial.series trial.labelling c.args.done) answers
     (answers_to trial.series trial.labelling (c.args.done + c.len.result)) jobs
     c.args.count.now c.add_all.new.self c.requires.so_far (search rules) found (search rules)
 
 pub returns-clause-records : goal.returns-clause-records
 returns-clause-records g c =
-    let jobs = c.in_ok-jobs.jobs.items in
-    let answers = c.in_ok-answers.answers.items in
+    let jobs = c.in-Ok.jobs.items in
+    let answers = c.in-Ok-map_batch.answers.items in
     let same : c.deref.result.now ≡ jobs = search rules in
-    let found : answers ≡ map answer_of jobs = c.in_ok-answers.ensures.answers ∙ ap (map answer_of) same in
+    let found : answers ≡ map answer_of jobs = c.in-Ok-map_batch.ensures.answers ∙ ap (map answer_of) same in
     let here : c.deref-2.result.now ≡ answers = search rules in
     let many : length c.deref-2.result.now ≡ length jobs =
     ap length here ∙ ap length found ∙ length-map jobs answer_of in

@@ -5,7 +5,7 @@ use Rattle.cip_commands.proofs.trial.count_batches.Goals as goal
 pub overflow_add-done : goal.overflow_add-done
 overflow_add-done g c =
     let same = ap (λ (trial : Trial). trial.series.records) c.trial.view_is in
-    omega (arith, c.in_ok-done.ensures.within, same, c.trial.invariant.below)
+    omega (arith, c.in-Ok.ensures.within, same, c.trial.invariant.below)
 
 pub count_batch-requires-clause-within : goal.count_batch-requires-clause-within
 count_batch-requires-clause-within g c κs within =

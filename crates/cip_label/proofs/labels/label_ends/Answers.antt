@@ -13,21 +13,21 @@ rank_root-requires-clause-fit g c =
     first_fit c.args.setting.now.graph (as_site c.args.ends.now) c.requires.fit (as_end c.in-One.end) []
     (one_end _ c.in-One.end c.in-One.is)
 
-pub returns-in_ok-root-in-One-clause-outcome : goal.returns-in_ok-root-in-One-clause-outcome
-returns-in_ok-root-in-One-clause-outcome g c =
+pub returns-in-Ok-clause-outcome : goal.returns-in-Ok-clause-outcome
+returns-in-Ok-clause-outcome g c =
     c.of_one.ensures
-    ∙ ap (of_one (as_site c.args.ends.now) c.args.sense) c.in_ok-root-in-One.ensures.ranked
+    ∙ ap (of_one (as_site c.args.ends.now) c.args.sense) c.in-Ok.ensures.ranked
     ∙ known_by_one c.args.setting.now (g.D.Digraphs.bound c.args.digraphs.now) (as_site c.args.ends.now) c.args.sense
     (as_end c.in-One.end) (one_end _ c.in-One.end c.in-One.is)
 
-pub returns-in_err-root-in-One-clause-cost : goal.returns-in_err-root-in-One-clause-cost
-returns-in_err-root-in-One-clause-cost g c =
+pub returns-in_default-clause-cost : goal.returns-in_default-clause-cost
+returns-in_default-clause-cost g c =
     in_site c.args.setting.now (g.D.Digraphs.bound c.args.digraphs.now) (as_site c.args.ends.now)
     (as_end c.in-One.end ∷ []) c.args.steps.now c.rank_root.new.steps (one_end _ c.in-One.end c.in-One.is)
     c.rank_root.ensures.cost
 
-pub returns-in_ok-root-in-One-clause-cost : goal.returns-in_ok-root-in-One-clause-cost
-returns-in_ok-root-in-One-clause-cost g c =
+pub returns-in-Ok-clause-cost : goal.returns-in-Ok-clause-cost
+returns-in-Ok-clause-cost g c =
     in_site c.args.setting.now (g.D.Digraphs.bound c.args.digraphs.now) (as_site c.args.ends.now)
     (as_end c.in-One.end ∷ []) c.args.steps.now c.rank_root.new.steps (one_end _ c.in-One.end c.in-One.is)
     c.rank_root.ensures.cost
@@ -47,42 +47,42 @@ of_two-requires g c =
     let bound = g.D.Digraphs.bound c.args.digraphs.now in
     let one = as_end c.in-Two.two.near in
     let other = as_end c.in-Two.two.far in
-    fit_together c.args.setting.now bound one other c.in_ok-near-in-Two.near c.in_ok-far-in-Two.far
+    fit_together c.args.setting.now bound one other c.in-Ok-rank_root.near c.in-Ok-rank_behind.far
     (few_together c.args.setting.now.graph (as_site c.args.ends.now) c.requires.fit one other
     (two_ends _ _ c.in-Two.two c.in-Two.is))
-    (are_ranked c.args.setting.now bound _ one other c.in_ok-near-in-Two.near c.in_ok-far-in-Two.far
-    c.rank_root-in-Two.ensures.kept c.in_ok-near-in-Two.ensures.ranked c.in_ok-far-in-Two.ensures.ranked)
+    (are_ranked c.args.setting.now bound _ one other c.in-Ok-rank_root.near c.in-Ok-rank_behind.far
+    c.rank_root-in-Two.ensures.kept c.in-Ok-rank_root.ensures.ranked c.in-Ok-rank_behind.ensures.ranked)
 
-pub returns-in_ok-far-in-Two-clause-outcome : goal.returns-in_ok-far-in-Two-clause-outcome
-returns-in_ok-far-in-Two-clause-outcome g c =
+pub returns-in-Ok-rank_behind-clause-outcome : goal.returns-in-Ok-rank_behind-clause-outcome
+returns-in-Ok-rank_behind-clause-outcome g c =
     let bound = g.D.Digraphs.bound c.args.digraphs.now in
     let one = as_end c.in-Two.two.near in
     let other = as_end c.in-Two.two.far in
     c.of_two.ensures
-    ∙ known_by_two c.args.setting.now bound (as_site c.args.ends.now) c.args.sense one other c.in_ok-near-in-Two.near
-    c.in_ok-far-in-Two.far (two_ends _ _ c.in-Two.two c.in-Two.is)
-    (are_ranked c.args.setting.now bound _ one other c.in_ok-near-in-Two.near c.in_ok-far-in-Two.far
-    c.rank_root-in-Two.ensures.kept c.in_ok-near-in-Two.ensures.ranked c.in_ok-far-in-Two.ensures.ranked)
+    ∙ known_by_two c.args.setting.now bound (as_site c.args.ends.now) c.args.sense one other c.in-Ok-rank_root.near
+    c.in-Ok-rank_behind.far (two_ends _ _ c.in-Two.two c.in-Two.is)
+    (are_ranked c.args.setting.now bound _ one other c.in-Ok-rank_root.near c.in-Ok-rank_behind.far
+    c.rank_root-in-Two.ensures.kept c.in-Ok-rank_root.ensures.ranked c.in-Ok-rank_behind.ensures.ranked)
 
-pub returns-in_err-near-in-Two-clause-cost : goal.returns-in_err-near-in-Two-clause-cost
-returns-in_err-near-in-Two-clause-cost g c =
+pub returns-in_default-rank_root-clause-cost : goal.returns-in_default-rank_root-clause-cost
+returns-in_default-rank_root-clause-cost g c =
     one_of_two c.args.setting.now (g.D.Digraphs.bound c.args.digraphs.now) (as_site c.args.ends.now)
     (as_end c.in-Two.two.near) (as_end c.in-Two.two.far) (two_ends _ _ c.in-Two.two c.in-Two.is)
     c.args.steps.now c.rank_root-in-Two.new.steps c.rank_root-in-Two.ensures.cost
 
-pub returns-in_err-far-in-Two-clause-cost : goal.returns-in_err-far-in-Two-clause-cost
-returns-in_err-far-in-Two-clause-cost g c =
+pub returns-in_default-rank_behind-clause-cost : goal.returns-in_default-rank_behind-clause-cost
+returns-in_default-rank_behind-clause-cost g c =
     both c.args.setting.now (g.D.Digraphs.bound c.args.digraphs.now) (as_site c.args.ends.now)
     (as_end c.in-Two.two.near) (as_end c.in-Two.two.far) (two_ends _ _ c.in-Two.two c.in-Two.is)
     c.args.steps.now c.rank_root-in-Two.new.steps c.rank_behind.new.steps _ c.rank_root-in-Two.ensures.kept
     c.rank_root-in-Two.ensures.cost c.rank_behind.ensures.cost
 
-pub returns-in_ok-far-in-Two-clause-cost : goal.returns-in_ok-far-in-Two-clause-cost
-returns-in_ok-far-in-Two-clause-cost g c =
+pub returns-in-Ok-rank_behind-clause-cost : goal.returns-in-Ok-rank_behind-clause-cost
+returns-in-Ok-rank_behind-clause-cost g c =
     both c.args.setting.now (g.D.Digraphs.bound c.args.digraphs.now) (as_site c.args.ends.now)
     (as_end c.in-Two.two.near) (as_end c.in-Two.two.far) (two_ends _ _ c.in-Two.two c.in-Two.is)
     c.args.steps.now c.rank_root-in-Two.new.steps c.rank_behind.new.steps _ c.rank_root-in-Two.ensures.kept
     c.rank_root-in-Two.ensures.cost c.rank_behind.ensures.cost
 
-pub returns-in_ok-far-in-Two-clause-kept : goal.returns-in_ok-far-in-Two-clause-kept
-returns-in_ok-far-in-Two-clause-kept g c = grind (arith, common_steps)
+pub returns-in-Ok-rank_behind-clause-kept : goal.returns-in-Ok-rank_behind-clause-kept
+returns-in-Ok-rank_behind-clause-kept g c = grind (arith, common_steps)

@@ -3,12 +3,12 @@ use Rattle.cip_label.proofs.RankedOnce.{once_as}
 use Rattle.cip_label.proofs.UnitOutcomes.{if_ok}
 use Rattle.cip_label.proofs.roots.rank_root.Goals as goal
 
-pub returns-in-Known-clause-ranked : goal.returns-in-Known-clause-ranked
-returns-in-Known-clause-ranked g c =
+pub returns-in-Ok-Known-clause-ranked : goal.returns-in-Ok-Known-clause-ranked
+returns-in-Ok-Known-clause-ranked g c =
     if_ok _ _ c.ranked_by.result
     (λ ranked is. is ∙ once_as c.args.setting.now c.args.root.at c.args.root.ligands.now
     (g.D.Digraphs.standing c.rank.new.self)
-    c.graph-graph.ensures.proper.sound c.requires.fit (g.D.Digraphs.bound c.args.digraphs.now) c.in_ok-rank.field-0
-    c.in-Known.is
-    c.in_ok-rank.ensures.ranking)
+    c.graph-graph.ensures.proper.sound c.requires.fit (g.D.Digraphs.bound c.args.digraphs.now) c.in-Ok-Known.field-0
+    c.in-Ok-Known.field-0-is
+    c.in-Ok-Known.ensures.ranking)
     c.ranked_by.ensures

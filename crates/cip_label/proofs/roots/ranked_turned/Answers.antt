@@ -3,12 +3,12 @@ use Rattle.cip_label.specs.Pairwise.{decided_each, ranked_in}
 use Rattle.cip_label.proofs.TurnedRanks.{turned_anew}
 use Rattle.cip_label.proofs.roots.ranked_turned.Goals as goal
 
-pub returns : goal.returns
-returns g c =
+pub returns-in-Ok : goal.returns-in-Ok
+returns-in-Ok g c =
     let standing = g.D.Digraphs.standing c.args.digraphs.now in
     let ligands = c.args.ligands.now in
-    c.ranked.ensures ∙ ap (λ n. ranked_in n c.as_slice-2.result.now) c.len.ensures.counted
-    ∙ ap (ranked_in (length ligands)) (c.as_slice-2.ensures ∙ c.in_ok-turned.ensures
+    c.ranked.ensures ∙ ap (λ n. ranked_in n c.as_slice-in-Ok.result.now) c.len.ensures.counted
+    ∙ ap (ranked_in (length ligands)) (c.as_slice-in-Ok.ensures ∙ c.in-Ok.ensures
     ∙ ap (decided_each standing false) c.as_slice.ensures.value
     ∙ sym (turned_anew standing ligands c.args.decided.now c.requires.decided
-    (sym c.has_rule_5.ensures ∙ c.if-not-has_rule_5.false)))
+    (sym c.has_rule_5.ensures ∙ c.if-has_rule_5.true)))

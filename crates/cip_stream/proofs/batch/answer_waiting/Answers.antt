@@ -1,6 +1,5 @@
 use Rattle.std.proofs.Common.{◌≡◌, ◌<◌, ◌^◌, ◌++◌, ◌∷◌, [], Err, append_assoc, arith, length, refl, subst, sym, ap, ◌∙◌}
 use Rattle.std.proofs.lemmas.Grind.{common_steps}
-use Rattle.std.proofs.lemmas.Result.{err_from_is_err_and}
 use Rattle.cip_frame.specs.Framing.{Framing}
 use Rattle.cip_stream.specs.Batches.{Advances, Answers}
 use Rattle.cip_stream.proofs.Batches.{advances_both, none_yet, same_next, stopped_both}
@@ -19,9 +18,8 @@ loop-next-init g c =
       later = stays (g.K.Sink.faults c.args.sink.now);
     }
 
-pub returns-in_err-take_record : goal.returns-in_err-take_record
-returns-in_err-take_record g c =
-    let p = err_from_is_err_and c.from_residual.result c.from_residual.ensures.1 in
+pub returns-in-Err : goal.returns-in-Err
+returns-in-Err g c =
     let batch = c.args.batch.now in
     let manner = g.T.Teller.manner batch.teller in
     let records = batch.records ++ c.args.framer.now.waiting in
@@ -33,16 +31,16 @@ returns-in_err-take_record g c =
     let before = subst (λ waiting. Advances manner batch.first records now.first waiting c.loop-next.verdict
     (g.K.Sink.taken c.args.sink.now) (g.K.Sink.taken c.loop-next.sink)) taken c.loop-next.invariant.so_far in
     let answers = subst (λ t. Answers (g.T.Teller.manner t) now.first (now.records ++ bytes ∷ [])
-    (Err c.in_err-take_record.field-0.0) (g.K.Sink.taken c.loop-next.sink) (g.K.Sink.taken c.take_record.new.sink))
-    c.loop-next.invariant.teller c.in_err-take_record.ensures.answered in
-    rw (p.1, p.2) (record {
+    (Err c.in-Err.stop) (g.K.Sink.taken c.loop-next.sink) (g.K.Sink.taken c.take_record.new.sink))
+    c.loop-next.invariant.teller c.in-Err.ensures.answered in
+    record {
       answered = stopped_both manner batch.first now.first records (now.records ++ bytes ∷ []) rest
-          c.loop-next.verdict c.in_err-take_record.field-0.0 _ _ _ before answers;
+          c.loop-next.verdict c.in-Err.stop _ _ _ before answers;
       emptied = tt;
       teller = c.take_record.ensures.teller ∙ c.loop-next.invariant.teller;
-      fault = λ is. rose_later _ _ _ c.loop-next.invariant.later (c.in_err-take_record.ensures.fault is);
+      fault = λ is. rose_later _ _ _ c.loop-next.invariant.later (c.in-Err.ensures.fault is);
       later = later_twice _ _ _ c.loop-next.invariant.later c.take_record.ensures.later;
-    })
+    }
 
 pub loop-next-preserved : goal.loop-next-preserved
 loop-next-preserved g c =
@@ -58,10 +56,10 @@ loop-next-preserved g c =
     let before = subst (λ waiting. Advances manner batch.first records now.first waiting c.loop-next.verdict
     (g.K.Sink.taken c.args.sink.now) (g.K.Sink.taken c.loop-next.sink)) taken c.loop-next.invariant.so_far in
     let behind = subst (λ t. Advances (g.T.Teller.manner t) now.first (now.records ++ bytes ∷ []) next.first
-    next.records c.in_ok-take_record.field-0 (g.K.Sink.taken c.loop-next.sink) (g.K.Sink.taken c.take_record.new.sink))
-    c.loop-next.invariant.teller c.in_ok-take_record.ensures.answered in
+    next.records c.in-Ok.answered (g.K.Sink.taken c.loop-next.sink) (g.K.Sink.taken c.take_record.new.sink))
+    c.loop-next.invariant.teller c.in-Ok.ensures.answered in
     let so_far = advances_both manner batch.first now.first next.first records (now.records ++ bytes ∷ []) rest
-    next.records c.loop-next.verdict c.in_ok-take_record.field-0 _ _ _ before behind in
+    next.records c.loop-next.verdict c.in-Ok.answered _ _ _ before behind in
     record {
       so_far = rw c.and-verdict.ensures so_far;
       room = subst (λ n. n < 2 ^ 64)

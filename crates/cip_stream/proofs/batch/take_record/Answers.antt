@@ -1,5 +1,4 @@
 use Rattle.std.proofs.Common.{◌+◌, ◌++◌, ◌<◌, ◌^◌, ◌∷◌, [], ◌∙◌, arith, length, length-append, sym, subst}
-use Rattle.std.proofs.lemmas.Result.{err_from_is_err_and}
 use Rattle.cip_stream.specs.Batches.{Advances, Gathered}
 use Rattle.cip_stream.specs.Verdicts.{clear}
 use Rattle.cip_stream.proofs.Batches.{batch_answered, no_memory, none_yet}
@@ -9,23 +8,22 @@ use Rattle.cip_stream.proofs.batch.take_record.Goals as goal
 pub answer_batch-requires-clause-room : goal.answer_batch-requires-clause-room
 answer_batch-requires-clause-room g c κs within =
     let batch = c.args.batch.now in
-    subst (λ (b : Gathered _). b.first + length b.records < 2 ^ 64) (sym c.in_ok-push.ensures.pushed)
+    subst (λ (b : Gathered _). b.first + length b.records < 2 ^ 64) (sym c.in-Ok.ensures.pushed)
     (omega (arith, length-append batch.records (c.args.bytes ∷ []), c.requires.room))
 
-pub returns-in_err-push : goal.returns-in_err-push
-returns-in_err-push g c =
-    let p = err_from_is_err_and c.from_residual.result c.from_residual.ensures.1 in
+pub returns-in_default : goal.returns-in_default
+returns-in_default g c =
     let batch = c.args.batch.now in
-    rw (p.1, p.2) (record {
+    record {
       answered = no_memory (g.T.Teller.manner batch.teller) batch.first (batch.records ++ c.args.bytes ∷ [])
           (g.K.Sink.taken c.args.sink.now);
       teller = c.push.ensures.teller;
       fault = memory_no_fault;
       later = stays (g.K.Sink.faults c.args.sink.now);
-    })
+    }
 
-pub returns-then-not-is_full : goal.returns-then-not-is_full
-returns-then-not-is_full g c =
+pub returns-else-is_full : goal.returns-else-is_full
+returns-else-is_full g c =
     let batch = c.args.batch.now in
     let records = batch.records ++ c.args.bytes ∷ [] in
     let manner = g.T.Teller.manner batch.teller in
@@ -33,19 +31,19 @@ returns-then-not-is_full g c =
     record {
       answered = rw c.clear.ensures (subst
           (λ (b : Gathered _). Advances manner batch.first records b.first b.records clear taken taken)
-          (sym c.in_ok-push.ensures.pushed) (none_yet manner batch.first records taken));
+          (sym c.in-Ok.ensures.pushed) (none_yet manner batch.first records taken));
       teller = c.push.ensures.teller;
       fault = told_no_fault c.clear.result;
       later = stays (g.K.Sink.faults c.args.sink.now);
     }
 
-pub returns : goal.returns
-returns g c =
+pub returns-then-is_full : goal.returns-then-is_full
+returns-then-is_full g c =
     let batch = c.args.batch.now in
     record {
       answered = batch_answered g.T.Teller.manner
           (record { teller = batch.teller; first = batch.first; records = batch.records ++ c.args.bytes ∷ [] })
-          c.push.new.self c.answer_batch.new.batch c.answer_batch.result _ _ c.in_ok-push.ensures.pushed
+          c.push.new.self c.answer_batch.new.batch c.answer_batch.result _ _ c.in-Ok.ensures.pushed
           c.answer_batch.ensures.emptied c.answer_batch.ensures.answered;
       teller = c.answer_batch.ensures.teller ∙ c.push.ensures.teller;
       fault = c.answer_batch.ensures.fault;

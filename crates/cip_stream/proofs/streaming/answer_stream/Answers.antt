@@ -1,6 +1,5 @@
 use Rattle.std.proofs.Common.{◌+◌, subst}
 use Rattle.std.proofs.lemmas.Bool.{false≢true}
-use Rattle.std.proofs.lemmas.Result.{err_from_is_err_and}
 use Rattle.cip_stream.specs.Batches.{Gathered}
 use Rattle.cip_stream.specs.Halting.{AnswersSource}
 use Rattle.cip_stream.proofs.Bounds.{takes_none}
@@ -8,31 +7,27 @@ use Rattle.cip_stream.proofs.Faults.{memory_no_fault, memory_no_read_fault}
 use Rattle.cip_stream.proofs.Untold.{nothing_told}
 use Rattle.cip_stream.proofs.streaming.answer_stream.Goals as goal
 
-pub returns-in_err-piece : goal.returns-in_err-piece
-returns-in_err-piece g c =
-    let p = err_from_is_err_and c.from_residual.result c.from_residual.ensures.1 in
-    rw (p.1, p.2) (record {
-      ended = nothing_told (g.T.Teller.manner c.args.teller.now) c.args.limits (g.S.Source.left c.args.source.now)
-          (g.K.Sink.taken c.args.sink.now);
-      whole = λ is. absurd (false≢true is);
-      read_fault = memory_no_read_fault;
-      bounded = takes_none (c.args.limits.input + 1) (g.S.Source.left c.args.source.now);
-      source_fault = memory_no_read_fault;
-      sink_fault = memory_no_fault;
-    })
+pub returns-in_default : goal.returns-in_default
+returns-in_default g c = record {
+  ended = nothing_told (g.T.Teller.manner c.args.teller.now) c.args.limits (g.S.Source.left c.args.source.now)
+      (g.K.Sink.taken c.args.sink.now);
+  whole = λ is. absurd (false≢true is);
+  read_fault = memory_no_read_fault;
+  bounded = takes_none (c.args.limits.input + 1) (g.S.Source.left c.args.source.now);
+  source_fault = memory_no_read_fault;
+  sink_fault = memory_no_fault;
+}
 
-pub returns-in_err-desks : goal.returns-in_err-desks
-returns-in_err-desks g c =
-    let p = err_from_is_err_and c.from_residual-in_err-desks.result c.from_residual-in_err-desks.ensures.1 in
-    rw (p.1, p.2) (record {
-      ended = nothing_told (g.T.Teller.manner c.args.teller.now) c.args.limits (g.S.Source.left c.args.source.now)
-          (g.K.Sink.taken c.args.sink.now);
-      whole = λ is. absurd (false≢true is);
-      read_fault = memory_no_read_fault;
-      bounded = takes_none (c.args.limits.input + 1) (g.S.Source.left c.args.source.now);
-      source_fault = memory_no_read_fault;
-      sink_fault = memory_no_fault;
-    })
+pub returns-in_default-reserve : goal.returns-in_default-reserve
+returns-in_default-reserve g c = record {
+  ended = nothing_told (g.T.Teller.manner c.args.teller.now) c.args.limits (g.S.Source.left c.args.source.now)
+      (g.K.Sink.taken c.args.sink.now);
+  whole = λ is. absurd (false≢true is);
+  read_fault = memory_no_read_fault;
+  bounded = takes_none (c.args.limits.input + 1) (g.S.Source.left c.args.source.now);
+  source_fault = memory_no_read_fault;
+  sink_fault = memory_no_fault;
+}
 
 pub returns : goal.returns
 returns g c =

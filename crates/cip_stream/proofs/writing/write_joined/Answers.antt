@@ -2,20 +2,19 @@ use Rattle.std.proofs.Common.{rules, ◌≡◌, ◌<◌, ◌+◌, [], length, ge
 use Rattle.cip_stream.specs.Batches.{telling}
 use Rattle.cip_stream.proofs.Batches.{IsJoined, all_told, all_written, none_joined, one_joined, stopped_at, stopped_behind, told_here}
 use Rattle.cip_stream.proofs.Faults.{stays}
-use Rattle.cip_stream.proofs.Growing.{where_refused}
 use Rattle.cip_stream.proofs.writing.write_joined.Goals as goal
 
-pub returns-in_err-push_text-clause-stopped : goal.returns-in_err-push_text-clause-stopped
-returns-in_err-push_text-clause-stopped g c =
+pub returns-in-Err-clause-stopped : goal.returns-in-Err-clause-stopped
+returns-in-Err-clause-stopped g c =
     let k = c.loop-one.one-index in
     let found = c.args.found.now in
     λ manner number records all.
     let within : k < length found = search rules in
     let here : c.one-item.result ≡ telling manner (number + k) (get_or records k []) =
     c.one-item.is ∙ told_here manner number records found k c.one-item.result all within in
-    where_refused c.from_residual.result (stopped_at manner number records found k c.one-item.result c.loop-one.verdict
+    (stopped_at manner number records found k c.one-item.result c.loop-one.verdict
     c.loop-one.joined _ _ _ all within here (c.loop-one.invariant.so_far manner number records all)
-    c.in_err-push_text.ensures.prefix)
+    c.in-Err.ensures.prefix)
 
 pub loop-one-init : goal.loop-one-init
 loop-one-init g c = record {
@@ -32,15 +31,15 @@ loop-one-preserved g c = record {
       let within : k < length found = search rules in
       let here : c.one-item.result ≡ telling manner (number + k) (get_or records k []) =
       c.one-item.is ∙ told_here manner number records found k c.one-item.result all within in
-      rw (c.and-verdict.ensures, c.in_ok-push_text.ensures.verdict)
+      rw (c.and-verdict.ensures, c.in-Ok.ensures.verdict)
       (one_joined manner number records found k c.one-item.result c.loop-one.verdict
       c.loop-one.joined c.push_text.new.joined _ _ _ all within here
-      (c.loop-one.invariant.so_far manner number records all) c.in_ok-push_text.ensures.taken);
+      (c.loop-one.invariant.so_far manner number records all) c.in-Ok.ensures.taken);
   later = search rules;
 }
 
-pub returns-in_err-flush-clause-stopped : goal.returns-in_err-flush-clause-stopped
-returns-in_err-flush-clause-stopped g c =
+pub returns-in-Err-flush-clause-stopped : goal.returns-in-Err-flush-clause-stopped
+returns-in-Err-flush-clause-stopped g c =
     let found = c.args.found.now in
     let done : c.loop-one.one-index ≡ length found = search rules in
     λ manner number records all.
@@ -49,11 +48,11 @@ returns-in_err-flush-clause-stopped g c =
     subst (λ k. IsJoined manner number records k c.loop-one.verdict c.loop-one.joined
     (g.K.Sink.taken c.args.sink.now) (g.K.Sink.taken c.loop-one.sink)) done
     (c.loop-one.invariant.so_far manner number records all) in
-    where_refused c.from_residual-in_err-flush.result (stopped_behind manner number records found c.loop-one.verdict
-    c.loop-one.joined _ _ _ all before c.in_err-flush.ensures.prefix)
+    (stopped_behind manner number records found c.loop-one.verdict
+    c.loop-one.joined _ _ _ all before c.in-Err-flush.ensures.prefix)
 
-pub returns-clause-told : goal.returns-clause-told
-returns-clause-told g c =
+pub returns-in-Ok-flush-clause-told : goal.returns-in-Ok-flush-clause-told
+returns-in-Ok-flush-clause-told g c =
     let found = c.args.found.now in
     let done : c.loop-one.one-index ≡ length found = search rules in
     λ manner number records all. all_told manner number records found c.loop-one.verdict c.loop-one.joined _ _ all
@@ -61,11 +60,11 @@ returns-clause-told g c =
     (g.K.Sink.taken c.args.sink.now) (g.K.Sink.taken c.loop-one.sink)) done
     (c.loop-one.invariant.so_far manner number records all))
 
-pub returns-clause-written : goal.returns-clause-written
-returns-clause-written g c =
+pub returns-in-Ok-flush-clause-written : goal.returns-in-Ok-flush-clause-written
+returns-in-Ok-flush-clause-written g c =
     let found = c.args.found.now in
     let done : c.loop-one.one-index ≡ length found = search rules in
     λ manner number records all. all_written manner number records found c.loop-one.verdict c.loop-one.joined _ _ _ all
     (subst (λ k. IsJoined manner number records k c.loop-one.verdict c.loop-one.joined
     (g.K.Sink.taken c.args.sink.now) (g.K.Sink.taken c.loop-one.sink)) done
-    (c.loop-one.invariant.so_far manner number records all)) c.in_ok-flush.ensures.whole
+    (c.loop-one.invariant.so_far manner number records all)) c.in-Ok-flush.ensures.whole

@@ -1,22 +1,19 @@
 use Rattle.std.proofs.Common.{◌≡◌, map, ap, ◌∙◌}
-use Rattle.std.proofs.lemmas.Result.{err_from_is_err_and}
 use Rattle.cip_stream.specs.Batches.{telling, told_from}
 use Rattle.cip_stream.proofs.Batches.{no_memory}
 use Rattle.cip_stream.proofs.batch.Batch.answer.Goals as goal
 
-pub returns-in_err-found-clause-answered : goal.returns-in_err-found-clause-answered
-returns-in_err-found-clause-answered g c =
-    let p = err_from_is_err_and c.from_residual.result c.from_residual.ensures.1 in
+pub returns-in_default-clause-answered : goal.returns-in_default-clause-answered
+returns-in_default-clause-answered g c =
     let batch = c.args.self.now in
-    rw (p.1, p.2) (no_memory (g.T.Teller.manner batch.teller) batch.first batch.records
-    (g.K.Sink.taken c.args.sink.now))
+    no_memory (g.T.Teller.manner batch.teller) batch.first batch.records (g.K.Sink.taken c.args.sink.now)
 
 pub returns-clause-answered : goal.returns-clause-answered
 returns-clause-answered g c =
     let batch = c.args.self.now in
     let manner = g.T.Teller.manner batch.teller in
     let told : c.deref-2.result.now ≡ told_from manner batch.first batch.records =
-    c.deref-2.ensures.value ∙ c.in_ok-found.ensures
+    c.deref-2.ensures.value ∙ c.in-Ok.ensures
     ∙ ap (map (λ w. telling (g.T.Teller.manner w.teller.now) w.number w.bytes)) c.deref.ensures.value
     ∙ c.self.invariant ∙ ap (λ b. told_from (g.T.Teller.manner b.teller) b.first b.records) c.self.view_is in
     c.write_all.ensures.answered manner batch.first batch.records told

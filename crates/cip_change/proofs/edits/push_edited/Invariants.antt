@@ -3,7 +3,7 @@ use Rattle.std.specs.List.{concat}
 use Rattle.cip_text.specs.Lines.{lines_of}
 use Rattle.cip_text.specs.Bodies.{body_lines, closing}
 use Rattle.cip_change.specs.Edits.{edited_lines, edited}
-use Rattle.cip_change.proofs.edits.edit_record.Given as goal
+use Rattle.cip_change.proofs.edits.push_edited.Given as goal
 
 abbrev pub invariant-loop-line : goal.invariant-loop-line
 invariant-loop-line g l = record {

@@ -1,7 +1,7 @@
 use Rattle.std.proofs.Common.{arith}
 use Rattle.std.proofs.lemmas.Grind.{common_steps}
 use Rattle.cip_change.specs.Columns.{with_columns}
-use Rattle.cip_change.proofs.columns.with_columns.Goals as goal
+use Rattle.cip_change.proofs.columns.push_columns.Goals as goal
 
 pub returns : goal.returns
 unfolding with_columns
