@@ -12,9 +12,13 @@ impl Molecule {
     pub fn mirror(&self, alloc: Global) -> Result<Molecule, AllocError>
         ensures { IfOk result (λ m. m ≡ reflected self.now) }
     {
-        let atoms = mirrored_atoms(alloc, self.atoms())?;
-        let bonds = mirrored_bonds(alloc, self.bonds())?;
-        Molecule::of_sound(alloc, atoms, bonds)
+        let Ok(atoms) = mirrored_atoms(alloc, self.atoms()) else {
+            return Err(AllocError);
+        };
+        match mirrored_bonds(alloc, self.bonds()) {
+            Ok(bonds) => Molecule::of_sound(alloc, atoms, bonds),
+            Err(error) => Err(error),
+        }
     }
 }
 
