@@ -36,9 +36,10 @@ impl Family {
           counts = [];
         }) }
     {
-        Ok(Family {
-            places: Column::reserve(alloc, room)?,
-        })
+        match Column::reserve(alloc, room) {
+            Ok(places) => Ok(Family { places }),
+            Err(error) => Err(error),
+        }
     }
 
     /// Lets go of all places, and of no memory.
