@@ -39,10 +39,14 @@ pub fn set_to(choice: &Named, words: &[String]) -> Option<u32>
     ensures set { result ≡ set_to choice.now.0.now choice.now.1 words.now }
     ensures of { IfSome result (IsOf choice.now.1.values) }
 {
-    if !is_given(choice.0, words) {
-        return choice.1.default;
+    if is_given(choice.0, words) {
+        match once(choice.0, words) {
+            Some(word) => allowed(choice.1.values, word),
+            None => None,
+        }
+    } else {
+        choice.1.default
     }
-    allowed(choice.1.values, once(choice.0, words)?)
 }
 
 /// The word behind a name that is given once.
