@@ -162,18 +162,6 @@ impl Labelling {
     }
 }
 
-impl Task {
-    fn set(number: u32, atom: u32, letter: CentreLetter) -> Task
-        ensures { result ≡ Task.Set number atom letter }
-    {
-        Task::Set {
-            number,
-            atom,
-            letter,
-        }
-    }
-}
-
 impl Settings {
     /// What the command does.
     pub fn action(self) -> Action
@@ -210,8 +198,12 @@ impl Settings {
                 workers,
                 rules,
             } => {
-                let labelling = Labelling::new(nodes, workers, rules);
-                Action::Read(Task::set(number, atom, letter), labelling)
+                let task = Task::Set {
+                    number,
+                    atom,
+                    letter,
+                };
+                Action::Read(task, Labelling::new(nodes, workers, rules))
             }
             Settings::Mirror {
                 nodes,
