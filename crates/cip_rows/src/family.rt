@@ -120,14 +120,9 @@ impl Family {
         requires within { first + count ≤ length self.old.ups }
         ensures { self.new ≡ with_children place first count self.old }
     {
-        let here = self.places.as_slice()[place as usize];
-        self.places.set(
-            place,
-            Place {
-                first,
-                count,
-                ..here
-            },
-        );
+        let mut here = self.places.as_slice()[place as usize];
+        here.first = first;
+        here.count = count;
+        self.places.set(place, here);
     }
 }
