@@ -16,7 +16,7 @@ use crate::presence::{clear_flags, mark_vertex};
 use crate::sizes::{copies, node_size, real_vertex, sphere_size};
 use crate::telling::{RealNode, mass_of, tell_closure, tell_duplicate, tell_real, z_of};
 use cip_digraph::{Edge, Graph, NodeKind, Nodes, Positions, Told};
-use cip_rank::{Rules, Steps, Table};
+use cip_rank::{Rules, Steps, Table, both_of};
 use std::alloc::{AllocError, Global};
 use std::marker::Model;
 use std::sync::ledger::Ledger;
@@ -63,15 +63,23 @@ impl Arena {
     pub fn reserve(alloc: Global, bound: u32) -> Result<Arena, AllocError>
         ensures { IfOk result (λ arena. arena ≡ record { bound = bound; root = 0; sphere = 0; first = 0; nodes = [] }) }
     {
-        Ok(Arena {
-            bound,
-            root: 0,
-            sphere: 0,
-            first: 0,
-            table: Table::reserve(alloc, bound)?,
-            nodes: Vec::with_capacity(alloc, bound as usize)?,
-            present: Vec::with_capacity(alloc, bound as usize)?,
-        })
+        let room = bound as usize;
+        let columns = both_of(
+            Vec::with_capacity(alloc, room),
+            Vec::with_capacity(alloc, room),
+        );
+        match both_of(Table::reserve(alloc, bound), columns) {
+            Ok((table, (nodes, present))) => Ok(Arena {
+                bound,
+                root: 0,
+                sphere: 0,
+                first: 0,
+                table,
+                nodes,
+                present,
+            }),
+            Err(error) => Err(error),
+        }
     }
 
     /// Lets go of all nodes but a new root.
@@ -117,16 +125,16 @@ impl Arena {
         ensures answer { GrownAs graph.now positions.now self.old self.new steps.old steps.new result }
     {
         let past = self.len();
-        let Some(size) = sphere_size(graph, &self.nodes, self.first, past, self.bound - past) else {
-            return Grown::Over;
-        };
-        if size == 0 {
-            return Grown::Whole;
+        match sphere_size(graph, &self.nodes, self.first, past, self.bound - past) {
+            None => Grown::Over,
+            Some(0) => Grown::Whole,
+            Some(_) => {
+                self.make_sphere(graph, positions, past, steps);
+                self.first = past;
+                self.sphere += 1;
+                Grown::Grown
+            }
         }
-        self.make_sphere(graph, positions, past, steps);
-        self.first = past;
-        self.sphere += 1;
-        Grown::Grown
     }
 
     /// The last sphere.
@@ -205,17 +213,16 @@ impl Arena {
         ensures size { length self.new.nodes ≡ length self.old.nodes + size_of_node graph.now self.old.nodes node }
         ensures cost { steps.new + length self.old.nodes ≡ steps.old + length self.new.nodes }
     {
-        let Some(vertex) = real_vertex(&self.nodes[node as usize]) else {
-            return;
-        };
-        let above = vertex_above(&self.nodes, node);
-        let from = RealNode {
-            node,
-            vertex,
-            above,
-        };
-        for edge in graph.edges_at(vertex) {
-            self.make_edge(graph, positions, from, edge, steps);
+        if let Some(vertex) = real_vertex(&self.nodes[node as usize]) {
+            let above = vertex_above(&self.nodes, node);
+            let from = RealNode {
+                node,
+                vertex,
+                above,
+            };
+            for edge in graph.edges_at(vertex) {
+                self.make_edge(graph, positions, from, edge, steps);
+            }
         }
     }
 
@@ -273,20 +280,16 @@ impl Arena {
         let node = from.node;
         // Nearly all neighbours on the way up are the parent: it is known without a climb.
         if from.comes_from(other) {
-            return self.nodes[node as usize].parent;
-        }
-        match find_above(&self.nodes, &self.present, node, other) {
-            Some(at) => {
-                if !is_above(&self.nodes, node, other) {
-                    let told = tell_closure(graph, &self.nodes, node, other, at);
-                    let _ = self.add(told, steps);
-                }
-                at
+            self.nodes[node as usize].parent
+        } else if let Some(at) = find_above(&self.nodes, &self.present, node, other) {
+            if !is_above(&self.nodes, node, other) {
+                let told = tell_closure(graph, &self.nodes, node, other, at);
+                let _ = self.add(told, steps);
             }
-            None => {
-                let told = tell_real(graph, &self.nodes, node, other);
-                self.add(told, steps)
-            }
+            at
+        } else {
+            let told = tell_real(graph, &self.nodes, node, other);
+            self.add(told, steps)
         }
     }
 

@@ -29,9 +29,7 @@ pub fn clear_flags(flags: &mut Vec<bool>, vertices: usize, room: u32)
 {
     let count = vertices.min(room as usize);
     if flags.len() == count {
-        for flag in flags.iter_mut() {
-            *flag = false;
-        }
+        flags.fill(false);
     } else {
         flags.clear();
         let _ = flags.resize(count, false);

@@ -52,12 +52,11 @@ pub fn node_size(graph: &Graph, nodes: &[Told], node: u32) -> u64
     ensures size { result ≡ size_of_node graph.now nodes.now node }
     ensures small { result ≤ 2 ^ 40 }
 {
-    let Some(vertex) = real_vertex(&nodes[node as usize]) else {
-        return 0;
-    };
     let mut size = 0u64;
-    for edge in graph.edges_at(vertex) {
-        size += edge_size(nodes, node, vertex, edge);
+    if let Some(vertex) = real_vertex(&nodes[node as usize]) {
+        for edge in graph.edges_at(vertex) {
+            size += edge_size(nodes, node, vertex, edge);
+        }
     }
     size
 }

@@ -4,7 +4,6 @@ ghost use Rattle.cip_mol.specs.Ranges.{IsAtom, IsPlace};
 ghost use Rattle.cip_mol.specs.Reflection.{exchanged, mirrored_atom, mirrored_bond, reflected};
 
 use crate::molecule::{Atom, Bond, Mark, Molecule};
-use cip_num::Vec3;
 use std::alloc::{AllocError, Global};
 
 impl Molecule {
@@ -12,9 +11,13 @@ impl Molecule {
     pub fn mirror(&self, alloc: Global) -> Result<Molecule, AllocError>
         ensures { IfOk result (λ m. m ≡ reflected self.now) }
     {
-        let atoms = mirrored_atoms(alloc, self.atoms())?;
-        let bonds = mirrored_bonds(alloc, self.bonds())?;
-        Molecule::of_sound(alloc, atoms, bonds)
+        let Ok(atoms) = mirrored_atoms(alloc, self.atoms()) else {
+            return Err(AllocError);
+        };
+        match mirrored_bonds(alloc, self.bonds()) {
+            Ok(bonds) => Molecule::of_sound(alloc, atoms, bonds),
+            Err(error) => Err(error),
+        }
     }
 }
 
@@ -29,11 +32,9 @@ fn mirrored_atom(atom: Atom) -> Atom
     requires { IsPlace atom.at }
     ensures { result ≡ mirrored_atom atom }
 {
-    let Vec3 { x, y, z } = atom.at;
-    Atom {
-        at: Vec3 { x, y, z: -z },
-        ..atom
-    }
+    let mut mirrored = atom;
+    mirrored.at.z = -atom.at.z;
+    mirrored
 }
 
 fn mirrored_bonds(alloc: Global, bonds: &[Bond]) -> Result<Vec<Bond>, AllocError>
@@ -45,10 +46,9 @@ fn mirrored_bonds(alloc: Global, bonds: &[Bond]) -> Result<Vec<Bond>, AllocError
 fn mirrored_bond(bond: Bond) -> Bond
     ensures { result ≡ mirrored_bond bond }
 {
-    Bond {
-        mark: exchanged(bond.mark),
-        ..bond
-    }
+    let mut mirrored = bond;
+    mirrored.mark = exchanged(bond.mark);
+    mirrored
 }
 
 fn exchanged(mark: Mark) -> Mark

@@ -21,10 +21,16 @@ impl Molecule {
         ensures drawn { IfOk result (λ m. m ≡ renumbered atoms.now bonds.now self.now) }
         ensures sound { IsSound (length self.now.atoms) self.now.bonds }
     {
-        let renamed = renamed_bonds(alloc, atoms, self.bonds())?;
-        let placed_atoms = placed(alloc, atoms, self.atoms())?;
-        let placed_bonds = placed(alloc, bonds, &renamed)?;
-        Molecule::of_sound(alloc, placed_atoms, placed_bonds)
+        let Ok(renamed) = renamed_bonds(alloc, atoms, self.bonds()) else {
+            return Err(AllocError);
+        };
+        let Ok(placed_atoms) = placed(alloc, atoms, self.atoms()) else {
+            return Err(AllocError);
+        };
+        match placed(alloc, bonds, &renamed) {
+            Ok(placed_bonds) => Molecule::of_sound(alloc, placed_atoms, placed_bonds),
+            Err(error) => Err(error),
+        }
     }
 }
 
@@ -59,7 +65,9 @@ fn placed<T: Copy>(alloc: Global, places: &[u32], items: &[T]) -> Result<Vec<T>,
     requires { ArePlaces (length items.now) places.now }
     ensures { IfOk result (λ v. (none : T) → v.items ≡ placed none places.now items.now) }
 {
-    let mut there = items.to_vec(alloc)?;
+    let Ok(mut there) = items.to_vec(alloc) else {
+        return Err(AllocError);
+    };
     for (k, item) in items.iter().enumerate() {
         there[places[k] as usize] = *item;
     }

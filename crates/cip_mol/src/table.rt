@@ -29,7 +29,9 @@ impl Table {
     pub fn new(alloc: Global, atoms: usize) -> Result<Table, AllocError>
         ensures { IfOk result (λ table. table ≡ replicate atoms (record { neighbours = []; bonds = [] })) }
     {
-        let mut rows = Vec::with_capacity(alloc, atoms)?;
+        let Ok(mut rows) = Vec::with_capacity(alloc, atoms) else {
+            return Err(AllocError);
+        };
         for _ in 0..atoms {
             rows.push_reserved(Row::new());
         }

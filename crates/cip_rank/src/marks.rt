@@ -1,5 +1,5 @@
 // Marks on the way from a node to the root.
-ghost use Rattle.std.specs.Prelude.{◌≡◌, ℕ, ◌<◌, ◌≤◌, ◌||◌, false, length, slice_index, vec_capacity};
+ghost use Rattle.std.specs.Prelude.{◌≡◌, ℕ, ◌<◌, ◌≤◌, false, length, slice_index, vec_capacity};
 ghost use Rattle.std.specs.List.{slice_index_or};
 ghost use Rattle.cip_rank.specs.View.{on_way};
 
@@ -29,7 +29,13 @@ pub fn mark_way(table: &Table, from: u32, marks: &mut Vec<bool>)
     ensures len { length marks.new.items ≡ length marks.old.items }
     ensures room { vec_capacity marks.new ≡ vec_capacity marks.old }
 {
-    climb(table, from, marks);
+    let _count = table.len();
+    let mut node = from;
+    while node > 0 {
+        marks[node as usize] = true;
+        node = parent_of(table, node);
+    }
+    marks[0] = true;
 }
 
 /// Takes the marks off again.
@@ -50,26 +56,6 @@ pub fn take_off(table: &Table, from: u32, marks: &mut Vec<bool>)
         node = parent_of(table, node);
     }
     marks[0] = false;
-}
-
-/// Marks the nodes on the way from a node to the root.
-fn climb(table: &Table, from: u32, marks: &mut Vec<bool>)
-    requires node { from < length table.now.parents }
-    requires len { length table.now.parents ≤ length marks.old.items }
-    ensures marks { (x : ℕ) → x < length table.now.parents → slice_index_or marks.new.items x false
-        ≡ (slice_index_or marks.old.items x false || on_way table.now.parents from x) }
-    ensures others { (x : ℕ) → length table.now.parents ≤ x → slice_index_or marks.new.items x false
-        ≡ slice_index_or marks.old.items x false }
-    ensures len { length marks.new.items ≡ length marks.old.items }
-    ensures room { vec_capacity marks.new ≡ vec_capacity marks.old }
-{
-    let _count = table.len();
-    let mut node = from;
-    while node > 0 {
-        marks[node as usize] = true;
-        node = parent_of(table, node);
-    }
-    marks[0] = true;
 }
 
 /// The parent of a node that isn't the root.

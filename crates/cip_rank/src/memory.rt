@@ -10,8 +10,10 @@ pub fn both<A: Drop, B>(one: A, other: Result<B, AllocError>) -> Result<(A, B), 
     ensures one { IfOk result (λ parts. parts.0 ≡ one) }
     ensures other { IfOk result (λ parts. other ≡ Ok parts.1) }
 {
-    let other = other?;
-    Ok((one, other))
+    match other {
+        Ok(other) => Ok((one, other)),
+        Err(error) => Err(error),
+    }
 }
 
 /// Both of two parts, as they were taken or refused: where one of them was refused the other one is given back. So a
@@ -23,5 +25,8 @@ pub fn both_of<A: Drop, B: Drop>(
     ensures one { IfOk result (λ parts. one ≡ Ok parts.0) }
     ensures other { IfOk result (λ parts. other ≡ Ok parts.1) }
 {
-    both(one?, other)
+    match one {
+        Ok(one) => both(one, other),
+        Err(error) => Err(error),
+    }
 }

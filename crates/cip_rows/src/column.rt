@@ -28,10 +28,10 @@ impl<T: Copy + Drop> Column<T> {
     pub fn reserve(alloc: Global, room: u32) -> Result<Column<T>, AllocError>
         ensures { IfOk result (λ column. column ≡ record { room = room; items = [] }) }
     {
-        Ok(Column {
-            items: Vec::with_capacity(alloc, room as usize)?,
-            room,
-        })
+        match Vec::with_capacity(alloc, room as usize) {
+            Ok(items) => Ok(Column { items, room }),
+            Err(error) => Err(error),
+        }
     }
 
     /// How many items there are.

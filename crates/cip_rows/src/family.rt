@@ -36,9 +36,10 @@ impl Family {
           counts = [];
         }) }
     {
-        Ok(Family {
-            places: Column::reserve(alloc, room)?,
-        })
+        match Column::reserve(alloc, room) {
+            Ok(places) => Ok(Family { places }),
+            Err(error) => Err(error),
+        }
     }
 
     /// Lets go of all places, and of no memory.
@@ -119,14 +120,9 @@ impl Family {
         requires within { first + count ≤ length self.old.ups }
         ensures { self.new ≡ with_children place first count self.old }
     {
-        let here = self.places.as_slice()[place as usize];
-        self.places.set(
-            place,
-            Place {
-                first,
-                count,
-                ..here
-            },
-        );
+        let mut here = self.places.as_slice()[place as usize];
+        here.first = first;
+        here.count = count;
+        self.places.set(place, here);
     }
 }

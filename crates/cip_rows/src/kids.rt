@@ -50,21 +50,7 @@ impl NodeOrder for ByKids<'_> {
         (lists_total nat_cmp_total) };
 }
 
-// Writes the set of a place.
-fn write_set(family: &Family, numbers: &[u32], place: u32, sets: &mut [u32])
-    requires place { place < length family.now.ups }
-    requires numbers { length family.now.ups ≤ length numbers.now }
-    requires room { length family.now.ups ≤ length sets.old }
-    ensures set { map (slice_index sets.new) (kids_of family.now place)
-        ≡ kid_set (kids_of family.now) numbers.now place }
-    ensures others { KeepsOthers (slice_index family.now.firsts place)
-        (slice_index family.now.firsts place + slice_index family.now.counts place) sets.old sets.new }
-{
-    let (first, past) = family.children(place);
-    write_part(numbers, sets, first as usize, past as usize);
-}
-
-// The same, where it is wanted.
+// Writes the set of a place, where it is wanted.
 fn write_set_if(is_wanted: bool, family: &Family, numbers: &[u32], place: u32, sets: &mut [u32])
     requires place { place < length family.now.ups }
     requires numbers { length family.now.ups ≤ length numbers.now }
@@ -75,7 +61,8 @@ fn write_set_if(is_wanted: bool, family: &Family, numbers: &[u32], place: u32, s
         (slice_index family.now.firsts place + slice_index family.now.counts place) sets.old sets.new }
 {
     if is_wanted {
-        write_set(family, numbers, place, sets);
+        let (first, past) = family.children(place);
+        write_part(numbers, sets, first as usize, past as usize);
     }
 }
 

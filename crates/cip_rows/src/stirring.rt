@@ -44,12 +44,13 @@ fn stir_place(
         (slice_index family.now.ups place)) true else flags.old) }
 {
     if order.number(place) == before[place as usize] {
-        return false;
+        false
+    } else {
+        let above = order.number(family.parent(place));
+        let is_shared = order.is_shared(above, from);
+        set_flag_if(is_shared, flags, above);
+        is_shared
     }
-    let above = order.number(family.parent(place));
-    let is_shared = order.is_shared(above, from);
-    set_flag_if(is_shared, flags, above);
-    is_shared
 }
 
 /// Sets the flag of each class of two places and more of which a member's child stands in these rows and has another

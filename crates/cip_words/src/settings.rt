@@ -162,18 +162,6 @@ impl Labelling {
     }
 }
 
-impl Task {
-    fn set(number: u32, atom: u32, letter: CentreLetter) -> Task
-        ensures { result ≡ Task.Set number atom letter }
-    {
-        Task::Set {
-            number,
-            atom,
-            letter,
-        }
-    }
-}
-
 impl Settings {
     /// What the command does.
     pub fn action(self) -> Action
@@ -210,8 +198,12 @@ impl Settings {
                 workers,
                 rules,
             } => {
-                let labelling = Labelling::new(nodes, workers, rules);
-                Action::Read(Task::set(number, atom, letter), labelling)
+                let task = Task::Set {
+                    number,
+                    atom,
+                    letter,
+                };
+                Action::Read(task, Labelling::new(nodes, workers, rules))
             }
             Settings::Mirror {
                 nodes,
@@ -242,8 +234,10 @@ pub fn read_words(words: &[String]) -> Option<Settings>
     let [name, rest @ ..] = words else {
         return None;
     };
-    let (_, command, choices) = form_named(name.as_bytes())?;
-    asked_by(command, choices, rest)
+    match form_named(name.as_bytes()) {
+        Some((_, command, choices)) => asked_by(command, choices, rest),
+        None => None,
+    }
 }
 
 // What a command with these options asks for with these words.
@@ -251,10 +245,11 @@ fn asked_by(command: Command, choices: &[Named], words: &[String]) -> Option<Set
     ensures meant { result ≡ asked_by command (map (λ choice. (choice.0.now, choice.1)) choices.now) words.now }
     ensures within { IfSome result AreWithin }
 {
-    if !are_pairs(choices, words) {
-        return None;
+    if are_pairs(choices, words) {
+        asked(command, words)
+    } else {
+        None
     }
-    asked(command, words)
 }
 
 // The command of this name.
@@ -287,7 +282,10 @@ fn asked(command: Command, words: &[String]) -> Option<Settings>
         Command::Trial => trial(words),
         Command::Set => setting(words),
         Command::Help => Some(Settings::Help),
-        _ => alone(command, read_labelling(words)?),
+        _ => match read_labelling(words) {
+            Some(labelling) => alone(command, labelling),
+            None => None,
+        },
     }
 }
 
@@ -334,40 +332,43 @@ fn alone(command: Command, labelling: Labelling) -> Option<Settings>
 fn read_labelling(words: &[String]) -> Option<Labelling>
     ensures { result ≡ labelling_of words.now }
 {
-    Some(Labelling {
-        nodes: set_to(&NODES, words)?,
-        workers: workers(words)?,
-        rules: rules(words)?,
-    })
+    match (set_to(&NODES, words), workers(words), rules(words)) {
+        (Some(nodes), Some(workers), Some(rules)) => Some(Labelling {
+            nodes,
+            workers,
+            rules,
+        }),
+        _ => None,
+    }
 }
 
 fn making(words: &[String]) -> Option<Settings>
     ensures meant { result ≡ making_of words.now }
     ensures within { IfSome result AreWithin }
 {
-    Some(Settings::Make {
-        start: set_to(&START, words)?,
-        records: set_to(&RECORDS, words)?,
-    })
+    match (set_to(&START, words), set_to(&RECORDS, words)) {
+        (Some(start), Some(records)) => Some(Settings::Make { start, records }),
+        _ => None,
+    }
 }
 
 fn trial(words: &[String]) -> Option<Settings>
     ensures meant { result ≡ trial_of words.now }
     ensures within { IfSome result AreWithin }
 {
-    let start = set_to(&START, words)?;
-    let records = set_to(&RECORDS, words)?;
-    let Labelling {
-        nodes,
-        workers,
-        rules,
-    } = read_labelling(words)?;
+    let (Some(start), Some(records), Some(labelling)) = (
+        set_to(&START, words),
+        set_to(&RECORDS, words),
+        read_labelling(words),
+    ) else {
+        return None;
+    };
     Some(Settings::Trial {
         start,
         records,
-        nodes,
-        workers,
-        rules,
+        nodes: labelling.nodes,
+        workers: labelling.workers,
+        rules: labelling.rules,
     })
 }
 
@@ -375,43 +376,42 @@ fn setting(words: &[String]) -> Option<Settings>
     ensures meant { result ≡ setting_of words.now }
     ensures within { IfSome result AreWithin }
 {
-    let number = set_to(&RECORD, words)?;
-    let atom = set_to(&ATOM, words)?;
-    let letter = letter(words)?;
-    let Labelling {
-        nodes,
-        workers,
-        rules,
-    } = read_labelling(words)?;
+    let (Some(number), Some(atom), Some(letter), Some(labelling)) = (
+        set_to(&RECORD, words),
+        set_to(&ATOM, words),
+        letter(words),
+        read_labelling(words),
+    ) else {
+        return None;
+    };
     Some(Settings::Set {
         number,
         atom,
         letter,
-        nodes,
-        workers,
-        rules,
+        nodes: labelling.nodes,
+        workers: labelling.workers,
+        rules: labelling.rules,
     })
 }
 
 fn letter(words: &[String]) -> Option<CentreLetter>
     ensures { result ≡ letter_of words.now }
 {
-    letter_named(once(LETTER.0, words)?)
+    match once(LETTER.0, words) {
+        Some(word) => letter_named(word),
+        None => None,
+    }
 }
 
 fn letter_named(word: &[u8]) -> Option<CentreLetter>
     ensures { result ≡ letter_named word.now }
 {
-    if word == b"R".as_slice() {
-        Some(CentreLetter::R)
-    } else if word == b"S".as_slice() {
-        Some(CentreLetter::S)
-    } else if word == b"r".as_slice() {
-        Some(CentreLetter::SmallR)
-    } else if word == b"s".as_slice() {
-        Some(CentreLetter::SmallS)
-    } else {
-        None
+    match word {
+        [b'R'] => Some(CentreLetter::R),
+        [b'S'] => Some(CentreLetter::S),
+        [b'r'] => Some(CentreLetter::SmallR),
+        [b's'] => Some(CentreLetter::SmallS),
+        _ => None,
     }
 }
 
@@ -419,15 +419,18 @@ fn workers(words: &[String]) -> Option<u8>
     ensures set { result ≡ workers_of words.now }
     ensures between { IfSome result (IsBetween 1 16) }
 {
-    Some(set_to(&WORKERS, words)? as u8)
+    match set_to(&WORKERS, words) {
+        Some(count) => Some(count as u8),
+        None => None,
+    }
 }
 
 fn rules(words: &[String]) -> Option<Rules>
     ensures { result ≡ rules_of words.now }
 {
-    if set_to(&WORDING, words)? == 2013 {
-        Some(Rules::Wording2013)
-    } else {
-        Some(Rules::Wording2018)
+    match set_to(&WORDING, words) {
+        Some(2013) => Some(Rules::Wording2013),
+        Some(_) => Some(Rules::Wording2018),
+        None => None,
     }
 }

@@ -39,21 +39,24 @@ pub fn set_to(choice: &Named, words: &[String]) -> Option<u32>
     ensures set { result ≡ set_to choice.now.0.now choice.now.1 words.now }
     ensures of { IfSome result (IsOf choice.now.1.values) }
 {
-    if !is_given(choice.0, words) {
-        return choice.1.default;
+    if is_given(choice.0, words) {
+        match once(choice.0, words) {
+            Some(word) => allowed(choice.1.values, word),
+            None => None,
+        }
+    } else {
+        choice.1.default
     }
-    allowed(choice.1.values, once(choice.0, words)?)
 }
 
 /// The word behind a name that is given once.
 pub fn once<'a>(name: &[u8], words: &'a [String]) -> Option<&'a [u8]>
     ensures { option_map (λ value. value.now) result ≡ once name.now words.now }
 {
-    let (value, more) = first_given(name, words)?;
-    if is_given(name, more) {
-        return None;
+    match first_given(name, words) {
+        Some((value, more)) if !is_given(name, more) => Some(value),
+        _ => None,
     }
-    Some(value)
 }
 
 fn is_given(name: &[u8], words: &[String]) -> bool
@@ -81,11 +84,9 @@ fn allowed(values: Values, word: &[u8]) -> Option<u32>
     ensures set { result ≡ allowed values word.now }
     ensures of { IfSome result (IsOf values) }
 {
-    let number = number(word)?;
-    if allows(values, number) {
-        Some(number as u32)
-    } else {
-        None
+    match number(word) {
+        Some(number) if allows(values, number) => Some(number as u32),
+        _ => None,
     }
 }
 

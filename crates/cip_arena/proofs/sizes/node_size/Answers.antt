@@ -21,16 +21,16 @@ overflow_add-size c =
       c.edge_size-size.ensures.small,
     )
 
-pub returns-clause-small : goal.returns-clause-small
-returns-clause-small c =
+pub returns-after-loop-edge-clause-small : goal.returns-after-loop-edge-clause-small
+returns-after-loop-edge-clause-small c =
     let few = few_at c.args.graph.now c.in-Some.vertex in
     let same : length c.edges_at-edge-items.result.now ≡ _ = ap (length {A = Edge})
     c.edges_at-edge-items.ensures.value in
     let small = c.loop-edge.invariant.small in
     omega (arith, few, same, small, c.edges_at-edge-items.ensures.range.few_edges, c.loop-edge.auto)
 
-pub returns-clause-size : goal.returns-clause-size
-returns-clause-size c = grind (arith, common_steps)
+pub returns-after-loop-edge-clause-size : goal.returns-after-loop-edge-clause-size
+returns-after-loop-edge-clause-size c = grind (arith, common_steps)
 
 pub loop-edge-preserved : goal.loop-edge-preserved
 loop-edge-preserved c = grind (arith, common_steps)

@@ -4,7 +4,7 @@ use Rattle.cip_mol.proofs.Placing.{StandAtPlaces, none_stands, one_more_stands, 
 use Rattle.cip_mol.proofs.renumbering.placed.Goals as goal
 
 pub loop-k-init : goal.loop-k-init
-loop-k-init g c = none_stands c.args.places.now c.args.items.now c.in_ok-there.there.items (omega (arith, c.in_ok-there.there.ok, c.in_ok-there.ensures.len))
+loop-k-init g c = none_stands c.args.places.now c.args.items.now c.in-Ok.there.items (omega (arith, c.in-Ok.there.ok, c.in-Ok.ensures.len))
 
 pub offset_bounds-places-k : goal.offset_bounds-places-k
 offset_bounds-places-k g c =

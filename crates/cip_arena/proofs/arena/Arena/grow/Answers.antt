@@ -9,8 +9,8 @@ use Rattle.cip_arena.proofs.arena.Arena.grow.Goals as goal
 pub make_sphere-requires-clause-last : goal.make_sphere-requires-clause-last
 make_sphere-requires-clause-last g c = last_holds c.args.graph.now c.args.positions.now c.args.self.now c.requires
 
-pub returns-in_default-clause-answer : goal.returns-in_default-clause-answer
-returns-in_default-clause-answer g c =
+pub returns-in-None-clause-answer : goal.returns-in-None-clause-answer
+returns-in-None-clause-answer g c =
     let a = c.args.self.now in
     let early : IsEarlier a.nodes = subst (λ (a : Growth). IsEarlier a.nodes) c.self.view_is c.self.invariant.earlier in
     let size = size_told c.args.graph.now c.args.positions.now a early c.requires _ _ _
@@ -18,24 +18,24 @@ returns-in_default-clause-answer g c =
     c.len-past.ensures.len in
     let bound : c.self.inside.bound ≡ a.bound = ap (λ (a : Growth). a.bound) c.self.view_is in
     let past = c.len-past.ensures.len in
-    let over = c.in_default.ensures.over in
+    let over = c.in-None.ensures.over in
     (refl, refl, omega (arith, size, bound, past, over))
 
-pub returns-then-size-eq0-clause-answer : goal.returns-then-size-eq0-clause-answer
-returns-then-size-eq0-clause-answer g c =
+pub returns-in-Some-eq0-clause-answer : goal.returns-in-Some-eq0-clause-answer
+returns-in-Some-eq0-clause-answer g c =
     let a = c.args.self.now in
     let early : IsEarlier a.nodes = subst (λ (a : Growth). IsEarlier a.nodes) c.self.view_is c.self.invariant.earlier in
     let size = size_told c.args.graph.now c.args.positions.now a early c.requires _ _ _
     (c.deref.ensures.value ∙ ap (λ (a : Growth). a.nodes) c.self.view_is) (ap (λ (a : Growth). a.first) c.self.view_is)
     c.len-past.ensures.len in
-    (refl, refl, size ∙ sym c.in-Some.ensures.size ∙ c.if-size-eq0.true)
+    (refl, refl, omega (arith, size, c.in-Some-eq0.ensures.size, c.in-Some-eq0.field-0-is))
 
-pub returns-clause-holds : goal.returns-clause-holds
-returns-clause-holds g c =
+pub returns-in-Some-clause-holds : goal.returns-in-Some-clause-holds
+returns-in-Some-clause-holds g c =
     let a = c.args.self.now in
     let past : c.len-past.result ≡ length a.nodes = c.len-past.ensures.len in
     let now = ap (λ (b : Growth). record b { sphere = b.sphere + 1; first = c.len-past.result })
-    (c.self-2.view_is ∙ c.make_sphere.ensures.made)
+    (c.self-in-Some.view_is ∙ c.make_sphere.ensures.made)
     ∙ ap {A = ℕ} {B = Growth} (λ n. record a {
       sphere = a.sphere + 1;
       first = n;
@@ -44,8 +44,8 @@ returns-clause-holds g c =
     subst (Holds c.args.graph.now c.args.positions.now) (sym now)
     (holds_grown c.args.graph.now c.args.positions.now a c.requires)
 
-pub returns-clause-answer : goal.returns-clause-answer
-returns-clause-answer g c =
+pub returns-in-Some-clause-answer : goal.returns-in-Some-clause-answer
+returns-in-Some-clause-answer g c =
     let a = c.args.self.now in
     let early : IsEarlier a.nodes = subst (λ (a : Growth). IsEarlier a.nodes) c.self.view_is c.self.invariant.earlier in
     let size = size_told c.args.graph.now c.args.positions.now a early c.requires _ _ _
@@ -53,7 +53,7 @@ returns-clause-answer g c =
     c.len-past.ensures.len in
     let past : c.len-past.result ≡ length a.nodes = c.len-past.ensures.len in
     let now = ap (λ (b : Growth). record b { sphere = b.sphere + 1; first = c.len-past.result })
-    (c.self-2.view_is ∙ c.make_sphere.ensures.made)
+    (c.self-in-Some.view_is ∙ c.make_sphere.ensures.made)
     ∙ ap {A = ℕ} {B = Growth} (λ n. record a {
       sphere = a.sphere + 1;
       first = n;
@@ -61,7 +61,7 @@ returns-clause-answer g c =
     }) past in
     let here = size_told c.args.graph.now c.args.positions.now a early c.requires a.nodes a.first _ refl refl past in
     let some = c.in-Some.ensures.size in
-    let not = c.if-size-eq0.false in
+    let not = c.in-Some.field-0-is in
     let long = c.make_sphere.ensures.size in
     let cost = c.make_sphere.ensures.cost in (
       is_grown c.args.graph.now c.args.positions.now a _ now,

@@ -116,8 +116,8 @@ loop-edge-init g c =
       cost = refl;
     }
 
-pub returns-clause-made : goal.returns-clause-made
-returns-clause-made g c =
+pub returns-after-loop-edge-clause-made : goal.returns-after-loop-edge-clause-made
+returns-after-loop-edge-clause-made g c =
     let old = c.args.self.now.nodes in
     let real = real_read c.self.inside.nodes.items old c.args.node c.index.result.now c.real_vertex.result (Some c.in-Some.vertex)
     (ap (λ (a : Growth). a.nodes) c.self.view_is) c.requires.within c.index.ensures c.real_vertex.ensures
@@ -130,14 +130,14 @@ returns-clause-made g c =
     (ap (fold (with_edge c.args.graph.now c.args.positions.now c.args.node c.in-Some.vertex) old) all
     ∙ sym (ap (children_at c.args.graph.now c.args.positions.now old c.args.node) real))
 
-pub returns-clause-last : goal.returns-clause-last
-returns-clause-last g c = c.loop-edge.invariant.last
+pub returns-after-loop-edge-clause-last : goal.returns-after-loop-edge-clause-last
+returns-after-loop-edge-clause-last g c = c.loop-edge.invariant.last
 
-pub returns-clause-kept : goal.returns-clause-kept
-returns-clause-kept g c = c.loop-edge.invariant.kept
+pub returns-after-loop-edge-clause-kept : goal.returns-after-loop-edge-clause-kept
+returns-after-loop-edge-clause-kept g c = c.loop-edge.invariant.kept
 
-pub returns-clause-size : goal.returns-clause-size
-returns-clause-size g c =
+pub returns-after-loop-edge-clause-size : goal.returns-after-loop-edge-clause-size
+returns-after-loop-edge-clause-size g c =
     let old = c.args.self.now.nodes in
     let real = real_read c.self.inside.nodes.items old c.args.node c.index.result.now c.real_vertex.result (Some c.in-Some.vertex)
     (ap (λ (a : Growth). a.nodes) c.self.view_is) c.requires.within c.index.ensures c.real_vertex.ensures
@@ -152,8 +152,8 @@ returns-clause-size g c =
     ∙ sym (ap (size_at c.args.graph.now old c.args.node) real) in
     omega (arith, size, whole)
 
-pub returns-clause-cost : goal.returns-clause-cost
-returns-clause-cost g c = c.loop-edge.invariant.cost
+pub returns-after-loop-edge-clause-cost : goal.returns-after-loop-edge-clause-cost
+returns-after-loop-edge-clause-cost g c = c.loop-edge.invariant.cost
 
 pub vertex_above-above-requires-clause-within : goal.vertex_above-above-requires-clause-within
 vertex_above-above-requires-clause-within g c = grind (arith, common_steps)

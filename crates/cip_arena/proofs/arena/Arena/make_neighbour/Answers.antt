@@ -38,7 +38,7 @@ returns-then-not-is_above g c =
     let old = c.args.self.now.nodes in
     let node = c.args.from.node in
     let other = c.args.other in
-    let same : c.self.inside.nodes.items ≡ old = ap (λ (a : Growth). a.nodes) c.self.view_is in
+    let same : c.self-else-comes_from.inside.nodes.items ≡ old = ap (λ (a : Growth). a.nodes) c.self-else-comes_from.view_is in
     let walked = walked_as old node other c.deref.result.now (Some c.in-Some.at) (c.deref.ensures.value ∙ same)
     c.in-Some.ensures.found in
     let above = above_as old node other c.deref-in-Some.result.now c.is_above.result false
@@ -67,7 +67,7 @@ returns-else-not-is_above g c =
     let old = c.args.self.now.nodes in
     let node = c.args.from.node in
     let other = c.args.other in
-    let same : c.self.inside.nodes.items ≡ old = ap (λ (a : Growth). a.nodes) c.self.view_is in
+    let same : c.self-else-comes_from.inside.nodes.items ≡ old = ap (λ (a : Growth). a.nodes) c.self-else-comes_from.view_is in
     let walked = walked_as old node other c.deref.result.now (Some c.in-Some.at) (c.deref.ensures.value ∙ same)
     c.in-Some.ensures.found in
     let above = above_as old node other c.deref-in-Some.result.now c.is_above.result true
@@ -84,31 +84,31 @@ returns-else-not-is_above g c =
       cost = refl;
     }
 
-pub returns-in-None : goal.returns-in-None
-returns-in-None g c =
+pub returns-in_default : goal.returns-in_default
+returns-in_default g c =
     let old = c.args.self.now.nodes in
     let node = c.args.from.node in
     let other = c.args.other in
-    let same : c.self.inside.nodes.items ≡ old = ap (λ (a : Growth). a.nodes) c.self.view_is in
-    let early : IsEarlier old = subst (λ (a : Growth). IsEarlier a.nodes) c.self.view_is c.self.invariant.earlier in
+    let same : c.self-else-comes_from.inside.nodes.items ≡ old = ap (λ (a : Growth). a.nodes) c.self-else-comes_from.view_is in
+    let early : IsEarlier old = subst (λ (a : Growth). IsEarlier a.nodes) c.self-else-comes_from.view_is c.self-else-comes_from.invariant.earlier in
     let walked = walked_as old node other c.deref.result.now None (c.deref.ensures.value ∙ same)
-    c.in-None.ensures.found in
+    c.in_default.ensures.found in
     let above = none_above old early other node c.requires.within walked in
-    let added = ap (λ (a : Growth). a.nodes) c.add-in-None.ensures.added in
-    let long = longer old c.add-in-None.new.self.nodes c.tell_real-told.result added in
+    let added = ap (λ (a : Growth). a.nodes) c.add-in_default.ensures.added in
+    let long = longer old c.add-in_default.new.self.nodes c.tell_real-told.result added in
     let parent : c.tell_real-told.result.parent ≡ node = ap (λ (t : Told). t.parent) c.tell_real-told.ensures in
-    let cost = c.add-in-None.ensures.cost in
-    let last = c.add-in-None.ensures.last in
-    let told = real_is c.args.graph.now old node other c.deref-in-None.result.now c.tell_real-told.result
-    (c.deref-in-None.ensures.value ∙ same) walked c.tell_real-told.ensures in
-    let number = c.add-in-None.ensures.number in
+    let cost = c.add-in_default.ensures.cost in
+    let last = c.add-in_default.ensures.last in
+    let told = real_is c.args.graph.now old node other c.deref-in_default.result.now c.tell_real-told.result
+    (c.deref-in_default.ensures.value ∙ same) walked c.tell_real-told.ensures in
+    let number = c.add-in_default.ensures.number in
     record {
-      made = c.add-in-None.ensures.added ∙ with_nodes c.args.self.now _ _
+      made = c.add-in_default.ensures.added ∙ with_nodes c.args.self.now _ _
           (one_made c.args.graph.now old node other c.tell_real-told.result above told);
       stands = number ∙ stands_as old node other None walked;
       low = omega (arith, long, number);
       last = omega (arith, last, parent);
-      size = one_more old node other c.add-in-None.new.self.nodes c.tell_real-told.result added above;
+      size = one_more old node other c.add-in_default.new.self.nodes c.tell_real-told.result added above;
       cost = omega (arith, long, cost);
     }
 
@@ -117,20 +117,20 @@ add-requires-clause-room g c =
     let old = c.args.self.now.nodes in
     let node = c.args.from.node in
     let other = c.args.other in
-    let same : c.self.inside.nodes.items ≡ old = ap (λ (a : Growth). a.nodes) c.self.view_is in
+    let same : c.self-else-comes_from.inside.nodes.items ≡ old = ap (λ (a : Growth). a.nodes) c.self-else-comes_from.view_is in
     let above = above_as old node other c.deref-in-Some.result.now c.is_above.result false
     (c.deref-in-Some.ensures.value ∙ same) c.is_above.ensures c.if-not-is_above.true in
     room_for_one old node other c.args.self.now.bound above c.requires.room
 
-pub add-requires-in-None-clause-room : goal.add-requires-in-None-clause-room
-add-requires-in-None-clause-room g c =
+pub add-requires-in_default-clause-room : goal.add-requires-in_default-clause-room
+add-requires-in_default-clause-room g c =
     let old = c.args.self.now.nodes in
     let node = c.args.from.node in
     let other = c.args.other in
-    let same : c.self.inside.nodes.items ≡ old = ap (λ (a : Growth). a.nodes) c.self.view_is in
-    let early : IsEarlier old = subst (λ (a : Growth). IsEarlier a.nodes) c.self.view_is c.self.invariant.earlier in
+    let same : c.self-else-comes_from.inside.nodes.items ≡ old = ap (λ (a : Growth). a.nodes) c.self-else-comes_from.view_is in
+    let early : IsEarlier old = subst (λ (a : Growth). IsEarlier a.nodes) c.self-else-comes_from.view_is c.self-else-comes_from.invariant.earlier in
     let walked = walked_as old node other c.deref.result.now None (c.deref.ensures.value ∙ same)
-    c.in-None.ensures.found in
+    c.in_default.ensures.found in
     let above = none_above old early other node c.requires.within walked in
     room_for_one old node other c.args.self.now.bound above c.requires.room
 
@@ -148,15 +148,15 @@ add-requires-clause-in_order g c =
     let last = c.requires.last in
     omega (arith, parent, last)
 
-pub add-requires-in-None-clause-below : goal.add-requires-in-None-clause-below
-add-requires-in-None-clause-below g c =
+pub add-requires-in_default-clause-below : goal.add-requires-in_default-clause-below
+add-requires-in_default-clause-below g c =
     let parent : c.tell_real-told.result.parent ≡ c.args.from.node = ap (λ (t : Told). t.parent)
     c.tell_real-told.ensures in
     let within = c.requires.within in
     omega (arith, parent, within)
 
-pub add-requires-in-None-clause-in_order : goal.add-requires-in-None-clause-in_order
-add-requires-in-None-clause-in_order g c =
+pub add-requires-in_default-clause-in_order : goal.add-requires-in_default-clause-in_order
+add-requires-in_default-clause-in_order g c =
     let parent : c.tell_real-told.result.parent ≡ c.args.from.node = ap (λ (t : Told). t.parent)
     c.tell_real-told.ensures in
     let last = c.requires.last in

@@ -5,5 +5,5 @@ use Rattle.cip_mol.proofs.bonds.BondList.new.Goals as goal
 pub invariant_of-result : goal.invariant_of-result
 invariant_of-result c = grind (arith, common_steps)
 
-pub returns : goal.returns
-returns c = grind (arith, common_steps)
+pub returns-in-Ok-with_capacity : goal.returns-in-Ok-with_capacity
+returns-in-Ok-with_capacity c = grind (arith, common_steps)

@@ -8,10 +8,10 @@ use Rattle.cip_mol.proofs.molecule.Molecule.renumber.Goals as goal
 pub of_sound-requires-clause-range : goal.of_sound-requires-clause-range
 of_sound-requires-clause-range c =
     rw (
-      c.in_ok-placed_atoms.ensures no_atom,
-      c.in_ok-placed_bonds.ensures no_bond,
+      c.in-Ok-placed.ensures no_atom,
+      c.in-Ok-placed-2.ensures no_bond,
       c.deref.ensures.value,
-      c.in_ok-renamed.ensures,
+      c.in-Ok.ensures,
       c.atoms.ensures.value,
       c.bonds.ensures.value,
     )
@@ -20,10 +20,10 @@ of_sound-requires-clause-range c =
 pub of_sound-requires-clause-sound : goal.of_sound-requires-clause-sound
 of_sound-requires-clause-sound c =
     rw (
-      c.in_ok-placed_atoms.ensures no_atom,
-      c.in_ok-placed_bonds.ensures no_bond,
+      c.in-Ok-placed.ensures no_atom,
+      c.in-Ok-placed-2.ensures no_bond,
       c.deref.ensures.value,
-      c.in_ok-renamed.ensures,
+      c.in-Ok.ensures,
       c.atoms.ensures.value,
       c.bonds.ensures.value,
     )

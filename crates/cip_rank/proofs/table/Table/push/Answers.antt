@@ -1,6 +1,6 @@
 use Rattle.std.proofs.Common.{arith}
 use Rattle.std.proofs.lemmas.Grind.{common_steps}
-use Rattle.cip_rank.proofs.table.Table.push_root.Goals as goal
+use Rattle.cip_rank.proofs.table.Table.push.Goals as goal
 
 pub invariant_of-self : goal.invariant_of-self
 invariant_of-self c = grind (arith, common_steps)

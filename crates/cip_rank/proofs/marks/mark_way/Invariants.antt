@@ -1,7 +1,7 @@
 use Rattle.std.proofs.Common.{vec_capacity, ◌≡◌, ◌≤◌, ◌<◌, ◌||◌, ℕ, false, length}
 use Rattle.std.specs.List.{slice_index_or}
 use Rattle.cip_rank.specs.View.{is_above}
-use Rattle.cip_rank.proofs.marks.climb.Given as goal
+use Rattle.cip_rank.proofs.marks.mark_way.Given as goal
 
 abbrev pub invariant-loop-node : goal.invariant-loop-node
 invariant-loop-node l = record {
