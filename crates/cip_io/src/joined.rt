@@ -48,12 +48,15 @@ impl Joined {
             hold(&mut self.text, piece);
             return Ok(());
         }
-        self.flush(sink)?;
+        if let Err(fault) = self.flush(sink) {
+            return Err(fault);
+        }
         if piece.len() <= self.room {
             hold(&mut self.text, piece);
-            return Ok(());
+            Ok(())
+        } else {
+            push_all(sink, piece)
         }
-        push_all(sink, piece)
     }
 
     /// Writes what waits.
@@ -63,7 +66,9 @@ impl Joined {
         ensures prefix { OnErr result (AppendsPrefix (K.taken sink.old) (K.taken sink.new) self.old) }
         ensures cause { HasCause (K.faults sink.old) (K.faults sink.new) result }
     {
-        push_all(sink, &self.text)?;
+        if let Err(fault) = push_all(sink, &self.text) {
+            return Err(fault);
+        }
         self.text.clear();
         Ok(())
     }
