@@ -31,10 +31,10 @@ impl Joined {
     pub fn with_room(alloc: Global, room: usize) -> Result<Joined, AllocError>
         ensures { IfOk result (λ joined. joined ≡ []) }
     {
-        Ok(Joined {
-            text: Vec::with_capacity(alloc, room)?,
-            room,
-        })
+        match Vec::with_capacity(alloc, room) {
+            Ok(text) => Ok(Joined { text, room }),
+            Err(error) => Err(error),
+        }
     }
 
     /// Takes a piece, which waits behind the others. Where it doesn't fit they are written first, and one that is

@@ -193,14 +193,17 @@ impl MemSink {
         ensures { IfOk result (λ s. s ≡ record
             { taken = []; piece = piece; room = room; calls = 0; failing = failing.items; faults = 0 }) }
     {
-        Ok(MemSink {
-            bytes: Vec::with_capacity(alloc, room)?,
-            piece,
-            room,
-            calls: 0,
-            failing,
-            faults: 0,
-        })
+        match Vec::with_capacity(alloc, room) {
+            Ok(bytes) => Ok(MemSink {
+                bytes,
+                piece,
+                room,
+                calls: 0,
+                failing,
+                faults: 0,
+            }),
+            Err(error) => Err(error),
+        }
     }
 
     /// The bytes that were taken.
