@@ -79,13 +79,15 @@ impl Graph {
         requires sound { IsSound (record { vertices = vertices.items; edges = edges.items; drawn = drawn }) }
         ensures { IfOk result (λ g. g ≡ record { vertices = vertices.items; edges = edges.items; drawn = drawn }) }
     {
-        let incidence = incidence_of(alloc, vertices.len() as u32, &edges)?;
-        Ok(Graph {
-            vertices,
-            edges,
-            drawn,
-            incidence,
-        })
+        match incidence_of(alloc, vertices.len() as u32, &edges) {
+            Ok(incidence) => Ok(Graph {
+                vertices,
+                edges,
+                drawn,
+                incidence,
+            }),
+            Err(error) => Err(error),
+        }
     }
 
     /// The same graph once more. It takes time linear in its size.
@@ -93,8 +95,10 @@ impl Graph {
         ensures { IfOk result (λ copy. copy ≡ self.now) }
     {
         let vertices = Vec::from_slice(alloc, &self.vertices)?;
-        let edges = Vec::from_slice(alloc, &self.edges)?;
-        Graph::new(alloc, vertices, edges, self.drawn)
+        match Vec::from_slice(alloc, &self.edges) {
+            Ok(edges) => Graph::new(alloc, vertices, edges, self.drawn),
+            Err(error) => Err(error),
+        }
     }
 
     /// Whether another graph is the same one, vertex by vertex and edge by edge.

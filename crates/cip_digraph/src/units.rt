@@ -53,8 +53,14 @@ impl Units {
     pub fn copy(&self, alloc: Global) -> Result<Units, AllocError>
         ensures { IfOk result (λ units. units ≡ self.now) }
     {
-        let units = copied(alloc, self.list())?;
-        Ok(Units { units })
+        let mut copy = Units::new(alloc);
+        for unit in self.list() {
+            copy.push(Unit {
+                site: unit.site.copy(),
+                geometry: unit.geometry,
+            })?;
+        }
+        Ok(copy)
     }
 
     /// The units with the centres at these atoms turned: what is known of each is the other sense.
@@ -72,19 +78,6 @@ impl Units {
     {
         invert_all(&mut self.units, atoms);
     }
-}
-
-fn copied(alloc: Global, all: &[Unit]) -> Result<Vec<Unit>, AllocError>
-    ensures { IfOk result (λ units. units.items ≡ all.now) }
-{
-    let mut units = Vec::new(alloc);
-    for unit in all {
-        units.push(Unit {
-            site: unit.site.copy(),
-            geometry: unit.geometry,
-        })?;
-    }
-    Ok(units)
 }
 
 fn invert_all(units: &mut [Unit], atoms: &[u32])

@@ -16,7 +16,11 @@ pub fn graph_of(alloc: Global, molecule: &Molecule) -> Result<Graph, AllocError>
     let drawn = molecule.atoms().len();
     let surroundings = surroundings_of(alloc, molecule)?;
     let further = hydrogen_count(&surroundings);
-    let vertices = vertices_of(alloc, molecule, &surroundings, further)?;
-    let edges = edges_of(alloc, molecule, &surroundings, further)?;
-    Graph::new(alloc, vertices, edges, drawn as u32)
+    let Ok(vertices) = vertices_of(alloc, molecule, &surroundings, further) else {
+        return Err(AllocError);
+    };
+    match edges_of(alloc, molecule, &surroundings, further) {
+        Ok(edges) => Graph::new(alloc, vertices, edges, drawn as u32),
+        Err(error) => Err(error),
+    }
 }

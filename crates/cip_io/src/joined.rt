@@ -31,10 +31,10 @@ impl Joined {
     pub fn with_room(alloc: Global, room: usize) -> Result<Joined, AllocError>
         ensures { IfOk result (λ joined. joined ≡ []) }
     {
-        Ok(Joined {
-            text: Vec::with_capacity(alloc, room)?,
-            room,
-        })
+        match Vec::with_capacity(alloc, room) {
+            Ok(text) => Ok(Joined { text, room }),
+            Err(error) => Err(error),
+        }
     }
 
     /// Takes a piece, which waits behind the others. Where it doesn't fit they are written first, and one that is
@@ -48,12 +48,15 @@ impl Joined {
             hold(&mut self.text, piece);
             return Ok(());
         }
-        self.flush(sink)?;
+        if let Err(fault) = self.flush(sink) {
+            return Err(fault);
+        }
         if piece.len() <= self.room {
             hold(&mut self.text, piece);
-            return Ok(());
+            Ok(())
+        } else {
+            push_all(sink, piece)
         }
-        push_all(sink, piece)
     }
 
     /// Writes what waits.
@@ -63,7 +66,9 @@ impl Joined {
         ensures prefix { OnErr result (AppendsPrefix (K.taken sink.old) (K.taken sink.new) self.old) }
         ensures cause { HasCause (K.faults sink.old) (K.faults sink.new) result }
     {
-        push_all(sink, &self.text)?;
+        if let Err(fault) = push_all(sink, &self.text) {
+            return Err(fault);
+        }
         self.text.clear();
         Ok(())
     }

@@ -92,11 +92,12 @@ impl Source for MemSource {
         self.calls = self.calls.saturating_add(1);
         if self.failing.contains(&self.calls) {
             self.faults = self.faults.saturating_add(1);
-            return Err(Failed);
+            Err(Failed)
+        } else {
+            let count = copy_front(&self.bytes[self.given..], self.piece, into);
+            self.given += count;
+            Ok(count)
         }
-        let count = copy_front(&self.bytes[self.given..], self.piece, into);
-        self.given += count;
-        Ok(count)
     }
 }
 
@@ -192,14 +193,17 @@ impl MemSink {
         ensures { IfOk result (λ s. s ≡ record
             { taken = []; piece = piece; room = room; calls = 0; failing = failing.items; faults = 0 }) }
     {
-        Ok(MemSink {
-            bytes: Vec::with_capacity(alloc, room)?,
-            piece,
-            room,
-            calls: 0,
-            failing,
-            faults: 0,
-        })
+        match Vec::with_capacity(alloc, room) {
+            Ok(bytes) => Ok(MemSink {
+                bytes,
+                piece,
+                room,
+                calls: 0,
+                failing,
+                faults: 0,
+            }),
+            Err(error) => Err(error),
+        }
     }
 
     /// The bytes that were taken.
@@ -237,11 +241,12 @@ impl Sink for MemSink {
         let full = self.room == 0 && !piece.is_empty();
         if full || self.failing.contains(&self.calls) {
             self.faults = self.faults.saturating_add(1);
-            return Err(Failed);
+            Err(Failed)
+        } else {
+            let count = piece.len().min(self.piece).min(self.room);
+            self.bytes.extend_from_slice(&piece[..count]).unwrap();
+            self.room -= count;
+            Ok(count)
         }
-        let count = piece.len().min(self.piece).min(self.room);
-        self.bytes.extend_from_slice(&piece[..count]).unwrap();
-        self.room -= count;
-        Ok(count)
     }
 }

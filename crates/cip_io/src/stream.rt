@@ -49,7 +49,10 @@ pub fn push_all<K: Sink>(sink: &mut K, piece: &[u8]) -> Result<(), Failed>
 {
     let mut done = 0;
     while done < piece.len() {
-        done += sink.push(&piece[done..])?;
+        match sink.push(&piece[done..]) {
+            Ok(count) => done += count,
+            Err(fault) => return Err(fault),
+        }
     }
     Ok(())
 }

@@ -30,10 +30,10 @@ impl Descriptors {
     pub fn reserve(alloc: Global, bound: u32) -> Result<Descriptors, AllocError>
         ensures { IfOk result (λ made. made ≡ record { bound = bound; marks = [] }) }
     {
-        Ok(Descriptors {
-            bound,
-            marks: Vec::with_capacity(alloc, bound as usize)?,
-        })
+        match Vec::with_capacity(alloc, bound as usize) {
+            Ok(marks) => Ok(Descriptors { bound, marks }),
+            Err(error) => Err(error),
+        }
     }
 
     /// Lets go of all descriptors, and keeps the room.

@@ -60,5 +60,8 @@ pub fn letter(ends: &Ends<'_>, sense: Sense, turns: Turns) -> Descriptor
 pub fn named(ends: &Ends<'_>, sense: Sense, turns: Option<Turns>) -> Option<Descriptor>
     ensures { result ≡ turned_letter (as_site ends.now) sense turns }
 {
-    Some(letter(ends, sense, turns?))
+    match turns {
+        Some(turns) => Some(letter(ends, sense, turns)),
+        None => None,
+    }
 }

@@ -1,5 +1,5 @@
 // Lines of V2000 records.
-ghost use Rattle.std.specs.Prelude.{◌≡◌, ◌++◌, IfOk, OnOk};
+ghost use Rattle.std.specs.Prelude.{◌≡◌, ◌++◌, OnOk};
 ghost use Rattle.cip_text.specs.Writing.{coordinate, right};
 ghost use Rattle.cip_make.specs.Lines.{symbol, stereo_number, number_field, counts_line, atom_line, bond_line};
 
@@ -7,49 +7,56 @@ use crate::chain::{Element, Stereo};
 use cip_text::{coordinate, push_right};
 use std::alloc::{AllocError, Global};
 
-/// The counts line of a molecule with so many atoms and bonds.
+/// Adds the counts line of a molecule with so many atoms and bonds.
 #[tactic(auto, unfolding(crate::specs::Lines::counts_line))]
-pub fn counts_line(alloc: Global, atoms: u32, bonds: u32) -> Result<Vec<u8>, AllocError>
-    ensures { IfOk result (λ line. line.items ≡ counts_line atoms bonds) }
-{
-    let mut line = Vec::with_capacity(alloc, 40)?;
-    push_number(alloc, &mut line, atoms)?;
-    push_number(alloc, &mut line, bonds)?;
-    line.extend_from_slice(b"  0  0  0  0  0  0  0  0999 V2000\n")?;
-    Ok(line)
-}
-
-/// The line of an atom in the plane, by its coordinates in ten-thousandths of an ångström.
-#[tactic(auto, unfolding(crate::specs::Lines::atom_line))]
-pub fn atom_line(alloc: Global, x: i64, y: i64, element: Element) -> Result<Vec<u8>, AllocError>
-    ensures { IfOk result (λ line. line.items ≡ atom_line x y element) }
-{
-    let mut line = Vec::with_capacity(alloc, 70)?;
-    push_coordinate(alloc, &mut line, x)?;
-    push_coordinate(alloc, &mut line, y)?;
-    push_coordinate(alloc, &mut line, 0)?;
-    line.extend_from_slice(symbol(element))?;
-    line.extend_from_slice(b" 0  0  0  0  0  0  0  0  0  0  0  0\n")?;
-    Ok(line)
-}
-
-/// The line of a single bond between two atoms, counted from 1.
-#[tactic(auto, unfolding(crate::specs::Lines::bond_line))]
-pub fn bond_line(
+pub fn push_counts_line(
     alloc: Global,
+    text: &mut Vec<u8>,
+    atoms: u32,
+    bonds: u32,
+) -> Result<(), AllocError>
+    ensures { OnOk result (text.new.items ≡ text.old.items ++ counts_line atoms bonds) }
+{
+    push_number(alloc, text, atoms)?;
+    push_number(alloc, text, bonds)?;
+    text.extend_from_slice(b"  0  0  0  0  0  0  0  0999 V2000\n")
+}
+
+/// Adds the line of an atom in the plane, by its coordinates in ten-thousandths of an ångström.
+#[tactic(auto, unfolding(crate::specs::Lines::atom_line))]
+pub fn push_atom_line(
+    alloc: Global,
+    text: &mut Vec<u8>,
+    x: i64,
+    y: i64,
+    element: Element,
+) -> Result<(), AllocError>
+    ensures { OnOk result (text.new.items ≡ text.old.items ++ atom_line x y element) }
+{
+    push_coordinate(alloc, text, x)?;
+    push_coordinate(alloc, text, y)?;
+    push_coordinate(alloc, text, 0)?;
+    text.extend_from_slice(symbol(element))?;
+    text.extend_from_slice(b" 0  0  0  0  0  0  0  0  0  0  0  0\n")?;
+    Ok(())
+}
+
+/// Adds the line of a single bond between two atoms, counted from 1.
+#[tactic(auto, unfolding(crate::specs::Lines::bond_line))]
+pub fn push_bond_line(
+    alloc: Global,
+    text: &mut Vec<u8>,
     first: u32,
     second: u32,
     stereo: Stereo,
-) -> Result<Vec<u8>, AllocError>
-    ensures { IfOk result (λ line. line.items ≡ bond_line first second stereo) }
+) -> Result<(), AllocError>
+    ensures { OnOk result (text.new.items ≡ text.old.items ++ bond_line first second stereo) }
 {
-    let mut line = Vec::with_capacity(alloc, 13)?;
-    push_number(alloc, &mut line, first)?;
-    push_number(alloc, &mut line, second)?;
-    push_number(alloc, &mut line, 1)?;
-    push_number(alloc, &mut line, stereo_number(stereo))?;
-    line.push(b'\n')?;
-    Ok(line)
+    push_number(alloc, text, first)?;
+    push_number(alloc, text, second)?;
+    push_number(alloc, text, 1)?;
+    push_number(alloc, text, stereo_number(stereo))?;
+    text.extend_from_slice(b"\n")
 }
 
 // Adds a number, right in three columns.

@@ -1,10 +1,9 @@
 // Made records.
 ghost use Rattle.std.specs.Prelude.{◌≡◌, ◌<◌, ◌≤◌, ◌+◌, ◌-◌, ◌^◌, ◌++◌, IfOk, OnOk, length, string_bytes};
-ghost use Rattle.cip_make.specs.Lines.{counts_line};
 ghost use Rattle.cip_make.specs.Made.{name_lines, across, chain_atom, chain_atoms, branch_atom, branch_atoms, chain_bonds, branch_bonds, record_text, made};
 
 use crate::chain::{Branch, Element, Stereo, branches};
-use crate::lines::{atom_line, bond_line, counts_line};
+use crate::lines::{push_atom_line, push_bond_line, push_counts_line};
 use rand_pcg::Lcg64Xsh32;
 use rand_pcg::rand_core::utils::NextWord;
 use std::alloc::{AllocError, Global};
@@ -43,21 +42,13 @@ fn push_table(
     requires few { length branches.now ≤ 20 }
     ensures { OnOk result (text.new.items ≡ record_text text.old.items chain branches.now) }
 {
-    push_counts(alloc, text, chain + branches.len() as u32)?;
+    let atoms = chain + branches.len() as u32;
+    push_counts_line(alloc, text, atoms, atoms - 1)?;
     push_chain_atoms(alloc, text, chain)?;
     push_branch_atoms(alloc, text, branches)?;
     push_chain_bonds(alloc, text, chain - 1)?;
     push_branch_bonds(alloc, text, chain, branches)?;
-    text.extend_from_slice(b"M  END\n$$$$\n")?;
-    Ok(())
-}
-
-// Adds the counts line of a chain with what it carries: a bond fewer than atoms.
-fn push_counts(alloc: Global, text: &mut Vec<u8>, atoms: u32) -> Result<(), AllocError>
-    requires { 1 ≤ atoms }
-    ensures { OnOk result (text.new.items ≡ text.old.items ++ counts_line atoms (atoms - 1)) }
-{
-    text.extend_from_slice(&counts_line(alloc, atoms, atoms - 1)?)
+    text.extend_from_slice(b"M  END\n$$$$\n")
 }
 
 fn name_lines(alloc: Global, start: u32, number: u32) -> Result<String, AllocError>
@@ -71,26 +62,26 @@ fn push_chain_atoms(alloc: Global, text: &mut Vec<u8>, chain: u32) -> Result<(),
     ensures { OnOk result (text.new.items ≡ text.old.items ++ chain_atoms chain) }
 {
     for before in 0..chain {
-        text.extend_from_slice(&chain_atom(alloc, before + 1)?)?;
+        push_chain_atom(alloc, text, before + 1)?;
     }
     Ok(())
 }
 
 #[tactic(auto, unfolding(crate::specs::Made::chain_atom))]
-fn chain_atom(alloc: Global, atom: u32) -> Result<Vec<u8>, AllocError>
+fn push_chain_atom(alloc: Global, text: &mut Vec<u8>, atom: u32) -> Result<(), AllocError>
     requires { atom ≤ 20 }
-    ensures { IfOk result (λ line. line.items ≡ chain_atom atom) }
+    ensures { OnOk result (text.new.items ≡ text.old.items ++ chain_atom atom) }
 {
     let height = if atom % 2 == 0 { 5_000 } else { 0 };
-    atom_line(alloc, across(atom), height, Element::Carbon)
+    push_atom_line(alloc, text, across(atom), height, Element::Carbon)
 }
 
 #[tactic(auto, unfolding(crate::specs::Made::branch_atom))]
-fn branch_atom(alloc: Global, branch: Branch) -> Result<Vec<u8>, AllocError>
-    ensures { IfOk result (λ line. line.items ≡ branch_atom branch) }
+fn push_branch_atom(alloc: Global, text: &mut Vec<u8>, branch: Branch) -> Result<(), AllocError>
+    ensures { OnOk result (text.new.items ≡ text.old.items ++ branch_atom branch) }
 {
     let height = if branch.at % 2 == 0 { 15_000 } else { -10_000 };
-    atom_line(alloc, across(branch.at), height, branch.element)
+    push_atom_line(alloc, text, across(branch.at), height, branch.element)
 }
 
 // Where an atom of the chain stands from left to right.
@@ -109,7 +100,7 @@ fn push_branch_atoms(
     ensures { OnOk result (text.new.items ≡ text.old.items ++ branch_atoms branches.now) }
 {
     for branch in branches {
-        text.extend_from_slice(&branch_atom(alloc, *branch)?)?;
+        push_branch_atom(alloc, text, *branch)?;
     }
     Ok(())
 }
@@ -119,7 +110,7 @@ fn push_chain_bonds(alloc: Global, text: &mut Vec<u8>, bonds: u32) -> Result<(),
     ensures { OnOk result (text.new.items ≡ text.old.items ++ chain_bonds bonds) }
 {
     for before in 0..bonds {
-        text.extend_from_slice(&bond_line(alloc, before + 1, before + 2, Stereo::Plain)?)?;
+        push_bond_line(alloc, text, before + 1, before + 2, Stereo::Plain)?;
     }
     Ok(())
 }
@@ -136,7 +127,7 @@ fn push_branch_bonds(
     let mut number = chain;
     for branch in branches {
         number += 1;
-        text.extend_from_slice(&bond_line(alloc, branch.at, number, branch.stereo)?)?;
+        push_bond_line(alloc, text, branch.at, number, branch.stereo)?;
     }
     Ok(())
 }

@@ -24,11 +24,15 @@ pub fn within<S: Steps>(
 ) -> Result<(), AllocError>
     ensures { OnOk result (reached.new ≡ within (S.step steps.now) from most) }
 {
-    start(from, reached)?;
+    if let Err(error) = start(from, reached) {
+        return Err(error);
+    }
     let mut done = 0;
     for _ in 0..most {
         let count = reached.len();
-        step_on(steps, done, reached)?;
+        if let Err(error) = step_on(steps, done, reached) {
+            return Err(error);
+        }
         done = count;
     }
     Ok(())
@@ -45,7 +49,9 @@ pub fn steps_to<S: Steps>(
 ) -> Result<Option<u32>, AllocError>
     ensures { IfOk result (TellsLeast (S.step steps.now) from target most) }
 {
-    start(from, reached)?;
+    if let Err(error) = start(from, reached) {
+        return Err(error);
+    }
     let mut done = 0;
     for taken in 0..most {
         if reached.contains(target) {
@@ -55,13 +61,16 @@ pub fn steps_to<S: Steps>(
         if count == done {
             return Ok(None);
         }
-        step_on(steps, done, reached)?;
+        if let Err(error) = step_on(steps, done, reached) {
+            return Err(error);
+        }
         done = count;
     }
     if reached.contains(target) {
-        return Ok(Some(most));
+        Ok(Some(most))
+    } else {
+        Ok(None)
     }
-    Ok(None)
 }
 
 fn start(from: u32, reached: &mut VertexSet) -> Result<(), AllocError>

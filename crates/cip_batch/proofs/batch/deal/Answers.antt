@@ -10,10 +10,12 @@ loop-job-preserved g c =
     c.least_place-owner.ensures.within in
     record {
       loads = length-set c.loop-job.loads.items owner c.saturating_add.result ∙ c.loop-job.invariant.loads;
-      all = ap length c.in_ok-push.ensures.items ∙ length-append c.loop-job.owners.items _
+      all = ap length c.push_reserved.ensures.items ∙ length-append c.loop-job.owners.items _
           ∙ ap (λ n. n + 1) c.loop-job.invariant.all;
-      each = All-same (λ load. load < c.args.workers) _ _ c.in_ok-push.ensures.items
+      each = All-same (λ load. load < c.args.workers) _ _ c.push_reserved.ensures.items
           (All-push (λ load. load < c.args.workers) c.loop-job.owners.items owner c.loop-job.invariant.each within);
+      count = omega (arith, c.push_reserved.ensures.len, c.loop-job.invariant.count);
+      room = omega (arith, c.push_reserved.ensures.capacity, c.loop-job.invariant.room);
     }
 
 pub returns-clause-each : goal.returns-clause-each

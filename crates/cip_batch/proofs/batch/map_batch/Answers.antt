@@ -6,6 +6,6 @@ use Rattle.cip_batch.proofs.batch.map_batch.Goals as goal
 pub complete-requires-after_bounds : goal.complete-requires-after_bounds
 complete-requires-after_bounds g c = grind (arith, common_steps)
 
-pub returns-clause-workers : goal.returns-clause-workers
-returns-clause-workers g c =
+pub returns-in-Ok-clause-workers : goal.returns-in-Ok-clause-workers
+returns-in-Ok-clause-workers g c =
     length-set c.work_together.new.workers 0 _ ∙ c.work_together.ensures.workers

@@ -25,20 +25,20 @@ edges_of-requires-clause-few c =
     rw c.deref-3.ensures.value
     (omega (arith, counted, value, few, c.atoms-drawn.ensures.range.few_atoms))
 
-same : (c : goal.In_ok-edges)
+same : (c : goal.In-Ok-edges_of)
     → ◌≡◌ {A = Graph}
     (record {
-      vertices = c.in_ok-vertices.vertices.items;
-      edges = c.in_ok-edges.edges.items;
+      vertices = c.in-Ok.vertices.items;
+      edges = c.in-Ok-edges_of.edges.items;
       drawn = length c.atoms-drawn.result.now;
     }) (graph_of c.args.molecule.now)
 same c =
     let counted = rw c.deref.ensures.value at c.hydrogen_count-further.ensures.value in
     made_is c.args.molecule.now _ _ c.in_ok-surroundings.ensures.value refl _ _ _
-    (c.in_ok-vertices.ensures
+    (c.in-Ok.ensures
     ∙ ap (λ n. map (atom_vertex c.args.molecule.now) (range_with_len 0 (length c.args.molecule.now.atoms))
     ++ replicate n hydrogen) counted)
-    (rw c.deref-3.ensures.value at c.in_ok-edges.ensures)
+    (rw c.deref-3.ensures.value at c.in-Ok-edges_of.ensures)
     (ap length c.atoms-drawn.ensures.value)
 
 pub new-requires-clause-range : goal.new-requires-clause-range
@@ -52,19 +52,19 @@ new-requires-clause-range c =
 pub new-requires-clause-sound : goal.new-requires-clause-sound
 new-requires-clause-sound c = rw (same c) (drawn_sound c.args.molecule.now c.atoms-drawn.ensures.sound)
 
-pub returns : goal.returns
-returns c =
+pub returns-in-Ok-edges_of : goal.returns-in-Ok-edges_of
+returns-in-Ok-edges_of c =
     let counted = rw c.deref.ensures.value at c.hydrogen_count-further.ensures.value in
     let same : ◌≡◌ {A = Graph}
     (record {
-      vertices = c.in_ok-vertices.vertices.items;
-      edges = c.in_ok-edges.edges.items;
+      vertices = c.in-Ok.vertices.items;
+      edges = c.in-Ok-edges_of.edges.items;
       drawn = length c.atoms-drawn.result.now;
     }) (graph_of c.args.molecule.now) =
     made_is c.args.molecule.now _ _ c.in_ok-surroundings.ensures.value refl _ _ _
-    (c.in_ok-vertices.ensures
+    (c.in-Ok.ensures
     ∙ ap (λ n. map (atom_vertex c.args.molecule.now) (range_with_len 0 (length c.args.molecule.now.atoms))
     ++ replicate n hydrogen) counted)
-    (rw c.deref-3.ensures.value at c.in_ok-edges.ensures)
+    (rw c.deref-3.ensures.value at c.in-Ok-edges_of.ensures)
     (ap length c.atoms-drawn.ensures.value) in
     rw (← same) c.new.ensures

@@ -5,7 +5,7 @@ use Rattle.cip_io.proofs.stream.push_all.Goals as goal
 
 pub loop-done-preserved : goal.loop-done-preserved
 loop-done-preserved g c = record {
-  within = omega (arith, c.in_ok-done.ensures.within);
-  taken = appends_more _ _ _ _ _ _ c.loop-done.invariant.taken (rw take_rest at c.in_ok-done.ensures.added);
-  later = omega (arith, c.in_ok-done.ensures.cause.later);
+  within = omega (arith, c.in-Ok.ensures.within);
+  taken = appends_more _ _ _ _ _ _ c.loop-done.invariant.taken (rw take_rest at c.in-Ok.ensures.added);
+  later = omega (arith, c.in-Ok.ensures.cause.later);
 }

@@ -20,6 +20,6 @@ invariant_of-self-2 c =
       begun.2,
       All-same few _ _ c.push_back_reserved.ensures.items
           (All-push few c.reserve.new.self.items c.from_vec.result
-          (All-same few _ _ c.in_ok-reserve.ensures.items c.self.invariant.3)
+          (All-same few _ _ c.in_default.ensures.items c.self.invariant.3)
           (subst few (sym whole) c.self.invariant.2)),
     )

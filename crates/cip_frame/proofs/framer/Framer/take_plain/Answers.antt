@@ -4,7 +4,7 @@ use Rattle.std.proofs.lemmas.List.Elements.{All-same}
 use Rattle.cip_text.specs.Lines.{has_last}
 use Rattle.cip_frame.specs.Records.{open_line}
 use Rattle.cip_frame.proofs.PlainLines.{none_open}
-use Rattle.cip_frame.proofs.framer.Framer.take_plain.Goals.{then-is_empty+in_ok-reserve, else-is_empty}
+use Rattle.cip_frame.proofs.framer.Framer.take_plain.Goals.{then-is_empty+in-Ok, else-is_empty}
 use Rattle.cip_frame.proofs.framer.Framer.take_plain.Goals as goal
 
 -- behind lines that have ended none is open
@@ -22,18 +22,18 @@ invariant_of-self-2 c =
     let inside = c.self.inside in
     let now = c.if-is_empty.self-inside in
     let front : now.open_bytes.items ≡ inside.open_bytes.items = elim c.if-is_empty.branch [
-      | then-is_empty+in_ok-reserve w ↦ rw w.self-inside-is w.in_ok-reserve.ensures.items
+      | then-is_empty+in-Ok w ↦ rw w.self-inside-is w.in-Ok.ensures.items
       | else-is_empty w ↦ rw w.self-inside-is refl
     ] in
     let limit : now.limit ≡ inside.limit = elim c.if-is_empty.branch [
-      | then-is_empty+in_ok-reserve w ↦ rw w.self-inside-is refl
+      | then-is_empty+in-Ok w ↦ rw w.self-inside-is refl
       | else-is_empty w ↦ rw w.self-inside-is refl
     ] in
     let waiting : now.waiting.items ≡ inside.waiting.items = elim c.if-is_empty.branch [
-      | then-is_empty+in_ok-reserve w ↦ rw w.self-inside-is refl
+      | then-is_empty+in-Ok w ↦ rw w.self-inside-is refl
       | else-is_empty w ↦ rw w.self-inside-is refl
     ] in
-    let added = c.in_ok-extend_from_slice.ensures.items ∙ ap (λ xs. xs ++ c.args.lines.now) front in
+    let added = c.in-Ok-extend_from_slice.ensures.items ∙ ap (λ xs. xs ++ c.args.lines.now) front in
     let all : c.len-self-inside.result ≡ length c.extend_from_slice.new.self.items = search rules in
     let room : length inside.open_bytes.items + length c.args.lines.now ≤ inside.limit = search rules in
     let begun = none_begun c.extend_from_slice.new.self.items inside.open_bytes.items c.args.lines.now

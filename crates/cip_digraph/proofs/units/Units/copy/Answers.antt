@@ -1,6 +1,6 @@
 use Rattle.std.proofs.Common.{arith}
 use Rattle.std.proofs.lemmas.Grind.{common_steps}
-use Rattle.cip_digraph.proofs.units.copied.Goals as goal
+use Rattle.cip_digraph.proofs.units.Units.copy.Goals as goal
 
 pub loop-unit-preserved : goal.loop-unit-preserved
 loop-unit-preserved c = grind (arith, common_steps)
