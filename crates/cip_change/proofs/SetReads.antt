@@ -1,70 +1,36 @@
--- What is written for a record in which a centre is to have a letter is read as the drawing with the mark, and the
--- answer to it gives the letter.
-use Rattle.std.proofs.Common.{All, ◌≡◌, ◌≤◌, ◌+◌, ◌-◌, ◌==◌, ℕ, List, Bool, true, false, Result, Ok, Err, length, refl, sym, ap, ◌∙◌, subst, arith}
+-- What is written for a record in which a centre is to have a letter is read as the drawing with the mark.
+use Rattle.std.proofs.Common.{All, ◌≡◌, ◌≤◌, ◌+◌, ◌-◌, ◌==◌, ℕ, List, Bool, true, false, Result, Ok, Err, length, refl, sym, subst, arith}
 use Rattle.std.specs.Prelude.{IfOk, if◌then◌else◌}
-use Rattle.std.specs.Option.{option_map}
-use Rattle.std.proofs.lemmas.Option.{slice_get-map}
 use Rattle.std.proofs.lemmas.Result.{IfOk-weaker}
 use Rattle.cip_text.specs.Bodies.{body_contents}
 use Rattle.cip_rank.specs.declared.rules.Rules.{Rules}
 use Rattle.cip_mol.specs.Bonds.{IsSound}
-use Rattle.cip_mol.specs.CentreLetters.{descriptor_of}
 use Rattle.cip_mol.specs.Drawing.{Drawing}
 use Rattle.cip_mol.specs.Ranges.{IsBond}
 use Rattle.cip_mol.specs.declared.centre_letter.CentreLetter.{CentreLetter}
-use Rattle.cip_mol.specs.declared.descriptor.Descriptor.{Descriptor}
 use Rattle.cip_mol.specs.declared.refusal.ReadFault.{ReadFault}
 use Rattle.cip_item.specs.Parts.{without_label_items}
 use Rattle.cip_change.proofs.NoLonger.{no_longer}
-use Rattle.cip_digraph.specs.graph.DrawnGraph.{graph_of}
-use Rattle.cip_digraph.specs.rings.Positions.{positions_of}
-use Rattle.cip_digraph.specs.units.Centres.{centre_ligands}
-use Rattle.cip_digraph.specs.units.DrawnUnits.{units_in}
 use Rattle.cip_v2000.specs.Version.{is_v3000}
-use Rattle.cip_answer.specs.Answers.{answer_by, answer_without_items, of_molecule, of_reading, unit_answer}
 use Rattle.cip_molfile.specs.Molecules.{read_molecule}
-use Rattle.cip_change.specs.FoundCentres.{centre_unit, found_at}
-use Rattle.cip_change.specs.Marking.{has_centre, with_mark}
-use Rattle.cip_change.specs.SetLetters.{mark_asked, HasLetter, IsGiven}
+use Rattle.cip_change.specs.Marking.{with_mark}
+use Rattle.cip_change.specs.SetLetters.{mark_asked, IsGiven}
 use Rattle.cip_change.specs.declared.letter.CentreRefusal.{CentreRefusal}
 use Rattle.cip_change.specs.declared.letter.Marked.{Marked}
-use Rattle.cip_change.proofs.CentrePlaces.{has_place}
 use Rattle.cip_change.proofs.GivenLetters.{letters_given}
 use Rattle.cip_change.proofs.SetMarks.{all_join}
 use Rattle.cip_change.proofs.SetSound.{bonds_set}
 use Rattle.cip_change.specs.Answers.{molecule_in}
-use Rattle.cip_change.specs.Changed.{changed_record}
+use Rattle.cip_change.specs.Changed.{changed_record, IsReadChanged}
 use Rattle.cip_change.proofs.BondRanges.{bonds_in_range}
 use Rattle.cip_change.proofs.Grammar.{IsMolecule, parts}
 use Rattle.cip_change.proofs.MirrorReads.{old_version, sound_read}
 use Rattle.cip_change.proofs.ReplacedBonds.{changed_few, changes_are_read}
-use Rattle.cip_change.specs.SetAnswers.{refusal_of, set_marked, set_drawn, set_read, set_without_items, set_answer, GivesLetter, IsFew, IsSet, LabelsAt, SetRecordsAreRead}
+use Rattle.cip_change.specs.SetAnswers.{refusal_of, set_marked, set_drawn, set_read, set_without_items, set_answer, GivesMark, IsFew, IsMarked}
 use Rattle.cip_change.specs.declared.set_answers.SetAnswer.{SetAnswer}
 use Rattle.cip_change.specs.declared.set_answers.SetAnswer.TheVariants.{Written, Refused}
 use Rattle.cip_change.specs.declared.set_answers.SetRefusal.{SetRefusal}
 use Rattle.cip_change.specs.declared.set_answers.SetRefusal.TheVariants as refusals
-
--- the centre at an atom is among the units that are answered
-labelled : (rules : Rules) (nodes : ℕ) (drawing : Drawing) (atom : ℕ) (letter : Descriptor)
-    → has_centre drawing atom ≡ true → HasLetter letter (found_at rules nodes drawing atom)
-    → LabelsAt letter atom (of_molecule rules nodes drawing)
-labelled rules nodes drawing atom letter centre has =
-    let graph = graph_of drawing in
-    let one = unit_answer rules nodes graph (positions_of graph) (units_in drawing) in
-    let found = has_place drawing atom centre in
-    record {
-      place = found.0;
-      unit = one (centre_unit drawing atom);
-      there = slice_get-map one (units_in drawing) found.0 ∙ ap (option_map one) found.1;
-      centre = record { ligands = centre_ligands graph atom; is = refl };
-      has = has;
-    }
-
--- by the molecule that is read of the record
-answered : (rules : Rules) (nodes : ℕ) (text : List ℕ) (drawing : Drawing) → molecule_in text ≡ Ok drawing
-    → answer_by rules nodes text ≡ of_molecule rules nodes drawing
-unfolding answer_without_items
-answered rules nodes text drawing read = ap (of_reading rules nodes) read
 
 -- the bonds of a drawing that was read, with a mark
 record AreMarkable (molecule : Drawing) : Type 0 where
@@ -78,7 +44,7 @@ markable lines molecule read old =
     record { sound = sound_read lines molecule m; range = bonds_in_range lines molecule m }
 
 module _ (rules : Rules) (nodes atom : ℕ) (letter : CentreLetter) where
-  abbrev drawn_with : Drawing → Marked → Drawing
+  abbrev pub drawn_with : Drawing → Marked → Drawing
   drawn_with molecule marked = with_mark molecule (atom - 1) marked.neighbour marked.mark
 
   module _ (molecule : Drawing) (marked : Marked)
@@ -92,18 +58,22 @@ module _ (rules : Rules) (nodes atom : ℕ) (letter : CentreLetter) where
         (all_join (atom - 1) marked.neighbour marked.mark molecule.bonds)
         (bonds_set (atom - 1) marked.neighbour marked.mark molecule.bonds m.range)
 
-    written : (bytes : List ℕ) → molecule_in bytes ≡ Ok molecule
+    pub read_behind : (bytes : List ℕ) → molecule_in bytes ≡ Ok molecule
         → is_v3000 (body_contents (without_label_items bytes)) ≡ false
-        → IsSet rules nodes atom letter bytes
+        → IsReadChanged molecule (drawn_with molecule marked).bonds
+        (changed_record molecule (drawn_with molecule marked).bonds (without_label_items bytes))
+    read_behind bytes read old =
+        changes_are_read bytes molecule (drawn_with molecule marked).bonds read old
+        (all_join (atom - 1) marked.neighbour marked.mark molecule.bonds)
+        (bonds_set (atom - 1) marked.neighbour marked.mark molecule.bonds
+        (markable (body_contents (without_label_items bytes)) molecule read old).range)
+
+    pub written : (bytes : List ℕ) → molecule_in bytes ≡ Ok molecule
+        → is_v3000 (body_contents (without_label_items bytes)) ≡ false
+        → IsMarked rules nodes atom letter bytes
         (changed_record molecule (drawn_with molecule marked).bonds (without_label_items bytes))
     written bytes read old =
-        let text = changed_record molecule (drawn_with molecule marked).bonds (without_label_items bytes) in
-        let m = markable (body_contents (without_label_items bytes)) molecule read old in
-        let given : IsGiven rules nodes molecule (atom - 1) letter marked =
-        letters_given rules nodes molecule (atom - 1) letter m.sound marked is in
-        let changed = changes_are_read bytes molecule (drawn_with molecule marked).bonds read old
-        (all_join (atom - 1) marked.neighbour marked.mark molecule.bonds)
-        (bonds_set (atom - 1) marked.neighbour marked.mark molecule.bonds m.range) in
+        let changed = read_behind bytes read old in
         record {
           molecule = molecule;
           marked = marked;
@@ -111,11 +81,13 @@ module _ (rules : Rules) (nodes atom : ℕ) (letter : CentreLetter) where
           mark = is;
           behind = changed.read;
           free = changed.free;
-          labels = subst (LabelsAt (descriptor_of letter) (atom - 1))
-              (sym (answered rules nodes text (drawn_with molecule marked) changed.read))
-              (labelled rules nodes (drawn_with molecule marked) (atom - 1) (descriptor_of letter) given.centre
-              given.letter);
         }
+
+    -- with the mark the centre has the letter
+    pub given : (lines : List (List ℕ)) → read_molecule lines ≡ Ok molecule → is_v3000 lines ≡ false
+        → IsGiven rules nodes molecule (atom - 1) letter marked
+    given lines read old =
+        letters_given rules nodes molecule (atom - 1) letter (markable lines molecule read old).sound marked is
 
   -- by the answer to a record without label items
   module _ (P : SetAnswer → Type 0) (bytes : List ℕ) (refused : (refusal : SetRefusal) → P (Refused refusal))
@@ -147,7 +119,7 @@ module _ (rules : Rules) (nodes atom : ℕ) (letter : CentreLetter) where
     by_reading (Err fault) is = refused (refusals.Grammar fault)
     by_reading (Ok molecule) is = by_version molecule (is_v3000 (body_contents bytes)) is refl
 
-    by_answer : P (set_without_items rules nodes atom letter bytes)
+    pub by_answer : P (set_without_items rules nodes atom letter bytes)
     unfolding set_without_items
     by_answer = by_reading (read_molecule (body_contents bytes)) refl
 
@@ -155,8 +127,8 @@ module _ (rules : Rules) (nodes atom : ℕ) (letter : CentreLetter) where
   set_few bytes = by_answer (IsFew bytes) bytes (λ refusal. tt)
       (λ molecule marked is read old. few_written molecule marked is bytes read old)
 
-  set_reads : (bytes : List ℕ) → GivesLetter rules nodes atom letter bytes (set_answer rules nodes atom letter bytes)
-  set_reads bytes = by_answer (GivesLetter rules nodes atom letter bytes) (without_label_items bytes) (λ refusal. tt)
+  pub set_reads : (bytes : List ℕ) → GivesMark rules nodes atom letter bytes (set_answer rules nodes atom letter bytes)
+  set_reads bytes = by_answer (GivesMark rules nodes atom letter bytes) (without_label_items bytes) (λ refusal. tt)
       (λ molecule marked is read old. written molecule marked is bytes read old)
 
   -- of what a call answers
@@ -165,16 +137,6 @@ module _ (rules : Rules) (nodes atom : ℕ) (letter : CentreLetter) where
       → IfOk result (λ answer. IsFew bytes answer)
   few_of bytes result is =
       IfOk-weaker result _ (IsFew bytes) (λ answer e. subst (IsFew bytes) (sym e) (set_few bytes)) is
-
-  pub reads_of : {E : Type 0} (bytes : List ℕ) (result : Result SetAnswer E)
-      → IfOk result (λ answer. answer ≡ set_answer rules nodes atom letter bytes)
-      → IfOk result (λ answer. GivesLetter rules nodes atom letter bytes answer)
-  reads_of bytes result is =
-      IfOk-weaker result _ (GivesLetter rules nodes atom letter bytes)
-      (λ answer e. subst (GivesLetter rules nodes atom letter bytes) (sym e) (set_reads bytes)) is
-
-pub set_records_are_read : SetRecordsAreRead
-set_records_are_read = set_reads
 
 fewer : (bytes bare : List ℕ) (answer : SetAnswer) → length bare ≤ length bytes → IsFew bare answer
     → IsFew bytes answer

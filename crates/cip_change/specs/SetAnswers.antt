@@ -1,22 +1,15 @@
 -- The answer to a record in which a centre is to have a letter. Own; a molfile is read as CTfile Formats says.
-use Rattle.std.specs.Prelude.{◌≡◌, ◌≤◌, ◌+◌, ◌-◌, ◌==◌, ℕ, List, false, length, slice_get, Some, Result, Ok, Err, if◌then◌else◌}
+use Rattle.std.specs.Prelude.{◌≡◌, ◌≤◌, ◌+◌, ◌-◌, ◌==◌, ℕ, List, false, length, Result, Ok, Err, if◌then◌else◌}
 use Rattle.cip_text.specs.Bodies.{body_contents}
 use Rattle.cip_rank.specs.declared.rules.Rules.{Rules}
-use Rattle.cip_mol.specs.CentreLetters.{descriptor_of}
 use Rattle.cip_mol.specs.Drawing.{Drawing}
 use Rattle.cip_mol.specs.declared.centre_letter.CentreLetter.{CentreLetter}
-use Rattle.cip_mol.specs.declared.descriptor.Descriptor.{Descriptor}
 use Rattle.cip_mol.specs.declared.refusal.ReadFault.{ReadFault}
 use Rattle.cip_item.specs.Parts.{without_label_items, has_label_item}
 use Rattle.cip_v2000.specs.Version.{is_v3000}
-use Rattle.cip_print.specs.declared.answer.Answer.{Answer}
-use Rattle.cip_print.specs.declared.answer.Answer.TheVariants as answers
-use Rattle.cip_print.specs.declared.answer.UnitAnswer.{UnitAnswer}
-use Rattle.cip_answer.specs.Answers.{answer_by}
 use Rattle.cip_molfile.specs.Molecules.{read_molecule}
 use Rattle.cip_change.specs.Marking.{with_mark}
-use Rattle.cip_change.specs.SetLetters.{mark_asked, HasLetter}
-use Rattle.cip_change.specs.UnitsBeside.{IsCentreAt}
+use Rattle.cip_change.specs.SetLetters.{mark_asked}
 use Rattle.cip_change.specs.declared.letter.CentreRefusal.{CentreRefusal}
 use Rattle.cip_change.specs.declared.letter.CentreRefusal.TheVariants as centres
 use Rattle.cip_change.specs.declared.letter.Marked.{Marked}
@@ -61,39 +54,20 @@ module _ (rules : Rules) (nodes atom : ℕ) (letter : CentreLetter) where
   abbrev pub set_answer : List ℕ → SetAnswer
   set_answer bytes = set_without_items (without_label_items bytes)
 
--- among the units of a record that were answered, the centre at an atom has this letter
-pub record IsLabelledAt (letter : Descriptor) (atom : ℕ) (units : List UnitAnswer) : Type 0 where
-  pub place : ℕ
-  pub unit : UnitAnswer
-  pub there : slice_get units place ≡ Some unit
-  pub centre : IsCentreAt atom unit.site
-  pub has : HasLetter letter unit.outcome
-
-abbrev pub LabelsAt : Descriptor → ℕ → Answer → Type 0
-LabelsAt letter atom (answers.Labelled units) = IsLabelledAt letter atom units
-LabelsAt letter atom (answers.Refused fault) = ⊥
-
--- what is written is read as the drawing with the mark at the first ligand that can have one, and has no label item;
--- the answer to it gives the centre the asked letter
-pub record IsSet (rules : Rules) (nodes atom : ℕ) (letter : CentreLetter) (bytes text : List ℕ) : Type 0 where
+-- what is written is read as the drawing with the mark at the first ligand that can have one, and has no label item
+pub record IsMarked (rules : Rules) (nodes atom : ℕ) (letter : CentreLetter) (bytes text : List ℕ) : Type 0 where
   pub molecule : Drawing
   pub marked : Marked
   pub before : molecule_in bytes ≡ Ok molecule
   pub mark : mark_asked rules nodes molecule (atom - 1) letter ≡ Ok marked
   pub behind : molecule_in text ≡ Ok (with_mark molecule (atom - 1) marked.neighbour marked.mark)
   pub free : has_label_item text ≡ false
-  pub labels : LabelsAt (descriptor_of letter) (atom - 1) (answer_by rules nodes text)
 
-abbrev pub GivesLetter : Rules → ℕ → ℕ → CentreLetter → List ℕ → SetAnswer → Type 0
-GivesLetter rules nodes atom letter bytes (Written text) = IsSet rules nodes atom letter bytes text
-GivesLetter rules nodes atom letter bytes (Refused refusal) = Unit {0}
+abbrev pub GivesMark : Rules → ℕ → ℕ → CentreLetter → List ℕ → SetAnswer → Type 0
+GivesMark rules nodes atom letter bytes (Written text) = IsMarked rules nodes atom letter bytes text
+GivesMark rules nodes atom letter bytes (Refused refusal) = Unit {0}
 
 -- what is written is little longer than the record
 abbrev pub IsFew : List ℕ → SetAnswer → Type 0
 IsFew bytes (Written text) = length text ≤ length bytes + 65536
 IsFew bytes (Refused refusal) = Unit {0}
-
-abbrev pub SetRecordsAreRead : Type 0
-SetRecordsAreRead =
-    (rules : Rules) (nodes atom : ℕ) (letter : CentreLetter) (bytes : List ℕ) →
-    GivesLetter rules nodes atom letter bytes (set_answer rules nodes atom letter bytes)

@@ -7,8 +7,8 @@ use Rattle.cip_change.specs.Answers.{GivesReflected, mirror_answer}
 use Rattle.cip_change.specs.declared.mirror_answers.MirrorAnswer.{MirrorAnswer}
 use Rattle.cip_change.specs.declared.mirror_answers.MirrorAnswer.TheVariants as mirrored
 use Rattle.cip_mol.specs.declared.centre_letter.CentreLetter.{CentreLetter}
-use Rattle.cip_change.proofs.SetReads.{set_records_are_read}
-use Rattle.cip_change.specs.SetAnswers.{GivesLetter, set_answer}
+use Rattle.cip_change.proofs.SetReads.{set_reads}
+use Rattle.cip_change.specs.SetAnswers.{GivesMark, set_answer}
 use Rattle.cip_change.specs.declared.set_answers.SetAnswer.{SetAnswer}
 use Rattle.cip_change.specs.declared.set_answers.SetAnswer.TheVariants as sets
 use Rattle.cip_stream.specs.Batches.{Telling, telling}
@@ -37,7 +37,7 @@ module _ (labelling : Labelling) where
 
   -- what was written has no label item, and where nothing was written the record stays
   set_bared : (bytes : List ℕ) (atom : ℕ) (letter : CentreLetter) (answer : SetAnswer)
-      → GivesLetter labelling.rules labelling.nodes atom letter bytes answer
+      → GivesMark labelling.rules labelling.nodes atom letter bytes answer
       → bared (set_to bytes answer) ≡ set_to (without_label_items bytes) answer
   set_bared bytes atom letter (sets.Written text) gives =
       ap (λ bare. set_to bytes (sets.Written bare)) (itself text gives.free)
@@ -57,7 +57,7 @@ module _ (labelling : Labelling) where
   unfolding with_letter
   letter_bared named atom letter number bytes true k =
       rw k (set_bared bytes atom letter (set_answer labelling.rules labelling.nodes atom letter bytes)
-      (set_records_are_read labelling.rules labelling.nodes atom letter bytes))
+      (set_reads labelling.rules labelling.nodes atom letter bytes))
   letter_bared named atom letter number bytes false k = rw k refl
 
   reflected_bared : (bytes : List ℕ)

@@ -1,5 +1,5 @@
 // What is read of a record in which a centre is to have a letter, and laws of marks.
-ghost use Rattle.cip_change.specs.SetAnswers.{SetRecordsAreRead};
+ghost use Rattle.cip_set.specs.SetLabels.{SetRecordsAreRead};
 ghost use Rattle.cip_change.specs.WorkedMarks.{AreAnswered};
 ghost use Rattle.cip_change.specs.MarkLaw.{CentresAreUnits, CentresStandAlone, EligibleMarksShowSenses, MarksGiveLetters, MarksKeepRanks, SensesTurnLetters};
 

@@ -1,1 +1,2 @@
 mod MirrorReads
+pub mod SetReads

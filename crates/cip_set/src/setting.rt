@@ -1,6 +1,7 @@
 // A single record in which a centre is to have a letter.
 ghost use Rattle.std.specs.Prelude.{◌≡◌, ◌≤◌, ◌<◌, ◌-◌, ◌^◌, IfOk, length};
-ghost use Rattle.cip_change.specs.SetAnswers.{set_answer, set_without_items, GivesLetter, IsFew};
+ghost use Rattle.cip_change.specs.SetAnswers.{set_answer, set_without_items, IsFew};
+ghost use Rattle.cip_set.specs.SetLabels.{GivesLetter};
 
 use cip_change::{SetAnswer, set_within};
 use cip_label::{Digraphs, Labeller};

@@ -1,5 +1,6 @@
 use Rattle.cip_item.specs.Parts.{without_label_items}
-use Rattle.cip_change.proofs.SetReads.{few_of, few_with_items, reads_of}
+use Rattle.cip_change.proofs.SetReads.{few_of, few_with_items}
+use Rattle.cip_set.proofs.SetReads.{reads_of}
 use Rattle.cip_set.proofs.setting.set_letter.Goals as goal
 
 pub returns-clause-gives : goal.returns-clause-gives
