@@ -7,7 +7,7 @@ ghost use Rattle.cip_digraph.specs.units.Units.{centre_site};
 ghost use Rattle.cip_change.specs.FoundCentres.{found_at};
 ghost use Rattle.cip_change.specs.Marking.{has_centre, marked, IsBareAt};
 ghost use Rattle.cip_mol.specs.CentreLetters.{asks_small};
-ghost use Rattle.cip_change.specs.SetLetters.{asks_r, by_outcome, is_r, is_small, mark_asked, mark_centre, mark_for, IsGiven};
+ghost use Rattle.cip_change.specs.SetLetters.{asks_r, by_outcome, is_r, is_small, mark_asked, mark_centre, IsGiven};
 ghost use Rattle.cip_change.specs.declared.letter.CentreRefusal.{CentreRefusal};
 ghost use Rattle.cip_mol.specs.declared.molecule.Mark.TheVariants.{Up};
 
@@ -166,10 +166,12 @@ fn by_outcome(
         Outcome::Label(label) => {
             let small = is_small(label.letter);
             if small == asked.is_small() {
-                Ok(Marked {
-                    neighbour,
-                    mark: mark_for(asked, label.letter),
-                })
+                let mark = if is_r(label.letter) == is_r(asked.descriptor()) {
+                    Mark::Up
+                } else {
+                    Mark::Down
+                };
+                Ok(Marked { neighbour, mark })
             } else {
                 Err(CentreRefusal::OtherKind { small })
             }
@@ -178,16 +180,6 @@ fn by_outcome(
         Outcome::Tie => Err(CentreRefusal::Tie),
         // A mark at an eligible ligand always shows a sense.
         Outcome::NoGeometry(_) => Err(CentreRefusal::NoBond),
-    }
-}
-
-fn mark_for(asked: CentreLetter, found: Descriptor) -> Mark
-    ensures { result ≡ mark_for asked found }
-{
-    if is_r(found) == is_r(asked.descriptor()) {
-        Mark::Up
-    } else {
-        Mark::Down
     }
 }
 

@@ -3,7 +3,7 @@ ghost use Rattle.std.specs.Prelude.{◌≡◌, ◌≤◌, ◌<◌, ◌++◌, ℕ
 ghost use Rattle.cip_change.specs.Columns.{with_columns};
 ghost use Rattle.cip_mol.specs.Drawing.{Drawing};
 ghost use Rattle.cip_change.specs.Edits.{Edit};
-ghost use Rattle.cip_change.specs.Changed.{stereo_of, with_bond, are_drawn_alike, changed_line, changed_by, change_edit, changed_record, ChangesAreRead};
+ghost use Rattle.cip_change.specs.Changed.{stereo_of, with_bond, are_drawn_alike, changed_by, change_edit, changed_record, ChangesAreRead};
 
 use crate::{LineEdit, edit_record, with_columns};
 use cip_mol::{Bond, Mark, Molecule};
@@ -85,27 +85,13 @@ fn push_changed(
     ensures { OnOk result (text.new.items ≡ text.old.items ++ changed_by old new line.now) }
 {
     match (old, new) {
-        (Some(old), Some(new)) => push_changed_line(alloc, text, old, new, line),
-        _ => text.extend_from_slice(line),
-    }
-}
-
-fn push_changed_line(
-    alloc: Global,
-    text: &mut Vec<u8>,
-    old: Bond,
-    new: Bond,
-    line: &[u8],
-) -> Result<(), AllocError>
-    ensures { OnOk result (text.new.items ≡ text.old.items ++ changed_line old new line.now) }
-{
-    if are_drawn_alike(old, new) {
-        text.extend_from_slice(line)
-    } else {
-        match with_bond(alloc, new, line) {
-            Ok(written) => text.extend_from_slice(&written),
-            Err(fault) => Err(fault),
+        (Some(old), Some(new)) if !are_drawn_alike(old, new) => {
+            match with_bond(alloc, new, line) {
+                Ok(written) => text.extend_from_slice(&written),
+                Err(fault) => Err(fault),
+            }
         }
+        _ => text.extend_from_slice(line),
     }
 }
 

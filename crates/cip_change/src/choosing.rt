@@ -3,10 +3,10 @@ ghost use Rattle.std.specs.Prelude.{◌≡◌, length, IfOk};
 ghost use Rattle.std.specs.List.{list_any};
 ghost use Rattle.cip_mol.specs.DrawnLigands.{drawn};
 ghost use Rattle.cip_mol.specs.Sites.{IsSite};
-ghost use Rattle.cip_change.specs.Marking.{first_where, is_eligible, is_free, ligands_of, shows_coincident, shows_reentrant};
+ghost use Rattle.cip_change.specs.Marking.{first_where, is_eligible, is_free, ligands_of, shows_coincident};
 
 use crate::marking::{is_free, marked};
-use cip_mol::{AtMostFour, Bond, Cause, Geometry, Mark, Molecule, Site};
+use cip_mol::{Bond, Cause, Geometry, Mark, Molecule, Site};
 use cip_orient::{drawn_of, orient};
 use std::alloc::{AllocError, Global};
 
@@ -21,8 +21,13 @@ pub fn chosen(
     ensures { IfOk result (λ found. found
         ≡ first_where (is_eligible bare.now atom site.now) (drawn (length bare.now.atoms) (ligands_of site.now))) }
 {
-    let drawn = drawn_ligands(bare, site);
-    first_eligible(alloc, bare, atom, site, drawn.as_slice())
+    match site {
+        Site::Centre { ligands, .. } => {
+            let drawn = drawn_of(bare, ligands);
+            first_eligible(alloc, bare, atom, site, drawn.as_slice())
+        }
+        _ => Ok(None),
+    }
 }
 
 fn first_eligible(
@@ -62,7 +67,7 @@ fn is_eligible(
         };
         let shown = orient(alloc, &up, site);
         drop(up);
-        Ok(!shows_reentrant(shown))
+        Ok(!matches!(shown, Geometry::Unknown(Cause::Reentrant)))
     } else {
         Ok(false)
     }
@@ -71,13 +76,12 @@ fn is_eligible(
 fn has_free(bonds: &[Bond], atom: u32, neighbour: u32) -> bool
     ensures { result ≡ list_any (is_free atom neighbour) bonds.now }
 {
-    bonds.iter().any(|bond| is_free(*bond, atom, neighbour))
-}
-
-fn shows_reentrant(geometry: Geometry) -> bool
-    ensures { result ≡ shows_reentrant geometry }
-{
-    matches!(geometry, Geometry::Unknown(Cause::Reentrant))
+    for bond in bonds {
+        if is_free(*bond, atom, neighbour) {
+            return true;
+        }
+    }
+    false
 }
 
 /// Whether two ligands are drawn in one direction, or one at the centre.
@@ -85,13 +89,4 @@ pub fn shows_coincident(geometry: Geometry) -> bool
     ensures { result ≡ shows_coincident geometry }
 {
     matches!(geometry, Geometry::Unknown(Cause::Coincident))
-}
-
-fn drawn_ligands(molecule: &Molecule, site: &Site) -> AtMostFour<u32>
-    ensures { result ≡ drawn (length molecule.now.atoms) (ligands_of site.now) }
-{
-    match site {
-        Site::Centre { ligands, .. } => drawn_of(molecule, ligands),
-        _ => AtMostFour::new(),
-    }
 }

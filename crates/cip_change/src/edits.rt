@@ -40,6 +40,7 @@ pub fn edit_record<E: LineEdit>(
 }
 
 // Adds the edited record to a text that is empty yet.
+#[tactic(auto, using(cip_text::proofs::Contents::content_shorter))]
 fn push_edited<E: LineEdit>(
     alloc: Global,
     edit: &E,
@@ -52,18 +53,11 @@ fn push_edited<E: LineEdit>(
     let mut rest = bytes;
     let mut number = 0;
     while let Some((line, behind)) = split_body_line(rest) {
-        edit.push(alloc, text, number, without_end(line))?;
-        text.extend_from_slice(line_end(line))?;
+        let content = without_end(line);
+        edit.push(alloc, text, number, content)?;
+        text.extend_from_slice(&line[content.len()..])?;
         rest = behind;
         number += 1;
     }
     text.extend_from_slice(rest)
-}
-
-// The end of a line.
-#[tactic(auto, using(cip_text::proofs::Contents::content_shorter))]
-fn line_end(line: &[u8]) -> &[u8]
-    ensures { result.now ≡ end_of line.now }
-{
-    &line[without_end(line).len()..]
 }

@@ -69,5 +69,10 @@ fn mirrored(alloc: Global, molecule: &Molecule, bytes: &[u8]) -> Result<Vec<u8>,
 fn has_too_high(atoms: &[Atom]) -> bool
     ensures { result ≡ list_any is_too_high atoms.now }
 {
-    atoms.iter().any(|atom| atom.at.z > 99_999_999)
+    for atom in atoms {
+        if atom.at.z > 99_999_999 {
+            return true;
+        }
+    }
+    false
 }
