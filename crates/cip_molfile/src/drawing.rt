@@ -49,14 +49,20 @@ fn found_in(alloc: Global, molecule: &Molecule) -> Result<Found, AllocError>
 {
     // Reading the atoms tells that there are few.
     let _atoms = molecule.atoms();
-    let graph = graph_of(alloc, molecule)?;
-    let positions = positions(alloc, &graph)?;
-    let units = units(alloc, molecule, &graph, &positions)?;
-    Ok(Found {
-        graph,
-        positions,
-        units,
-    })
+    let Ok(graph) = graph_of(alloc, molecule) else {
+        return Err(AllocError);
+    };
+    let Ok(positions) = positions(alloc, &graph) else {
+        return Err(AllocError);
+    };
+    match units(alloc, molecule, &graph, &positions) {
+        Ok(units) => Ok(Found {
+            graph,
+            positions,
+            units,
+        }),
+        Err(fault) => Err(fault),
+    }
 }
 
 impl Drawn {
@@ -64,8 +70,10 @@ impl Drawn {
     pub fn of(alloc: Global, molecule: Molecule) -> Result<Drawn, AllocError>
         ensures { IfOk result (λ drawn. drawn ≡ molecule) }
     {
-        let found = found_in(alloc, &molecule)?;
-        Ok(Drawn { molecule, found })
+        match found_in(alloc, &molecule) {
+            Ok(found) => Ok(Drawn { molecule, found }),
+            Err(fault) => Err(fault),
+        }
     }
 
     /// What the lines of a record before its terminator line draw, or why they are refused. The record has no label
@@ -75,7 +83,10 @@ impl Drawn {
         ensures { IfOk result (λ drawn. drawn ≡ read_molecule (texts lines.now)) }
     {
         match read_molecule(alloc, lines) {
-            Ok(molecule) => Ok(Ok(Drawn::of(alloc, molecule)?)),
+            Ok(molecule) => match Drawn::of(alloc, molecule) {
+                Ok(drawn) => Ok(Ok(drawn)),
+                Err(fault) => Err(fault),
+            },
             Err(ReadRefusal::Fault(fault)) => Ok(Err(fault)),
             Err(ReadRefusal::Memory) => Err(AllocError),
         }
