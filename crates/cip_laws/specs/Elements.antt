@@ -3,12 +3,11 @@ use Rattle.std.specs.Prelude.{◌≡◌, ℕ, List, [], ◌∷◌, ◌++◌, cod
 use Rattle.std.specs.List.{flat_map}
 use Rattle.cip_elem.specs.declared.masses.Masses.{Masses}
 use Rattle.cip_elem.specs.declared.masses.TheConstants.{MASSES}
-use Rattle.cip_elem.specs.Symbols.{letters_of}
 use Rattle.cip_elem.specs.declared.symbols.TheConstants.{SYMBOLS}
 
 -- all symbols in order, a space behind each
 abbrev symbols : List ℕ
-symbols = flat_map (λ symbol. letters_of symbol ++ codes " ") SYMBOLS
+symbols = flat_map (λ symbol. symbol.now ++ codes " ") SYMBOLS
 
 -- an element, its natural mass in half units, and the mass number that mass differences are added to
 abbrev masses : ℕ → ℕ → ℕ → Masses

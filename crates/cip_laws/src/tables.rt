@@ -3,7 +3,6 @@ ghost use Rattle.cip_laws.specs.Elements.{ElementsAreWritten};
 ghost use Rattle.cip_laws.specs.HelpText.{HelpIsWritten};
 
 /// The symbols of the elements, and their masses.
-#[tactic(auto, unfolding(cip_elem::specs::Symbols::letters_of))]
 pub fn elements_are_written()
     ensures { ElementsAreWritten }
 {}
