@@ -64,7 +64,10 @@ fn join_lines<'a>(
     while place < lines.len() {
         let line = lines[place];
         if !begins_v30(line) {
-            return Ok(frame_fault(place));
+            return Ok(ReadFault {
+                line: place as u32 + 1,
+                cause: ReadCause::Frame,
+            });
         }
         place += 1;
         if !is_continued(line) {
@@ -152,16 +155,6 @@ fn joined_line<'a>(lines: &'a [&'a [u8]], first: usize, past: usize) -> JoinedLi
     }
 }
 
-fn frame_fault(place: usize) -> ReadFault
-    requires { place < 2 ^ 32 - 1 }
-    ensures { result ≡ record { line = place + 1; cause = Frame } }
-{
-    ReadFault {
-        line: place as u32 + 1,
-        cause: ReadCause::Frame,
-    }
-}
-
 fn begins_v30(line: &[u8]) -> bool
     ensures { result ≡ begins_v30 line.now }
 {
@@ -173,11 +166,9 @@ fn is_continued(line: &[u8]) -> bool
 {
     // Most lines end in another byte.
     if !line.is_empty() && line[line.len() - 1] > b'-' {
-        return false;
-    }
-    match without_spaces_behind(body(line)) {
-        [.., b'-'] => true,
-        _ => false,
+        false
+    } else {
+        matches!(without_spaces_behind(body(line)), [.., b'-'])
     }
 }
 
@@ -190,9 +181,10 @@ fn body(line: &[u8]) -> &[u8]
 fn part_of(line: &[u8]) -> &[u8]
     ensures { result.now ≡ part_of line.now }
 {
-    if !is_continued(line) {
-        return body(line);
+    if is_continued(line) {
+        let text = without_spaces_behind(body(line));
+        &text[..text.len().saturating_sub(1)]
+    } else {
+        body(line)
     }
-    let text = without_spaces_behind(body(line));
-    &text[..text.len().saturating_sub(1)]
 }
