@@ -4,7 +4,7 @@ ghost use Rattle.cip_text.specs.Kinds.{is_molecule_end};
 ghost use Rattle.cip_text.specs.Slices.{texts};
 ghost use Rattle.cip_reading.specs.Reading.{Gives};
 ghost use Rattle.cip_v3000.specs.Blocks.{seen_atoms, seen_bonds, AreAtoms, AreBonds, HasNoBonds};
-ghost use Rattle.cip_v3000.specs.Grammar.{atom_block, atom_row, bond_row, bond_rows, framed_bonds, has_bond_block, bond_block, behind_block, table_end, molecule_end};
+ghost use Rattle.cip_v3000.specs.Grammar.{atom_block, atom_row, bond_row, bond_rows, has_bond_block, bond_block, behind_block, table_end, molecule_end};
 ghost use Rattle.cip_v3000.specs.Joining.{seen, seen_all, IsNumbered};
 
 use crate::frames::FrameLine;
@@ -153,8 +153,17 @@ pub fn bond_block(
     ensures are { OnOk result (AreBonds (length atoms.now) count block.new) }
 {
     match has_bond_block(alloc, joined, count, place) {
-        Ok(true) => match read_framed(alloc, joined, atoms, count, place, block) {
-            Ok(()) => Ok(place + count as usize + 2),
+        Ok(true) => match frame(alloc, joined, place, FrameLine::BeginBonds) {
+            Ok(()) => match read_bonds(alloc, joined, atoms, place + 1, count, block) {
+                Ok(()) => {
+                    let end = place + 1 + count as usize;
+                    match frame(alloc, joined, end, FrameLine::EndBonds) {
+                        Ok(()) => Ok(place + count as usize + 2),
+                        Err(refusal) => Err(refusal),
+                    }
+                }
+                Err(refusal) => Err(refusal),
+            },
             Err(refusal) => Err(refusal),
         },
         Ok(false) => Ok(place),
@@ -198,35 +207,6 @@ pub fn molecule_end(lines: &[&[u8]], number: u32) -> Result<(), ReadFault>
         place += 1;
     }
     Err(short(lines))
-}
-
-// Reads the bond block with its frame, from this place on, into one that has no bonds.
-fn read_framed(
-    alloc: Global,
-    joined: &JoinedLines<'_>,
-    atoms: &Indices,
-    count: u32,
-    place: usize,
-    block: &mut BondBlock,
-) -> Result<(), ReadRefusal>
-    requires few { length atoms.now ≤ 16384 }
-    requires count { count ≤ 32768 }
-    requires place { place ≤ 16388 }
-    requires none { HasNoBonds (length atoms.now) block.old }
-    ensures value { Gives (λ _. seen_bonds block.new) result
-        (framed_bonds (seen_all joined.now) atoms.now count place) }
-    ensures are { OnOk result (AreBonds (length atoms.now) count block.new) }
-{
-    match frame(alloc, joined, place, FrameLine::BeginBonds) {
-        Ok(()) => match read_bonds(alloc, joined, atoms, place + 1, count, block) {
-            Ok(()) => {
-                let end = place + 1 + count as usize;
-                frame(alloc, joined, end, FrameLine::EndBonds)
-            }
-            Err(refusal) => Err(refusal),
-        },
-        Err(refusal) => Err(refusal),
-    }
 }
 
 // Reads so many bond lines, from this place on, into a block that has no bonds.

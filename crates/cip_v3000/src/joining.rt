@@ -1,6 +1,5 @@
 // Lines, joined where they are continued.
 ghost use Rattle.std.specs.Prelude.{◌≡◌, ◌≤◌, ◌<◌, ◌^◌, ◌-◌, ◌+◌, [], All, length, slice_get, IfErr, IfOk, OnOk, Some, None};
-ghost use Rattle.std.specs.List.{flat_map};
 ghost use Rattle.cip_mol.specs.declared.refusal.ReadCause.TheVariants.{Frame};
 ghost use Rattle.cip_text.specs.Slices.{texts};
 ghost use Rattle.cip_v3000.specs.JoinedLines.{begins_v30, body, is_continued, part_of, text_of, next_number, joined_lines};
@@ -86,10 +85,15 @@ pub fn text_of<'a>(alloc: Global, line: &JoinedLine<'a>) -> Result<Text<'a>, All
 {
     match line.parts {
         [only] => Ok(Text::Whole(part_of(only))),
-        parts => match joined_text(alloc, parts) {
-            Ok(text) => Ok(Text::Joined(text)),
-            Err(error) => Err(error),
-        },
+        parts => {
+            let mut text = Vec::new(alloc);
+            for part in parts {
+                let Ok(()) = text.extend_from_slice(part_of(part)) else {
+                    return Err(AllocError);
+                };
+            }
+            Ok(Text::Joined(text))
+        }
     }
 }
 
@@ -127,18 +131,6 @@ impl<'a> JoinedLine<'a> {
     {
         self.number + self.parts.len() as u32
     }
-}
-
-fn joined_text(alloc: Global, parts: &[&[u8]]) -> Result<Vec<u8>, AllocError>
-    ensures { IfOk result (λ text. text.items ≡ flat_map part_of (texts parts.now)) }
-{
-    let mut text = Vec::new(alloc);
-    for part in parts {
-        let Ok(()) = text.extend_from_slice(part_of(part)) else {
-            return Err(AllocError);
-        };
-    }
-    Ok(text)
 }
 
 // The line that the lines at these places make.
