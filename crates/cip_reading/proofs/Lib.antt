@@ -1,10 +1,10 @@
-mod PlainZeros
 pub mod Given
 pub mod InTurn
 pub mod Refusals
 pub mod Rows
-pub mod SpacedWords
+pub mod SpacedParts
 pub mod Texts
 pub mod Turns
 pub mod UsualDecimals
 pub mod UsualNumbers
+mod PlainZeros
