@@ -1,3 +1,5 @@
+use Rattle.std.proofs.Common.{arith}
+use Rattle.std.proofs.lemmas.Grind.{common_steps}
 use Rattle.cip_io.proofs.Growth.{all_taken, front_taken}
 use Rattle.cip_io.proofs.joined.Joined.push.Goals as goal
 
@@ -8,3 +10,6 @@ returns-in-Ok-2-clause-taken g c = all_taken c.push_all.result _ _ _ c.args.self
 pub returns-in-Ok-2-clause-prefix : goal.returns-in-Ok-2-clause-prefix
 returns-in-Ok-2-clause-prefix g c = front_taken c.push_all.result _ _ _ c.args.self.now c.args.piece.now
     c.in-Ok-2.ensures.whole c.push_all.ensures.prefix
+
+pub returns-in-Err-clause-prefix : goal.returns-in-Err-clause-prefix
+returns-in-Err-clause-prefix g c = grind (arith, common_steps)
