@@ -46,16 +46,16 @@ impl Joined {
     {
         if piece.len() <= self.room - self.text.len() {
             hold(&mut self.text, piece);
-            return Ok(());
-        }
-        if let Err(fault) = self.flush(sink) {
-            return Err(fault);
-        }
-        if piece.len() <= self.room {
-            hold(&mut self.text, piece);
             Ok(())
         } else {
-            push_all(sink, piece)
+            match self.flush(sink) {
+                Ok(()) if piece.len() <= self.room => {
+                    hold(&mut self.text, piece);
+                    Ok(())
+                }
+                Ok(()) => push_all(sink, piece),
+                Err(fault) => Err(fault),
+            }
         }
     }
 
@@ -66,11 +66,13 @@ impl Joined {
         ensures prefix { OnErr result (AppendsPrefix (K.taken sink.old) (K.taken sink.new) self.old) }
         ensures cause { HasCause (K.faults sink.old) (K.faults sink.new) result }
     {
-        if let Err(fault) = push_all(sink, &self.text) {
-            return Err(fault);
+        match push_all(sink, &self.text) {
+            Ok(()) => {
+                self.text.clear();
+                Ok(())
+            }
+            Err(fault) => Err(fault),
         }
-        self.text.clear();
-        Ok(())
     }
 }
 

@@ -33,11 +33,10 @@ pub fn split_items(alloc: Global, bytes: &[u8]) -> Result<Items, AllocError>
     requires { length bytes.now < 2 ^ 32 }
     ensures { IfOk result (λ items. items ≡ items_of bytes.now) }
 {
-    let lines = RecordLines::new(alloc, bytes)?;
-    let items = items_among(alloc, lines.contents());
-    // given back by a call of its own, which is quicker to prove than this function's end
-    drop(lines);
-    items
+    match RecordLines::new(alloc, bytes) {
+        Ok(lines) => items_among(alloc, lines.contents()),
+        Err(error) => Err(error),
+    }
 }
 
 // The items of a record whose lines have these contents.
@@ -51,8 +50,10 @@ fn items_among(alloc: Global, contents: &[&[u8]]) -> Result<Items, AllocError>
         first: 0,
         number: 0,
     };
-    take_lines(&mut splitter, contents)?;
-    Ok(splitter.items)
+    match take_lines(&mut splitter, contents) {
+        Ok(()) => Ok(splitter.items),
+        Err(error) => Err(error),
+    }
 }
 
 // Takes the lines to come, behind which nothing is open.
@@ -62,7 +63,9 @@ fn take_lines(splitter: &mut Splitter, contents: &[&[u8]]) -> Result<(), AllocEr
     ensures { OnOk result (splitter.new.items ≡ items_with splitter.old (texts contents.now)) }
 {
     for content in contents {
-        take_line(splitter, content)?;
+        let Ok(()) = take_line(splitter, content) else {
+            return Err(AllocError);
+        };
     }
     close_before(splitter, Part::Between)
 }
@@ -77,14 +80,18 @@ fn take_line(splitter: &mut Splitter, content: &[u8]) -> Result<(), AllocError>
 {
     if splitter.part.begins_item(content) {
         let part = splitter.part.of_line(content);
-        close_before(splitter, Part::Between)?;
+        let Ok(()) = close_before(splitter, Part::Between) else {
+            return Err(AllocError);
+        };
         splitter.part = part;
         splitter.first = splitter.number;
         splitter.number += 1;
     } else {
         let next = splitter.part.behind(content);
         splitter.number += 1;
-        close_before(splitter, next)?;
+        let Ok(()) = close_before(splitter, next) else {
+            return Err(AllocError);
+        };
         splitter.part = next;
     }
     Ok(())

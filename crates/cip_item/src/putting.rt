@@ -22,8 +22,10 @@ const ITEM_ROOM: usize = 2 + (2 + LABEL_NAME.len() + 2) + 2 + 2;
 pub fn with_item(alloc: Global, bytes: &[u8], values: &Texts) -> Result<Vec<u8>, AllocError>
     ensures { IfOk result (λ text. text.items ≡ with_item bytes.now values.now) }
 {
-    let lines = RecordLines::new(alloc, bytes)?;
-    lines_with_item(alloc, &lines, values)
+    match RecordLines::new(alloc, bytes) {
+        Ok(lines) => lines_with_item(alloc, &lines, values),
+        Err(error) => Err(error),
+    }
 }
 
 /// `with_item` for a caller that has the lines of the record.
@@ -35,9 +37,13 @@ pub fn lines_with_item(
     ensures { IfOk result (λ text. text.items ≡ with_item lines.now values.now) }
 {
     let room = room_for(values).saturating_add(ITEM_ROOM);
-    let mut text = Vec::with_capacity(alloc, lines.bytes().len().saturating_add(room))?;
-    put_record(&mut text, lines, values)?;
-    Ok(text)
+    match Vec::with_capacity(alloc, lines.bytes().len().saturating_add(room)) {
+        Ok(mut text) => match put_record(&mut text, lines, values) {
+            Ok(()) => Ok(text),
+            Err(error) => Err(error),
+        },
+        Err(error) => Err(error),
+    }
 }
 
 // The record with the item in it.
@@ -45,10 +51,14 @@ fn put_record(text: &mut Vec<u8>, lines: &RecordLines, values: &Texts) -> Result
     ensures { OnOk result (text.new.items ≡ text.old.items ++ with_item lines.now values.now) }
 {
     let end = line_end_for(lines.bytes());
-    put_line(text, lines.body(), missing_end(end, lines.body()))?;
-    text.extend_from_slice(gap(end, lines.contents()))?;
-    put_item(text, end, values)?;
-    text.extend_from_slice(lines.closing())
+    if let Ok(()) = put_line(text, lines.body(), missing_end(end, lines.body()))
+        && let Ok(()) = text.extend_from_slice(gap(end, lines.contents()))
+        && let Ok(()) = put_item(text, end, values)
+    {
+        text.extend_from_slice(lines.closing())
+    } else {
+        Err(AllocError)
+    }
 }
 
 fn room_for(values: &Texts) -> usize
@@ -66,18 +76,24 @@ fn room_for(values: &Texts) -> usize
 fn put_item(text: &mut Vec<u8>, end: &[u8], values: &Texts) -> Result<(), AllocError>
     ensures { OnOk result (text.new.items ≡ text.old.items ++ item end.now values.now) }
 {
-    put_heading(text)?;
-    text.extend_from_slice(end)?;
-    put_values(text, end, values)?;
-    text.extend_from_slice(end)
+    if let Ok(()) = put_heading(text)
+        && let Ok(()) = text.extend_from_slice(end)
+        && let Ok(()) = put_values(text, end, values)
+    {
+        text.extend_from_slice(end)
+    } else {
+        Err(AllocError)
+    }
 }
 
 #[tactic(auto, unfolding(crate::specs::Putting::heading), using(crate::proofs::Joining::two_joined))]
 fn put_heading(text: &mut Vec<u8>) -> Result<(), AllocError>
     ensures { OnOk result (text.new.items ≡ text.old.items ++ heading) }
 {
-    text.extend_from_slice(b"> ".as_slice())?;
-    text.extend_from_slice(LABEL_NAME)
+    match text.extend_from_slice(b"> ".as_slice()) {
+        Ok(()) => text.extend_from_slice(LABEL_NAME),
+        Err(error) => Err(error),
+    }
 }
 
 // One line for each value.
@@ -86,7 +102,9 @@ fn put_values(text: &mut Vec<u8>, end: &[u8], values: &Texts) -> Result<(), Allo
 {
     let values = values.as_slice();
     for value in values {
-        put_line(text, value.as_slice(), end)?;
+        let Ok(()) = put_line(text, value.as_slice(), end) else {
+            return Err(AllocError);
+        };
     }
     Ok(())
 }
@@ -94,8 +112,10 @@ fn put_values(text: &mut Vec<u8>, end: &[u8], values: &Texts) -> Result<(), Allo
 fn put_line(text: &mut Vec<u8>, content: &[u8], end: &[u8]) -> Result<(), AllocError>
     ensures { OnOk result (text.new.items ≡ text.old.items ++ (content.now ++ end.now)) }
 {
-    text.extend_from_slice(content)?;
-    text.extend_from_slice(end)
+    match text.extend_from_slice(content) {
+        Ok(()) => text.extend_from_slice(end),
+        Err(error) => Err(error),
+    }
 }
 
 // The line end of a record, by its first LF.

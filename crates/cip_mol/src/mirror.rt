@@ -25,7 +25,13 @@ fn mirrored_atoms(alloc: Global, atoms: &[Atom]) -> Result<Vec<Atom>, AllocError
     requires { All IsAtom atoms.now }
     ensures { IfOk result (λ v. v.items ≡ map mirrored_atom atoms.now) }
 {
-    atoms.iter().map(|atom| mirrored_atom(*atom)).collect(alloc)
+    let Ok(mut mirrored) = Vec::with_capacity(alloc, atoms.len()) else {
+        return Err(AllocError);
+    };
+    for atom in atoms {
+        mirrored.push_reserved(mirrored_atom(*atom));
+    }
+    Ok(mirrored)
 }
 
 fn mirrored_atom(atom: Atom) -> Atom
@@ -40,7 +46,13 @@ fn mirrored_atom(atom: Atom) -> Atom
 fn mirrored_bonds(alloc: Global, bonds: &[Bond]) -> Result<Vec<Bond>, AllocError>
     ensures { IfOk result (λ v. v.items ≡ map mirrored_bond bonds.now) }
 {
-    bonds.iter().map(|bond| mirrored_bond(*bond)).collect(alloc)
+    let Ok(mut mirrored) = Vec::with_capacity(alloc, bonds.len()) else {
+        return Err(AllocError);
+    };
+    for bond in bonds {
+        mirrored.push_reserved(mirrored_bond(*bond));
+    }
+    Ok(mirrored)
 }
 
 fn mirrored_bond(bond: Bond) -> Bond

@@ -38,10 +38,13 @@ impl Molecule {
 fn renamed_bonds(alloc: Global, atoms: &[u32], bonds: &[Bond]) -> Result<Vec<Bond>, AllocError>
     ensures { IfOk result (λ v. v.items ≡ map (renamed (place_of atoms.now)) bonds.now) }
 {
-    bonds
-        .iter()
-        .map(|bond| renamed(atoms, *bond))
-        .collect(alloc)
+    let Ok(mut between) = Vec::with_capacity(alloc, bonds.len()) else {
+        return Err(AllocError);
+    };
+    for bond in bonds {
+        between.push_reserved(renamed(atoms, *bond));
+    }
+    Ok(between)
 }
 
 fn renamed(atoms: &[u32], bond: Bond) -> Bond

@@ -1,10 +1,10 @@
 -- A few digits behind spaces are the number that they spell.
-use Rattle.std.proofs.Common.{◌≡◌, ◌≤◌, ◌<◌, ◌+◌, ◌-◌, ◌*◌, ◌++◌, ℕ, suc, pos, List, [], ◌∷◌, true, false, ◌==◌, nat_lt, Ok, Some, refl, sym, ◌∙◌, ap, arith, length, reverse, append_assoc}
+use Rattle.std.proofs.Common.{◌≡◌, ◌≤◌, ◌<◌, ◌+◌, ◌-◌, ◌*◌, ◌++◌, ℕ, suc, pos, List, [], ◌∷◌, true, false, ◌==◌, nat_lt, Ok, Some, refl, sym, ◌∙◌, ap, arith, length, take, drop, get_or, reverse, append_assoc}
 use Rattle.std.specs.List.{list_all}
 use Rattle.std.proofs.lemmas.Bool.{and_parts, and_right, lt-ltb, le-leb}
 use Rattle.std.proofs.lemmas.Bool.Decides.{nat_tests}
-use Rattle.std.proofs.lemmas.List.{reverse-append, reverse-reverse}
-use Rattle.cip_text.specs.Columns.{without_spaces_before, without_spaces_behind}
+use Rattle.std.proofs.lemmas.List.{drop_more, reverse-append, reverse-reverse}
+use Rattle.cip_text.specs.Columns.{field, without_spaces_before, without_spaces_behind}
 use Rattle.cip_text.specs.Numbers.{is_digit, whole, is_negative, without_sign, signed, integer_of}
 use Rattle.cip_reading.specs.Usual.{trimmed, Spells}
 
@@ -105,3 +105,24 @@ three_digits a b c x y z g h k d e f p q r =
       value = omega (arith, d, e, f);
       few = omega (arith, p, q, r);
     })
+
+-- the three columns from one on
+three_columns : (line : List ℕ) (start : ℕ) → start + 3 ≤ length line
+    → take 3 (drop start line)
+    ≡ get_or line start 0 ∷ get_or line (start + 1) 0 ∷ get_or line (start + 2) 0 ∷ []
+three_columns line start within =
+    let third : start + 1 + 1 ≡ start + 2 = omega arith in
+    ap (take 3) (drop_more line start 0 (omega (arith, within)))
+    ∙ ap (λ back. get_or line start 0 ∷ take 2 back) (drop_more line (start + 1) 0 (omega (arith, within)))
+    ∙ ap (λ n. get_or line start 0 ∷ get_or line (start + 1) 0 ∷ take 1 (drop n line)) third
+    ∙ ap (λ back. get_or line start 0 ∷ get_or line (start + 1) 0 ∷ take 1 back)
+    (drop_more line (start + 2) 0 (omega (arith, within)))
+
+pub three_read : (line : List ℕ) (first number : ℕ) → 0 < first → first - 1 + 3 ≤ length line
+    → integer_of (trimmed (get_or line (first - 1) 0 ∷ get_or line (first - 1 + 1) 0 ∷ get_or line (first - 1 + 2) 0
+    ∷ [])) ≡ Ok (pos number)
+    → integer_of (field first (first + 2) line) ≡ Ok (pos number)
+three_read line first number some within is =
+    let count : first + 2 + 1 - first ≡ 3 = omega arith in
+    ap (λ n. integer_of (trimmed (take n (drop (first - 1) line)))) count
+    ∙ ap (λ text. integer_of (trimmed text)) (three_columns line (first - 1) within) ∙ is

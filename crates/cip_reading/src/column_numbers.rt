@@ -1,13 +1,13 @@
 // The numbers in the columns of a line, which are counted from 1.
 ghost use Rattle.std.specs.Prelude.{◌≡◌, ◌≤◌, ◌<◌, ◌+◌, pos, true, unsigned_abs, IfOk, IfSome, Ok};
 ghost use Rattle.cip_text.specs.Columns.{field};
-ghost use Rattle.cip_text.specs.Numbers.{integer_of, decimal4_of};
+ghost use Rattle.cip_text.specs.Numbers.{decimal4_of};
 ghost use Rattle.cip_reading.specs.Causes.{coordinate};
 ghost use Rattle.cip_reading.specs.Fields.{number_in, place_named};
 
 use crate::causes::coordinate;
 use crate::fields::{number, place_of};
-use crate::usual::{is_plain_zero, usual_decimal, usual_digit, usual_number};
+use crate::usual::{usual_decimal, usual_number};
 use cip_mol::ReadCause;
 use cip_text::columns;
 
@@ -18,9 +18,13 @@ pub fn coordinate_at(line: &[u8], first: u32) -> Result<i64, ReadCause>
     ensures value { result ≡ coordinate (decimal4_of (field first (first + 9) line.now)) }
     ensures small { IfOk result (λ number. unsigned_abs number ≤ 500000000) }
 {
-    match usual_coordinate(line, first) {
-        Some(number) => Ok(number),
-        None => coordinate(columns(line, first, first + 9)),
+    let start = first as usize - 1;
+    if line.len() >= start + 10
+        && let Some(number) = usual_decimal(&line[start..start + 10])
+    {
+        Ok(number)
+    } else {
+        coordinate(columns(line, first, first + 9))
     }
 }
 
@@ -38,8 +42,9 @@ pub fn height_at(line: &[u8], first: u32) -> Result<i64, ReadCause>
     }
 }
 
-/// The number in three columns from this one on, from 0 to a most; 0 where they are empty.
-#[tactic(auto, unfolding(crate::specs::Fields::number_in))]
+/// The number in three columns from this one on, from 0 to a most; 0 where they are empty. Digits behind spaces, which
+/// are usual, are read in few steps.
+#[tactic(auto, using(crate::proofs::UsualNumbers::three_read), unfolding(crate::specs::Fields::number_in))]
 pub fn number_at(most: u32, line: &[u8], first: u32) -> Option<u32>
     requires most { most ≤ 1000000000 }
     requires counted { 0 < first }
@@ -47,15 +52,17 @@ pub fn number_at(most: u32, line: &[u8], first: u32) -> Option<u32>
     ensures value { result ≡ number_in most (field first (first + 2) line.now) }
     ensures range { IfSome result (λ number. number ≤ most) }
 {
-    match usual_field(line, first) {
-        Some(number) if number <= most => Some(number),
-        Some(_) => None,
-        None => number(most, columns(line, first, first + 2)),
+    let start = first as usize - 1;
+    if line.len() >= start + 3
+        && let Some(number) = usual_number(line[start], line[start + 1], line[start + 2])
+    {
+        if number <= most { Some(number) } else { None }
+    } else {
+        number(most, columns(line, first, first + 2))
     }
 }
 
-/// The same where a single digit is usual, which is read in few steps.
-#[tactic(auto, unfolding(crate::specs::Fields::number_in))]
+/// The same where a single digit is usual, which is read in few steps there too.
 pub fn digit_at(most: u32, line: &[u8], first: u32) -> Option<u32>
     requires most { most ≤ 1000000000 }
     requires counted { 0 < first }
@@ -63,10 +70,7 @@ pub fn digit_at(most: u32, line: &[u8], first: u32) -> Option<u32>
     ensures value { result ≡ number_in most (field first (first + 2) line.now) }
     ensures range { IfSome result (λ number. number ≤ most) }
 {
-    match single_digit(line, first) {
-        Some(number) if number <= most => Some(number),
-        _ => number_at(most, line, first),
-    }
+    number_at(most, line, first)
 }
 
 /// The place, from 0, of what the number in three columns from this one on names from 1 to a most.
@@ -83,51 +87,12 @@ pub fn place_at(most: u32, line: &[u8], first: u32) -> Option<u32>
     }
 }
 
-fn usual_coordinate(line: &[u8], first: u32) -> Option<i64>
-    requires counted { 0 < first }
-    requires near { first ≤ 1000 }
-    ensures value { IfSome result (λ number. decimal4_of (field first (first + 9) line.now) ≡ Ok number) }
-    ensures small { IfSome result (λ number. unsigned_abs number ≤ 500000000) }
-{
-    let start = first as usize - 1;
-    if line.len() >= start + 10 {
-        usual_decimal(&line[start..start + 10])
-    } else {
-        None
-    }
-}
-
+#[tactic(auto, using(crate::proofs::PlainZeros::zero_read))]
 fn has_plain_zero(line: &[u8], first: u32) -> bool
     requires counted { 0 < first }
     requires near { first ≤ 1000 }
     ensures { result ≡ true → decimal4_of (field first (first + 9) line.now) ≡ Ok (pos 0) }
 {
     let start = first as usize - 1;
-    line.len() >= start + 10 && is_plain_zero(&line[start..start + 10])
-}
-
-fn single_digit(line: &[u8], first: u32) -> Option<u32>
-    requires counted { 0 < first }
-    requires near { first ≤ 1000 }
-    ensures { IfSome result (λ number. integer_of (field first (first + 2) line.now) ≡ Ok (pos number)) }
-{
-    let start = first as usize - 1;
-    if line.len() >= start + 3 {
-        usual_digit(line[start], line[start + 1], line[start + 2])
-    } else {
-        None
-    }
-}
-
-fn usual_field(line: &[u8], first: u32) -> Option<u32>
-    requires counted { 0 < first }
-    requires near { first ≤ 1000 }
-    ensures { IfSome result (λ number. integer_of (field first (first + 2) line.now) ≡ Ok (pos number)) }
-{
-    let start = first as usize - 1;
-    if line.len() >= start + 3 {
-        usual_number(line[start], line[start + 1], line[start + 2])
-    } else {
-        None
-    }
+    line.len() >= start + 10 && &line[start..start + 10] == b"    0.0000".as_slice()
 }

@@ -1,6 +1,6 @@
 // Numbers as most programs write them: a few digits behind spaces, and coordinates with four places or more behind
 // their point. What is written in another way has no number here, and is read in the general way.
-ghost use Rattle.std.specs.Prelude.{◌≡◌, ◌≤◌, ◌+◌, ◌-◌, ◌*◌, ◌∷◌, [], pos, true, length, unsigned_abs, if◌then◌else◌, drop, replicate, take, IfSome, Ok, Some};
+ghost use Rattle.std.specs.Prelude.{◌≡◌, ◌≤◌, ◌+◌, ◌-◌, ◌*◌, ◌∷◌, [], pos, true, length, unsigned_abs, if◌then◌else◌, take, IfSome, Ok, Some};
 ghost use Rattle.std.specs.List.{list_all};
 ghost use Rattle.cip_text.specs.Columns.{without_spaces_before};
 ghost use Rattle.cip_text.specs.Lines.{begins_with};
@@ -29,36 +29,6 @@ pub fn usual_number(first: u8, second: u8, third: u8) -> Option<u32>
         Some(hundreds) => Some(100 * hundreds + (10 * tens + ones)),
         None => None,
     }
-}
-
-/// The number in three columns, one digit behind two spaces.
-#[tactic(auto, using(crate::proofs::UsualNumbers::one_digit))]
-pub fn usual_digit(first: u8, second: u8, third: u8) -> Option<u32>
-    ensures { IfSome result (λ number. integer_of (trimmed (first ∷ second ∷ third ∷ [])) ≡ Ok (pos number)) }
-{
-    if first == b' ' && second == b' ' {
-        digit_of(third)
-    } else {
-        None
-    }
-}
-
-/// Whether ten columns hold a zero with four places.
-pub fn is_plain_zero(columns: &[u8]) -> bool
-    requires { length columns.now ≡ 10 }
-    ensures { result ≡ true → decimal4_of (trimmed columns.now) ≡ Ok (pos 0) }
-{
-    if !are_all(b' ', &columns[..4]) || !are_all(b'0', &columns[6..10]) {
-        return false;
-    }
-    columns[4] == b'0' && columns[5] == b'.'
-}
-
-fn are_all(byte: u8, text: &[u8]) -> bool
-    requires { length text.now ≡ 4 }
-    ensures { result ≡ true → text.now ≡ replicate 4 byte }
-{
-    text[0] == byte && text[1] == byte && text[2] == byte && text[3] == byte
 }
 
 /// The decimal in ten columns with its point in the sixth one, in ten-thousandths.

@@ -10,6 +10,9 @@ use crate::splitting::{begins_with, split_line, without_end};
 use std::alloc::{AllocError, Global};
 use std::marker::Model;
 
+/// How many bytes a line has, in most records at least: lists of lines get room by it.
+const USUAL_LINE: usize = 16;
+
 /// A record with its lines at hand, none of them copied. Contracts see it as its bytes.
 #[derive(Drop)]
 pub struct RecordLines<'a> {
@@ -36,13 +39,17 @@ impl<'a> RecordLines<'a> {
     pub fn new(alloc: Global, bytes: &'a [u8]) -> Result<RecordLines<'a>, AllocError>
         ensures { IfOk result (λ lines. lines ≡ bytes.now) }
     {
-        let mut contents = room_for_lines(alloc, bytes)?;
-        let closing = push_contents(bytes, &mut contents)?;
-        Ok(RecordLines {
-            bytes,
-            contents,
-            closing,
-        })
+        match Vec::with_capacity(alloc, bytes.len() / USUAL_LINE) {
+            Ok(mut contents) => match push_contents(bytes, &mut contents) {
+                Ok(closing) => Ok(RecordLines {
+                    bytes,
+                    contents,
+                    closing,
+                }),
+                Err(error) => Err(error),
+            },
+            Err(error) => Err(error),
+        }
     }
 
     /// The record.
@@ -81,16 +88,13 @@ pub fn body_contents(alloc: Global, bytes: &[u8]) -> Result<Vec<&[u8]>, AllocErr
     ensures value { IfOk result (λ found. texts found.items ≡ body_contents bytes.now) }
     ensures few { IfOk result (λ found. length found.items ≤ length bytes.now) }
 {
-    let mut contents = room_for_lines(alloc, bytes)?;
-    push_contents(bytes, &mut contents)?;
-    Ok(contents)
-}
-
-// No lines, and room for as many as most records of this length have.
-fn room_for_lines<'a>(alloc: Global, bytes: &'a [u8]) -> Result<Vec<&'a [u8]>, AllocError>
-    ensures { IfOk result (λ contents. contents.items ≡ []) }
-{
-    Vec::with_capacity(alloc, bytes.len() / 16)
+    match Vec::with_capacity(alloc, bytes.len() / USUAL_LINE) {
+        Ok(mut contents) => match push_contents(bytes, &mut contents) {
+            Ok(_) => Ok(contents),
+            Err(error) => Err(error),
+        },
+        Err(error) => Err(error),
+    }
 }
 
 // Puts the contents of the lines before the terminator line into a list that has none, and gives what stands from it
@@ -103,7 +107,9 @@ fn push_contents<'a>(bytes: &'a [u8], contents: &mut Vec<&'a [u8]>) -> Result<&'
 {
     let mut rest = bytes;
     while let Some((line, behind)) = split_body_line(rest) {
-        contents.push(without_end(line))?;
+        let Ok(()) = contents.push(without_end(line)) else {
+            return Err(AllocError);
+        };
         rest = behind;
     }
     Ok(rest)
@@ -121,11 +127,16 @@ pub fn split_body_line(bytes: &[u8]) -> Option<(&[u8], &[u8])>
     ensures some { IfSome result (λ parts. length parts.1.now < length bytes.now) }
     ensures whole { IfSome result (λ parts. length parts.0.now + length parts.1.now ≡ length bytes.now) }
 {
-    let (line, behind) = split_line(bytes)?;
-    if is_closing(line) {
-        return None;
+    match split_line(bytes) {
+        Some((line, behind)) => {
+            if is_closing(line) {
+                None
+            } else {
+                Some((line, behind))
+            }
+        }
+        None => None,
     }
-    Some((line, behind))
 }
 
 // Whether a line is the terminator line. Most lines are told by their first byte.

@@ -10,7 +10,9 @@ pub fn push_right(line: &mut Vec<u8>, width: usize, text: &[u8]) -> Result<(), A
     ensures { OnOk result (line.new.items ≡ line.old.items ++ right width text.now) }
 {
     for column in text.len()..width {
-        line.push(b' ')?;
+        let Ok(()) = line.push(b' ') else {
+            return Err(AllocError);
+        };
     }
     line.extend_from_slice(text)
 }

@@ -8,6 +8,7 @@ use Rattle.cip_mol.specs.declared.refusal.ReadCause.TheVariants.{Short, Property
 use Rattle.cip_mol.specs.declared.refusal.ReadFault.{ReadFault}
 use Rattle.cip_v2000.specs.declared.atoms.AtomLine.{AtomLine}
 use Rattle.cip_v2000.specs.declared.statements.Pair.{Pair}
+use Rattle.cip_v2000.specs.declared.counts.CountsLine.{CountsLine}
 use Rattle.cip_v2000.specs.AtomLine.{atom_of}
 use Rattle.cip_v2000.specs.BondLine.{bond_of}
 use Rattle.cip_v2000.specs.CountsLine.{counts_of}
@@ -33,6 +34,13 @@ pairs_from past atoms before number (line ∷ lines) = if is_molecule_end line t
 -- the property lines behind so many lines
 abbrev pub pairs_behind : ℕ → ℕ → List (List ℕ) → Result (List Pair) ReadFault
 pairs_behind atoms place lines = pairs_from (length lines + 1) atoms [] (place + 1) (drop place lines)
+
+-- the molecule of these atom lines and what follows them
+abbrev pub behind_atoms : List (List ℕ) → CountsLine → List AtomLine → Result Drawing ReadFault
+behind_atoms lines counts atoms = do
+  bonds ← in_turn (bond_row lines counts.atoms) [] counts.bonds 0
+  pairs ← pairs_behind counts.atoms (4 + (counts.atoms + counts.bonds)) lines
+  Ok (record { atoms = settled pairs atoms; bonds = bonds })
 
 -- the molecule of a record's lines before its terminator line, or the first cause at the first line that has one
 unfoldable pub molecule_of : List (List ℕ) → Result Drawing ReadFault

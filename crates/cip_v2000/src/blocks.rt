@@ -29,8 +29,10 @@ pub fn counts_line(lines: &[&[u8]]) -> Result<CountsLine, ReadFault>
     ensures range { IfOk result (λ counts. (counts.atoms ≤ 999) × (counts.bonds ≤ 999)) }
     ensures there { IfOk result (λ _. 4 ≤ length lines.now) }
 {
-    let line = line_at(lines, 3)?;
-    numbered(4, counts_in(line))
+    match line_at(lines, 3) {
+        Ok(line) => numbered(4, counts_in(line)),
+        Err(fault) => Err(fault),
+    }
 }
 
 /// Reads the atom lines, so many.
@@ -43,10 +45,14 @@ pub fn atom_block(alloc: Global, lines: &[&[u8]], count: u32) -> Result<Vec<Atom
     ensures counted { IfOk result (λ atoms. length atoms.items ≡ count) }
     ensures there { IfOk result (λ _. 4 + count ≤ length lines.now) }
 {
-    let mut atoms = Vec::with_capacity(alloc, count as usize)?;
+    let Ok(mut atoms) = Vec::with_capacity(alloc, count as usize) else {
+        return Err(ReadRefusal::Memory);
+    };
     for row in 0..count as usize {
-        let atom = atom_line(lines, 4 + row)?;
-        atoms.push_reserved(atom);
+        match atom_line(lines, 4 + row) {
+            Ok(atom) => atoms.push_reserved(atom),
+            Err(fault) => return Err(ReadRefusal::Fault(fault)),
+        }
     }
     Ok(atoms)
 }
@@ -69,10 +75,18 @@ pub fn bond_block(
     ensures there { IfOk result (λ _. 4 + atoms + count ≤ length lines.now) }
 {
     let first = 4 + atoms as usize;
-    let mut bonds = BondList::new(alloc, atoms as usize)?;
+    let Ok(mut bonds) = BondList::new(alloc, atoms as usize) else {
+        return Err(ReadRefusal::Memory);
+    };
     for row in 0..count as usize {
-        let bond = bond_line(lines, first + row, atoms, &bonds)?;
-        bonds.push(bond)?;
+        match bond_line(lines, first + row, atoms, &bonds) {
+            Ok(bond) => {
+                let Ok(()) = bonds.push(bond) else {
+                    return Err(ReadRefusal::Memory);
+                };
+            }
+            Err(fault) => return Err(ReadRefusal::Fault(fault)),
+        }
     }
     Ok(bonds)
 }
@@ -100,7 +114,10 @@ pub fn property_block(
             line: place as u32 + 1,
             cause: ReadCause::Property,
         };
-        push_stated(alloc, &mut pairs, fault, atoms, line)?;
+        match push_stated(alloc, &mut pairs, fault, atoms, line) {
+            Ok(()) => (),
+            Err(refusal) => return Err(refusal),
+        }
     }
     Err(ReadRefusal::Fault(short(lines)))
 }
@@ -112,8 +129,10 @@ fn atom_line(lines: &[&[u8]], place: usize) -> Result<AtomLine, ReadFault>
     ensures range { IfOk result IsAtomLine }
     ensures there { IfOk result (λ _. place < length lines.now) }
 {
-    let line = line_at(lines, place)?;
-    numbered(place as u32 + 1, atom_in(line))
+    match line_at(lines, place) {
+        Ok(line) => numbered(place as u32 + 1, atom_in(line)),
+        Err(fault) => Err(fault),
+    }
 }
 
 #[tactic(auto, unfolding(cip_reading::specs::Reading::read_at))]
@@ -131,8 +150,10 @@ fn bond_line(
     ensures free { IfOk result (IsFree before.now) }
     ensures there { IfOk result (λ _. place < length lines.now) }
 {
-    let line = line_at(lines, place)?;
-    numbered(place as u32 + 1, bond_in(atoms, before, line))
+    match line_at(lines, place) {
+        Ok(line) => numbered(place as u32 + 1, bond_in(atoms, before, line)),
+        Err(fault) => Err(fault),
+    }
 }
 
 // The line at a place, from 0, where it is there.

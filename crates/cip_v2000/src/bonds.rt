@@ -16,30 +16,26 @@ pub fn bond_in(atoms: u32, before: &BondList, line: &[u8]) -> Result<Bond, ReadC
     ensures range { IfOk result IsBond }
     ensures free { IfOk result (IsFree before.now) }
 {
-    let Some(a) = place_at(atoms, line, 1) else {
-        return Err(ReadCause::BondEnd);
-    };
-    let Some(b) = place_at(atoms, line, 4) else {
-        return Err(ReadCause::BondEnd);
-    };
-    let Some(order) = order(digit_at(3, line, 7)) else {
-        return Err(ReadCause::BondType);
-    };
-    let Some(mark) = mark(order, digit_at(6, line, 10)) else {
-        return Err(ReadCause::BondMark);
-    };
-    checked(before, Bond { a, b, order, mark })
+    match (place_at(atoms, line, 1), place_at(atoms, line, 4)) {
+        (Some(a), Some(b)) => match order(digit_at(3, line, 7)) {
+            Some(order) => match mark(order, digit_at(6, line, 10)) {
+                Some(mark) => checked(before, Bond { a, b, order, mark }),
+                None => Err(ReadCause::BondMark),
+            },
+            None => Err(ReadCause::BondType),
+        },
+        _ => Err(ReadCause::BondEnd),
+    }
 }
 
 fn mark(order: u8, code: Option<u32>) -> Option<Mark>
     ensures { result ≡ mark_of order code }
 {
-    match (order, code?) {
-        (_, 0) => Some(Mark::Plain),
-        (1, 1) => Some(Mark::Up),
-        (1, 4) => Some(Mark::Either),
-        (1, 6) => Some(Mark::Down),
-        (2, 3) => Some(Mark::Either),
+    match (order, code) {
+        (_, Some(0)) => Some(Mark::Plain),
+        (1, Some(1)) => Some(Mark::Up),
+        (1, Some(4)) | (2, Some(3)) => Some(Mark::Either),
+        (1, Some(6)) => Some(Mark::Down),
         _ => None,
     }
 }

@@ -20,14 +20,15 @@ pub fn counts_in(line: &[u8]) -> Result<CountsLine, ReadCause>
     ensures value { result ≡ counts_of line.now }
     ensures range { IfOk result (λ counts. (counts.atoms ≤ 999) × (counts.bonds ≤ 999)) }
 {
-    if !is_v2000(line) {
-        return Err(ReadCause::Version);
+    if is_v2000(line) {
+        match (
+            number(999, columns(line, 1, 3)),
+            number(999, columns(line, 4, 6)),
+        ) {
+            (Some(atoms), Some(bonds)) => Ok(CountsLine { atoms, bonds }),
+            _ => Err(ReadCause::Counts),
+        }
+    } else {
+        Err(ReadCause::Version)
     }
-    let Some(atoms) = number(999, columns(line, 1, 3)) else {
-        return Err(ReadCause::Counts);
-    };
-    let Some(bonds) = number(999, columns(line, 4, 6)) else {
-        return Err(ReadCause::Counts);
-    };
-    Ok(CountsLine { atoms, bonds })
 }

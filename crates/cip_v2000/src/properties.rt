@@ -1,14 +1,14 @@
 // Property lines.
-ghost use Rattle.std.specs.Prelude.{◌≡◌, ◌≤◌, [], All, length, IfOk, IfSome, OnOk};
+ghost use Rattle.std.specs.Prelude.{◌≡◌, ◌≤◌, [], All, length, IfSome, OnOk};
 ghost use Rattle.cip_text.specs.Slices.{texts};
-ghost use Rattle.cip_v2000.specs.PropertyLines.{property_of, statement_of, pair_of, pair_at, pair_row, pairs_of, pairs_with};
+ghost use Rattle.cip_v2000.specs.PropertyLines.{property_of, statement_of, pair_of, pair_at, counted_pairs, pairs_of, pairs_with};
 ghost use Rattle.cip_reading.specs.Reading.{Gives};
 ghost use Rattle.cip_v2000.specs.Statements.{IsStatement, IsPair};
 
 use crate::statements::{Pair, Statement};
 use cip_mol::{ReadFault, ReadRefusal};
 use cip_reading::{number, place_named, signed, spaced_words};
-use std::alloc::Global;
+use std::alloc::{AllocError, Global};
 
 /// What a property line states.
 #[derive(Clone, Copy)]
@@ -32,17 +32,36 @@ pub fn push_stated(
     ensures range { OnOk result (All IsPair pairs.new.items) }
     ensures value { Gives (λ _. pairs.new.items) result (pairs_with fault atoms pairs.old.items line.now) }
 {
-    let Some(property) = property_in(line) else {
-        return Ok(());
-    };
-    let words = spaced_words(alloc, &line[6..])?;
-    let [count, words @ ..] = words.as_slice() else {
-        return Err(ReadRefusal::Fault(fault));
-    };
-    let Some(last) = place_named(8, count) else {
-        return Err(ReadRefusal::Fault(fault));
-    };
-    push_pairs(pairs, fault, property, atoms, last + 1, words)
+    match property_in(line) {
+        Some(property) => match spaced_words(alloc, &line[6..]) {
+            Ok(words) => push_counted(pairs, fault, property, atoms, words.as_slice()),
+            Err(AllocError) => Err(ReadRefusal::Memory),
+        },
+        None => Ok(()),
+    }
+}
+
+// The same of the words behind what the line states. They stay with the caller, which lets them go once.
+fn push_counted(
+    pairs: &mut Vec<Pair>,
+    fault: ReadFault,
+    property: Property,
+    atoms: u32,
+    words: &[&[u8]],
+) -> Result<(), ReadRefusal>
+    requires few { atoms ≤ 999 }
+    requires range { All IsPair pairs.old.items }
+    ensures range { OnOk result (All IsPair pairs.new.items) }
+    ensures value { Gives (λ _. pairs.new.items) result
+        (counted_pairs fault property atoms pairs.old.items (texts words.now)) }
+{
+    match words {
+        [count, words @ ..] => match place_named(8, count) {
+            Some(last) => push_pairs(pairs, fault, property, atoms, last + 1, words),
+            None => Err(ReadRefusal::Fault(fault)),
+        },
+        [] => Err(ReadRefusal::Fault(fault)),
+    }
 }
 
 #[tactic(auto, using(crate::proofs::QuietFields::no_property))]
@@ -83,26 +102,14 @@ fn push_pairs(
         (pairs_of fault property atoms pairs.old.items count (texts words.now)) }
 {
     for row in 0..count as usize {
-        let pair = pair_row(fault, property, atoms, words, row)?;
-        pairs.push(pair)?;
+        let Some(pair) = pair_at(property, atoms, words, 2 * row) else {
+            return Err(ReadRefusal::Fault(fault));
+        };
+        let Ok(()) = pairs.push(pair) else {
+            return Err(ReadRefusal::Memory);
+        };
     }
     Ok(())
-}
-
-// The pair of a row, from 0.
-fn pair_row(
-    fault: ReadFault,
-    property: Property,
-    atoms: u32,
-    words: &[&[u8]],
-    row: usize,
-) -> Result<Pair, ReadFault>
-    requires few { atoms ≤ 999 }
-    requires row { row ≤ 8 }
-    ensures value { result ≡ pair_row fault property atoms (texts words.now) [] row }
-    ensures range { IfOk result IsPair }
-{
-    pair_at(property, atoms, words, 2 * row).ok_or(fault)
 }
 
 // The pair of two words, from this place on.
@@ -113,9 +120,13 @@ fn pair_at(property: Property, atoms: u32, words: &[&[u8]], place: usize) -> Opt
     ensures value { result ≡ pair_at property atoms (texts words.now) place }
     ensures range { IfSome result IsPair }
 {
-    let atom = words.get(place)?;
-    let value = words.get(place + 1)?;
-    pair_in(property, atoms, atom, value)
+    match words.get(place) {
+        Some(atom) => match words.get(place + 1) {
+            Some(value) => pair_in(property, atoms, atom, value),
+            None => None,
+        },
+        None => None,
+    }
 }
 
 #[tactic(auto, unfolding(crate::specs::PropertyLines::pair_of))]
@@ -124,9 +135,10 @@ fn pair_in(property: Property, atoms: u32, atom: &[u8], value: &[u8]) -> Option<
     ensures value { result ≡ pair_of property atoms atom.now value.now }
     ensures range { IfSome result IsPair }
 {
-    let atom = place_named(atoms, atom)?;
-    let states = statement_in(property, value)?;
-    Some(Pair { atom, states })
+    match (place_named(atoms, atom), statement_in(property, value)) {
+        (Some(atom), Some(states)) => Some(Pair { atom, states }),
+        _ => None,
+    }
 }
 
 fn statement_in(property: Property, word: &[u8]) -> Option<Statement>
@@ -134,8 +146,17 @@ fn statement_in(property: Property, word: &[u8]) -> Option<Statement>
     ensures range { IfSome result IsStatement }
 {
     match property {
-        Property::Charges => Some(Statement::Charge(signed(15, 15, word)?)),
-        Property::Radicals => Some(Statement::Radical(number(3, word)? as u8)),
-        Property::Isotopes => Some(Statement::Isotope(number(400, word)? as u16)),
+        Property::Charges => match signed(15, 15, word) {
+            Some(charge) => Some(Statement::Charge(charge)),
+            None => None,
+        },
+        Property::Radicals => match number(3, word) {
+            Some(radical) => Some(Statement::Radical(radical as u8)),
+            None => None,
+        },
+        Property::Isotopes => match number(400, word) {
+            Some(isotope) => Some(Statement::Isotope(isotope as u16)),
+            None => None,
+        },
     }
 }

@@ -32,8 +32,10 @@ pub fn settle(alloc: Global, pairs: &[Pair], lines: &[AtomLine]) -> Result<Vec<A
     ensures range { IfOk result (λ atoms. All IsAtom atoms.items) }
     ensures counted { IfOk result (λ atoms. length atoms.items ≡ length lines.now) }
 {
-    let atoms = keep_all(alloc, state_charges(pairs), state_isotopes(pairs), lines)?;
-    Ok(with_pairs(atoms, pairs))
+    match keep_all(alloc, state_charges(pairs), state_isotopes(pairs), lines) {
+        Ok(atoms) => Ok(with_pairs(atoms, pairs)),
+        Err(error) => Err(error),
+    }
 }
 
 fn state_charges(pairs: &[Pair]) -> bool
@@ -79,7 +81,9 @@ fn keep_all(
     ensures range { IfOk result (λ atoms. All IsAtom atoms.items) }
     ensures counted { IfOk result (λ atoms. length atoms.items ≡ length lines.now) }
 {
-    let mut atoms = Vec::with_capacity(alloc, lines.len())?;
+    let Ok(mut atoms) = Vec::with_capacity(alloc, lines.len()) else {
+        return Err(AllocError);
+    };
     for line in lines {
         atoms.push_reserved(keep(charges, isotopes, *line));
     }

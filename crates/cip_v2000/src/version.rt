@@ -19,7 +19,8 @@ pub fn is_v3000(lines: &[&[u8]]) -> bool
 pub fn is_v2000(line: &[u8]) -> bool
     ensures { result ≡ is_v2000 line.now }
 {
-    version(line).is_empty() || version(line) == b"V2000".as_slice()
+    let version = version(line);
+    version.is_empty() || version == b"V2000".as_slice()
 }
 
 fn version(line: &[u8]) -> &[u8]

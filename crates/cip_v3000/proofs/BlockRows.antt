@@ -1,7 +1,12 @@
 -- One row more of the blocks.
-use Rattle.std.proofs.Common.{◌≡◌, ◌<◌, ◌+◌, ℕ, List, [], ◌∷◌, ◌++◌, length, drop, map, get_or, Result, Ok, Err, true, false, refl, sym, ◌∙◌}
+use Rattle.std.proofs.Common.{◌≡◌, ◌≤◌, ◌<◌, ◌+◌, ℕ, Bool, List, [], ◌∷◌, ◌++◌, length, drop, map, get_or, Result, Ok, Err, true, false, refl, sym, ◌∙◌}
+use Rattle.std.specs.Borrow.{Bor}
+use Rattle.std.specs.List.{list_any}
 use Rattle.std.proofs.lemmas.List.{drop_more, drop-map}
 use Rattle.cip_mol.specs.declared.refusal.ReadFault.{ReadFault}
+use Rattle.cip_text.specs.Kinds.{is_molecule_end}
+use Rattle.cip_text.specs.Slices.{texts}
+use Rattle.cip_reading.proofs.Texts.{drop_texts, drop_texts_past}
 use Rattle.cip_v3000.specs.declared.joining.JoinedLine as declared_line
 use Rattle.cip_v3000.specs.declared.atoms.AtomLine.{AtomLine}
 use Rattle.cip_v3000.specs.declared.bonds.BondLine.{BondLine}
@@ -59,3 +64,28 @@ table_goes_on past lines place d total within goes_on so_far =
     let one : table_end past (drop place (map seen lines))
     ≡ table_end past (drop (place + 1) (map seen lines)) = rw (drop_seen lines place d within, goes_on) refl in
     sym one ∙ so_far
+
+-- lines before the end of the molfile
+
+pub molecule_ends : (lines : List (Bor (List ℕ))) (place : ℕ) (d : Bor (List ℕ)) (total : Bool) → place < length lines
+    → is_molecule_end (get_or lines place d).now ≡ true
+    → list_any is_molecule_end (drop place (texts lines)) ≡ total → total ≡ true
+molecule_ends lines place d total within ends so_far =
+    let one : list_any is_molecule_end (drop place (texts lines)) ≡ true
+    = rw (drop_texts lines place d within, ends) refl in
+    sym so_far ∙ one
+
+pub molecule_goes_on : (lines : List (Bor (List ℕ))) (place : ℕ) (d : Bor (List ℕ)) (total : Bool)
+    → place < length lines → is_molecule_end (get_or lines place d).now ≡ false
+    → list_any is_molecule_end (drop place (texts lines)) ≡ total
+    → list_any is_molecule_end (drop (place + 1) (texts lines)) ≡ total
+molecule_goes_on lines place d total within goes_on so_far =
+    let one : list_any is_molecule_end (drop place (texts lines))
+    ≡ list_any is_molecule_end (drop (place + 1) (texts lines)) = rw (drop_texts lines place d within, goes_on) refl in
+    sym one ∙ so_far
+
+pub molecule_runs_out : (lines : List (Bor (List ℕ))) (place : ℕ) (total : Bool) → length lines ≤ place
+    → list_any is_molecule_end (drop place (texts lines)) ≡ total → total ≡ false
+molecule_runs_out lines place total past so_far =
+    let one : list_any is_molecule_end (drop place (texts lines)) ≡ false = rw (drop_texts_past lines place past) refl in
+    sym so_far ∙ one

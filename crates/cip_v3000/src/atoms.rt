@@ -1,8 +1,8 @@
 // Atom lines.
-ghost use Rattle.std.specs.Prelude.{◌≡◌, ◌≤◌, false, length, nat_lt, IfOk, IfSome, IsNone};
+ghost use Rattle.std.specs.Prelude.{◌≡◌, false, length, nat_lt, IfOk, IfSome, IsNone};
 ghost use Rattle.cip_mol.specs.Ranges.{IsAtom, IsPlace};
 ghost use Rattle.cip_text.specs.Numbers.{integer_of};
-ghost use Rattle.cip_v3000.specs.AtomLine.{isotope_of, is_number, atom_by, atom_of, IsAtomLine};
+ghost use Rattle.cip_v3000.specs.AtomLine.{is_number, atom_by, atom_of, IsAtomLine};
 ghost use Rattle.cip_v3000.specs.LineWords.{AreAtomWords};
 ghost use Rattle.cip_v3000.specs.Words.{words_of};
 
@@ -46,15 +46,15 @@ pub fn atom_in(known: &Indices, text: &[u8]) -> Result<AtomLine, ReadCause>
     ensures value { result ≡ atom_of known.now (words_of text.now) }
     ensures range { IfOk result (IsAtomLine known.now) }
 {
-    let Some(words) = atom_words(text) else {
-        return Err(ReadCause::Frame);
-    };
-    match new_index(known, words.index) {
-        Ok(index) => match atom_by(&words) {
-            Ok(atom) => Ok(AtomLine { index, atom }),
+    match atom_words(text) {
+        Some(words) => match new_index(known, words.index) {
+            Ok(index) => match atom_by(&words) {
+                Ok(atom) => Ok(AtomLine { index, atom }),
+                Err(cause) => Err(cause),
+            },
             Err(cause) => Err(cause),
         },
-        Err(cause) => Err(cause),
+        None => Err(ReadCause::Frame),
     }
 }
 
@@ -62,25 +62,21 @@ fn atom_words(text: &[u8]) -> Option<AtomWords<'_>>
     ensures some { IfSome result (AreAtomWords (words_of text.now)) }
     ensures none { IsNone result → nat_lt 5 (length (words_of text.now)) ≡ false }
 {
-    let Some((index, rest)) = next_number(GREATEST, text) else {
-        return None;
-    };
-    let Some((symbol, rest)) = next_word(rest) else {
-        return None;
-    };
-    let Some((at, rest)) = next_point(rest) else {
-        return None;
-    };
-    let Some((mapping, keys)) = next_word(rest) else {
-        return None;
-    };
-    Some(AtomWords {
-        index,
-        symbol,
-        at,
-        mapping,
-        keys,
-    })
+    if let Some((index, rest)) = next_number(GREATEST, text)
+        && let Some((symbol, rest)) = next_word(rest)
+        && let Some((at, rest)) = next_point(rest)
+        && let Some((mapping, keys)) = next_word(rest)
+    {
+        Some(AtomWords {
+            index,
+            symbol,
+            at,
+            mapping,
+            keys,
+        })
+    } else {
+        None
+    }
 }
 
 // The atom that the words draw.
@@ -91,34 +87,33 @@ fn atom_by(words: &AtomWords<'_>) -> Result<Atom, ReadCause>
         (words_of words.now.keys.now) }
     ensures range { IfOk result IsAtom }
 {
-    let Some(element) = number_of(words.symbol) else {
-        return Err(ReadCause::Symbol);
-    };
-    let at = words.at?;
-    if is_number(words.mapping) {
-        match atom_keys(NO_KEYS, words.keys) {
-            Ok(keys) => Ok(Atom {
-                z: element.z,
-                isotope: isotope(element.isotope, keys.mass),
-                charge: keys.charge,
-                radical: keys.radical,
-                valence_mark: keys.valence_mark,
-                at,
-            }),
+    match number_of(words.symbol) {
+        Some(element) => match words.at {
+            Ok(at) => {
+                if is_number(words.mapping) {
+                    match atom_keys(NO_KEYS, words.keys) {
+                        Ok(keys) => Ok(Atom {
+                            z: element.z,
+                            isotope: if keys.mass == 0 {
+                                element.isotope
+                            } else {
+                                keys.mass
+                            },
+                            charge: keys.charge,
+                            radical: keys.radical,
+                            valence_mark: keys.valence_mark,
+                            at,
+                        }),
+                        Err(cause) => Err(cause),
+                    }
+                } else {
+                    Err(ReadCause::KeyValue)
+                }
+            }
             Err(cause) => Err(cause),
-        }
-    } else {
-        Err(ReadCause::KeyValue)
+        },
+        None => Err(ReadCause::Symbol),
     }
-}
-
-fn isotope(stated: u16, mass: u16) -> u16
-    requires stated { stated ≤ 400 }
-    requires mass { mass ≤ 400 }
-    ensures value { result ≡ isotope_of stated mass }
-    ensures range { result ≤ 400 }
-{
-    if mass == 0 { stated } else { mass }
 }
 
 // Whether a word is a number of any size.

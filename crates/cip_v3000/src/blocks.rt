@@ -1,12 +1,10 @@
 // The blocks of a molfile.
 ghost use Rattle.std.specs.Prelude.{◌≡◌, ◌≤◌, ◌<◌, ◌+◌, ◌-◌, ◌^◌, [], All, drop, length, map, IfOk, OnOk};
-ghost use Rattle.std.specs.List.{list_any};
 ghost use Rattle.cip_text.specs.Kinds.{is_molecule_end};
 ghost use Rattle.cip_text.specs.Slices.{texts};
-ghost use Rattle.cip_mol.specs.Ranges.{IsAtom, IsBond};
 ghost use Rattle.cip_reading.specs.Reading.{Gives};
 ghost use Rattle.cip_v3000.specs.Blocks.{seen_atoms, seen_bonds, AreAtoms, AreBonds, HasNoBonds};
-ghost use Rattle.cip_v3000.specs.Grammar.{atom_block, atom_row, bond_row, bond_rows, framed_bonds, has_bond_block, bond_block, behind_block, table_end, molecule_end};
+ghost use Rattle.cip_v3000.specs.Grammar.{atom_block, atom_row, bond_row, bond_rows, has_bond_block, bond_block, behind_block, table_end, molecule_end};
 ghost use Rattle.cip_v3000.specs.Joining.{seen, seen_all, IsNumbered};
 
 use crate::frames::FrameLine;
@@ -42,24 +40,18 @@ pub fn atom_block(
     ensures value { Gives seen_atoms result (atom_block (seen_all joined.now) count) }
     ensures are { IfOk result (AreAtoms count) }
 {
-    match no_atoms(alloc, count) {
-        Ok(mut block) => match read_atoms(alloc, joined, count, &mut block) {
-            Ok(()) => Ok(block),
-            Err(refusal) => Err(refusal),
-        },
-        Err(AllocError) => Err(ReadRefusal::Memory),
-    }
-}
-
-fn no_atoms(alloc: Global, count: u32) -> Result<AtomBlock, AllocError>
-    ensures { IfOk result (λ block. seen_atoms block ≡ record { indices = []; atoms = [] }) }
-{
     match Vec::with_capacity(alloc, count as usize) {
-        Ok(atoms) => Ok(AtomBlock {
-            indices: Indices::new(alloc),
-            atoms,
-        }),
-        Err(error) => Err(error),
+        Ok(atoms) => {
+            let mut block = AtomBlock {
+                indices: Indices::new(alloc),
+                atoms,
+            };
+            match read_atoms(alloc, joined, count, &mut block) {
+                Ok(()) => Ok(block),
+                Err(refusal) => Err(refusal),
+            }
+        }
+        Err(AllocError) => Err(ReadRefusal::Memory),
     }
 }
 
@@ -97,13 +89,15 @@ fn read_atom(
         (atom_row (seen_all joined.now) (seen_atoms block.old) row) }
     ensures are { OnOk result (AreAtoms (row + 1) block.new) }
 {
-    let line = atom_line(alloc, joined, 3 + row, &block.indices)?;
-    match block.indices.push(line.index) {
-        Ok(()) => match block.atoms.push(line.atom) {
-            Ok(()) => Ok(()),
-            Err(_) => Err(ReadRefusal::Memory),
+    match atom_line(alloc, joined, 3 + row, &block.indices) {
+        Ok(line) => match block.indices.push(line.index) {
+            Ok(()) => match block.atoms.push(line.atom) {
+                Ok(()) => Ok(()),
+                Err(_) => Err(ReadRefusal::Memory),
+            },
+            Err(AllocError) => Err(ReadRefusal::Memory),
         },
-        Err(AllocError) => Err(ReadRefusal::Memory),
+        Err(refusal) => Err(refusal),
     }
 }
 
@@ -159,8 +153,17 @@ pub fn bond_block(
     ensures are { OnOk result (AreBonds (length atoms.now) count block.new) }
 {
     match has_bond_block(alloc, joined, count, place) {
-        Ok(true) => match read_framed(alloc, joined, atoms, count, place, block) {
-            Ok(()) => Ok(place + count as usize + 2),
+        Ok(true) => match frame(alloc, joined, place, FrameLine::BeginBonds) {
+            Ok(()) => match read_bonds(alloc, joined, atoms, place + 1, count, block) {
+                Ok(()) => {
+                    let end = place + 1 + count as usize;
+                    match frame(alloc, joined, end, FrameLine::EndBonds) {
+                        Ok(()) => Ok(place + count as usize + 2),
+                        Err(refusal) => Err(refusal),
+                    }
+                }
+                Err(refusal) => Err(refusal),
+            },
             Err(refusal) => Err(refusal),
         },
         Ok(false) => Ok(place),
@@ -196,52 +199,14 @@ pub fn molecule_end(lines: &[&[u8]], number: u32) -> Result<(), ReadFault>
     requires { length lines.now < 2 ^ 32 - 1 }
     ensures { result ≡ molecule_end (texts lines.now) number }
 {
-    if has_end(lines, number.saturating_sub(1) as usize) {
-        Ok(())
-    } else {
-        Err(short(lines))
+    let mut place = number.saturating_sub(1) as usize;
+    while place < lines.len() {
+        if is_molecule_end(lines[place]) {
+            return Ok(());
+        }
+        place += 1;
     }
-}
-
-fn has_end(lines: &[&[u8]], place: usize) -> bool
-    ensures { result ≡ list_any is_molecule_end (drop place (texts lines.now)) }
-{
-    place <= lines.len() && is_any_end(&lines[place..])
-}
-
-fn is_any_end(lines: &[&[u8]]) -> bool
-    ensures { result ≡ list_any (λ line. is_molecule_end line.now) lines.now }
-{
-    lines.iter().any(|line| is_molecule_end(line))
-}
-
-// Reads the bond block with its frame, from this place on, into one that has no bonds.
-fn read_framed(
-    alloc: Global,
-    joined: &JoinedLines<'_>,
-    atoms: &Indices,
-    count: u32,
-    place: usize,
-    block: &mut BondBlock,
-) -> Result<(), ReadRefusal>
-    requires few { length atoms.now ≤ 16384 }
-    requires count { count ≤ 32768 }
-    requires place { place ≤ 16388 }
-    requires none { HasNoBonds (length atoms.now) block.old }
-    ensures value { Gives (λ _. seen_bonds block.new) result
-        (framed_bonds (seen_all joined.now) atoms.now count place) }
-    ensures are { OnOk result (AreBonds (length atoms.now) count block.new) }
-{
-    frame(alloc, joined, place, FrameLine::BeginBonds)?;
-    match read_bonds(alloc, joined, atoms, place + 1, count, block) {
-        Ok(()) => frame(
-            alloc,
-            joined,
-            place + 1 + count as usize,
-            FrameLine::EndBonds,
-        ),
-        Err(refusal) => Err(refusal),
-    }
+    Err(short(lines))
 }
 
 // Reads so many bond lines, from this place on, into a block that has no bonds.
@@ -286,19 +251,15 @@ fn read_bond(
         (bond_row (seen_all joined.now) atoms.now first (seen_bonds block.old) row) }
     ensures are { OnOk result (AreBonds (length atoms.now) (row + 1) block.new) }
 {
-    let line = bond_line(
-        alloc,
-        joined,
-        first + row,
-        atoms,
-        &block.indices,
-        &block.bonds,
-    )?;
-    match block.indices.push(line.index) {
-        Ok(()) => match block.bonds.push(line.bond) {
-            Ok(()) => Ok(()),
-            Err(_) => Err(ReadRefusal::Memory),
+    let place = first + row;
+    match bond_line(alloc, joined, place, atoms, &block.indices, &block.bonds) {
+        Ok(line) => match block.indices.push(line.index) {
+            Ok(()) => match block.bonds.push(line.bond) {
+                Ok(()) => Ok(()),
+                Err(_) => Err(ReadRefusal::Memory),
+            },
+            Err(AllocError) => Err(ReadRefusal::Memory),
         },
-        Err(AllocError) => Err(ReadRefusal::Memory),
+        Err(refusal) => Err(refusal),
     }
 }

@@ -3,7 +3,7 @@ ghost use Rattle.std.specs.Prelude.{◌≡◌, ◌≤◌, ◌<◌, false, length
 ghost use Rattle.cip_mol.specs.Ranges.{IsBond};
 ghost use Rattle.cip_mol.specs.declared.molecule.Mark.TheVariants.{Plain};
 ghost use Rattle.cip_reading.specs.Fields.{number_stated};
-ghost use Rattle.cip_v3000.specs.BondLine.{mark_of, marked, with_mark, place_of, place_named, bond_by, bond_of, IsBondLine, IsMark};
+ghost use Rattle.cip_v3000.specs.BondLine.{mark_of, with_mark, place_of, place_named, bond_by, bond_of, IsBondLine, IsMark};
 ghost use Rattle.cip_v3000.specs.LineWords.{AreBondWords};
 ghost use Rattle.cip_v3000.specs.Words.{words_of};
 ghost use Rattle.cip_reading.specs.Turns.{over};
@@ -45,16 +45,18 @@ pub fn bond_in(
     ensures value { result ≡ bond_of atoms.now known.now before.now.bonds (words_of text.now) }
     ensures range { IfOk result (IsBondLine known.now before.now) }
 {
-    let Some(words) = bond_words(text) else {
-        return Err(ReadCause::Frame);
-    };
-    let index = new_index(known, words.index)?;
-    match bond_by(atoms, &words) {
-        Ok(drawn) => match checked(before, drawn) {
-            Ok(bond) => Ok(BondLine { index, bond }),
+    match bond_words(text) {
+        Some(words) => match new_index(known, words.index) {
+            Ok(index) => match bond_by(atoms, &words) {
+                Ok(drawn) => match checked(before, drawn) {
+                    Ok(bond) => Ok(BondLine { index, bond }),
+                    Err(cause) => Err(cause),
+                },
+                Err(cause) => Err(cause),
+            },
             Err(cause) => Err(cause),
         },
-        Err(cause) => Err(cause),
+        None => Err(ReadCause::Frame),
     }
 }
 
@@ -62,25 +64,21 @@ fn bond_words(text: &[u8]) -> Option<BondWords<'_>>
     ensures some { IfSome result (AreBondWords (words_of text.now)) }
     ensures none { IsNone result → nat_lt 3 (length (words_of text.now)) ≡ false }
 {
-    let Some((index, rest)) = next_number(GREATEST, text) else {
-        return None;
-    };
-    let Some((order, rest)) = next_number(3, rest) else {
-        return None;
-    };
-    let Some((a, rest)) = next_number(GREATEST, rest) else {
-        return None;
-    };
-    let Some((b, keys)) = next_number(GREATEST, rest) else {
-        return None;
-    };
-    Some(BondWords {
-        index,
-        order,
-        a,
-        b,
-        keys,
-    })
+    if let Some((index, rest)) = next_number(GREATEST, text)
+        && let Some((order, rest)) = next_number(3, rest)
+        && let Some((a, rest)) = next_number(GREATEST, rest)
+        && let Some((b, keys)) = next_number(GREATEST, rest)
+    {
+        Some(BondWords {
+            index,
+            order,
+            a,
+            b,
+            keys,
+        })
+    } else {
+        None
+    }
 }
 
 // The bond that the words draw.
@@ -91,18 +89,15 @@ fn bond_by(atoms: &Indices, words: &BondWords<'_>) -> Result<Bond, ReadCause>
     ensures value { result ≡ bond_by atoms.now words.now.order words.now.a words.now.b (words_of words.now.keys.now) }
     ensures range { IfOk result IsBond }
 {
-    let Some(order) = order(words.order) else {
-        return Err(ReadCause::BondType);
-    };
-    let Some(a) = place_of(atoms, words.a) else {
-        return Err(ReadCause::BondEnd);
-    };
-    match place_of(atoms, words.b) {
-        Some(b) => match mark_in(order, words.keys) {
-            Ok(mark) => Ok(Bond { a, b, order, mark }),
-            Err(cause) => Err(cause),
+    match order(words.order) {
+        Some(order) => match (place_of(atoms, words.a), place_of(atoms, words.b)) {
+            (Some(a), Some(b)) => match mark_in(order, words.keys) {
+                Ok(mark) => Ok(Bond { a, b, order, mark }),
+                Err(cause) => Err(cause),
+            },
+            _ => Err(ReadCause::BondEnd),
         },
-        None => Err(ReadCause::BondEnd),
+        None => Err(ReadCause::BondType),
     }
 }
 
@@ -122,8 +117,11 @@ fn place_of(indices: &Indices, index: Option<u32>) -> Option<u32>
     ensures value { result ≡ place_of indices.now index }
     ensures within { IfSome result (λ place. place < length indices.now) }
 {
-    match indices.place(index?) {
-        Some(place) => Some(place as u32),
+    match index {
+        Some(index) => match indices.place(index) {
+            Some(place) => Some(place as u32),
+            None => None,
+        },
         None => None,
     }
 }
@@ -151,21 +149,18 @@ fn with_mark(order: u8, mark: Mark, word: &[u8]) -> Result<Mark, ReadCause>
     ensures value { result ≡ with_mark order mark word.now }
     ensures range { IfOk result (IsMark order) }
 {
-    let Some((key, value)) = key_and_value(word) else {
-        return Err(ReadCause::KeyValue);
-    };
-    marked(order, mark, key, value)
-}
-
-fn marked(order: u8, mark: Mark, key: &[u8], value: &[u8]) -> Result<Mark, ReadCause>
-    requires { IsMark order mark }
-    ensures value { result ≡ marked order mark (key.now, value.now) }
-    ensures range { IfOk result (IsMark order) }
-{
-    if key == b"CFG".as_slice() {
-        mark_of(order, number_stated(3, value)).ok_or(ReadCause::BondMark)
-    } else {
-        Ok(mark)
+    match key_and_value(word) {
+        Some((key, value)) => {
+            if key == b"CFG".as_slice() {
+                match mark_of(order, number_stated(3, value)) {
+                    Some(mark) => Ok(mark),
+                    None => Err(ReadCause::BondMark),
+                }
+            } else {
+                Ok(mark)
+            }
+        }
+        None => Err(ReadCause::KeyValue),
     }
 }
 
@@ -173,12 +168,11 @@ fn mark_of(order: u8, code: Option<u32>) -> Option<Mark>
     ensures value { result ≡ mark_of order code }
     ensures range { IfSome result (IsMark order) }
 {
-    match (order, code?) {
-        (_, 0) => Some(Mark::Plain),
-        (1, 1) => Some(Mark::Up),
-        (1, 2) => Some(Mark::Either),
-        (1, 3) => Some(Mark::Down),
-        (2, 2) => Some(Mark::Either),
+    match (order, code) {
+        (_, Some(0)) => Some(Mark::Plain),
+        (1, Some(1)) => Some(Mark::Up),
+        (1 | 2, Some(2)) => Some(Mark::Either),
+        (1, Some(3)) => Some(Mark::Down),
         _ => None,
     }
 }

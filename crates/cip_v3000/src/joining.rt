@@ -1,6 +1,5 @@
 // Lines, joined where they are continued.
 ghost use Rattle.std.specs.Prelude.{◌≡◌, ◌≤◌, ◌<◌, ◌^◌, ◌-◌, ◌+◌, [], All, length, slice_get, IfErr, IfOk, OnOk, Some, None};
-ghost use Rattle.std.specs.List.{flat_map};
 ghost use Rattle.cip_mol.specs.declared.refusal.ReadCause.TheVariants.{Frame};
 ghost use Rattle.cip_text.specs.Slices.{texts};
 ghost use Rattle.cip_v3000.specs.JoinedLines.{begins_v30, body, is_continued, part_of, text_of, next_number, joined_lines};
@@ -64,7 +63,10 @@ fn join_lines<'a>(
     while place < lines.len() {
         let line = lines[place];
         if !begins_v30(line) {
-            return Ok(frame_fault(place));
+            return Ok(ReadFault {
+                line: place as u32 + 1,
+                cause: ReadCause::Frame,
+            });
         }
         place += 1;
         if !is_continued(line) {
@@ -83,10 +85,15 @@ pub fn text_of<'a>(alloc: Global, line: &JoinedLine<'a>) -> Result<Text<'a>, All
 {
     match line.parts {
         [only] => Ok(Text::Whole(part_of(only))),
-        parts => match joined_text(alloc, parts) {
-            Ok(text) => Ok(Text::Joined(text)),
-            Err(error) => Err(error),
-        },
+        parts => {
+            let mut text = Vec::new(alloc);
+            for part in parts {
+                let Ok(()) = text.extend_from_slice(part_of(part)) else {
+                    return Err(AllocError);
+                };
+            }
+            Ok(Text::Joined(text))
+        }
     }
 }
 
@@ -126,18 +133,6 @@ impl<'a> JoinedLine<'a> {
     }
 }
 
-fn joined_text(alloc: Global, parts: &[&[u8]]) -> Result<Vec<u8>, AllocError>
-    ensures { IfOk result (λ text. text.items ≡ flat_map part_of (texts parts.now)) }
-{
-    let mut text = Vec::new(alloc);
-    for part in parts {
-        let Ok(()) = text.extend_from_slice(part_of(part)) else {
-            return Err(AllocError);
-        };
-    }
-    Ok(text)
-}
-
 // The line that the lines at these places make.
 fn joined_line<'a>(lines: &'a [&'a [u8]], first: usize, past: usize) -> JoinedLine<'a>
     requires few { length lines.now < 2 ^ 32 - 1 }
@@ -152,16 +147,6 @@ fn joined_line<'a>(lines: &'a [&'a [u8]], first: usize, past: usize) -> JoinedLi
     }
 }
 
-fn frame_fault(place: usize) -> ReadFault
-    requires { place < 2 ^ 32 - 1 }
-    ensures { result ≡ record { line = place + 1; cause = Frame } }
-{
-    ReadFault {
-        line: place as u32 + 1,
-        cause: ReadCause::Frame,
-    }
-}
-
 fn begins_v30(line: &[u8]) -> bool
     ensures { result ≡ begins_v30 line.now }
 {
@@ -173,11 +158,9 @@ fn is_continued(line: &[u8]) -> bool
 {
     // Most lines end in another byte.
     if !line.is_empty() && line[line.len() - 1] > b'-' {
-        return false;
-    }
-    match without_spaces_behind(body(line)) {
-        [.., b'-'] => true,
-        _ => false,
+        false
+    } else {
+        matches!(without_spaces_behind(body(line)), [.., b'-'])
     }
 }
 
@@ -190,9 +173,10 @@ fn body(line: &[u8]) -> &[u8]
 fn part_of(line: &[u8]) -> &[u8]
     ensures { result.now ≡ part_of line.now }
 {
-    if !is_continued(line) {
-        return body(line);
+    if is_continued(line) {
+        let text = without_spaces_behind(body(line));
+        &text[..text.len().saturating_sub(1)]
+    } else {
+        body(line)
     }
-    let text = without_spaces_behind(body(line));
-    &text[..text.len().saturating_sub(1)]
 }

@@ -41,10 +41,10 @@ fn with_key(keys: AtomKeys, word: &[u8]) -> Result<AtomKeys, ReadCause>
     ensures value { result ≡ with_key keys word.now }
     ensures range { IfOk result AreKeys }
 {
-    let Some((key, value)) = key_and_value(word) else {
-        return Err(ReadCause::KeyValue);
-    };
-    with_value(keys, key, value)
+    match key_and_value(word) {
+        Some((key, value)) => with_value(keys, key, value),
+        None => Err(ReadCause::KeyValue),
+    }
 }
 
 // The keys with the value of one; a key that isn't read changes nothing.

@@ -1,6 +1,5 @@
 // Words that are numbers or coordinates, read as they are taken.
-ghost use Rattle.std.specs.Prelude.{◌≡◌, ◌≤◌, ◌∷◌, [], pos, unsigned_abs, Some, false, length, nat_lt, IfOk, IfSome, IsNone};
-ghost use Rattle.cip_text.specs.Numbers.{decimal4_of};
+ghost use Rattle.std.specs.Prelude.{◌≡◌, ◌≤◌, [], pos, Some, false, length, nat_lt, IfOk, IfSome, IsNone};
 ghost use Rattle.cip_reading.specs.Causes.{coordinate};
 ghost use Rattle.cip_reading.specs.Fields.{number_stated, up_to};
 ghost use Rattle.cip_mol.specs.Ranges.{IsPlace};
@@ -50,16 +49,14 @@ pub fn next_point(text: &[u8]) -> Option<(Result<Vec3, ReadCause>, &[u8])>
     ensures some { IfSome result (λ p. HavePoint (words_of text.now) p.0 (words_of p.1.now)) }
     ensures none { IsNone result → nat_lt 2 (length (words_of text.now)) ≡ false }
 {
-    let Some((x, rest)) = next_coordinate(text) else {
-        return None;
-    };
-    let Some((y, rest)) = next_coordinate(rest) else {
-        return None;
-    };
-    let Some((z, rest)) = next_coordinate(rest) else {
-        return None;
-    };
-    Some((point(x, y, z), rest))
+    if let Some((x, rest)) = next_coordinate(text)
+        && let Some((y, rest)) = next_coordinate(rest)
+        && let Some((z, rest)) = next_coordinate(rest)
+    {
+        Some((point(x, y, z), rest))
+    } else {
+        None
+    }
 }
 
 fn point(

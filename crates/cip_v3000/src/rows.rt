@@ -7,7 +7,6 @@ ghost use Rattle.cip_v3000.specs.CountsLine.{counts_of, AreCounts};
 ghost use Rattle.cip_v3000.specs.Frames.{is_frame};
 ghost use Rattle.cip_v3000.specs.Grammar.{words_in, read_at, frame_at};
 ghost use Rattle.cip_v3000.specs.Joining.{seen, seen_all};
-ghost use Rattle.cip_v3000.specs.Words.{words_of};
 
 use crate::atoms::{AtomLine, atom_in};
 use crate::bonds::{BondLine, bond_in};
@@ -15,7 +14,6 @@ use crate::counts::{CountsLine, counts_in};
 use crate::frames::{FrameLine, is_frame_text};
 use crate::indices::Indices;
 use crate::joining::{JoinedLine, JoinedLines, text_of};
-use crate::splitting::words;
 use cip_mol::{BondList, ReadCause, ReadFault, ReadRefusal};
 use cip_reading::numbered;
 use std::alloc::{AllocError, Global};
@@ -28,21 +26,10 @@ pub fn counts_line(alloc: Global, joined: &JoinedLines<'_>) -> Result<CountsLine
 {
     match joined.line(1) {
         Ok(line) => match text_of(alloc, &line) {
-            Ok(text) => counts_of(alloc, line.number, text.bytes()),
+            Ok(text) => told(line.number, counts_in(text.bytes())),
             Err(AllocError) => Err(ReadRefusal::Memory),
         },
         Err(fault) => Err(ReadRefusal::Fault(fault)),
-    }
-}
-
-// The same of a line's text, which stays with the caller.
-fn counts_of(alloc: Global, number: u32, text: &[u8]) -> Result<CountsLine, ReadRefusal>
-    ensures value { Gives (λ counts. counts) result (numbered number (counts_of (words_of text.now))) }
-    ensures range { IfOk result AreCounts }
-{
-    match words(alloc, text) {
-        Ok(words) => told(number, counts_in(&words)),
-        Err(AllocError) => Err(ReadRefusal::Memory),
     }
 }
 

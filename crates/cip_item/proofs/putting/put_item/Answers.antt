@@ -2,5 +2,5 @@ use Rattle.std.proofs.Common.{arith}
 use Rattle.cip_item.proofs.Joining.{five_joined}
 use Rattle.cip_item.proofs.putting.put_item.Goals as goal
 
-pub returns : goal.returns
-returns c = grind (arith, five_joined)
+pub returns-in-Ok-put_values : goal.returns-in-Ok-put_values
+returns-in-Ok-put_values c = grind (arith, five_joined)

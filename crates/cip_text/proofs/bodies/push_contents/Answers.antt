@@ -8,10 +8,10 @@ pub loop-line-preserved : goal.loop-line-preserved
 loop-line-preserved c =
     let before = c.loop-line.contents.items in
     let line = c.in-Some.line.now in
-    let added = ap texts c.in_ok-push.ensures.items
+    let added = ap texts c.in-Ok.ensures.items
     ∙ map-append (λ (slice : Bor (List ℕ)). slice.now) before (c.without_end.result ∷ [])
     ∙ ap (λ content. texts before ++ content ∷ []) c.without_end.ensures in
-    let more = ap length c.in_ok-push.ensures.items ∙ length-append before (c.without_end.result ∷ []) in
+    let more = ap length c.in-Ok.ensures.items ∙ length-append before (c.without_end.result ∷ []) in
     record {
       so_far = content_more c.loop-line.rest.now line c.in-Some.behind.now (texts before) (texts c.push.new.self.items) _
           c.in-Some.ensures.line added c.loop-line.invariant.so_far;

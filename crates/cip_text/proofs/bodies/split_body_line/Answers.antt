@@ -3,11 +3,11 @@ use Rattle.std.proofs.lemmas.Grind.{common_steps}
 use Rattle.cip_text.proofs.Halves.{closing_itself}
 use Rattle.cip_text.proofs.bodies.split_body_line.Goals as goal
 
-pub returns-clause-whole : goal.returns-clause-whole
-returns-clause-whole c = grind (arith, common_steps, closing_itself)
+pub returns-else-is_closing-clause-whole : goal.returns-else-is_closing-clause-whole
+returns-else-is_closing-clause-whole c = grind (arith, common_steps, closing_itself)
 
-pub returns-clause-some : goal.returns-clause-some
-returns-clause-some c = grind (arith, common_steps, closing_itself)
+pub returns-else-is_closing-clause-some : goal.returns-else-is_closing-clause-some
+returns-else-is_closing-clause-some c = grind (arith, common_steps, closing_itself)
 
 pub returns-then-is_closing-clause-end : goal.returns-then-is_closing-clause-end
 returns-then-is_closing-clause-end c = grind (arith, common_steps, closing_itself)

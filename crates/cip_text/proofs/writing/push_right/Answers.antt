@@ -6,7 +6,7 @@ use Rattle.cip_text.proofs.writing.push_right.Goals as goal
 
 pub loop-column-preserved : goal.loop-column-preserved
 loop-column-preserved c =
-    rw c.in_ok-push.ensures.items
+    rw c.in-Ok.ensures.items
     (one_space c.loop-column.line.items c.loop-column.column c.args.width c.loop-column-test.true
     ∙ c.loop-column.invariant)
 

@@ -1,6 +1,5 @@
 use Rattle.std.proofs.Common.{◌≡◌, ◌≤◌, ◌+◌, ◌-◌, ℕ, List, [], All, Result, ap, arith, length}
 use Rattle.std.proofs.lemmas.List.Elements.{All-push}
-use Rattle.std.proofs.lemmas.Result.{err_from_is_err_and}
 use Rattle.cip_text.specs.Slices.{texts}
 use Rattle.cip_mol.specs.Ranges.{IsBond}
 use Rattle.cip_mol.specs.declared.molecule.Bond.{Bond}
@@ -22,21 +21,19 @@ none_passed n m within = omega (arith, within)
 none_in : (bonds : List Bond) → bonds ≡ [] → All IsBond bonds
 none_in bonds none k d within = absurd (let e : length bonds ≡ 0 = ap length none in omega (arith, within, e))
 
-pub returns-in_err-bond-clause-value : goal.returns-in_err-bond-clause-value
-returns-in_err-bond-clause-value c =
-    let refused = err_from_is_err_and c.from_residual-in_err-bond.result c.from_residual-in_err-bond.ensures.1 in
-    rw (refused.1, refused.2)
-    (row_refused (bond_row (texts c.args.lines.now) c.args.atoms) _ _ _ _ _ c.loop-row-test.true
-    c.in_err-bond.ensures.value c.loop-row.invariant.so_far)
+pub returns-in-Err-clause-value : goal.returns-in-Err-clause-value
+returns-in-Err-clause-value c =
+    row_refused (bond_row (texts c.args.lines.now) c.args.atoms) _ _ _ _ _ c.loop-row-test.true
+    c.in-Err.ensures.value c.loop-row.invariant.so_far
 
 pub loop-row-preserved : goal.loop-row-preserved
-loop-row-preserved c = rw c.in_ok-push.ensures.added (record {
+loop-row-preserved c = rw c.in-Ok-push.ensures.added (record {
   so_far = row_read (bond_row (texts c.args.lines.now) c.args.atoms) _ _ _ _ _ c.loop-row-test.true
-      c.in_ok-bond.ensures.value c.loop-row.invariant.so_far;
+      c.in-Ok-bond_line.ensures.value c.loop-row.invariant.so_far;
   among = c.loop-row.invariant.among;
-  there = omega (arith, c.in_ok-bond.ensures.there);
+  there = omega (arith, c.in-Ok-bond_line.ensures.there);
   counted = length-push _ _ _ c.loop-row.invariant.counted;
-  range = All-push IsBond _ _ c.loop-row.invariant.range c.in_ok-bond.ensures.range;
+  range = All-push IsBond _ _ c.loop-row.invariant.range c.in-Ok-bond_line.ensures.range;
 })
 
 pub returns-clause-value : goal.returns-clause-value
@@ -46,10 +43,10 @@ returns-clause-value c = rows_read (bond_row (texts c.args.lines.now) c.args.ato
 pub loop-row-init : goal.loop-row-init
 loop-row-init c =
     record {
-      so_far = none_read (bond_row (texts c.args.lines.now) c.args.atoms) c.in_ok-bonds.bonds.bonds c.args.count
-          (λ i. (c.in_ok-bonds.ensures i).bonds);
-      among = λ i. (c.in_ok-bonds.ensures i).atoms;
+      so_far = none_read (bond_row (texts c.args.lines.now) c.args.atoms) c.in-Ok.bonds.bonds c.args.count
+          (λ i. (c.in-Ok.ensures i).bonds);
+      among = λ i. (c.in-Ok.ensures i).atoms;
       there = none_passed (4 + c.args.atoms) (length c.args.lines.now) c.requires.there;
-      counted = λ i. length (c.in_ok-bonds.ensures i).bonds;
-      range = none_in c.in_ok-bonds.bonds.bonds (λ i. (c.in_ok-bonds.ensures i).bonds);
+      counted = λ i. length (c.in-Ok.ensures i).bonds;
+      range = none_in c.in-Ok.bonds.bonds (λ i. (c.in-Ok.ensures i).bonds);
     }

@@ -1,6 +1,5 @@
 use Rattle.std.proofs.Common.{◌∙◌, ◌+◌, sym, ap, arith, length}
 use Rattle.std.proofs.lemmas.List.{length-map}
-use Rattle.std.proofs.lemmas.Result.{err_from_is_err_and}
 use Rattle.cip_text.specs.Slices.{texts}
 use Rattle.cip_v2000.proofs.PropertyBlock.{pairs_end, pairs_refused, pairs_more, pairs_short}
 use Rattle.cip_v2000.proofs.blocks.property_block.Goals as goal
@@ -10,23 +9,21 @@ returns-then-is_molecule_end-clause-value c =
     pairs_end _ _ _ _ c.args.lines.now c.loop-place.place _ _ c.loop-place-test.true
     (sym c.is_molecule_end.ensures ∙ c.if-is_molecule_end.true) c.loop-place.invariant.so_far
 
-pub returns-in_err-push_stated-clause-value : goal.returns-in_err-push_stated-clause-value
-returns-in_err-push_stated-clause-value c =
-    let refused = err_from_is_err_and c.from_residual.result c.from_residual.ensures.1 in
-    rw (refused.1, refused.2)
-    (pairs_refused (length (texts c.args.lines.now) + 1) c.args.atoms c.loop-place.pairs.items c.loop-place.place
-    c.args.lines.now _ c.in_err-push_stated.field-0.0 _ c.loop-place-test.true
-    (sym c.is_molecule_end.ensures ∙ c.if-is_molecule_end.false) c.in_err-push_stated.ensures.value
-    c.loop-place.invariant.so_far)
+pub returns-in-Err-clause-value : goal.returns-in-Err-clause-value
+returns-in-Err-clause-value c =
+    pairs_refused (length (texts c.args.lines.now) + 1) c.args.atoms c.loop-place.pairs.items c.loop-place.place
+    c.args.lines.now _ c.in-Err.refusal _ c.loop-place-test.true
+    (sym c.is_molecule_end.ensures ∙ c.if-is_molecule_end.false) c.in-Err.ensures.value
+    c.loop-place.invariant.so_far
 
 pub loop-place-preserved : goal.loop-place-preserved
 loop-place-preserved c = record {
   so_far = pairs_more (length (texts c.args.lines.now) + 1) c.args.atoms c.loop-place.pairs.items _ c.loop-place.place
       c.args.lines.now _ _ c.loop-place-test.true
-      (sym c.is_molecule_end.ensures ∙ c.if-is_molecule_end.false) c.in_ok-push_stated.ensures.value
+      (sym c.is_molecule_end.ensures ∙ c.if-is_molecule_end.false) c.in-Ok.ensures.value
       c.loop-place.invariant.so_far;
   within = omega (arith, c.loop-place-test.true);
-  range = c.in_ok-push_stated.ensures.range;
+  range = c.in-Ok.ensures.range;
 }
 
 pub returns-clause-value : goal.returns-clause-value

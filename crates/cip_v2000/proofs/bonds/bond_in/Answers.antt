@@ -16,5 +16,5 @@ in_range a b order code mark some few is = record {
 
 pub checked-requires : goal.checked-requires
 checked-requires c =
-    in_range c.in-Some.a c.in-Some-place_at.b c.in-Some-order.order c.digit_at-2.result c.in-Some-mark.mark
-    c.in-Some-order.ensures.range.0 c.in-Some-order.ensures.range.1 (sym c.in-Some-mark.ensures)
+    in_range _ _ c.in-Some.order c.digit_at-in-Some.result c.in-Some-mark.mark
+    c.in-Some.ensures.range.0 c.in-Some.ensures.range.1 (sym c.in-Some-mark.ensures)

@@ -12,22 +12,21 @@ pair_is : (property : Property) (atoms : ℕ) (words : List (List ℕ)) (place :
 unfolding pair_at
 pair_is property atoms words place atom value at behind = λ i. pair_from property atoms (at i) (behind i)
 
-pub returns-in_err-value-clause-value : goal.returns-in_err-value-clause-value
-returns-in_err-value-clause-value c =
-    let found = c.in_ok-atom.ensures.lookup in
-    c.from_residual-in_err-value.ensures
-    ∙ sym (pair_is c.args.property c.args.atoms (texts c.args.words.now) c.args.place _ _
-    (text_found c.args.words.now c.args.place c.in_ok-atom.atom.now found.3.0
-    (found.3.1 c.in_ok-atom.atom.now))
-    (text_missing c.args.words.now (c.args.place + 1) c.in_err-value.ensures.lookup.3))
+pub returns-in-None-get-clause-value : goal.returns-in-None-get-clause-value
+returns-in-None-get-clause-value c =
+    let found = c.in-Some.ensures.lookup in
+    sym (pair_is c.args.property c.args.atoms (texts c.args.words.now) c.args.place _ _
+    (text_found c.args.words.now c.args.place c.in-Some.atom.now found.3.0
+    (found.3.1 c.in-Some.atom.now))
+    (text_missing c.args.words.now (c.args.place + 1) c.in-None-get.ensures.lookup.3))
 
-pub returns-clause-value : goal.returns-clause-value
-returns-clause-value c =
-    let found = c.in_ok-atom.ensures.lookup in
-    let behind = c.in_ok-value.ensures.lookup in
+pub returns-in-Some-get-clause-value : goal.returns-in-Some-get-clause-value
+returns-in-Some-get-clause-value c =
+    let found = c.in-Some.ensures.lookup in
+    let behind = c.in-Some-get.ensures.lookup in
     c.pair_in.ensures.value
     ∙ sym (pair_is c.args.property c.args.atoms (texts c.args.words.now) c.args.place _ _
-    (text_found c.args.words.now c.args.place c.in_ok-atom.atom.now found.3.0
-    (found.3.1 c.in_ok-atom.atom.now))
-    (text_found c.args.words.now (c.args.place + 1) c.in_ok-value.value.now behind.3.0
-    (behind.3.1 c.in_ok-value.value.now)))
+    (text_found c.args.words.now c.args.place c.in-Some.atom.now found.3.0
+    (found.3.1 c.in-Some.atom.now))
+    (text_found c.args.words.now (c.args.place + 1) c.in-Some-get.value.now behind.3.0
+    (behind.3.1 c.in-Some-get.value.now)))

@@ -1,23 +1,22 @@
+use Rattle.std.proofs.Common.{ap}
+use Rattle.std.specs.Option.{ok_or}
 use Rattle.std.proofs.lemmas.List.Elements.{All-push}
-use Rattle.std.proofs.lemmas.Result.{err_from_is_err_and}
 use Rattle.cip_text.specs.Slices.{texts}
 use Rattle.cip_v2000.specs.PropertyLines.{pair_row}
 use Rattle.cip_v2000.specs.Statements.{IsPair}
 use Rattle.cip_reading.proofs.Rows.{row_read, row_refused, rows_read}
 use Rattle.cip_v2000.proofs.properties.push_pairs.Goals as goal
 
-pub returns-in_err-pair-clause-value : goal.returns-in_err-pair-clause-value
-returns-in_err-pair-clause-value c =
-    let refused = err_from_is_err_and c.from_residual.result c.from_residual.ensures.1 in
-    rw (refused.1, refused.2)
-    (row_refused (pair_row c.args.fault c.args.property c.args.atoms (texts c.args.words.now)) _ _ _ _ _
-    c.loop-row-test.true c.in_err-pair.ensures.value c.loop-row.invariant.so_far)
+pub returns-in_default-clause-value : goal.returns-in_default-clause-value
+returns-in_default-clause-value c =
+    row_refused (pair_row c.args.fault c.args.property c.args.atoms (texts c.args.words.now)) _ _ _ _ _
+    c.loop-row-test.true (ap (λ o. ok_or o c.args.fault) c.in_default.ensures.value) c.loop-row.invariant.so_far
 
 pub loop-row-preserved : goal.loop-row-preserved
-loop-row-preserved c = rw c.in_ok-push.ensures.items (record {
+loop-row-preserved c = rw c.in-Ok.ensures.items (record {
   so_far = row_read (pair_row c.args.fault c.args.property c.args.atoms (texts c.args.words.now)) _ _ _ _ _
-      c.loop-row-test.true c.in_ok-pair.ensures.value c.loop-row.invariant.so_far;
-  range = All-push IsPair _ _ c.loop-row.invariant.range c.in_ok-pair.ensures.range;
+      c.loop-row-test.true (ap (λ o. ok_or o c.args.fault) c.in-Some.ensures.value) c.loop-row.invariant.so_far;
+  range = All-push IsPair _ _ c.loop-row.invariant.range c.in-Some.ensures.range;
 })
 
 pub returns-clause-value : goal.returns-clause-value

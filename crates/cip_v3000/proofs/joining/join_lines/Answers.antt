@@ -9,10 +9,9 @@ use Rattle.cip_v3000.proofs.joining.join_lines.Goals as goal
 
 pub returns-then-not-begins_v30-clause-value : goal.returns-then-not-begins_v30-clause-value
 returns-then-not-begins_v30-clause-value c =
-    rw c.frame_fault.ensures
-    (line_refused (map seen c.loop-place.found.items) c.args.lines.now c.loop-place.first c.loop-place.place _ _
+    line_refused (map seen c.loop-place.found.items) c.args.lines.now c.loop-place.first c.loop-place.place _ _
     c.loop-place.invariant.first c.loop-place-test.true
-    (sym c.begins_v30.ensures ∙ c.if-not-begins_v30.true) c.loop-place.invariant.so_far)
+    (sym c.begins_v30.ensures ∙ c.if-not-begins_v30.true) c.loop-place.invariant.so_far
 
 pub loop-place-preserved-then-not-is_continued : goal.loop-place-preserved-then-not-is_continued
 loop-place-preserved-then-not-is_continued c = record {

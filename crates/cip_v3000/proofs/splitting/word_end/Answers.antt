@@ -8,9 +8,9 @@ pub loop-at-preserved : goal.loop-at-preserved
 unfolding words_of
 loop-at-preserved c = grind (arith, common_steps, begun_goes_on, begun_ends, begun_runs_out, cut_is_space)
 
-pub returns-then-is_cut-clause-cut : goal.returns-then-is_cut-clause-cut
+pub returns-in-Plain-eq32-clause-cut : goal.returns-in-Plain-eq32-clause-cut
 unfolding words_of
-returns-then-is_cut-clause-cut c = grind (arith, common_steps, begun_goes_on, begun_ends, begun_runs_out, cut_is_space)
+returns-in-Plain-eq32-clause-cut c = grind (arith, common_steps, begun_goes_on, begun_ends, begun_runs_out, cut_is_space)
 
 pub returns-clause-cut : goal.returns-clause-cut
 unfolding words_of

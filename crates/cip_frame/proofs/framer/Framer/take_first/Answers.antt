@@ -21,13 +21,13 @@ returns-in-Err-clause-too_long c = λ e.
     rw (over.1, ← c.in-Some.ensures.joined) (ahead_over c.args.self.now (line ++ behind) c.args.self.now line behind is
     (ahead_first c.args.self.now (line ++ behind)) over.0)
 
-pub returns-clause-taken : goal.returns-clause-taken
-returns-clause-taken c =
+pub returns-in-Ok-clause-taken : goal.returns-in-Ok-clause-taken
+returns-in-Ok-clause-taken c =
     let line = c.in-Some.line.now in
     let behind = c.in-Some.behind.now in
     let is : is_line line ≡ true = first_is_line c.args.bytes.now line (lines_of behind) c.in-Some.ensures.lines in
     rw (← c.in-Some.ensures.joined) (ahead_line c.args.self.now (line ++ behind) c.args.self.now line behind
-    c.take_line.new.self is (ahead_first c.args.self.now (line ++ behind)) c.in_default-take_line.ensures.taken)
+    c.take_line.new.self is (ahead_first c.args.self.now (line ++ behind)) c.in-Ok.ensures.taken)
 
-pub returns-clause-fewer : goal.returns-clause-fewer
-returns-clause-fewer c = grind (arith, common_steps)
+pub returns-in-Ok-clause-fewer : goal.returns-in-Ok-clause-fewer
+returns-in-Ok-clause-fewer c = grind (arith, common_steps)

@@ -17,11 +17,11 @@ returns-in-Err-clause-too_long c = λ e.
     (c.plain_front-plain.ensures.plain some) over.0 in
     rw over.1 (rw (take-append-drop count bytes) at whole)
 
-pub returns-clause-taken : goal.returns-clause-taken
-returns-clause-taken c =
+pub returns-in-Ok-clause-taken : goal.returns-in-Ok-clause-taken
+returns-in-Ok-clause-taken c =
     let count = c.plain_front-plain.result in
     let bytes = c.args.bytes.now in
     let some : 0 < count = search rules in
     let whole = ahead_plain c.args.self.now (take count bytes) (drop count bytes)
-    (c.plain_front-plain.ensures.begun some) (c.plain_front-plain.ensures.plain some) c.in_default.ensures.within in
-    rw (c.in_default.ensures.taken, take_rest bytes count) (rw (take-append-drop count bytes) at whole)
+    (c.plain_front-plain.ensures.begun some) (c.plain_front-plain.ensures.plain some) c.in-Ok.ensures.within in
+    rw (c.in-Ok.ensures.taken, take_rest bytes count) (rw (take-append-drop count bytes) at whole)
