@@ -1,7 +1,6 @@
 // What is told of a record, by what is asked.
 ghost use Rattle.std.specs.Prelude.{◌≡◌, ◌≤◌, ◌<◌, ◌-◌, ◌^◌, IfOk, length};
 ghost use Rattle.cip_stream.specs.Batches.{telling};
-ghost use Rattle.cip_print.specs.Explaining.{explained};
 ghost use Rattle.cip_print.specs.Values.{HasRoom};
 ghost use Rattle.cip_answer.specs.Answers.{is_flagged};
 ghost use Rattle.cip_commands.specs.Telling.{manner_of, plainly, with_answer};
@@ -213,9 +212,13 @@ impl<D: Digraphs + Drop> Asked<D> {
         let Ok(answer) = desk.label(alloc, lines, self.labelling.rules) else {
             return Err(AllocError);
         };
-        let told = explained(alloc, &answer, number);
+        let text = explain_text(alloc, &answer, number);
+        let flagged = is_flagged(&answer);
         drop(answer);
-        told
+        match text {
+            Ok(text) => Ok(plain(text, flagged)),
+            Err(error) => Err(error),
+        }
     }
 
     // The record in which the centre at an atom has the letter, with its item.
@@ -302,15 +305,6 @@ impl<D: Digraphs + Drop> Asked<D> {
         };
         Ok(plain(told.text.into_vec(), told.flagged))
     }
-}
-
-// What is told of an answer.
-fn explained(alloc: Global, answer: &Answer, number: u64) -> Result<Told<Note>, AllocError>
-    ensures { IfOk result (λ told. told
-        ≡ record { text = explained number answer.now; verdict = plainly (is_flagged answer.now) }) }
-{
-    let text = explain_text(alloc, answer, number)?;
-    Ok(plain(text, is_flagged(answer)))
 }
 
 // A text without a note.
