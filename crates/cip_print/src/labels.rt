@@ -1,43 +1,13 @@
 // How labels are written.
-ghost use Rattle.std.specs.Prelude.{◌≡◌, ◌++◌, IfOk, OnOk, codes, decimal, slice_get};
-ghost use Rattle.cip_mol.specs.Letters.{letter_text, rule_text};
+ghost use Rattle.std.specs.Prelude.{◌≡◌, ◌++◌, OnOk, codes, slice_get};
 ghost use Rattle.cip_print.specs.Naming.{name_text};
-ghost use Rattle.cip_print.specs.Labels.{ligand_name, spaced_name, names_at, names_of_ends, names_in_order, decision_text, ordered_label};
+ghost use Rattle.cip_print.specs.Labels.{spaced_name, names_at, names_of_ends, names_in_order, decision_text, ordered_label};
 
 use crate::answer::UnitAnswer;
 use crate::digits::{push_number, push_word};
 use crate::naming::{UnitName, push_atom, push_name};
 use cip_mol::{Label, Ligand, Site};
-use std::alloc::{AllocError, Global};
-
-// Most lines of labels have no more bytes.
-pub const LINE: usize = 80;
-
-/// A label with the ligands in the order that it rests on.
-pub fn ordered_label(alloc: Global, unit: &UnitAnswer, label: &Label) -> Result<Vec<u8>, AllocError>
-    ensures { IfOk result (λ text. text.items ≡ ordered_label unit.now label.now) }
-{
-    match Vec::with_capacity(alloc, LINE) {
-        Ok(mut text) => match push_label(&mut text, unit, label) {
-            Ok(()) => Ok(text),
-            Err(error) => Err(error),
-        },
-        Err(error) => Err(error),
-    }
-}
-
-/// The name of a unit, and a word.
-pub fn named(alloc: Global, unit: &UnitAnswer, word: &str) -> Result<Vec<u8>, AllocError>
-    ensures { IfOk result (λ text. text.items ≡ name_text unit.now.name ++ (codes " " ++ word.now)) }
-{
-    match Vec::with_capacity(alloc, LINE) {
-        Ok(mut text) => match push_named(&mut text, unit.name, word) {
-            Ok(()) => Ok(text),
-            Err(error) => Err(error),
-        },
-        Err(error) => Err(error),
-    }
-}
+use std::alloc::AllocError;
 
 /// Adds the name of a unit, and a word.
 #[tactic(auto, using(crate::proofs::Texts::moved))]
@@ -140,6 +110,7 @@ fn push_names(
 }
 
 // The ligand at a place with a space before it; nothing where no ligand is there.
+#[tactic(auto, using(crate::proofs::Texts::moved))]
 fn push_name_at(
     text: &mut Vec<u8>,
     drawn: u32,
@@ -149,23 +120,12 @@ fn push_name_at(
     ensures { OnOk result (text.new.items ≡ text.old.items ++ spaced_name drawn (slice_get ligands.now place)) }
 {
     match ligands.get(place as usize) {
-        Some(ligand) => push_ligand(text, drawn, *ligand),
+        Some(Ligand::Vertex(vertex)) if *vertex < drawn => match text.push(b' ') {
+            Ok(()) => push_atom(text, *vertex),
+            Err(_) => Err(AllocError),
+        },
+        Some(Ligand::Vertex(_)) => push_word(text, "H"),
+        Some(Ligand::LonePair) => push_word(text, ":"),
         None => Ok(()),
-    }
-}
-
-#[tactic(auto, using(crate::proofs::Texts::moved))]
-fn push_ligand(text: &mut Vec<u8>, drawn: u32, ligand: Ligand) -> Result<(), AllocError>
-    ensures { OnOk result (text.new.items ≡ text.old.items ++ (codes " " ++ ligand_name drawn ligand)) }
-{
-    match ligand {
-        Ligand::Vertex(vertex) if vertex < drawn => {
-            match text.push(b' ') {
-                Ok(()) => push_atom(text, vertex),
-                Err(_) => Err(AllocError),
-            }
-        }
-        Ligand::Vertex(_) => push_word(text, "H"),
-        Ligand::LonePair => push_word(text, ":"),
     }
 }
