@@ -29,11 +29,11 @@ put_all-requires g c =
         c.type_bounds.send-J-Desk,
         (
           subst (λ answers. IfOk answers (λ v. AreAnswers answer jobs v.items))
-              (sym c.replace-entries.ensures.value ∙ c.in_ok-entries.was) here,
+              (sym c.replace-entries.ensures.value ∙ c.in-Ok.is) here,
           c.loop-k.invariant.found,
         ),
       ),
     )
 
-pub returns-in_err-entries-clause-workers : goal.returns-in_err-entries-clause-workers
-returns-in_err-entries-clause-workers g c = grind (arith, common_steps)
+pub returns-in_default-clause-workers : goal.returns-in_default-clause-workers
+returns-in_default-clause-workers g c = grind (arith, common_steps)
