@@ -188,14 +188,18 @@ impl<D: Digraphs + Drop> Asked<D> {
         let Ok(values) = item_values(alloc, answer, nodes, rules) else {
             return Err(AllocError);
         };
-        let Ok(text) = lines_with_item(alloc, lines, &values) else {
-            return Err(AllocError);
-        };
-        let flagged = is_flagged(answer);
-        Ok(Told {
-            text,
-            verdict: Verdict { flagged, note },
-        })
+        let text = lines_with_item(alloc, lines, &values);
+        drop(values);
+        match text {
+            Ok(text) => {
+                let flagged = is_flagged(answer);
+                Ok(Told {
+                    text,
+                    verdict: Verdict { flagged, note },
+                })
+            }
+            Err(error) => Err(error),
+        }
     }
 
     fn explain(
@@ -282,10 +286,10 @@ impl<D: Digraphs + Drop> Asked<D> {
         requires fit { desk.old ≡ self.now.labelling.nodes }
         ensures { IfOk result (λ told. told ≡ groups_bare self.now.labelling number lines.now) }
     {
-        let Ok(told) = desk.groups(alloc, lines, number, self.labelling.rules) else {
-            return Err(AllocError);
-        };
-        Ok(plain(told.text.into_vec(), told.flagged))
+        match desk.groups(alloc, lines, number, self.labelling.rules) {
+            Ok(told) => Ok(plain(told.text.into_vec(), told.flagged)),
+            Err(error) => Err(error),
+        }
     }
 
     // What is told of further units.
@@ -300,10 +304,10 @@ impl<D: Digraphs + Drop> Asked<D> {
         requires fit { desk.old ≡ self.now.labelling.nodes }
         ensures { IfOk result (λ told. told ≡ axes_bare self.now.labelling number lines.now) }
     {
-        let Ok(told) = desk.axes(alloc, lines, number, self.labelling.rules) else {
-            return Err(AllocError);
-        };
-        Ok(plain(told.text.into_vec(), told.flagged))
+        match desk.axes(alloc, lines, number, self.labelling.rules) {
+            Ok(told) => Ok(plain(told.text.into_vec(), told.flagged)),
+            Err(error) => Err(error),
+        }
     }
 }
 
