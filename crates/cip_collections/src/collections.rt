@@ -177,10 +177,15 @@ fn read_kind(
     ensures { Gives (λ _. found.new) result (with_kind indices.now number found.old (texts words.now) (Some kind)) }
 {
     match names_of(alloc, number, words) {
-        Ok(names) => match atoms_of(alloc, number, indices, &names) {
-            Ok(atoms) => found.put(number, kind, atoms),
-            Err(refusal) => Err(refusal),
-        },
+        Ok(names) => {
+            let atoms = atoms_of(alloc, number, indices, &names);
+            // given back by a call of its own, which is quicker to prove than an end that owns it
+            drop(names);
+            match atoms {
+                Ok(atoms) => found.put(number, kind, atoms),
+                Err(refusal) => Err(refusal),
+            }
+        }
         Err(refusal) => Err(refusal),
     }
 }

@@ -85,24 +85,16 @@ fn tell_contents<D: Digraphs>(
             Err(refusal) => tell_refusal(alloc, refusal),
         }
     } else {
-        tell_plain(alloc, lines)
-    }
-}
-
-fn tell_plain(alloc: Global, lines: &[&[u8]]) -> Result<GroupText, AllocError>
-    requires few { length lines.now < 2 ^ 32 - 1 }
-    requires version { is_v3000 (texts lines.now) ≡ false }
-    ensures { IfOk result (λ told. told ≡ of_molecule (molecule_of (texts lines.now))) }
-{
-    match cip_v2000::read_lines(alloc, lines) {
-        Ok(molecule) => {
-            drop(molecule);
-            Ok(GroupText {
-                text: Bytes::from_vec(Vec::new(alloc)),
-                flagged: false,
-            })
+        match cip_v2000::read_lines(alloc, lines) {
+            Ok(molecule) => {
+                drop(molecule);
+                Ok(GroupText {
+                    text: Bytes::from_vec(Vec::new(alloc)),
+                    flagged: false,
+                })
+            }
+            Err(refusal) => tell_refusal(alloc, refusal),
         }
-        Err(refusal) => tell_refusal(alloc, refusal),
     }
 }
 
