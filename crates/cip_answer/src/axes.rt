@@ -35,14 +35,10 @@ pub fn axes_text_within<D: Digraphs>(
     let Ok(answer) = further_of_lines(alloc, labeller, lines.contents(), rules) else {
         return Err(AllocError);
     };
-    let text = explain_text(alloc, &answer, number);
-    let flagged = is_flagged(&answer);
-    // given back by a call of its own, which is quicker to prove than an end that owns it
-    drop(answer);
-    match text {
+    match explain_text(alloc, &answer, number) {
         Ok(text) => Ok(AxesText {
             text: Bytes::from_vec(text),
-            flagged,
+            flagged: is_flagged(&answer),
         }),
         Err(fault) => Err(fault),
     }
