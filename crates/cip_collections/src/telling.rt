@@ -1,15 +1,13 @@
 // What is told of the groups of a record.
-ghost use Rattle.std.specs.Prelude.{◌≡◌, ◌≤◌, ◌<◌, ◌-◌, ◌^◌, ◌++◌, IfOk, OnOk, Ok, false, flat_map, length, string_bytes, true};
+ghost use Rattle.std.specs.Prelude.{◌≡◌, ◌≤◌, ◌<◌, ◌-◌, ◌^◌, ◌++◌, IfOk, OnOk, Ok, flat_map, length, string_bytes, true};
 ghost use Rattle.std.specs.List.{list_any};
 ghost use Rattle.cip_text.specs.Slices.{texts};
-ghost use Rattle.cip_v2000.specs.Grammar.{molecule_of};
-ghost use Rattle.cip_v2000.specs.Version.{is_v3000};
 ghost use Rattle.cip_v3000.specs.Tables.{seen_table};
 ghost use Rattle.cip_collections.specs.Collections.{groups_of};
 ghost use Rattle.cip_label.specs.Settings.{setting_in};
 ghost use Rattle.cip_collections.specs.Outcomes.{all_lines};
 ghost use Rattle.cip_collections.specs.Readings.{TellsFault, TellsRefusal};
-ghost use Rattle.cip_collections.specs.Texts.{outcome_text, line_text, some_over, of_lines, of_groups, of_molecule, of_contents, told_without_items, with_number};
+ghost use Rattle.cip_collections.specs.Texts.{outcome_text, line_text, some_over, of_lines, of_groups, of_contents, told_without_items, with_number};
 
 use crate::collections::groups_of;
 use crate::faults::{GroupFault, GroupRefusal};
