@@ -10,7 +10,6 @@ use cip_mol::{Label, Ligand, Site};
 use std::alloc::AllocError;
 
 /// Adds the name of a unit, and a word.
-#[tactic(auto, using(crate::proofs::Texts::moved))]
 pub fn push_named(text: &mut Vec<u8>, name: UnitName, word: &str) -> Result<(), AllocError>
     ensures { OnOk result (text.new.items ≡ text.old.items ++ (name_text name ++ (codes " " ++ word.now))) }
 {
@@ -21,7 +20,6 @@ pub fn push_named(text: &mut Vec<u8>, name: UnitName, word: &str) -> Result<(), 
 }
 
 /// Adds a label with the ligands in the order that it rests on.
-#[tactic(auto, unfolding(crate::specs::Labels::ordered_label), using(crate::proofs::Texts::moved))]
 pub fn push_label(text: &mut Vec<u8>, unit: &UnitAnswer, label: &Label) -> Result<(), AllocError>
     ensures { OnOk result (text.new.items ≡ text.old.items ++ ordered_label unit.now label.now) }
 {
@@ -38,7 +36,6 @@ pub fn push_label(text: &mut Vec<u8>, unit: &UnitAnswer, label: &Label) -> Resul
 }
 
 // The descriptor, the rule and the sphere, a space before each.
-#[tactic(auto, using(crate::proofs::Texts::moved))]
 fn push_decision(text: &mut Vec<u8>, label: &Label) -> Result<(), AllocError>
     ensures { OnOk result (text.new.items ≡ text.old.items ++ decision_text label.now) }
 {

@@ -45,7 +45,6 @@ pub fn push_name(text: &mut Vec<u8>, name: UnitName) -> Result<(), AllocError>
 }
 
 // A letter, and two atoms, the lower one first.
-#[tactic(auto, using(crate::proofs::Texts::moved))]
 fn push_pair(text: &mut Vec<u8>, kind: u8, a: u32, b: u32) -> Result<(), AllocError>
     ensures { OnOk result (text.new.items ≡ text.old.items ++ kind ∷ pair a b) }
 {
