@@ -1,7 +1,7 @@
 // How labels are written.
 ghost use Rattle.std.specs.Prelude.{◌≡◌, ◌++◌, OnOk, codes, slice_get};
 ghost use Rattle.cip_print.specs.Naming.{name_text};
-ghost use Rattle.cip_print.specs.Labels.{spaced_name, names_at, names_of_ends, names_in_order, decision_text, ordered_label};
+ghost use Rattle.cip_print.specs.Labels.{ligand_name, spaced_name, names_at, names_of_ends, names_in_order, decision_text, ordered_label};
 
 use crate::answer::UnitAnswer;
 use crate::digits::{push_number, push_word};
@@ -107,7 +107,6 @@ fn push_names(
 }
 
 // The ligand at a place with a space before it; nothing where no ligand is there.
-#[tactic(auto, using(crate::proofs::Texts::moved))]
 fn push_name_at(
     text: &mut Vec<u8>,
     drawn: u32,
@@ -117,12 +116,23 @@ fn push_name_at(
     ensures { OnOk result (text.new.items ≡ text.old.items ++ spaced_name drawn (slice_get ligands.now place)) }
 {
     match ligands.get(place as usize) {
-        Some(Ligand::Vertex(vertex)) if *vertex < drawn => match text.push(b' ') {
-            Ok(()) => push_atom(text, *vertex),
-            Err(_) => Err(AllocError),
-        },
-        Some(Ligand::Vertex(_)) => push_word(text, "H"),
-        Some(Ligand::LonePair) => push_word(text, ":"),
+        Some(ligand) => push_ligand(text, drawn, *ligand),
         None => Ok(()),
+    }
+}
+
+#[tactic(auto, using(crate::proofs::Texts::moved))]
+fn push_ligand(text: &mut Vec<u8>, drawn: u32, ligand: Ligand) -> Result<(), AllocError>
+    ensures { OnOk result (text.new.items ≡ text.old.items ++ (codes " " ++ ligand_name drawn ligand)) }
+{
+    match ligand {
+        Ligand::Vertex(vertex) if vertex < drawn => {
+            match text.push(b' ') {
+                Ok(()) => push_atom(text, vertex),
+                Err(_) => Err(AllocError),
+            }
+        }
+        Ligand::Vertex(_) => push_word(text, "H"),
+        Ligand::LonePair => push_word(text, ":"),
     }
 }
