@@ -1,5 +1,5 @@
 // A chain of carbon atoms with what words of a generator put on it.
-ghost use Rattle.std.specs.Prelude.{◌≡◌, ◌<◌, ◌≤◌, ◌-◌, ◌++◌, [], IfOk, OnOk, length};
+ghost use Rattle.std.specs.Prelude.{◌≡◌, ◌≤◌, ◌-◌, ◌++◌, [], IfOk, OnOk, length};
 ghost use Rattle.rand_core.specs.Steps.{first_words};
 ghost use Rattle.rand_pcg.specs.Pcg.{pcg32};
 ghost use Rattle.cip_make.specs.Chains.{element_of, stereo_of, branch_of, with_branch, branches};
