@@ -4,7 +4,7 @@ ghost use Rattle.cip_stream.specs.Batches.{telling};
 ghost use Rattle.cip_print.specs.Values.{HasRoom};
 ghost use Rattle.cip_answer.specs.Answers.{is_flagged};
 ghost use Rattle.cip_commands.specs.Telling.{manner_of, plainly, with_answer};
-ghost use Rattle.cip_commands.specs.TellingBare.{annotate_change, axes_bare, explain_bare, groups_bare, mirror_bare, set_bare, told_bare};
+ghost use Rattle.cip_commands.specs.TellingBare.{annotate_change, explain_bare, mirror_bare, set_bare, told_bare};
 
 use crate::asked::Asked;
 use crate::desk::Desk;
@@ -122,8 +122,14 @@ impl<D: Digraphs + Drop> Asked<D> {
             Task::Annotate | Task::Set { .. } => self.annotate(alloc, desk, lines, None),
             Task::Explain => self.explain(alloc, desk, number, lines),
             Task::Mirror => self.mirror(alloc, desk, lines),
-            Task::Groups => self.group(alloc, desk, number, lines),
-            Task::Axes => self.seek(alloc, desk, number, lines),
+            Task::Groups => match desk.groups(alloc, lines, number, self.labelling.rules) {
+                Ok(told) => Ok(plain(told.text.into_vec(), told.flagged)),
+                Err(error) => Err(error),
+            },
+            Task::Axes => match desk.axes(alloc, lines, number, self.labelling.rules) {
+                Ok(told) => Ok(plain(told.text.into_vec(), told.flagged)),
+                Err(error) => Err(error),
+            },
         }
     }
 
@@ -272,41 +278,6 @@ impl<D: Digraphs + Drop> Asked<D> {
                 self.annotate(alloc, desk, lines, Some(note))
             }
             Err(fault) => Err(fault),
-        }
-    }
-
-    fn group(
-        &self,
-        alloc: Global,
-        desk: &mut Desk<D>,
-        number: u64,
-        lines: &RecordLines,
-    ) -> Result<Told<Note>, AllocError>
-        requires few { length lines.now < 2 ^ 32 - 1 }
-        requires fit { desk.old ≡ self.now.labelling.nodes }
-        ensures { IfOk result (λ told. told ≡ groups_bare self.now.labelling number lines.now) }
-    {
-        match desk.groups(alloc, lines, number, self.labelling.rules) {
-            Ok(told) => Ok(plain(told.text.into_vec(), told.flagged)),
-            Err(error) => Err(error),
-        }
-    }
-
-    // What is told of further units.
-    fn seek(
-        &self,
-        alloc: Global,
-        desk: &mut Desk<D>,
-        number: u64,
-        lines: &RecordLines,
-    ) -> Result<Told<Note>, AllocError>
-        requires few { length lines.now < 2 ^ 32 - 1 }
-        requires fit { desk.old ≡ self.now.labelling.nodes }
-        ensures { IfOk result (λ told. told ≡ axes_bare self.now.labelling number lines.now) }
-    {
-        match desk.axes(alloc, lines, number, self.labelling.rules) {
-            Ok(told) => Ok(plain(told.text.into_vec(), told.flagged)),
-            Err(error) => Err(error),
         }
     }
 }
