@@ -80,11 +80,10 @@ pub fn is_flagged(answer: &Answer) -> bool
 fn has_over(units: &[UnitAnswer]) -> bool
     ensures { result ≡ list_any (λ unit. is_over unit.outcome) units.now }
 {
-    units.iter().any(|unit| is_over(&unit.outcome))
-}
-
-fn is_over(outcome: &Outcome) -> bool
-    ensures { result ≡ is_over outcome.now }
-{
-    matches!(outcome, Outcome::Over)
+    for unit in units {
+        if matches!(unit.outcome, Outcome::Over) {
+            return true;
+        }
+    }
+    false
 }

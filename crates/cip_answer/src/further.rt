@@ -103,25 +103,9 @@ fn label_all<D: Digraphs, L: Ledger>(
     ensures kept { labeller.new ≡ labeller.old }
 {
     let mut steps = Steps::<L>::open(blank);
-    label_each(alloc, labeller, setting, units, &mut steps)
-}
-
-// The counter stays with the caller, so that no unit gives it back.
-fn label_each<D: Digraphs, L: Ledger>(
-    alloc: Global,
-    labeller: &mut Labeller<D>,
-    setting: &Setting<'_>,
-    units: &[FurtherUnit],
-    steps: &mut Steps<L>,
-) -> Result<UnitAnswers, AllocError>
-    requires fit { AreFurtherFit setting.now.graph units.now }
-    requires few { length units.now < 2 ^ 32 }
-    ensures answers { IfOk result (λ answers. answers ≡ map (further_answer setting.now labeller.old) units.now) }
-    ensures kept { labeller.new ≡ labeller.old }
-{
     let mut answers = UnitAnswers::new(alloc);
     for unit in units {
-        let Ok(outcome) = label_further(alloc, labeller, setting, unit, steps) else {
+        let Ok(outcome) = label_further(alloc, labeller, setting, unit, &mut steps) else {
             return Err(AllocError);
         };
         let answer = UnitAnswer {

@@ -4,10 +4,21 @@ use Rattle.std.specs.Prelude.{codes, drop, nat_eq, if◌then◌else◌}
 use Rattle.std.specs.declared.option.Option.{Option}
 use Rattle.std.specs.List.{starts_with}
 use Rattle.std.specs.Str.{bytes_eq}
+use Rattle.cip_reading.specs.Reading.{◌>>=◌}
 use Rattle.cip_collections.specs.declared.faults.GroupCause.{GroupCause}
 use Rattle.cip_collections.specs.declared.kinds.GroupKind.{GroupKind}
-use Rattle.cip_collections.specs.declared.kinds.GroupKind.TheVariants.{Absolute}
+use Rattle.cip_collections.specs.declared.kinds.GroupKind.TheVariants.{Absolute, Racemic, Relative}
 use Rattle.cip_collections.specs.Names.{kind_of, racemic_by, relative_by}
+
+abbrev pub racemic_with : Result ℕ GroupCause → Result (Option GroupKind) GroupCause
+racemic_with read = do
+  number ← read
+  Ok (Some (Racemic number))
+
+abbrev pub relative_with : Result ℕ GroupCause → Result (Option GroupKind) GroupCause
+relative_with read = do
+  number ← read
+  Ok (Some (Relative number))
 
 module _ (word : List ℕ) where
   abbrev by_tests : Bool → Bool → Bool → Result (Option GroupKind) GroupCause

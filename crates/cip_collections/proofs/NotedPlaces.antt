@@ -1,56 +1,11 @@
 -- Places that are noted one after the other, the first of each atom alone.
-use Rattle.std.proofs.Common.{◌≡◌, ◌≤◌, ◌<◌, ◌+◌, ℕ, List, [], ◌∷◌, ◌++◌, Option, Some, None, Bool, true, false, not, cond, refl, sym, ap, ◌∙◌, length, take, get_or, nat_eq, nat_lt, is_some, arith, true≢false, ⊎_elim}
+use Rattle.std.proofs.Common.{◌≡◌, ◌≤◌, ◌<◌, ◌+◌, ℕ, List, [], ◌∷◌, ◌++◌, Option, Some, None, Bool, true, false, not, cond, refl, ap, ◌∙◌, length, take, get_or, nat_eq, nat_lt, arith}
 use Rattle.std.specs.List.{position, position_or_len}
-use Rattle.std.proofs.lemmas.Bool.{cases_eq, eq-eqb, eqb-true, lt-ltb, le-ltb, ltb-true, ltb-false, ne_eqb}
+use Rattle.std.proofs.lemmas.Bool.{eq-eqb, lt-ltb, le-ltb, ltb-true, ltb-false, ne_eqb}
 use Rattle.std.proofs.lemmas.List.{take_more, length-append, length-take}
 use Rattle.std.proofs.lemmas.List.Folds.{position_or_len_push}
 use Rattle.std.proofs.lemmas.List.Sums.{prefix_len-le-length}
-use Rattle.std.proofs.Math.Bool.{or-false}
-use Rattle.cip_digraph.specs.rings.Alternating.{is_in}
 use Rattle.cip_collections.specs.Places.{or_here}
-
-pub not_here : (found : Option ℕ) (place : ℕ) → found ≡ or_here found false place
-not_here (Some x) place = refl
-not_here None place = refl
-
-swapped : (a b : ℕ) → nat_eq b a ≡ nat_eq a b
-swapped a b =
-    ⊎_elim (λ e. eq-eqb b a (sym e) ∙ sym (eq-eqb a b e))
-    (λ ne. ne_eqb b a (λ e. ne (sym e)) ∙ sym (ne_eqb a b ne)) (cases_eq a b)
-
-in_one : (at atom : ℕ) → nat_eq at atom ≡ is_in at (atom ∷ [])
-in_one at atom = sym (or-false (nat_eq atom at) ∙ swapped at atom)
-
-module _ (f : ℕ → Option ℕ) (at place : ℕ) where
-  same_found : (atom : ℕ) (v : Option ℕ) → nat_eq at atom ≡ true → f atom ≡ v → f at ≡ v
-  same_found atom v e is = ap f (eqb-true at atom e) ∙ is
-
-  kept_by : (atom : ℕ) (b : Bool) (v : Option ℕ) → nat_eq at atom ≡ b → f atom ≡ v → is_some (f at) ≡ true
-      → v ≡ or_here v b place
-  kept_by atom b (Some x) e is some = refl
-  kept_by atom false None e is some = refl
-  kept_by atom true None e is some = absurd (true≢false (sym some ∙ ap is_some (same_found atom None e is)))
-
-  -- an atom that has its place keeps it
-  pub kept : is_some (f at) ≡ true → (atom : ℕ) → f atom ≡ or_here (f atom) (is_in at (atom ∷ [])) place
-  kept some atom =
-      kept_by atom (nat_eq at atom) (f atom) refl refl some
-      ∙ ap (λ b. or_here (f atom) b place) (in_one at atom)
-
-  added_by : (atom : ℕ) (b : Bool) (v : Option ℕ) → nat_eq at atom ≡ b → f atom ≡ v → is_some (f at) ≡ false
-      → cond b (Some place) v ≡ or_here v b place
-  added_by atom false (Some x) e is none = refl
-  added_by atom false None e is none = refl
-  added_by atom true None e is none = refl
-  added_by atom true (Some x) e is none =
-      absurd (true≢false (sym (ap is_some (same_found atom (Some x) e is)) ∙ none))
-
-  -- and a new one has this place
-  pub added : is_some (f at) ≡ false → (atom : ℕ)
-      → cond (nat_eq at atom) (Some place) (f atom) ≡ or_here (f atom) (is_in at (atom ∷ [])) place
-  added none atom =
-      added_by atom (nat_eq at atom) (f atom) refl refl none
-      ∙ ap (λ b. or_here (f atom) b place) (in_one at atom)
 
 -- the first place that passes, with one element more
 

@@ -36,9 +36,3 @@ refused_alike {A} {B} (Some fault) number (Err cause) total fails alike =
     let same : record { line = number; cause = cause } ≡ fault =
     same_fault {A = A} (record { line = number; cause = cause }) fault fails in
     ap (told_at {A = B} number) (sym (alike cause refl)) ∙ (λ i. Err (same i))
-
--- the same where memory plays no part
-pub fault_alike : {A B : Type 0} (fault : GroupFault) (number : ℕ) (read : Result A GroupCause)
-    (total : Result B GroupCause) → Err fault ≡ told_at number read
-    → ((cause : GroupCause) → Err cause ≡ read → Err cause ≡ total) → told_at number total ≡ Err fault
-fault_alike fault number read total fails alike = refused_alike (Some fault) number read total (sym fails) alike

@@ -1,14 +1,13 @@
 // The atoms of a group line.
-ghost use Rattle.std.specs.Prelude.{◌≡◌, ◌≤◌, ◌++◌, ◌-◌, IfOk, OnOk, drop, length, take};
+ghost use Rattle.std.specs.Prelude.{◌≡◌, ◌≤◌, length};
 ghost use Rattle.std.specs.List.{list_all};
 ghost use Rattle.std.specs.Option.{option_map};
 ghost use Rattle.cip_text.specs.Slices.{texts};
 ghost use Rattle.cip_reading.specs.Fields.{number_stated};
-ghost use Rattle.cip_collections.specs.AtomLists.{is_numeral, is_count, is_counted, inner, with_names, with_parts, names_of, atom_of, atoms_of, all_taken};
-ghost use Rattle.cip_collections.specs.declared.faults.GroupRefusal.TheVariants as refusals;
+ghost use Rattle.cip_collections.specs.AtomLists.{is_numeral, is_count, inner, with_names, with_parts, names_of, atoms_of, all_taken};
 ghost use Rattle.cip_collections.specs.Reading.{told_at, Gives};
 
-use crate::faults::{GroupCause, GroupFault, GroupRefusal};
+use crate::faults::{GroupCause, GroupRefusal, refused};
 use cip_reading::{number_stated, spaced_words};
 use cip_text::{NumberFault, has_last, integer};
 use cip_v3000::{Indices, place_named};
@@ -44,7 +43,9 @@ pub fn atoms_of(
 {
     let mut atoms = Vec::new(alloc);
     for name in names {
-        let atom = atom_of(number, indices, name)?;
+        let Some(atom) = place_named(indices, name) else {
+            return Err(refused(number, GroupCause::Atom));
+        };
         let Ok(()) = atoms.push(atom) else {
             return Err(GroupRefusal::Memory);
         };
@@ -100,32 +101,16 @@ fn push_parts<'a>(
     ensures { Gives (λ _. texts names.new.items) result
         (told_at number (with_parts (texts names.old.items) (texts parts.now))) }
 {
-    if is_counted(parts) {
-        match push_behind_first(names, parts) {
-            Ok(()) => Ok(()),
-            Err(AllocError) => Err(GroupRefusal::Memory),
+    match parts {
+        // there is a number, and as many numbers behind it as it says
+        [count, more @ ..] if is_count(more.len(), count) && are_numerals(more) => {
+            match names.extend_from_slice(more) {
+                Ok(()) => Ok(()),
+                Err(AllocError) => Err(GroupRefusal::Memory),
+            }
         }
-    } else {
-        Err(refused(number, GroupCause::Word))
+        _ => Err(refused(number, GroupCause::Word)),
     }
-}
-
-fn push_behind_first<'a>(names: &mut Vec<&'a [u8]>, parts: &[&'a [u8]]) -> Result<(), AllocError>
-    ensures { OnOk result (texts names.new.items ≡ texts names.old.items ++ drop 1 (texts parts.now)) }
-{
-    if let [_, more @ ..] = parts {
-        names.extend_from_slice(more)?;
-    }
-    Ok(())
-}
-
-fn refused(number: u32, cause: GroupCause) -> GroupRefusal
-    ensures { result ≡ refusals.Fault (record { line = number; cause = cause }) }
-{
-    GroupRefusal::Fault(GroupFault {
-        line: number,
-        cause,
-    })
 }
 
 // What stands in the brackets.
@@ -133,28 +118,11 @@ fn inner(word: &[u8]) -> Option<&[u8]>
     ensures { option_map (λ text. text.now) result ≡ inner word.now }
 {
     if !word.starts_with(b"ATOMS=(") || !has_last(word, b')') {
-        return None;
-    }
-    Some(between(word))
-}
-
-// What stands between the first seven bytes and the last one.
-fn between(word: &[u8]) -> &[u8]
-    ensures { result.now ≡ take (length word.now - 8) (drop 7 word.now) }
-{
-    if word.len() < 8 {
-        return &[];
-    }
-    &word[7..word.len() - 1]
-}
-
-// Whether there is a number, and as many numbers behind it as it says.
-fn is_counted(parts: &[&[u8]]) -> bool
-    ensures { result ≡ is_counted (texts parts.now) }
-{
-    match parts {
-        [count, names @ ..] => is_count(names.len(), count) && all_numerals(names),
-        [] => false,
+        None
+    } else if word.len() < 8 {
+        Some(&[])
+    } else {
+        Some(&word[7..word.len() - 1])
     }
 }
 
@@ -167,16 +135,15 @@ fn is_count(count: usize, part: &[u8]) -> bool
     }
 }
 
-fn all_numerals(parts: &[&[u8]]) -> bool
+fn are_numerals(parts: &[&[u8]]) -> bool
     ensures { result ≡ list_all is_numeral (texts parts.now) }
 {
-    are_numerals(parts)
-}
-
-fn are_numerals(parts: &[&[u8]]) -> bool
-    ensures { result ≡ list_all (λ part. is_numeral part.now) parts.now }
-{
-    parts.iter().all(|part| is_numeral(part))
+    for part in parts {
+        if !is_numeral(part) {
+            return false;
+        }
+    }
+    true
 }
 
 // Whether a part is a number, of any size.
@@ -186,18 +153,5 @@ fn is_numeral(part: &[u8]) -> bool
     match integer(part) {
         Ok(_) | Err(NumberFault::OutOfRange) => true,
         Err(NumberFault::Empty | NumberFault::NotANumber) => false,
-    }
-}
-
-fn atom_of(number: u32, indices: &Indices, name: &[u8]) -> Result<u32, GroupFault>
-    requires few { length indices.now ≤ 1000000000 }
-    ensures { result ≡ told_at number (atom_of indices.now name.now) }
-{
-    match place_named(indices, name) {
-        Some(place) => Ok(place),
-        None => Err(GroupFault {
-            line: number,
-            cause: GroupCause::Atom,
-        }),
     }
 }

@@ -6,11 +6,11 @@ ghost use Rattle.cip_v3000.specs.Frames.{is_frame};
 ghost use Rattle.cip_v3000.specs.Grammar.{words_in};
 ghost use Rattle.cip_v3000.specs.Joining.{seen};
 ghost use Rattle.cip_v3000.specs.Tables.{seen_table};
-ghost use Rattle.cip_collections.specs.Collections.{nothing, with_atoms, with_kind, with_words, with_joined, ended, groups_from, groups_of};
+ghost use Rattle.cip_collections.specs.Collections.{with_atoms, with_kind, with_words, with_joined, groups_from, groups_of};
 ghost use Rattle.cip_collections.specs.Reading.{Gives};
 
 use crate::atom_lists::{atoms_of, names_of, take_all};
-use crate::faults::{GroupCause, GroupFault, GroupRefusal, told_at};
+use crate::faults::{GroupCause, GroupRefusal, refused};
 use crate::groups::Groups;
 use crate::kinds::{GroupKind, kind_of};
 use cip_v3000::{FrameLine, Indices, JoinedLine, Table, is_frame, text_of, words};
@@ -51,19 +51,12 @@ pub fn groups_of(alloc: Global, table: &Table<'_>) -> Result<Groups, GroupRefusa
     requires few { length table.now.indices ≤ 1000000000 }
     ensures { Gives (λ groups. groups) result (groups_of (seen_table table.now)) }
 {
-    groups_from(alloc, &table.indices, table.rest())
-}
-
-fn groups_from(
-    alloc: Global,
-    indices: &Indices,
-    lines: &[JoinedLine<'_>],
-) -> Result<Groups, GroupRefusal>
-    requires few { length indices.now ≤ 1000000000 }
-    ensures { Gives (λ groups. groups) result (groups_from indices.now nothing (map seen lines.now)) }
-{
-    let mut found = nothing(alloc);
-    match read_lines(alloc, indices, lines, &mut found) {
+    let mut found = Found {
+        inside: false,
+        taken: Indices::new(alloc),
+        groups: Groups::new(alloc),
+    };
+    match read_lines(alloc, &table.indices, table.rest(), &mut found) {
         Ok(()) => Ok(found.into_groups()),
         Err(refusal) => {
             // given back by a call of its own: written out here it takes three times as long to prove
@@ -85,7 +78,14 @@ fn read_lines(
 {
     for line in lines {
         match read_line(alloc, indices, line, found) {
-            Ok(true) => return ended(line.number, found),
+            Ok(true) => {
+                // at the end of the table no collection is open
+                return if found.inside {
+                    Err(refused(line.number, GroupCause::Frame))
+                } else {
+                    Ok(())
+                };
+            }
             Ok(false) => (),
             Err(refusal) => return Err(refusal),
         }
@@ -107,14 +107,16 @@ fn read_line(
 {
     match text_of(alloc, line) {
         Ok(text) => match words(alloc, text.bytes()) {
-            Ok(words) => read_line_words(alloc, indices, line.number, found, &words),
+            Ok(words) => read_joined(alloc, indices, line.number, found, &words),
             Err(AllocError) => Err(GroupRefusal::Memory),
         },
         Err(AllocError) => Err(GroupRefusal::Memory),
     }
 }
 
-fn read_line_words(
+// Reads the words of a line; lines outside collections are passed over.
+#[tactic(auto, unfolding(crate::specs::Collections::with_joined))]
+fn read_joined(
     alloc: Global,
     indices: &Indices,
     number: u32,
@@ -128,58 +130,17 @@ fn read_line_words(
 {
     if is_frame(FrameLine::EndTable, words) {
         Ok(true)
+    } else if !found.inside {
+        found.inside = is_frame(FrameLine::BeginCollection, words);
+        Ok(false)
+    } else if is_frame(FrameLine::EndCollection, words) {
+        found.inside = false;
+        Ok(false)
     } else {
-        match read_joined(alloc, indices, number, found, words) {
+        match read_words(alloc, indices, number, found, words) {
             Ok(()) => Ok(false),
             Err(refusal) => Err(refusal),
         }
-    }
-}
-
-fn nothing(alloc: Global) -> Found
-    ensures { result ≡ nothing }
-{
-    Found {
-        inside: false,
-        taken: Indices::new(alloc),
-        groups: Groups::new(alloc),
-    }
-}
-
-// At the end of the table no collection is open.
-fn ended(number: u32, found: &Found) -> Result<(), GroupRefusal>
-    ensures { Gives (λ _. found.now.groups) result (ended number found.now) }
-{
-    if found.inside {
-        Err(GroupRefusal::Fault(GroupFault {
-            line: number,
-            cause: GroupCause::Frame,
-        }))
-    } else {
-        Ok(())
-    }
-}
-
-// Reads a line behind those before it; lines outside collections are passed over.
-#[tactic(auto, unfolding(crate::specs::Collections::with_joined))]
-fn read_joined(
-    alloc: Global,
-    indices: &Indices,
-    number: u32,
-    found: &mut Found,
-    words: &[&[u8]],
-) -> Result<(), GroupRefusal>
-    requires few { length indices.now ≤ 1000000000 }
-    ensures { Gives (λ _. found.new) result (with_joined indices.now number found.old (texts words.now)) }
-{
-    if !found.inside {
-        found.inside = is_frame(FrameLine::BeginCollection, words);
-        Ok(())
-    } else if is_frame(FrameLine::EndCollection, words) {
-        found.inside = false;
-        Ok(())
-    } else {
-        read_words(alloc, indices, number, found, words)
     }
 }
 
@@ -195,10 +156,10 @@ fn read_words(
 {
     match words {
         [] => Ok(()),
-        [name, words @ ..] => match told_at(number, kind_of(name)) {
+        [name, words @ ..] => match kind_of(name) {
             Ok(Some(kind)) => read_kind(alloc, indices, number, found, words, kind),
             Ok(None) => Ok(()),
-            Err(fault) => Err(GroupRefusal::Fault(fault)),
+            Err(cause) => Err(refused(number, cause)),
         },
     }
 }
@@ -216,10 +177,15 @@ fn read_kind(
     ensures { Gives (λ _. found.new) result (with_kind indices.now number found.old (texts words.now) (Some kind)) }
 {
     match names_of(alloc, number, words) {
-        Ok(names) => match atoms_of(alloc, number, indices, &names) {
-            Ok(atoms) => found.put(number, kind, atoms),
-            Err(refusal) => Err(refusal),
-        },
+        Ok(names) => {
+            let atoms = atoms_of(alloc, number, indices, &names);
+            // given back by a call of its own, which is quicker to prove than an end that owns it
+            drop(names);
+            match atoms {
+                Ok(atoms) => found.put(number, kind, atoms),
+                Err(refusal) => Err(refusal),
+            }
+        }
         Err(refusal) => Err(refusal),
     }
 }

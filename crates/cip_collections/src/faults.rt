@@ -1,9 +1,7 @@
 // Why the groups of a record aren't read.
 ghost use Rattle.std.specs.Prelude.{◌≡◌};
 ghost use Rattle.cip_collections.specs.declared.faults.GroupRefusal.TheVariants as refusals;
-ghost use Rattle.cip_collections.specs.Reading.{told_at};
 
-use std::alloc::{AllocError, AllocFailed};
 use std::fmt;
 
 /// What is wrong with a line of a collection.
@@ -52,39 +50,12 @@ pub enum GroupRefusal {
     Memory,
 }
 
-impl From<GroupFault> for GroupRefusal {
-    ghost from_gives = { λ fault refusal. refusal ≡ refusals.Fault fault };
-
-    fn from(fault: GroupFault) -> GroupRefusal {
-        GroupRefusal::Fault(fault)
-    }
-}
-
-impl From<AllocError> for GroupRefusal {
-    ghost from_gives = { λ _ refusal. refusal ≡ refusals.Memory };
-
-    fn from(_error: AllocError) -> GroupRefusal {
-        GroupRefusal::Memory
-    }
-}
-
-impl<T: Drop> From<AllocFailed<T>> for GroupRefusal {
-    ghost from_gives = { λ _ refusal. refusal ≡ refusals.Memory };
-
-    fn from(_failed: AllocFailed<T>) -> GroupRefusal {
-        GroupRefusal::Memory
-    }
-}
-
-/// What was read of a line, with the line's number in its fault.
-pub fn told_at<T: Drop>(number: u32, read: Result<T, GroupCause>) -> Result<T, GroupFault>
-    ensures { result ≡ told_at number read }
+/// A cause in the line of this number.
+pub fn refused(number: u32, cause: GroupCause) -> GroupRefusal
+    ensures { result ≡ refusals.Fault (record { line = number; cause = cause }) }
 {
-    match read {
-        Ok(row) => Ok(row),
-        Err(cause) => Err(GroupFault {
-            line: number,
-            cause,
-        }),
-    }
+    GroupRefusal::Fault(GroupFault {
+        line: number,
+        cause,
+    })
 }

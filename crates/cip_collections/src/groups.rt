@@ -1,5 +1,5 @@
 // Groups of centres.
-ghost use Rattle.std.specs.Prelude.{◌≡◌, ◌++◌, ◌∷◌, [], IfOk, OnOk, false};
+ghost use Rattle.std.specs.Prelude.{◌≡◌, ◌++◌, ◌∷◌, [], OnOk, false};
 ghost use Rattle.std.specs.List.{list_any};
 ghost use Rattle.cip_collections.specs.Grouping.{kinds_of, with_line};
 ghost use Rattle.cip_collections.specs.Names.{same_kind};

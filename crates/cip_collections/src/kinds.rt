@@ -1,6 +1,6 @@
 // The names of groups.
 ghost use Rattle.std.specs.Prelude.{◌≡◌};
-ghost use Rattle.cip_collections.specs.Names.{kind_of, number_of, racemic_by, relative_by};
+ghost use Rattle.cip_collections.specs.Names.{kind_of, number_of};
 
 use crate::faults::GroupCause;
 use cip_reading::number_stated;
@@ -40,29 +40,17 @@ pub fn kind_of(word: &[u8]) -> Result<Option<GroupKind>, GroupCause>
     if word == b"MDLV30/STEABS".as_slice() {
         Ok(Some(GroupKind::Absolute))
     } else if word.starts_with(b"MDLV30/STERAC") {
-        racemic(&word[13..])
+        match number_of(&word[13..]) {
+            Ok(number) => Ok(Some(GroupKind::Racemic(number))),
+            Err(cause) => Err(cause),
+        }
     } else if word.starts_with(b"MDLV30/STEREL") {
-        relative(&word[13..])
+        match number_of(&word[13..]) {
+            Ok(number) => Ok(Some(GroupKind::Relative(number))),
+            Err(cause) => Err(cause),
+        }
     } else {
         Ok(None)
-    }
-}
-
-fn racemic(text: &[u8]) -> Result<Option<GroupKind>, GroupCause>
-    ensures { result ≡ racemic_by text.now }
-{
-    match number_of(text) {
-        Ok(number) => Ok(Some(GroupKind::Racemic(number))),
-        Err(cause) => Err(cause),
-    }
-}
-
-fn relative(text: &[u8]) -> Result<Option<GroupKind>, GroupCause>
-    ensures { result ≡ relative_by text.now }
-{
-    match number_of(text) {
-        Ok(number) => Ok(Some(GroupKind::Relative(number))),
-        Err(cause) => Err(cause),
     }
 }
 

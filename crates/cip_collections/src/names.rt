@@ -39,7 +39,9 @@ impl Names {
         ensures added { OnOk result (self.new ≡ self.old ++ kind ∷ []) }
         ensures kept { OnErr result (self.new ≡ self.old) }
     {
-        self.set.insert(kind)?;
+        let Ok(_) = self.set.insert(kind) else {
+            return Err(AllocError);
+        };
         Ok(())
     }
 

@@ -181,11 +181,14 @@ fn atom_lines<D: Digraphs, L: Ledger>(
         let Ok(outcomes) = both_at(alloc, labeller, centres, turned, *atom, &mut told.steps) else {
             return Err(AllocError);
         };
-        told.lines.push(GroupLine {
+        let line = GroupLine {
             kind: group.kind,
             atom: *atom,
             outcomes,
-        })?;
+        };
+        let Ok(()) = told.lines.push(line) else {
+            return Err(AllocError);
+        };
     }
     Ok(())
 }

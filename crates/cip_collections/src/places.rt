@@ -1,7 +1,6 @@
 // Where the centres of a record stand among its units.
-ghost use Rattle.std.specs.Prelude.{◌≡◌, ◌<◌, ◌^◌, ◌∷◌, [], ℕ, IfOk, IfSome, OnOk, length, nat_eq, position};
+ghost use Rattle.std.specs.Prelude.{◌≡◌, ◌<◌, ◌^◌, ℕ, IfOk, IfSome, OnOk, length, nat_eq, position};
 ghost use Rattle.indexmap.specs.IndexMap.{get};
-ghost use Rattle.cip_digraph.specs.rings.Alternating.{is_in};
 ghost use Rattle.cip_collections.specs.Outcomes.{is_centre_at};
 ghost use Rattle.cip_collections.specs.Places.{ArePlaces, or_here};
 
@@ -70,27 +69,22 @@ fn places_of(alloc: Global, units: &[Unit]) -> Result<IndexMap<u32, u32>, AllocE
     Ok(places)
 }
 
+// The first place of an atom is kept.
 fn note_unit(places: &mut IndexMap<u32, u32>, unit: &Unit, place: u32) -> Result<(), AllocError>
     ensures { OnOk result ((atom : ℕ) → get nat_eq places.new atom
         ≡ or_here (get nat_eq places.old atom) (is_centre_at atom unit.now) place) }
 {
     match unit.site {
-        Site::Centre { at, .. } => note(places, at, place),
-        Site::Bond { .. } | Site::Axis { .. } => Ok(()),
-    }
-}
-
-// The first place of an atom is kept.
-fn note(places: &mut IndexMap<u32, u32>, at: u32, place: u32) -> Result<(), AllocError>
-    ensures { OnOk result ((atom : ℕ) → get nat_eq places.new atom
-        ≡ or_here (get nat_eq places.old atom) (is_in at (atom ∷ [])) place) }
-{
-    if places.contains_key(&at) {
-        Ok(())
-    } else {
-        match places.insert(at, place) {
-            Ok(_) => Ok(()),
-            Err(_) => Err(AllocError),
+        Site::Centre { at, .. } => {
+            if places.contains_key(&at) {
+                Ok(())
+            } else {
+                match places.insert(at, place) {
+                    Ok(_) => Ok(()),
+                    Err(_) => Err(AllocError),
+                }
+            }
         }
+        Site::Bond { .. } | Site::Axis { .. } => Ok(()),
     }
 }

@@ -1,25 +1,21 @@
 // What is told of the groups of a record.
-ghost use Rattle.std.specs.Prelude.{◌≡◌, ◌≤◌, ◌<◌, ◌-◌, ◌^◌, ◌++◌, ◌∷◌, [], IfOk, OnOk, Ok, false, flat_map, length, string_bytes, true};
+ghost use Rattle.std.specs.Prelude.{◌≡◌, ◌≤◌, ◌<◌, ◌-◌, ◌^◌, ◌++◌, IfOk, OnOk, Ok, flat_map, length, string_bytes, true};
 ghost use Rattle.std.specs.List.{list_any};
 ghost use Rattle.cip_text.specs.Slices.{texts};
-ghost use Rattle.cip_v2000.specs.Grammar.{molecule_of};
-ghost use Rattle.cip_v2000.specs.Version.{is_v3000};
 ghost use Rattle.cip_v3000.specs.Tables.{seen_table};
 ghost use Rattle.cip_collections.specs.Collections.{groups_of};
 ghost use Rattle.cip_label.specs.Settings.{setting_in};
 ghost use Rattle.cip_collections.specs.Outcomes.{all_lines};
-ghost use Rattle.cip_print.specs.Refusals.{refusal_line};
 ghost use Rattle.cip_collections.specs.Readings.{TellsFault, TellsRefusal};
-ghost use Rattle.cip_collections.specs.Texts.{outcome_text, line_text, is_over, some_over, fault_line, of_lines, of_groups, of_molecule, of_contents, told_without_items, with_number};
+ghost use Rattle.cip_collections.specs.Texts.{outcome_text, line_text, some_over, of_lines, of_groups, of_contents, told_without_items, with_number};
 
 use crate::collections::groups_of;
 use crate::faults::{GroupFault, GroupRefusal};
 use crate::groups::Groups;
 use crate::outcomes::{BothOutcomes, GroupLine, all_lines};
 use cip_label::{Digraphs, Labeller, Setting};
-use cip_mol::{Molecule, Outcome, ReadFault, ReadRefusal};
+use cip_mol::{Molecule, Outcome, ReadRefusal};
 use cip_molfile::Drawn;
-use cip_print::refusal;
 use cip_rank::Rules;
 use cip_text::{Bytes, RecordLines};
 use cip_v2000::is_v3000;
@@ -87,24 +83,16 @@ fn tell_contents<D: Digraphs>(
             Err(refusal) => tell_refusal(alloc, refusal),
         }
     } else {
-        tell_plain(alloc, lines)
-    }
-}
-
-fn tell_plain(alloc: Global, lines: &[&[u8]]) -> Result<GroupText, AllocError>
-    requires few { length lines.now < 2 ^ 32 - 1 }
-    requires version { is_v3000 (texts lines.now) ≡ false }
-    ensures { IfOk result (λ told. told ≡ of_molecule (molecule_of (texts lines.now))) }
-{
-    match cip_v2000::read_lines(alloc, lines) {
-        Ok(molecule) => {
-            drop(molecule);
-            Ok(GroupText {
-                text: Bytes::from_vec(Vec::new(alloc)),
-                flagged: false,
-            })
+        match cip_v2000::read_lines(alloc, lines) {
+            Ok(molecule) => {
+                drop(molecule);
+                Ok(GroupText {
+                    text: Bytes::from_vec(Vec::new(alloc)),
+                    flagged: false,
+                })
+            }
+            Err(refusal) => tell_refusal(alloc, refusal),
         }
-        Err(refusal) => tell_refusal(alloc, refusal),
     }
 }
 
@@ -112,17 +100,16 @@ fn tell_refusal(alloc: Global, refusal: ReadRefusal) -> Result<GroupText, AllocE
     ensures { IfOk result (TellsRefusal refusal) }
 {
     match refusal {
-        ReadRefusal::Fault(fault) => Ok(flagged(refused_line(alloc, fault)?)),
+        ReadRefusal::Fault(fault) => {
+            let Ok(line) = cip_print::refusal(alloc, fault) else {
+                return Err(AllocError);
+            };
+            match format!(in alloc; "{line}\n") {
+                Ok(text) => Ok(flagged(text)),
+                Err(error) => Err(error),
+            }
+        }
         ReadRefusal::Memory => Err(AllocError),
-    }
-}
-
-fn refused_line(alloc: Global, fault: ReadFault) -> Result<String, AllocError>
-    ensures { IfOk result (λ text. string_bytes text ≡ refusal_line fault ++ 10 ∷ []) }
-{
-    match refusal(alloc, fault) {
-        Ok(line) => format!(in alloc; "{line}\n"),
-        Err(error) => Err(error),
     }
 }
 
@@ -173,17 +160,14 @@ fn tell_fault(alloc: Global, refusal: GroupRefusal) -> Result<GroupText, AllocEr
     ensures { IfOk result (TellsFault refusal) }
 {
     match refusal {
-        GroupRefusal::Fault(fault) => Ok(flagged(fault_line(alloc, fault)?)),
+        GroupRefusal::Fault(GroupFault { line, cause }) => {
+            match format!(in alloc; "groups {line} {cause}\n") {
+                Ok(text) => Ok(flagged(text)),
+                Err(error) => Err(error),
+            }
+        }
         GroupRefusal::Memory => Err(AllocError),
     }
-}
-
-fn fault_line(alloc: Global, fault: GroupFault) -> Result<String, AllocError>
-    ensures { IfOk result (λ text. string_bytes text ≡ fault_line fault) }
-{
-    let line = fault.line;
-    let cause = fault.cause;
-    format!(in alloc; "groups {line} {cause}\n")
 }
 
 fn tell_groups<D: Digraphs>(
@@ -198,27 +182,13 @@ fn tell_groups<D: Digraphs>(
 {
     match Drawn::of(alloc, molecule) {
         Ok(drawn) => {
-            let told = tell_drawn(alloc, labeller, &drawn, groups, rules);
+            let lines = drawn_lines(alloc, labeller, &drawn, groups, rules);
             drop(drawn);
-            told
+            match lines {
+                Ok(lines) => of_lines(alloc, &lines),
+                Err(error) => Err(error),
+            }
         }
-        Err(error) => Err(error),
-    }
-}
-
-// What is drawn stays with the caller, so that no end of this function gives it back.
-fn tell_drawn<D: Digraphs>(
-    alloc: Global,
-    labeller: &mut Labeller<D>,
-    drawn: &Drawn,
-    groups: &Groups,
-    rules: Rules,
-) -> Result<GroupText, AllocError>
-    ensures told { IfOk result (λ told. told ≡ of_groups rules labeller.old drawn.now (Ok groups.now)) }
-    ensures kept { labeller.new ≡ labeller.old }
-{
-    match drawn_lines(alloc, labeller, drawn, groups, rules) {
-        Ok(lines) => of_lines(alloc, &lines),
         Err(error) => Err(error),
     }
 }
@@ -295,7 +265,12 @@ fn outcome_word(outcome: &Outcome) -> &'static str
 fn have_over(lines: &[GroupLine]) -> bool
     ensures { result ≡ list_any (λ line. some_over line.outcomes) lines.now }
 {
-    lines.iter().any(|line| some_over(&line.outcomes))
+    for line in lines {
+        if some_over(&line.outcomes) {
+            return true;
+        }
+    }
+    false
 }
 
 fn some_over(outcomes: &Option<BothOutcomes>) -> bool
@@ -303,12 +278,6 @@ fn some_over(outcomes: &Option<BothOutcomes>) -> bool
 {
     match outcomes {
         None => false,
-        Some(both) => is_over(&both.drawn) || is_over(&both.turned),
+        Some(both) => matches!(both.drawn, Outcome::Over) || matches!(both.turned, Outcome::Over),
     }
-}
-
-fn is_over(outcome: &Outcome) -> bool
-    ensures { result ≡ is_over outcome.now }
-{
-    matches!(outcome, Outcome::Over)
 }

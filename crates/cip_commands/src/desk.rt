@@ -44,8 +44,10 @@ impl<D: Digraphs + Drop> Desk<D> {
         requires bounded { nodes ≤ 1000000 }
         ensures { IfOk result (λ desk. desk ≡ nodes) }
     {
-        let labeller = Labeller::reserve(alloc, nodes)?;
-        Ok(Desk { nodes, labeller })
+        match Labeller::reserve(alloc, nodes) {
+            Ok(labeller) => Ok(Desk { nodes, labeller }),
+            Err(error) => Err(error),
+        }
     }
 
     /// Takes memory anew where the bound is another one.
@@ -141,28 +143,14 @@ impl<D: Digraphs + Drop> Desk<D> {
         let Ok(bare) = without_label_items(alloc, bytes) else {
             return Err(AllocError);
         };
-        let answer = self.answer_bare(alloc, &bare, rules);
-        // given back by a call of its own, which is quicker to prove than an end that owns it
-        drop(bare);
-        answer
-    }
-
-    // The answer to a record without label items.
-    fn answer_bare(
-        &mut self,
-        alloc: Global,
-        bytes: &[u8],
-        rules: Rules,
-    ) -> Result<Answer, AllocError>
-        requires few { length bytes.now < 2 ^ 32 - 1 }
-        ensures answer { IfOk result (λ answer. answer ≡ answer_without_items rules self.old bytes.now) }
-        ensures kept { self.new ≡ self.old }
-    {
-        let Ok(lines) = RecordLines::new(alloc, bytes) else {
-            return Err(AllocError);
-        };
-        let answer = self.label(alloc, &lines, rules);
-        drop(lines);
-        answer
+        match RecordLines::new(alloc, &bare) {
+            Ok(lines) => {
+                let answer = self.label(alloc, &lines, rules);
+                // given back by a call of its own, which is quicker to prove than an end that owns it
+                drop(lines);
+                answer
+            }
+            Err(error) => Err(error),
+        }
     }
 }

@@ -1,6 +1,6 @@
 // How a run ends.
 ghost use Rattle.std.specs.Prelude.{◌≡◌};
-ghost use Rattle.cip_commands.specs.Endings.{ending_after, ending_of, line_of, missed, missed_line, refusal_line, status_of};
+ghost use Rattle.cip_commands.specs.Endings.{ending_after, line_of, refusal_line, status_of};
 
 use crate::status::{
     DONE, FLAGGED, LIMIT, NOT_CHANGED, OUT_OF_MEMORY, READ_FAULT, WORDS_REFUSED, WRITE_FAULT,
@@ -56,22 +56,18 @@ impl Ending {
         ensures { result ≡ ending_after task answered }
     {
         match answered {
-            Ok(verdict) => Ending::of(task, verdict),
+            Ok(verdict) => match (task, verdict.note) {
+                (Task::Set { .. }, None) => Ending::NotChanged(Missed::NoRecord),
+                (Task::Set { .. } | Task::Mirror, Some(Note::Missing(missed))) => {
+                    Ending::NotChanged(missed)
+                }
+                _ if verdict.flagged => Ending::Flagged,
+                _ => Ending::Done,
+            },
             Err(Stop::ReadFault) => Ending::ReadFault,
             Err(Stop::WriteFault) => Ending::WriteFault,
             Err(Stop::Memory) => Ending::OutOfMemory,
             Err(Stop::Limit) => Ending::Limit,
-        }
-    }
-
-    // Where all records were answered with this verdict.
-    fn of(task: Task, verdict: Verdict<Note>) -> Ending
-        ensures { result ≡ ending_of task verdict }
-    {
-        match what_is_missed(task, verdict.note) {
-            Some(missed) => Ending::NotChanged(missed),
-            None if verdict.flagged => Ending::Flagged,
-            None => Ending::Done,
         }
     }
 
@@ -97,34 +93,15 @@ impl Ending {
     {
         match self {
             Ending::Done | Ending::Flagged => b"".as_slice(),
-            Ending::NotChanged(missed) => missed_line(missed),
+            Ending::NotChanged(Missed::NoRecord) => b"cip: not set NoRecord\n".as_slice(),
+            Ending::NotChanged(Missed::NotSet(refusal)) => refusal_line(refusal),
+            Ending::NotChanged(Missed::NotMirrored) => b"cip: not mirrored\n".as_slice(),
             Ending::WordsRefused => b"cip: words refused\n".as_slice(),
             Ending::ReadFault => b"cip: read fault\n".as_slice(),
             Ending::WriteFault => b"cip: write fault\n".as_slice(),
             Ending::OutOfMemory => b"cip: out of memory\n".as_slice(),
             Ending::Limit => b"cip: limit\n".as_slice(),
         }
-    }
-}
-
-// What was to be changed and wasn't, by the first note on a record.
-fn what_is_missed(task: Task, note: Option<Note>) -> Option<Missed>
-    ensures { result ≡ missed task note }
-{
-    match (task, note) {
-        (Task::Set { .. }, None) => Some(Missed::NoRecord),
-        (Task::Set { .. } | Task::Mirror, Some(Note::Missing(missed))) => Some(missed),
-        _ => None,
-    }
-}
-
-fn missed_line(missed: Missed) -> &'static [u8]
-    ensures { result.now ≡ missed_line missed }
-{
-    match missed {
-        Missed::NoRecord => b"cip: not set NoRecord\n".as_slice(),
-        Missed::NotSet(refusal) => refusal_line(refusal),
-        Missed::NotMirrored => b"cip: not mirrored\n".as_slice(),
     }
 }
 

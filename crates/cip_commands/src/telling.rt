@@ -1,11 +1,10 @@
 // What is told of a record, by what is asked.
 ghost use Rattle.std.specs.Prelude.{◌≡◌, ◌≤◌, ◌<◌, ◌-◌, ◌^◌, IfOk, length};
 ghost use Rattle.cip_stream.specs.Batches.{telling};
-ghost use Rattle.cip_print.specs.Explaining.{explained};
 ghost use Rattle.cip_print.specs.Values.{HasRoom};
 ghost use Rattle.cip_answer.specs.Answers.{is_flagged};
 ghost use Rattle.cip_commands.specs.Telling.{manner_of, plainly, with_answer};
-ghost use Rattle.cip_commands.specs.TellingBare.{annotate_change, axes_bare, explain_bare, groups_bare, mirror_bare, set_bare, told_bare};
+ghost use Rattle.cip_commands.specs.TellingBare.{annotate_change, explain_bare, mirror_bare, set_bare, told_bare};
 
 use crate::asked::Asked;
 use crate::desk::Desk;
@@ -123,8 +122,14 @@ impl<D: Digraphs + Drop> Asked<D> {
             Task::Annotate | Task::Set { .. } => self.annotate(alloc, desk, lines, None),
             Task::Explain => self.explain(alloc, desk, number, lines),
             Task::Mirror => self.mirror(alloc, desk, lines),
-            Task::Groups => self.group(alloc, desk, number, lines),
-            Task::Axes => self.seek(alloc, desk, number, lines),
+            Task::Groups => match desk.groups(alloc, lines, number, self.labelling.rules) {
+                Ok(told) => Ok(plain(told.text.into_vec(), told.flagged)),
+                Err(error) => Err(error),
+            },
+            Task::Axes => match desk.axes(alloc, lines, number, self.labelling.rules) {
+                Ok(told) => Ok(plain(told.text.into_vec(), told.flagged)),
+                Err(error) => Err(error),
+            },
         }
     }
 
@@ -189,14 +194,18 @@ impl<D: Digraphs + Drop> Asked<D> {
         let Ok(values) = item_values(alloc, answer, nodes, rules) else {
             return Err(AllocError);
         };
-        let Ok(text) = lines_with_item(alloc, lines, &values) else {
-            return Err(AllocError);
-        };
-        let flagged = is_flagged(answer);
-        Ok(Told {
-            text,
-            verdict: Verdict { flagged, note },
-        })
+        let text = lines_with_item(alloc, lines, &values);
+        drop(values);
+        match text {
+            Ok(text) => {
+                let flagged = is_flagged(answer);
+                Ok(Told {
+                    text,
+                    verdict: Verdict { flagged, note },
+                })
+            }
+            Err(error) => Err(error),
+        }
     }
 
     fn explain(
@@ -213,9 +222,13 @@ impl<D: Digraphs + Drop> Asked<D> {
         let Ok(answer) = desk.label(alloc, lines, self.labelling.rules) else {
             return Err(AllocError);
         };
-        let told = explained(alloc, &answer, number);
+        let text = explain_text(alloc, &answer, number);
+        let flagged = is_flagged(&answer);
         drop(answer);
-        told
+        match text {
+            Ok(text) => Ok(plain(text, flagged)),
+            Err(error) => Err(error),
+        }
     }
 
     // The record in which the centre at an atom has the letter, with its item.
@@ -267,50 +280,6 @@ impl<D: Digraphs + Drop> Asked<D> {
             Err(fault) => Err(fault),
         }
     }
-
-    fn group(
-        &self,
-        alloc: Global,
-        desk: &mut Desk<D>,
-        number: u64,
-        lines: &RecordLines,
-    ) -> Result<Told<Note>, AllocError>
-        requires few { length lines.now < 2 ^ 32 - 1 }
-        requires fit { desk.old ≡ self.now.labelling.nodes }
-        ensures { IfOk result (λ told. told ≡ groups_bare self.now.labelling number lines.now) }
-    {
-        let Ok(told) = desk.groups(alloc, lines, number, self.labelling.rules) else {
-            return Err(AllocError);
-        };
-        Ok(plain(told.text.into_vec(), told.flagged))
-    }
-
-    // What is told of further units.
-    fn seek(
-        &self,
-        alloc: Global,
-        desk: &mut Desk<D>,
-        number: u64,
-        lines: &RecordLines,
-    ) -> Result<Told<Note>, AllocError>
-        requires few { length lines.now < 2 ^ 32 - 1 }
-        requires fit { desk.old ≡ self.now.labelling.nodes }
-        ensures { IfOk result (λ told. told ≡ axes_bare self.now.labelling number lines.now) }
-    {
-        let Ok(told) = desk.axes(alloc, lines, number, self.labelling.rules) else {
-            return Err(AllocError);
-        };
-        Ok(plain(told.text.into_vec(), told.flagged))
-    }
-}
-
-// What is told of an answer.
-fn explained(alloc: Global, answer: &Answer, number: u64) -> Result<Told<Note>, AllocError>
-    ensures { IfOk result (λ told. told
-        ≡ record { text = explained number answer.now; verdict = plainly (is_flagged answer.now) }) }
-{
-    let text = explain_text(alloc, answer, number)?;
-    Ok(plain(text, is_flagged(answer)))
 }
 
 // A text without a note.

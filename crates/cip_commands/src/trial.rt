@@ -58,7 +58,13 @@ pub fn write_summary<D: Digraphs + Drop + Send + Sync, R: Threads + Sync, G: Gat
         (K.taken sink.old) (K.taken sink.new) }
     ensures fault { IsErrOf result Stop.WriteFault → Rose (K.faults sink.old) (K.faults sink.new) }
 {
-    let Ok(count) = count_made::<D, R, G>(crew, trial) else {
+    let Ok(mut clerks) = new_clerks::<D>(crew.alloc, trial.labelling.nodes, crew.workers) else {
+        return Err(Stop::Memory);
+    };
+    let counted = count_batches(crew, trial, &mut clerks);
+    // given back by a call of its own, which is quicker to prove than an end that owns them
+    drop(clerks);
+    let Ok(count) = counted else {
         return Err(Stop::Memory);
     };
     let Ok(line) = count.tally.line(crew.alloc) else {
@@ -107,23 +113,6 @@ impl Count {
 }
 
 // Counts the outcomes of all records.
-fn count_made<D: Digraphs + Drop + Send + Sync, R: Threads + Sync, G: Gate + Sync>(
-    crew: &Crew<'_, R, G>,
-    trial: &Trial,
-) -> Result<Count, AllocError>
-    ensures { IfOk result (λ count. count
-        ≡ counted (answers_to trial.now.series trial.now.labelling trial.now.series.records)) }
-{
-    let Ok(mut clerks) = new_clerks::<D>(crew.alloc, trial.labelling.nodes, crew.workers) else {
-        return Err(AllocError);
-    };
-    let count = count_batches(crew, trial, &mut clerks);
-    // given back by a call of its own, which is quicker to prove than this function's end
-    drop(clerks);
-    count
-}
-
-// The same by clerks that are there.
 fn count_batches<D: Digraphs + Drop + Send + Sync, R: Threads + Sync, G: Gate + Sync>(
     crew: &Crew<'_, R, G>,
     trial: &Trial,
@@ -169,11 +158,17 @@ fn count_batch<D: Digraphs + Drop + Send + Sync, R: Threads + Sync, G: Gate + Sy
     let Ok(jobs) = next_jobs(crew.alloc, trial, done, crew.workers) else {
         return Err(AllocError);
     };
-    let Ok(answers) = map_batch(crew.rt, crew.alloc, &jobs, clerks, crew.gate) else {
-        return Err(AllocError);
-    };
-    count.add_all(&answers);
-    Ok(jobs.len() as u32)
+    let more = jobs.len() as u32;
+    let answers = map_batch(crew.rt, crew.alloc, &jobs, clerks, crew.gate);
+    // given back by a call of its own, which is quicker to prove than an end that owns them
+    drop(jobs);
+    match answers {
+        Ok(answers) => {
+            count.add_all(&answers);
+            Ok(more)
+        }
+        Err(error) => Err(error),
+    }
 }
 
 // So many workers, each with a desk of its own.

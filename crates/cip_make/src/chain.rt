@@ -1,5 +1,5 @@
 // A chain of carbon atoms with what words of a generator put on it.
-ghost use Rattle.std.specs.Prelude.{◌≡◌, ◌<◌, ◌≤◌, ◌-◌, ◌++◌, [], IfOk, OnOk, length};
+ghost use Rattle.std.specs.Prelude.{◌≡◌, ◌≤◌, ◌-◌, ◌++◌, [], IfOk, OnOk, length};
 ghost use Rattle.rand_core.specs.Steps.{first_words};
 ghost use Rattle.rand_pcg.specs.Pcg.{pcg32};
 ghost use Rattle.cip_make.specs.Chains.{element_of, stereo_of, branch_of, with_branch, branches};
@@ -46,10 +46,14 @@ pub fn branches(
     ensures made { IfOk result (λ found. found.items ≡ branches 2 (first_words pcg32 (chain - 2) generator.old)) }
     ensures few { IfOk result (λ found. length found.items ≤ 20) }
 {
-    let mut found = Vec::with_capacity(alloc, 20)?;
+    let Ok(mut found) = Vec::with_capacity(alloc, 20) else {
+        return Err(AllocError);
+    };
     for at in 2..chain {
         let word = generator.next_word();
-        push_branch(&mut found, at, word)?;
+        let Ok(()) = push_branch(&mut found, at, word) else {
+            return Err(AllocError);
+        };
     }
     Ok(found)
 }
@@ -59,7 +63,9 @@ fn push_branch(found: &mut Vec<Branch>, at: u32, word: u32) -> Result<(), AllocE
     ensures { OnOk result (found.new.items ≡ found.old.items ++ with_branch (branch_of at word) []) }
 {
     if let Some(branch) = branch_of(at, word) {
-        found.push(branch)?;
+        let Ok(()) = found.push(branch) else {
+            return Err(AllocError);
+        };
     }
     Ok(())
 }
@@ -67,13 +73,14 @@ fn push_branch(found: &mut Vec<Branch>, at: u32, word: u32) -> Result<(), AllocE
 fn branch_of(at: u32, word: u32) -> Option<Branch>
     ensures { result ≡ branch_of at word }
 {
-    let element = element_of(word % 6)?;
-    let stereo = stereo_of(word / 6 % 3);
-    Some(Branch {
-        at,
-        element,
-        stereo,
-    })
+    match element_of(word % 6) {
+        Some(element) => Some(Branch {
+            at,
+            element,
+            stereo: stereo_of(word / 6 % 3),
+        }),
+        None => None,
+    }
 }
 
 fn element_of(kind: u32) -> Option<Element>

@@ -17,9 +17,13 @@ pub fn push_counts_line(
 ) -> Result<(), AllocError>
     ensures { OnOk result (text.new.items ≡ text.old.items ++ counts_line atoms bonds) }
 {
-    push_number(alloc, text, atoms)?;
-    push_number(alloc, text, bonds)?;
-    text.extend_from_slice(b"  0  0  0  0  0  0  0  0999 V2000\n")
+    let Ok(()) = push_number(alloc, text, atoms) else {
+        return Err(AllocError);
+    };
+    match push_number(alloc, text, bonds) {
+        Ok(()) => text.extend_from_slice(b"  0  0  0  0  0  0  0  0999 V2000\n"),
+        Err(error) => Err(error),
+    }
 }
 
 /// Adds the line of an atom in the plane, by its coordinates in ten-thousandths of an ångström.
@@ -33,11 +37,21 @@ pub fn push_atom_line(
 ) -> Result<(), AllocError>
     ensures { OnOk result (text.new.items ≡ text.old.items ++ atom_line x y element) }
 {
-    push_coordinate(alloc, text, x)?;
-    push_coordinate(alloc, text, y)?;
-    push_coordinate(alloc, text, 0)?;
-    text.extend_from_slice(symbol(element))?;
-    text.extend_from_slice(b" 0  0  0  0  0  0  0  0  0  0  0  0\n")?;
+    let Ok(()) = push_coordinate(alloc, text, x) else {
+        return Err(AllocError);
+    };
+    let Ok(()) = push_coordinate(alloc, text, y) else {
+        return Err(AllocError);
+    };
+    let Ok(()) = push_coordinate(alloc, text, 0) else {
+        return Err(AllocError);
+    };
+    let Ok(()) = text.extend_from_slice(symbol(element)) else {
+        return Err(AllocError);
+    };
+    let Ok(()) = text.extend_from_slice(b" 0  0  0  0  0  0  0  0  0  0  0  0\n") else {
+        return Err(AllocError);
+    };
     Ok(())
 }
 
@@ -52,27 +66,39 @@ pub fn push_bond_line(
 ) -> Result<(), AllocError>
     ensures { OnOk result (text.new.items ≡ text.old.items ++ bond_line first second stereo) }
 {
-    push_number(alloc, text, first)?;
-    push_number(alloc, text, second)?;
-    push_number(alloc, text, 1)?;
-    push_number(alloc, text, stereo_number(stereo))?;
-    text.extend_from_slice(b"\n")
+    let Ok(()) = push_number(alloc, text, first) else {
+        return Err(AllocError);
+    };
+    let Ok(()) = push_number(alloc, text, second) else {
+        return Err(AllocError);
+    };
+    let Ok(()) = push_number(alloc, text, 1) else {
+        return Err(AllocError);
+    };
+    match push_number(alloc, text, stereo_number(stereo)) {
+        Ok(()) => text.extend_from_slice(b"\n"),
+        Err(error) => Err(error),
+    }
 }
 
 // Adds a number, right in three columns.
 fn push_number(alloc: Global, line: &mut Vec<u8>, number: u32) -> Result<(), AllocError>
     ensures { OnOk result (line.new.items ≡ line.old.items ++ number_field number) }
 {
-    let text = format!(in alloc; "{number}")?;
-    push_right(line, 3, text.as_bytes())
+    match format!(in alloc; "{number}") {
+        Ok(text) => push_right(line, 3, text.as_bytes()),
+        Err(error) => Err(error),
+    }
 }
 
 // Adds a coordinate, right in ten columns.
 fn push_coordinate(alloc: Global, line: &mut Vec<u8>, value: i64) -> Result<(), AllocError>
     ensures { OnOk result (line.new.items ≡ line.old.items ++ right 10 (coordinate value)) }
 {
-    let text = coordinate(alloc, value)?;
-    push_right(line, 10, text.as_bytes())
+    match coordinate(alloc, value) {
+        Ok(text) => push_right(line, 10, text.as_bytes()),
+        Err(error) => Err(error),
+    }
 }
 
 fn symbol(element: Element) -> &'static [u8]

@@ -1,6 +1,6 @@
 // Made records.
-ghost use Rattle.std.specs.Prelude.{◌≡◌, ◌<◌, ◌≤◌, ◌+◌, ◌-◌, ◌^◌, ◌++◌, IfOk, OnOk, length, string_bytes};
-ghost use Rattle.cip_make.specs.Made.{name_lines, across, chain_atom, chain_atoms, branch_atom, branch_atoms, chain_bonds, branch_bonds, record_text, made};
+ghost use Rattle.std.specs.Prelude.{◌≡◌, ◌<◌, ◌≤◌, ◌+◌, ◌-◌, ◌^◌, ◌++◌, IfOk, OnOk, length};
+ghost use Rattle.cip_make.specs.Made.{across, chain_atom, chain_atoms, branch_atom, branch_atoms, chain_bonds, branch_bonds, record_text, made};
 
 use crate::chain::{Branch, Element, Stereo, branches};
 use crate::lines::{push_atom_line, push_bond_line, push_counts_line};
@@ -24,10 +24,17 @@ fn made(alloc: Global, start: u32, number: u32) -> Result<Vec<u8>, AllocError>
 {
     let mut generator = Lcg64Xsh32::new(u64::from(start), u64::from(number));
     let chain = 4 + generator.next_word() % 17;
-    let branches = branches(alloc, &mut generator, chain)?;
-    let mut text = name_lines(alloc, start, number)?.into_bytes();
-    push_table(alloc, &mut text, chain, &branches)?;
-    Ok(text)
+    let Ok(branches) = branches(alloc, &mut generator, chain) else {
+        return Err(AllocError);
+    };
+    let Ok(name) = format!(in alloc; "make {start} {number}\n\n\n") else {
+        return Err(AllocError);
+    };
+    let mut text = name.into_bytes();
+    match push_table(alloc, &mut text, chain, &branches) {
+        Ok(()) => Ok(text),
+        Err(error) => Err(error),
+    }
 }
 
 // Adds what follows the name lines. Text and branches are lent: seven ends that give them back are long to prove.
@@ -43,18 +50,22 @@ fn push_table(
     ensures { OnOk result (text.new.items ≡ record_text text.old.items chain branches.now) }
 {
     let atoms = chain + branches.len() as u32;
-    push_counts_line(alloc, text, atoms, atoms - 1)?;
-    push_chain_atoms(alloc, text, chain)?;
-    push_branch_atoms(alloc, text, branches)?;
-    push_chain_bonds(alloc, text, chain - 1)?;
-    push_branch_bonds(alloc, text, chain, branches)?;
-    text.extend_from_slice(b"M  END\n$$$$\n")
-}
-
-fn name_lines(alloc: Global, start: u32, number: u32) -> Result<String, AllocError>
-    ensures { IfOk result (λ text. string_bytes text ≡ name_lines start number) }
-{
-    format!(in alloc; "make {start} {number}\n\n\n")
+    let Ok(()) = push_counts_line(alloc, text, atoms, atoms - 1) else {
+        return Err(AllocError);
+    };
+    let Ok(()) = push_chain_atoms(alloc, text, chain) else {
+        return Err(AllocError);
+    };
+    let Ok(()) = push_branch_atoms(alloc, text, branches) else {
+        return Err(AllocError);
+    };
+    let Ok(()) = push_chain_bonds(alloc, text, chain - 1) else {
+        return Err(AllocError);
+    };
+    match push_branch_bonds(alloc, text, chain, branches) {
+        Ok(()) => text.extend_from_slice(b"M  END\n$$$$\n"),
+        Err(error) => Err(error),
+    }
 }
 
 fn push_chain_atoms(alloc: Global, text: &mut Vec<u8>, chain: u32) -> Result<(), AllocError>
@@ -62,7 +73,9 @@ fn push_chain_atoms(alloc: Global, text: &mut Vec<u8>, chain: u32) -> Result<(),
     ensures { OnOk result (text.new.items ≡ text.old.items ++ chain_atoms chain) }
 {
     for before in 0..chain {
-        push_chain_atom(alloc, text, before + 1)?;
+        let Ok(()) = push_chain_atom(alloc, text, before + 1) else {
+            return Err(AllocError);
+        };
     }
     Ok(())
 }
@@ -100,7 +113,9 @@ fn push_branch_atoms(
     ensures { OnOk result (text.new.items ≡ text.old.items ++ branch_atoms branches.now) }
 {
     for branch in branches {
-        push_branch_atom(alloc, text, *branch)?;
+        let Ok(()) = push_branch_atom(alloc, text, *branch) else {
+            return Err(AllocError);
+        };
     }
     Ok(())
 }
@@ -110,7 +125,9 @@ fn push_chain_bonds(alloc: Global, text: &mut Vec<u8>, bonds: u32) -> Result<(),
     ensures { OnOk result (text.new.items ≡ text.old.items ++ chain_bonds bonds) }
 {
     for before in 0..bonds {
-        push_bond_line(alloc, text, before + 1, before + 2, Stereo::Plain)?;
+        let Ok(()) = push_bond_line(alloc, text, before + 1, before + 2, Stereo::Plain) else {
+            return Err(AllocError);
+        };
     }
     Ok(())
 }
@@ -127,7 +144,9 @@ fn push_branch_bonds(
     let mut number = chain;
     for branch in branches {
         number += 1;
-        push_bond_line(alloc, text, branch.at, number, branch.stereo)?;
+        let Ok(()) = push_bond_line(alloc, text, branch.at, number, branch.stereo) else {
+            return Err(AllocError);
+        };
     }
     Ok(())
 }

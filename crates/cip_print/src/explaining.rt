@@ -1,15 +1,12 @@
 // What is told of a record beside its drawing.
-ghost use Rattle.std.specs.Prelude.{◌≡◌, ◌++◌, ◌∷◌, [], IfOk, OnOk, codes};
-ghost use Rattle.cip_print.specs.Naming.{name_text};
-ghost use Rattle.cip_print.specs.Refusals.{refusal_line};
+ghost use Rattle.std.specs.Prelude.{◌≡◌, ◌++◌, ◌∷◌, [], IfOk, OnOk};
 ghost use Rattle.cip_print.specs.Explaining.{reason_text, told, told_line, told_lines, told_answer, explained};
 
 use crate::answer::{Answer, UnitAnswer, UnitAnswers};
 use crate::digits::push_word;
 use crate::labels::{push_label, push_named};
-use crate::naming::UnitName;
 use crate::refusals::refusal;
-use cip_mol::{Cause, Outcome, ReadFault};
+use cip_mol::{Cause, Outcome};
 use std::alloc::{AllocError, Global};
 
 /// What is found of the record of this number, to be read beside its drawing: why it is refused, or a line for each
@@ -35,16 +32,10 @@ fn push_answer(alloc: Global, text: &mut Vec<u8>, answer: &Answer) -> Result<(),
 {
     match answer {
         Answer::Labelled(units) => push_units(text, units),
-        Answer::Refused(fault) => push_refusal(alloc, text, *fault),
-    }
-}
-
-fn push_refusal(alloc: Global, text: &mut Vec<u8>, fault: ReadFault) -> Result<(), AllocError>
-    ensures { OnOk result (text.new.items ≡ text.old.items ++ (refusal_line fault ++ 10 ∷ [])) }
-{
-    match refusal(alloc, fault) {
-        Ok(line) => push_line(text, line.as_bytes()),
-        Err(error) => Err(error),
+        Answer::Refused(fault) => match refusal(alloc, *fault) {
+            Ok(line) => push_line(text, line.as_bytes()),
+            Err(error) => Err(error),
+        },
     }
 }
 
@@ -88,25 +79,18 @@ fn push_unit(text: &mut Vec<u8>, unit: &UnitAnswer) -> Result<(), AllocError>
     }
 }
 
-// What is found of a unit.
-fn push_told(text: &mut Vec<u8>, unit: &UnitAnswer) -> Result<(), AllocError>
+/// What is found of a unit.
+pub fn push_told(text: &mut Vec<u8>, unit: &UnitAnswer) -> Result<(), AllocError>
     ensures { OnOk result (text.new.items ≡ text.old.items ++ told unit.now unit.now.outcome) }
 {
     match &unit.outcome {
         Outcome::Label(label) => push_label(text, unit, label),
         Outcome::Over => push_named(text, unit.name, "over"),
         Outcome::Tie => push_named(text, unit.name, "tie"),
-        Outcome::NoGeometry(cause) => push_without_sense(text, unit.name, *cause),
-    }
-}
-
-fn push_without_sense(text: &mut Vec<u8>, name: UnitName, cause: Cause) -> Result<(), AllocError>
-    ensures { OnOk result (text.new.items
-        ≡ text.old.items ++ (name_text name ++ (codes " none " ++ reason_text cause))) }
-{
-    match push_named(text, name, "none") {
-        Ok(()) => push_word(text, reason(cause)),
-        Err(error) => Err(error),
+        Outcome::NoGeometry(cause) => match push_named(text, unit.name, "none") {
+            Ok(()) => push_word(text, reason(*cause)),
+            Err(error) => Err(error),
+        },
     }
 }
 

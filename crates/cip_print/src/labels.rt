@@ -1,6 +1,5 @@
 // How labels are written.
-ghost use Rattle.std.specs.Prelude.{◌≡◌, ◌++◌, IfOk, OnOk, codes, decimal, slice_get};
-ghost use Rattle.cip_mol.specs.Letters.{letter_text, rule_text};
+ghost use Rattle.std.specs.Prelude.{◌≡◌, ◌++◌, OnOk, codes, slice_get};
 ghost use Rattle.cip_print.specs.Naming.{name_text};
 ghost use Rattle.cip_print.specs.Labels.{ligand_name, spaced_name, names_at, names_of_ends, names_in_order, decision_text, ordered_label};
 
@@ -8,39 +7,9 @@ use crate::answer::UnitAnswer;
 use crate::digits::{push_number, push_word};
 use crate::naming::{UnitName, push_atom, push_name};
 use cip_mol::{Label, Ligand, Site};
-use std::alloc::{AllocError, Global};
-
-// Most lines of labels have no more bytes.
-pub const LINE: usize = 80;
-
-/// A label with the ligands in the order that it rests on.
-pub fn ordered_label(alloc: Global, unit: &UnitAnswer, label: &Label) -> Result<Vec<u8>, AllocError>
-    ensures { IfOk result (λ text. text.items ≡ ordered_label unit.now label.now) }
-{
-    match Vec::with_capacity(alloc, LINE) {
-        Ok(mut text) => match push_label(&mut text, unit, label) {
-            Ok(()) => Ok(text),
-            Err(error) => Err(error),
-        },
-        Err(error) => Err(error),
-    }
-}
-
-/// The name of a unit, and a word.
-pub fn named(alloc: Global, unit: &UnitAnswer, word: &str) -> Result<Vec<u8>, AllocError>
-    ensures { IfOk result (λ text. text.items ≡ name_text unit.now.name ++ (codes " " ++ word.now)) }
-{
-    match Vec::with_capacity(alloc, LINE) {
-        Ok(mut text) => match push_named(&mut text, unit.name, word) {
-            Ok(()) => Ok(text),
-            Err(error) => Err(error),
-        },
-        Err(error) => Err(error),
-    }
-}
+use std::alloc::AllocError;
 
 /// Adds the name of a unit, and a word.
-#[tactic(auto, using(crate::proofs::Texts::moved))]
 pub fn push_named(text: &mut Vec<u8>, name: UnitName, word: &str) -> Result<(), AllocError>
     ensures { OnOk result (text.new.items ≡ text.old.items ++ (name_text name ++ (codes " " ++ word.now))) }
 {
@@ -51,7 +20,6 @@ pub fn push_named(text: &mut Vec<u8>, name: UnitName, word: &str) -> Result<(), 
 }
 
 /// Adds a label with the ligands in the order that it rests on.
-#[tactic(auto, unfolding(crate::specs::Labels::ordered_label), using(crate::proofs::Texts::moved))]
 pub fn push_label(text: &mut Vec<u8>, unit: &UnitAnswer, label: &Label) -> Result<(), AllocError>
     ensures { OnOk result (text.new.items ≡ text.old.items ++ ordered_label unit.now label.now) }
 {
@@ -68,7 +36,6 @@ pub fn push_label(text: &mut Vec<u8>, unit: &UnitAnswer, label: &Label) -> Resul
 }
 
 // The descriptor, the rule and the sphere, a space before each.
-#[tactic(auto, using(crate::proofs::Texts::moved))]
 fn push_decision(text: &mut Vec<u8>, label: &Label) -> Result<(), AllocError>
     ensures { OnOk result (text.new.items ≡ text.old.items ++ decision_text label.now) }
 {

@@ -1,5 +1,5 @@
 // How units are named.
-ghost use Rattle.std.specs.Prelude.{◌≡◌, ◌+◌, ◌++◌, ◌∷◌, [], OnOk};
+ghost use Rattle.std.specs.Prelude.{◌≡◌, ◌+◌, ◌++◌, ◌∷◌, OnOk};
 ghost use Rattle.cip_print.specs.Naming.{name_of, name_text, number, pair};
 
 use crate::digits::push_number;
@@ -28,11 +28,15 @@ pub fn name_of(site: &Site) -> UnitName
 }
 
 /// Adds the name of a unit.
+#[tactic(auto, using(crate::proofs::Texts::moved))]
 pub fn push_name(text: &mut Vec<u8>, name: UnitName) -> Result<(), AllocError>
     ensures { OnOk result (text.new.items ≡ text.old.items ++ name_text name) }
 {
     match name {
-        UnitName::Centre(at) => push_centre(text, at),
+        UnitName::Centre(at) => match text.push(b'a') {
+            Ok(()) => push_atom(text, at),
+            Err(_) => Err(AllocError),
+        },
         UnitName::Bond(a, b) => push_pair(text, b'b', a, b),
         UnitName::Axis(a, b) => push_pair(text, b'x', a, b),
         UnitName::Cumulene(a, b) => push_pair(text, b'c', a, b),
@@ -40,18 +44,7 @@ pub fn push_name(text: &mut Vec<u8>, name: UnitName) -> Result<(), AllocError>
     }
 }
 
-#[tactic(auto, using(crate::proofs::Texts::moved))]
-fn push_centre(text: &mut Vec<u8>, at: u32) -> Result<(), AllocError>
-    ensures { OnOk result (text.new.items ≡ text.old.items ++ 97 ∷ number at) }
-{
-    match text.push(b'a') {
-        Ok(()) => push_atom(text, at),
-        Err(_) => Err(AllocError),
-    }
-}
-
 // A letter, and two atoms, the lower one first.
-#[tactic(auto, using(crate::proofs::Texts::moved))]
 fn push_pair(text: &mut Vec<u8>, kind: u8, a: u32, b: u32) -> Result<(), AllocError>
     ensures { OnOk result (text.new.items ≡ text.old.items ++ kind ∷ pair a b) }
 {

@@ -1,6 +1,6 @@
 // How many units of records have which outcome.
 ghost use Rattle.std.specs.Prelude.{◌≡◌, ◌<◌, ◌≤◌, ◌+◌, ◌^◌, IfOk, string_bytes};
-ghost use Rattle.cip_print.specs.Tallies.{nothing, counted, no_units, with_outcome, with_units, records_part, units_part, summary_line};
+ghost use Rattle.cip_print.specs.Tallies.{nothing, counted, no_units, with_outcome, with_units, units_part, summary_line};
 
 use crate::answer::{Answer, UnitAnswers};
 use cip_mol::Outcome;
@@ -85,26 +85,15 @@ impl Tally {
     pub fn line(&self, alloc: Global) -> Result<Vec<u8>, AllocError>
         ensures { IfOk result (λ line. line.items ≡ summary_line self.now) }
     {
-        let Ok(records) = self.records_part(alloc) else {
+        let Ok(units) = self.units_part(alloc) else {
             return Err(AllocError);
         };
-        let mut line = records.into_bytes();
-        match self.units_part(alloc) {
-            Ok(units) => match line.extend_from_slice(units.as_bytes()) {
-                Ok(()) => Ok(line),
-                Err(error) => Err(error),
-            },
-            Err(error) => Err(error),
-        }
-    }
-
-    #[tactic(auto, unfolding(crate::specs::Tallies::records_part))]
-    fn records_part(&self, alloc: Global) -> Result<String, AllocError>
-        ensures { IfOk result (λ part. string_bytes part ≡ records_part self.now) }
-    {
         let records = self.records;
         let refused = self.refused;
-        format!(in alloc; "records {records} refused {refused}")
+        match format!(in alloc; "records {records} refused {refused}{units}") {
+            Ok(line) => Ok(line.into_bytes()),
+            Err(error) => Err(error),
+        }
     }
 
     #[tactic(auto, unfolding(crate::specs::Tallies::units_part))]

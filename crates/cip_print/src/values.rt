@@ -1,18 +1,20 @@
 // The value lines of a record's item.
 ghost use Rattle.std.specs.Prelude.{◌≡◌, ◌<◌, ◌≤◌, ◌+◌, ◌-◌, ◌^◌, ◌++◌, ◌∷◌, [], length, IfOk, OnOk};
 ghost use Rattle.std.specs.List.{filter_map};
-ghost use Rattle.std.specs.Option.{option_map};
 ghost use Rattle.cip_print.specs.Values.{year_text, settings_line, unit_line, or_none, values_of, HasRoom};
 
 use crate::answer::{Answer, UnitAnswer, UnitAnswers};
 use crate::digits::{push_number, push_word};
-use crate::labels::{LINE, named, ordered_label};
+use crate::explaining::push_told;
 use crate::refusals::refusal;
 use cip_item::Texts;
 use cip_mol::Outcome;
 use cip_rank::Rules;
 use cip_text::Bytes;
 use std::alloc::{AllocError, Global};
+
+// Most lines of labels have no more bytes.
+const LINE: usize = 80;
 
 /// The value lines of an answer that was found within a bound on nodes by a wording of Rule 1b: these two, then why the
 /// record is refused, or a line for each unit that has a label or whose digraph is larger than the bound, and `none`
@@ -58,6 +60,7 @@ fn push_values(
     }
 }
 
+// The version of the item, and what the labels rest on.
 fn push_settings(
     alloc: Global,
     values: &mut Texts,
@@ -67,19 +70,9 @@ fn push_settings(
     requires { length values.old < 2 ^ 32 - 1 }
     ensures { OnOk result (values.new ≡ values.old ++ settings_line nodes rules ∷ []) }
 {
-    match settings(alloc, nodes, rules) {
-        Ok(line) => values.push(Bytes::from_vec(line)),
-        Err(error) => Err(error),
-    }
-}
-
-// The version of the item, and what the labels rest on.
-fn settings(alloc: Global, nodes: u32, rules: Rules) -> Result<Vec<u8>, AllocError>
-    ensures { IfOk result (λ line. line.items ≡ settings_line nodes rules) }
-{
     match Vec::with_capacity(alloc, LINE) {
         Ok(mut line) => match write_settings(&mut line, nodes, rules) {
-            Ok(()) => Ok(line),
+            Ok(()) => values.push(Bytes::from_vec(line)),
             Err(error) => Err(error),
         },
         Err(error) => Err(error),
@@ -152,25 +145,14 @@ fn push_line(alloc: Global, values: &mut Texts, unit: &UnitAnswer) -> Result<(),
     ensures added { OnOk result (values.new ≡ values.old ++ filter_map unit_line (unit.now ∷ [])) }
     ensures few { OnOk result (length values.new ≤ length values.old + 1) }
 {
-    match value_of(alloc, unit) {
-        Ok(Some(value)) => values.push(Bytes::from_vec(value)),
-        Ok(None) => Ok(()),
-        Err(error) => Err(error),
-    }
-}
-
-fn value_of(alloc: Global, unit: &UnitAnswer) -> Result<Option<Vec<u8>>, AllocError>
-    ensures { IfOk result (λ value. option_map (λ line. line.items) value ≡ unit_line unit.now) }
-{
     match &unit.outcome {
-        Outcome::Label(label) => match ordered_label(alloc, unit, label) {
-            Ok(line) => Ok(Some(line)),
+        Outcome::Label(_) | Outcome::Over => match Vec::with_capacity(alloc, LINE) {
+            Ok(mut line) => match push_told(&mut line, unit) {
+                Ok(()) => values.push(Bytes::from_vec(line)),
+                Err(error) => Err(error),
+            },
             Err(error) => Err(error),
         },
-        Outcome::Over => match named(alloc, unit, "over") {
-            Ok(line) => Ok(Some(line)),
-            Err(error) => Err(error),
-        },
-        Outcome::Tie | Outcome::NoGeometry(_) => Ok(None),
+        Outcome::Tie | Outcome::NoGeometry(_) => Ok(()),
     }
 }

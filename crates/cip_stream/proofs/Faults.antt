@@ -1,11 +1,15 @@
 -- Counts of faults over two calls, and results that blame none of them.
-use Rattle.std.proofs.Common.{◌≤◌, ℕ, Result, Ok, Err, arith}
+use Rattle.std.proofs.Common.{◌≤◌, ℕ, List, Option, Result, Ok, Err, arith}
 use Rattle.std.specs.Prelude.{IsErrOf}
+use Rattle.cip_frame.specs.Framing.{Framing}
 use Rattle.cip_io.specs.Faults.{Rose}
 use Rattle.cip_stream.specs.declared.stop.Stop.{Stop}
 use Rattle.cip_stream.specs.declared.stop.Stop.TheVariants as stops
 use Rattle.cip_stream.specs.declared.verdict.Verdict.{Verdict}
+use Rattle.cip_stream.specs.Batches.{Answers}
 use Rattle.cip_stream.specs.Halting.{ended_by}
+use Rattle.cip_stream.specs.Manner.{Manner}
+use Rattle.cip_stream.specs.Reading.{Brings}
 use Rattle.cip_stream.specs.Verdicts.{joined_result}
 
 pub stays : (count : ℕ) → count ≤ count
@@ -48,3 +52,27 @@ pub joined_fault : {N P : Type 0} (verdict : Verdict N) (behind : Result (Verdic
     → (IsErrOf behind stop → P) → IsErrOf (joined_result verdict behind) stop → P
 joined_fault verdict (Ok told) stop fault is = absurd (cc)
 joined_fault verdict (Err cause) stop fault is = fault is
+
+-- records that are answered blame no reading
+pub answered_no_read_fault : {N P T : Type 0} (manner : Manner N) (number : ℕ) (records : List (List ℕ)) (stop : Stop)
+    (old new : Option (List ℕ)) → Answers manner number records (Err stop) old new
+    → IsErrOf (failed {T = T} stop) stops.ReadFault → P
+answered_no_read_fault manner number records stops.ReadFault old new answers is = absurd answers
+answered_no_read_fault manner number records stops.WriteFault old new answers is = absurd (cc)
+answered_no_read_fault manner number records stops.Memory old new answers is = absurd (cc)
+answered_no_read_fault manner number records stops.Limit old new answers is = absurd answers
+
+-- where reading fails itself, it is for want of memory
+pub brought_no_read_fault : {P T : Type 0} (room : ℕ) (stop : Stop) (left rest : Option (List ℕ)) (old new : Framing)
+    → Brings room (Err stop) left rest old new → IsErrOf (failed {T = T} stop) stops.ReadFault → P
+brought_no_read_fault room stops.ReadFault left rest old new brings is = absurd brings
+brought_no_read_fault room stops.WriteFault left rest old new brings is = absurd brings
+brought_no_read_fault room stops.Memory left rest old new brings is = absurd (cc)
+brought_no_read_fault room stops.Limit left rest old new brings is = absurd brings
+
+pub brought_no_fault : {P T : Type 0} (room : ℕ) (stop : Stop) (left rest : Option (List ℕ)) (old new : Framing)
+    → Brings room (Err stop) left rest old new → IsErrOf (failed {T = T} stop) stops.WriteFault → P
+brought_no_fault room stops.ReadFault left rest old new brings is = absurd brings
+brought_no_fault room stops.WriteFault left rest old new brings is = absurd brings
+brought_no_fault room stops.Memory left rest old new brings is = absurd (cc)
+brought_no_fault room stops.Limit left rest old new brings is = absurd brings

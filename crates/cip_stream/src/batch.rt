@@ -13,7 +13,7 @@ use crate::teller::{Teller, Told};
 use crate::verdict::Verdict;
 use crate::writing::write_all;
 use cip_batch::{Gate, Job};
-use cip_frame::{Framer, Record, Tail};
+use cip_frame::{Framer, Tail};
 use cip_io::{Sink, push_all};
 use cip_text::Bytes;
 use std::alloc::{AllocError, Global};
@@ -281,7 +281,12 @@ pub fn answer_tail<'a, R: Threads + Sync, G: Gate + Sync, T: Teller + Sync, K: S
             drop(lines);
             answered
         }
-        Tail::Last(last) => answer_with_last(desks, last, batch, sink),
+        Tail::Last(last) => {
+            let Ok(()) = batch.push(last.bytes) else {
+                return Err(Stop::Memory);
+            };
+            answer_batch(desks, batch, sink)
+        }
     }
 }
 
@@ -308,27 +313,6 @@ fn answer_with_blank<'a, R: Threads + Sync, G: Gate + Sync, T: Teller + Sync, K:
     }
 }
 
-// Answers the last batch, into which a record without its terminator line goes.
-fn answer_with_last<'a, R: Threads + Sync, G: Gate + Sync, T: Teller + Sync, K: Sink>(
-    desks: &mut Desks<'_, R, G, T>,
-    last: Record,
-    batch: &mut Batch<'a, T>,
-    sink: &mut K,
-) -> Result<Verdict<T::Note>, Stop>
-    requires small { length last.bytes ≤ 2 ^ 31 }
-    requires room { batch.old.first + length batch.old.records < 2 ^ 64 - 1 }
-    ensures answered { (rest : List ℕ) → Tail.Last last ≡ tail_of rest
-        → AnswersTail (T.manner batch.old.teller) batch.old.first batch.old.records rest result
-        (K.taken sink.old) (K.taken sink.new) }
-    ensures fault { IsErrOf result Stop.WriteFault → Rose (K.faults sink.old) (K.faults sink.new) }
-    ensures later { K.faults sink.old ≤ K.faults sink.new }
-{
-    let Ok(()) = batch.push(last.bytes) else {
-        return Err(Stop::Memory);
-    };
-    answer_batch(desks, batch, sink)
-}
-
 // Writes blank lines where they are kept.
 fn write_blank<K: Sink>(kept: bool, bytes: &[u8], sink: &mut K) -> Result<(), Stop>
     ensures whole { OnOk result (Appends (K.taken sink.old) (K.taken sink.new) (if kept then bytes.now else [])) }
@@ -338,7 +322,10 @@ fn write_blank<K: Sink>(kept: bool, bytes: &[u8], sink: &mut K) -> Result<(), St
     ensures later { K.faults sink.old ≤ K.faults sink.new }
 {
     if kept {
-        push_all(sink, bytes).map_err(|_| Stop::WriteFault)
+        match push_all(sink, bytes) {
+            Ok(()) => Ok(()),
+            Err(_) => Err(Stop::WriteFault),
+        }
     } else {
         Ok(())
     }

@@ -92,8 +92,7 @@ fn pull_into<S: Source>(source: &mut S, piece: &mut [u8], room: u64) -> Result<u
     ensures fault { OnErr result (Rose (S.faults source.old) (S.faults source.new)) }
 {
     let most = room.saturating_add(1).min(piece.len() as u64) as usize;
-    let count = source.pull(&mut piece[..most])?;
-    Ok(count)
+    source.pull(&mut piece[..most])
 }
 
 fn front(piece: &[u8], len: usize) -> &[u8]

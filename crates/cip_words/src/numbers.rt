@@ -1,7 +1,7 @@
 // Numbers as words.
 ghost use Rattle.std.specs.Prelude.{◌≡◌, min};
 ghost use Rattle.std.specs.Option.{option_map};
-ghost use Rattle.cip_words.specs.Numbers.{is_plain, lead_of, number_of};
+ghost use Rattle.cip_words.specs.Numbers.{lead_of, number_of};
 
 use cip_text::{CAP, whole};
 
@@ -9,14 +9,12 @@ use cip_text::{CAP, whole};
 pub fn number(word: &[u8]) -> Option<u64>
     ensures { result ≡ option_map (min CAP) (number_of word.now) }
 {
-    if is_plain(word) { whole(word) } else { None }
-}
-
-// No 0 leads it, but where it stands alone.
-fn is_plain(word: &[u8]) -> bool
-    ensures { result ≡ is_plain word.now }
-{
-    word.len() == 1 || lead_of(word) > b'0'
+    // no 0 leads it, but where it stands alone
+    if word.len() == 1 || lead_of(word) > b'0' {
+        whole(word)
+    } else {
+        None
+    }
 }
 
 // The first digit, 0 where there is none.

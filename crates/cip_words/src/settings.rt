@@ -2,10 +2,9 @@
 ghost use Rattle.std.specs.Prelude.{◌≡◌, IfSome, map};
 ghost use Rattle.std.specs.Option.{option_map};
 ghost use Rattle.cip_words.specs.Forms.{forms};
-ghost use Rattle.cip_words.specs.Settings.{form_of, letter_of, workers_of, rules_of, labelling_of, making_of, trial_of, setting_of};
+ghost use Rattle.cip_words.specs.Settings.{form_of, letter_of, rules_of, labelling_of, making_of, trial_of, setting_of};
 ghost use Rattle.cip_words.specs.Settings.{action_of, alone, asked, asked_by, labelling_by, settings_of, AreWithin};
-ghost use Rattle.cip_words.specs.Letters.{letter_named};
-ghost use Rattle.cip_words.specs.Ranges.{CanLabel, IsBetween};
+ghost use Rattle.cip_words.specs.Ranges.{CanLabel};
 
 use crate::forms::{
     ATOM, Command, FORMS, Form, LETTER, NODES, Named, RECORD, RECORDS, START, WORDING, WORKERS,
@@ -332,10 +331,10 @@ fn alone(command: Command, labelling: Labelling) -> Option<Settings>
 fn read_labelling(words: &[String]) -> Option<Labelling>
     ensures { result ≡ labelling_of words.now }
 {
-    match (set_to(&NODES, words), workers(words), rules(words)) {
+    match (set_to(&NODES, words), set_to(&WORKERS, words), rules(words)) {
         (Some(nodes), Some(workers), Some(rules)) => Some(Labelling {
             nodes,
-            workers,
+            workers: workers as u8,
             rules,
         }),
         _ => None,
@@ -398,30 +397,11 @@ fn letter(words: &[String]) -> Option<CentreLetter>
     ensures { result ≡ letter_of words.now }
 {
     match once(LETTER.0, words) {
-        Some(word) => letter_named(word),
-        None => None,
-    }
-}
-
-fn letter_named(word: &[u8]) -> Option<CentreLetter>
-    ensures { result ≡ letter_named word.now }
-{
-    match word {
-        [b'R'] => Some(CentreLetter::R),
-        [b'S'] => Some(CentreLetter::S),
-        [b'r'] => Some(CentreLetter::SmallR),
-        [b's'] => Some(CentreLetter::SmallS),
+        Some([b'R']) => Some(CentreLetter::R),
+        Some([b'S']) => Some(CentreLetter::S),
+        Some([b'r']) => Some(CentreLetter::SmallR),
+        Some([b's']) => Some(CentreLetter::SmallS),
         _ => None,
-    }
-}
-
-fn workers(words: &[String]) -> Option<u8>
-    ensures set { result ≡ workers_of words.now }
-    ensures between { IfSome result (IsBetween 1 16) }
-{
-    match set_to(&WORKERS, words) {
-        Some(count) => Some(count as u8),
-        None => None,
     }
 }
 

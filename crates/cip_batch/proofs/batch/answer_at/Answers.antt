@@ -1,5 +1,6 @@
-use Rattle.std.proofs.Common.{◌≡◌, ◌<◌, ◌∙◌, ℕ, List, None, Some, Option, IfSome, get_or, length, set, slice_index_or, subst, sym}
+use Rattle.std.proofs.Common.{arith, ◌≡◌, ◌<◌, ◌∙◌, ℕ, List, None, Some, Option, IfSome, get_or, length, set, slice_index_or, subst, sym}
 use Rattle.std.proofs.lemmas.List.Elements.{All-get_or, All-set}
+use Rattle.std.proofs.lemmas.Grind.{common_steps}
 use Rattle.cip_batch.specs.declared.batch.Entry.{Entry}
 use Rattle.cip_batch.specs.Entries.{ArePlaced, IsAnswer}
 use Rattle.cip_batch.proofs.batch.answer_at.Goals as goal
@@ -41,3 +42,6 @@ pub returns-clause-answer : goal.returns-clause-answer
 returns-clause-answer g c =
     found_there g.J.Job.answer c.args.jobs.now c.args.found.now c.args.place c.index-found-place.result c.in-Some.entry
     c.if-place-found.true (sym c.take.ensures.value ∙ c.in-Some.is) c.if-entry-place.true c.requires.found
+
+pub offset_bounds-found-place : goal.offset_bounds-found-place
+offset_bounds-found-place g c = grind (arith, common_steps)

@@ -6,10 +6,10 @@ use Rattle.cip_batch.proofs.batch.complete.Goals as goal
 pub loop-place-preserved : goal.loop-place-preserved
 loop-place-preserved g c = record {
   found = c.answer_at.ensures.found;
-  answers = c.push_reserved.ensures.items ∙ ap (λ found. found ++ c.in_ok-answer_at.field-0 ∷ [])
+  answers = c.push_reserved.ensures.items ∙ ap (λ found. found ++ c.in-Ok-answer_at.answer ∷ [])
       c.loop-place.invariant.answers
-      ∙ one_more g.J.Job.answer c.args.jobs.now c.loop-place.place c.in_ok-answer_at.field-0 c.loop-place-test.true
-      c.in_ok-answer_at.ensures.answer;
+      ∙ one_more g.J.Job.answer c.args.jobs.now c.loop-place.place c.in-Ok-answer_at.answer c.loop-place-test.true
+      c.in-Ok-answer_at.ensures.answer;
   count = omega (arith, c.push_reserved.ensures.len, c.loop-place.invariant.count);
   room = omega (arith, c.push_reserved.ensures.capacity, c.loop-place.invariant.room);
 }

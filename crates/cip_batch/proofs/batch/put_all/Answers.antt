@@ -10,20 +10,14 @@ loop-entry-preserved g c = record {
   found = c.put.ensures;
 }
 
-pub put-requires : goal.put-requires
-put-requires g c =
-    let is = IsAnswer g.J.Job.answer c.args.jobs.now in (
-      c.type_bounds.send-J-Out,
-      (
-        c.type_bounds.send-J-Desk,
-        (
-          All-head is c.in-Some.entry c.next.new.self.rest.items
-              (All-same is _ c.loop-entry.entry-iterator.rest.items
-              (sym c.in-Some.ensures.steps.0) c.loop-entry.invariant.entries),
-          c.loop-entry.invariant.found,
-        ),
-      ),
-    )
+pub put-requires-clause-entry : goal.put-requires-clause-entry
+put-requires-clause-entry g c κs within =
+    let is = IsAnswer g.J.Job.answer c.args.jobs.now in
+    All-head is c.in-Some.entry c.next.new.self.rest.items
+    (All-same is _ c.loop-entry.entry-iterator.rest.items (sym c.in-Some.ensures.steps.0) c.loop-entry.invariant.entries)
+
+pub put-requires-clause-found : goal.put-requires-clause-found
+put-requires-clause-found g c κs within = c.loop-entry.invariant.found
 
 pub loop-entry-init : goal.loop-entry-init
 loop-entry-init g c = record {

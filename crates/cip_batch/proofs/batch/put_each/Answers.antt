@@ -18,22 +18,20 @@ loop-k-preserved g c =
       len = length-set c.loop-k.workers c.loop-k.k _ ∙ c.loop-k.invariant.len;
     }
 
-pub put_all-requires : goal.put_all-requires
-put_all-requires g c =
+pub put_all-requires-clause-entries : goal.put_all-requires-clause-entries
+put_all-requires-clause-entries g c κs within =
     let answer = g.J.Job.answer in
     let jobs = c.args.jobs.now in
     let here = All-get_or (λ w. IfOk w.answers (λ v. AreAnswers answer jobs v.items)) c.loop-k.workers c.loop-k.k
-    c.index-workers-k.result (omega arith) c.loop-k.invariant.workers in (
-      c.type_bounds.send-J-Out,
-      (
-        c.type_bounds.send-J-Desk,
-        (
-          subst (λ answers. IfOk answers (λ v. AreAnswers answer jobs v.items))
-              (sym c.replace-entries.ensures.value ∙ c.in_ok-entries.was) here,
-          c.loop-k.invariant.found,
-        ),
-      ),
-    )
+    c.index-workers-k.result (omega arith) c.loop-k.invariant.workers in
+    subst (λ answers. IfOk answers (λ v. AreAnswers answer jobs v.items))
+    (sym c.replace-entries.ensures.value ∙ c.in-Ok.is) here
 
-pub returns-in_err-entries-clause-workers : goal.returns-in_err-entries-clause-workers
-returns-in_err-entries-clause-workers g c = grind (arith, common_steps)
+pub put_all-requires-clause-found : goal.put_all-requires-clause-found
+put_all-requires-clause-found g c κs within = c.loop-k.invariant.found
+
+pub returns-in_default-clause-workers : goal.returns-in_default-clause-workers
+returns-in_default-clause-workers g c = grind (arith, common_steps)
+
+pub offset_bounds-workers-k : goal.offset_bounds-workers-k
+offset_bounds-workers-k g c = grind (arith, common_steps)

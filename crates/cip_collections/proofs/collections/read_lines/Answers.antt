@@ -8,5 +8,8 @@ loop-line-preserved c = grind (arith, common_steps)
 pub returns : goal.returns
 returns c = grind (arith, common_steps)
 
-pub returns-in-Ok-true : goal.returns-in-Ok-true
-returns-in-Ok-true c = grind (arith, common_steps)
+pub returns-then-found : goal.returns-then-found
+returns-then-found c = grind (arith, common_steps)
+
+pub returns-else-found : goal.returns-else-found
+returns-else-found c = grind (arith, common_steps)

@@ -13,7 +13,7 @@ loop-atom-preserved g c =
     let atom = get_or c.as_slice-atom-items.result.now place 0 in
     let outcomes = c.in-Ok.outcomes in
     record {
-      so_far = c.in_ok-push.ensures.items
+      so_far = c.in-Ok-push.ensures.items
           ∙ line_behind c.args.told.now.lines.items group.atoms place 0
           (subst (λ (atoms : List ℕ). place < length atoms) c.as_slice-atom-items.ensures c.loop-atom-test.true)
           c.loop-atom.told.lines.items (line_of bound drawn group)

@@ -7,32 +7,32 @@ use Rattle.cip_commands.proofs.trial.count_batch.Goals as goal
 pub add_all-requires : goal.add_all-requires
 add_all-requires g c =
     let jobs = c.in-Ok.jobs.items in
-    let answers = c.in-Ok-map_batch.answers.items in
+    let answers = c.in-Ok-answers.answers.items in
     let same : c.deref.result.now ≡ jobs = search rules in
-    let found : answers ≡ map answer_of jobs = c.in-Ok-map_batch.ensures.answers ∙ ap (map answer_of) same in
-    let here : c.deref-2.result.now ≡ answers = search rules in
-    let many : length c.deref-2.result.now ≡ length jobs =
+    let found : answers ≡ map answer_of jobs = c.in-Ok-answers.ensures.answers ∙ ap (map answer_of) same in
+    let here : c.deref-in-Ok-answers.result.now ≡ answers = search rules in
+    let many : length c.deref-in-Ok-answers.result.now ≡ length jobs =
     ap length here ∙ ap length found ∙ length-map jobs answer_of in
     record { few = omega (arith, c.requires.records, many, c.in-Ok.ensures.few) }
 
-pub returns-clause-counted : goal.returns-clause-counted
-returns-clause-counted g c =
+pub returns-in-Ok-answers-clause-counted : goal.returns-in-Ok-answers-clause-counted
+returns-in-Ok-answers-clause-counted g c =
     let trial = c.args.trial.now in
     let jobs = c.in-Ok.jobs.items in
-    let answers = c.in-Ok-map_batch.answers.items in
+    let answers = c.in-Ok-answers.answers.items in
     let same : c.deref.result.now ≡ jobs = search rules in
-    let found : answers ≡ map answer_of jobs = c.in-Ok-map_batch.ensures.answers ∙ ap (map answer_of) same in
+    let found : answers ≡ map answer_of jobs = c.in-Ok-answers.ensures.answers ∙ ap (map answer_of) same in
     batch_counted (answers_to trial.series trial.labelling c.args.done) answers
-    (answers_to trial.series trial.labelling (c.args.done + c.len.result)) jobs
+    (answers_to trial.series trial.labelling (c.args.done + c.len-more.result)) jobs
     c.args.count.now c.add_all.new.self c.requires.so_far (search rules) found (search rules)
 
-pub returns-clause-records : goal.returns-clause-records
-returns-clause-records g c =
+pub returns-in-Ok-answers-clause-records : goal.returns-in-Ok-answers-clause-records
+returns-in-Ok-answers-clause-records g c =
     let jobs = c.in-Ok.jobs.items in
-    let answers = c.in-Ok-map_batch.answers.items in
+    let answers = c.in-Ok-answers.answers.items in
     let same : c.deref.result.now ≡ jobs = search rules in
-    let found : answers ≡ map answer_of jobs = c.in-Ok-map_batch.ensures.answers ∙ ap (map answer_of) same in
-    let here : c.deref-2.result.now ≡ answers = search rules in
-    let many : length c.deref-2.result.now ≡ length jobs =
+    let found : answers ≡ map answer_of jobs = c.in-Ok-answers.ensures.answers ∙ ap (map answer_of) same in
+    let here : c.deref-in-Ok-answers.result.now ≡ answers = search rules in
+    let many : length c.deref-in-Ok-answers.result.now ≡ length jobs =
     ap length here ∙ ap length found ∙ length-map jobs answer_of in
-    omega (arith, c.add_all.ensures.records, c.requires.records, many, c.len.ensures)
+    omega (arith, c.add_all.ensures.records, c.requires.records, many, c.len-more.ensures)

@@ -5,7 +5,7 @@ use Rattle.cip_make.proofs.chain.branches.Goals as goal
 
 pub loop-at-preserved : goal.loop-at-preserved
 loop-at-preserved c =
-    let added = c.in_ok-push_branch.ensures in
+    let added = c.in-Ok-push_branch.ensures in
     record {
       so_far = next c.args.chain c.loop-at.at c.next_word-word.result c.loop-at.generator c.next_word-word.new.self
           c.loop-at.found.items c.push_branch.new.found.items _

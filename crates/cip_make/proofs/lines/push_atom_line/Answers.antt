@@ -14,8 +14,8 @@ returns c =
     let first : c.push_coordinate.new.line.items ≡ text ++ x = search rules in
     let second : c.push_coordinate-2.new.line.items ≡ c.push_coordinate.new.line.items ++ y = search rules in
     let third : c.push_coordinate-3.new.line.items ≡ c.push_coordinate-2.new.line.items ++ z = search rules in
-    let named = c.in_ok-extend_from_slice.ensures.items
+    let named = c.in-Ok-extend_from_slice.ensures.items
     ∙ ap (λ symbol. c.push_coordinate-3.new.line.items ++ symbol) c.symbol.ensures in
     longer text (x ++ y ++ z ++ symbol c.args.element) (codes " 0  0  0  0  0  0  0  0  0  0  0  0\n") _ _
     (longer text (x ++ y ++ z) (symbol c.args.element) _ _ (longer text (x ++ y) z _ _ (longer text x y _ _ first second) third)
-    named) c.in_ok-extend_from_slice-2.ensures.items
+    named) c.in-Ok-extend_from_slice-2.ensures.items

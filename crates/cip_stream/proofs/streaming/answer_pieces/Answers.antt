@@ -6,7 +6,7 @@ use Rattle.cip_stream.specs.Halting.{AnswersHalted}
 use Rattle.cip_stream.specs.Reading.{Brings}
 use Rattle.cip_stream.specs.Verdicts.{clear}
 use Rattle.cip_stream.proofs.Ending.{bounded}
-use Rattle.cip_stream.proofs.Faults.{joined_fault, later_twice, rose_later}
+use Rattle.cip_stream.proofs.Faults.{answered_no_read_fault, brought_no_fault, brought_no_read_fault, joined_fault, later_twice, rose_later}
 use Rattle.cip_stream.proofs.Halting.{failed, halted, room_halted, stopped}
 use Rattle.cip_stream.proofs.Progressing.{Progress, begun, fed_piece, room_fed, turned}
 use Rattle.cip_stream.proofs.Turning.{as_many, less_room}
@@ -39,6 +39,14 @@ pub returns-in-Err-clause-answered : goal.returns-in-Err-clause-answered
 returns-in-Err-clause-answered g c =
     failed _ _ _ _ _ _ _ _ _ _ _ _ _ c.loop-count.invariant.progress c.feed_next.ensures.bounded
     c.in-Err.stop c.in-Err.ensures.brought
+
+pub returns-in-Err-clause-source_fault : goal.returns-in-Err-clause-source_fault
+returns-in-Err-clause-source_fault g c =
+    brought_no_read_fault c.loop-count.room c.in-Err.stop _ _ _ _ c.in-Err.ensures.brought
+
+pub returns-in-Err-clause-sink_fault : goal.returns-in-Err-clause-sink_fault
+returns-in-Err-clause-sink_fault g c =
+    brought_no_fault c.loop-count.room c.in-Err.stop _ _ _ _ c.in-Err.ensures.brought
 
 -- a piece
 
@@ -78,6 +86,16 @@ returns-in-Err-answer_waiting-clause-answered g c =
     c.loop-count.invariant.teller
     c.in-Err-answer_waiting.ensures.answered)
     (bounded _ _ _ _ _ _ _ _ _ _ _ _ c.loop-count.invariant.progress c.feed_next.ensures.bounded)
+
+pub returns-in-Err-answer_waiting-clause-source_fault : goal.returns-in-Err-answer_waiting-clause-source_fault
+returns-in-Err-answer_waiting-clause-source_fault g c =
+    answered_no_read_fault (g.T.Teller.manner c.loop-count.batch.teller) c.loop-count.batch.first
+    (c.loop-count.batch.records ++ c.feed_next.new.framer.waiting) c.in-Err-answer_waiting.stop _ _
+    c.in-Err-answer_waiting.ensures.answered
+
+pub returns-in-Err-answer_waiting-clause-sink_fault : goal.returns-in-Err-answer_waiting-clause-sink_fault
+returns-in-Err-answer_waiting-clause-sink_fault g c =
+    λ is. rose_later _ _ _ c.loop-count.invariant.sink_later (c.in-Err-answer_waiting.ensures.fault is)
 
 pub loop-count-preserved : goal.loop-count-preserved
 loop-count-preserved g c =

@@ -1,10 +1,13 @@
 use Rattle.cip_stream.proofs.Batches.{no_memory}
-use Rattle.cip_stream.proofs.Faults.{told_no_fault}
+use Rattle.cip_stream.proofs.Faults.{memory_no_fault, told_no_fault}
 use Rattle.cip_stream.proofs.writing.write_all.Goals as goal
 
 pub returns-in_default-clause-answered : goal.returns-in_default-clause-answered
 returns-in_default-clause-answered g c =
     λ manner number records is. no_memory manner number records (g.K.Sink.taken c.args.sink.now)
+
+pub returns-in_default-clause-fault : goal.returns-in_default-clause-fault
+returns-in_default-clause-fault g c = memory_no_fault
 
 pub returns-in-Ok-write_joined-clause-answered : goal.returns-in-Ok-write_joined-clause-answered
 returns-in-Ok-write_joined-clause-answered g c = λ manner number records is. record {

@@ -7,7 +7,7 @@ use Rattle.cip_collections.proofs.names.Names.push.Goals as goal
 pub returns-clause-added : goal.returns-clause-added
 returns-clause-added c =
     let keys = c.self.inside.set.keys in
-    c.in_ok-insert.ensures.keys
+    c.in-Ok.ensures.keys
     ∙ ap (λ found. cond found keys (keys ++ c.args.kind ∷ []))
     (any_same c.args.kind keys ∙ ap (λ ks. list_any (same_kind c.args.kind) ks) c.self.view_is ∙ c.requires.absent)
     ∙ ap (λ ks. ks ++ c.args.kind ∷ []) c.self.view_is

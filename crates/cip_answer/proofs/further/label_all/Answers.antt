@@ -5,7 +5,7 @@ use Rattle.cip_axis.specs.FurtherOutcomes.{further_outcome}
 use Rattle.cip_answer.specs.FurtherAnswers.{further_answer}
 use Rattle.cip_answer.proofs.UnitLists.{room_left}
 use Rattle.std.proofs.lemmas.Grind.{common_steps}
-use Rattle.cip_answer.proofs.further.label_each.Goals as goal
+use Rattle.cip_answer.proofs.further.label_all.Goals as goal
 
 pub loop-unit-preserved : goal.loop-unit-preserved
 loop-unit-preserved g c =

@@ -1,6 +1,6 @@
 use Rattle.std.proofs.Common.{◌≡◌, map, take}
 use Rattle.cip_answer.specs.FurtherAnswers.{further_answer}
-use Rattle.cip_answer.proofs.further.label_each.Given as goal
+use Rattle.cip_answer.proofs.further.label_all.Given as goal
 
 abbrev pub invariant-loop-unit : goal.invariant-loop-unit
 invariant-loop-unit g l = record {
