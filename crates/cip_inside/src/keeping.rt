@@ -1,5 +1,5 @@
 // Looks into a digraph of which those are kept that constitution leaves open.
-ghost use Rattle.std.specs.Prelude.{◌≡◌, ◌<◌, ◌≤◌, ◌+◌, ℕ, List, true, false, All, Contains, IfOk, IfSome, OnOk, Some, length, map, slice_get};
+ghost use Rattle.std.specs.Prelude.{◌≡◌, ◌<◌, ◌≤◌, ◌+◌, ℕ, List, true, false, All, Contains, IfOk, IfSome, OnOk, Some, length, slice_get};
 ghost use Rattle.std.specs.declared.option.Option.{Option};
 ghost use Rattle.cip_aux.specs.Inner.{Ready};
 ghost use Rattle.cip_aux.specs.Marking.{AreSeenTurns};
@@ -12,7 +12,6 @@ ghost use Rattle.cip_inside.specs.Asking.{asked_pairs};
 ghost use Rattle.cip_inside.specs.Narrowing.{LeavesOpen, open_tops};
 ghost use Rattle.cip_inside.specs.Near.{ArePlaced, AreTops, asked_tops};
 ghost use Rattle.cip_inside.specs.OpenLooks.{Look as AnyLook, AreOpen, Asks, IsOpen, look_of, looked_at};
-ghost use Rattle.cip_inside.specs.declared.open_looks.OpenLook.{OpenLook as OpenedLook};
 
 use crate::asking::ask_all;
 use crate::narrowing::{MOST_LIGANDS, Tops, move_all, open_tops};
@@ -80,8 +79,8 @@ fn reopen<N: Nodes>(near: &mut Near, whole: &Whole<'_, N>, look: &mut OpenLook)
     near.restore(&look.ranks);
 }
 
-// Goes on with an open look from where constitution left its branches, by the descriptors that count.
-fn go_on<N: Nodes>(
+/// Goes on with an open look from where constitution left its branches, by the descriptors that count.
+pub fn go_on<N: Nodes>(
     alloc: Global,
     near: &mut Near,
     inner: &Inner<'_, N>,
@@ -326,23 +325,4 @@ pub fn look_first<N: Nodes>(
     let found = look_at(alloc, near, inner, asked, pairs.as_mut_slice(), kept);
     drop(pairs);
     found
-}
-
-/// Goes on with the look at a place of those that are kept.
-pub fn look_again<N: Nodes>(
-    alloc: Global,
-    near: &mut Near,
-    inner: &Inner<'_, N>,
-    looks: &mut [OpenLook],
-    place: usize,
-) -> Result<FoundTurns, AllocError>
-    requires place { place < length looks.old }
-    requires ready { (look : OpenedLook) → slice_get looks.old place ≡ Some look → Ready inner.now look.node }
-    requires open { AreOpen near.old.bound inner.now.sight (map look_of looks.old) }
-    ensures turns { (look : OpenedLook) → slice_get looks.old place ≡ Some look
-        → IfOk result (AreSeenTurns inner.now look.node look.ligands.items) }
-    ensures open { AreOpen near.old.bound inner.now.sight (map look_of looks.new) }
-    ensures near { near.new.bound ≡ near.old.bound }
-{
-    go_on(alloc, near, inner, &mut looks[place])
 }

@@ -1,11 +1,10 @@
-use Rattle.std.proofs.Common.{◌≡◌, ◌<◌, ◌≤◌, length}
+use Rattle.std.proofs.Common.{◌≡◌, ◌<◌, length}
 use Rattle.cip_rank.specs.View.{on_way}
-use Rattle.cip_inside.proofs.marks_inside.climb_to.Given as goal
+use Rattle.cip_inside.proofs.marks_inside.is_below.Given as goal
 
 abbrev pub invariant-loop-at : goal.invariant-loop-at
 invariant-loop-at l = record {
   within : l.at < length l.table.parents;
-  low : l.at ≤ l.node;
   same : on_way l.table.parents l.at l.from ≡ on_way l.table.parents l.node l.from;
 }
 
