@@ -1,5 +1,5 @@
 // Roots whose digraph is grown anew.
-ghost use Rattle.std.specs.Prelude.{◌≡◌, ◌≤◌, ◌∷◌, [], IfOk, OnOk};
+ghost use Rattle.std.specs.Prelude.{◌≡◌, ◌≤◌, ◌∷◌, [], IfOk};
 ghost use Rattle.cip_constitution.specs.FollowedOut.{AreFollowedOut};
 ghost use Rattle.cip_constitution.specs.Noting.{Notes};
 ghost use Rattle.cip_constitution.specs.Pairs.{pairs_of};
@@ -10,9 +10,9 @@ ghost use Rattle.cip_label.specs.Standing.{RankedAs};
 ghost use Rattle.cip_label.specs.declared.digraphs.Ranking.TheVariants.{Known};
 ghost use Rattle.cip_label.specs.Steps.{Rises};
 ghost use Rattle.cip_desk.specs.Desks.{settled_by};
-ghost use Rattle.cip_desk.specs.Keeping.{FoundAs, HaveRoom, StandsAnyway, kept_of, ranking_in};
+ghost use Rattle.cip_desk.specs.Keeping.{FoundAs, HaveRoom, kept_of, ranking_in};
 ghost use Rattle.cip_desk.specs.Rooting.{HasRoom, IsRooted};
-ghost use Rattle.cip_desk.specs.Standing.{both_as, standing_of};
+ghost use Rattle.cip_desk.specs.Standing.{standing_of};
 
 use crate::bench::Bench;
 use crate::branches::{Branches, take_noted};

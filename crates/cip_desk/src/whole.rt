@@ -1,11 +1,9 @@
 // Roots that are ranked by their whole digraph.
-ghost use Rattle.std.specs.Prelude.{◌≡◌, ◌<◌, ◌≤◌, ◌^◌, ℕ, true, false, List, length, slice_index, IfOk, OnOk};
+ghost use Rattle.std.specs.Prelude.{◌≡◌, ◌<◌, ◌≤◌, ◌^◌, false, length, IfOk, OnOk};
 ghost use Rattle.std.specs.List.{list_all};
-ghost use Rattle.cip_aux.specs.Marking.{AreMarked, AreWanted, flag_at};
+ghost use Rattle.cip_aux.specs.Marking.{AreMarked, AreWanted};
 ghost use Rattle.cip_aux.specs.Sights.{sight_of};
-ghost use Rattle.cip_branches.specs.Deciding.{AreFollowed};
 ghost use Rattle.cip_branches.specs.Saving.{saved_of};
-ghost use Rattle.cip_branches.specs.Standing.{WantedIn};
 ghost use Rattle.cip_constitution.specs.FollowedOut.{AreConstituted, AreFollowedOut};
 ghost use Rattle.cip_constitution.specs.Pairs.{pairs_of};
 ghost use Rattle.cip_constitution.specs.Settling.{SettledAs};
@@ -14,7 +12,6 @@ ghost use Rattle.cip_label.specs.Standing.{RankedAs};
 ghost use Rattle.cip_label.specs.declared.digraphs.Ranking.TheVariants.{Known};
 ghost use Rattle.cip_letters.specs.Asking.{is_decided};
 ghost use Rattle.cip_ligands.specs.Taking.{AreSame};
-ghost use Rattle.cip_rows.specs.Keys.{AreKeyed};
 ghost use Rattle.cip_desk.specs.Desks.{settled_by};
 ghost use Rattle.cip_desk.specs.Keeping.{FoundAs, kept_of, ranking_in};
 ghost use Rattle.cip_desk.specs.Rooting.{HasRoom, IsRooted, HaveMarks, HaveTurns, whole_at};
@@ -32,7 +29,7 @@ use cip_inside::Sights;
 use cip_label::{Ranking, Setting};
 use cip_letters::Descriptors;
 use cip_ligands::Readings;
-use cip_rank::{Table, both, both_of};
+use cip_rank::{both, both_of};
 use std::alloc::{AllocError, Global};
 
 /// So many nodes have the digraphs that cost much to follow and to look into, or only to grow.
@@ -102,21 +99,7 @@ pub fn is_costly(arena: &Arena, setting: &Setting<'_>, found: Found) -> bool {
         && setting.units().as_slice().len() > 1
 }
 
-// Flags the nodes in those branches that are wanted still, and all nodes below them.
-fn flag_nodes(work: &Work, table: &Table, flags: &mut [bool])
-    requires len { length flags.old ≡ length table.now.parents }
-    requires followed { AreFollowed work.now.branched }
-    requires keyed { AreKeyed (length flags.old) work.now.branched.layers.kin }
-    ensures below { AreWanted table.now.parents flags.new }
-    ensures flagged { (t place : ℕ) → WantedIn work.now.branched t place
-        → flag_at flags.new (slice_index work.now.branched.layers.kin.nodes place) ≡ true }
-    ensures len { length flags.new ≡ length flags.old }
-{
-    work.flag_wanted(flags);
-    flag_below(table, flags);
-}
-
-// Finds the descriptors inside those branches that are wanted still.
+// Finds the descriptors inside those branches that are wanted still, at all nodes in them and below.
 fn find_marks(
     alloc: Global,
     rooted: &Rooted<'_, '_>,
@@ -139,7 +122,9 @@ fn find_marks(
     let Ok(mut flags) = vec![in alloc; false; rooted.arena.len() as usize] else {
         return Err(AllocError);
     };
-    flag_nodes(work, rooted.arena.table(), flags.as_mut_slice());
+    let wanted = flags.as_mut_slice();
+    work.flag_wanted(wanted);
+    flag_below(rooted.arena.table(), wanted);
     let found = find_flagged(alloc, rooted, flags.as_slice(), tables);
     drop(flags);
     found
