@@ -54,7 +54,9 @@ fn push_from(
 {
     for edge in source.graph.edges_at(a) {
         if edge.order == 2 {
-            push_over(alloc, source, a, edge.other_end(a), reached, units)?;
+            let Ok(()) = push_over(alloc, source, a, edge.other_end(a), reached, units) else {
+                return Err(AllocError);
+            };
         }
     }
     Ok(())
@@ -80,8 +82,13 @@ fn push_over(
     if leads_on(source.graph, a, next) {
         // Reading the vertices tells that there are few.
         let _count = source.graph.vertices().len();
-        let chain = chain_over(alloc, source.graph, a, next)?;
-        if is_cumulene(source.graph, &chain, reached)? {
+        let Ok(chain) = chain_over(alloc, source.graph, a, next) else {
+            return Err(AllocError);
+        };
+        let Ok(is_unit) = is_cumulene(source.graph, &chain, reached) else {
+            return Err(AllocError);
+        };
+        if is_unit {
             let unit = cumulene_unit(source.molecule, source.graph, &chain);
             units.push(unit)
         } else {
@@ -97,19 +104,14 @@ fn is_cumulene(graph: &Graph, chain: &[u32], reached: &mut VertexSet) -> Result<
     ensures { IfOk result (λ found. found ≡ is_cumulene graph.now chain.now) }
 {
     if can_be_cumulene(graph, chain) {
-        Ok(!lies_in_ring(graph, chain, reached)?)
+        // One bond is asked: a ring through the first goes through all.
+        match is_in_ring(graph, chain[0], chain[1], reached) {
+            Ok(lies_in_ring) => Ok(!lies_in_ring),
+            Err(error) => Err(error),
+        }
     } else {
         Ok(false)
     }
-}
-
-// Whether a bond of a chain lies in a ring. One is asked: a ring through the first goes through all.
-fn lies_in_ring(graph: &Graph, chain: &[u32], reached: &mut VertexSet) -> Result<bool, AllocError>
-    requires some { 2 ≤ length chain.now }
-    requires rings { any_bond (is_in_ring graph.now) chain.now ≡ first_in_ring graph.now chain.now }
-    ensures { IfOk result (λ found. found ≡ any_bond (is_in_ring graph.now) chain.now) }
-{
-    is_in_ring(graph, chain[0], chain[1], reached)
 }
 
 // Whether a chain is a unit if it lies in no ring.

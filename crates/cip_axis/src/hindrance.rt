@@ -1,7 +1,6 @@
 // Neighbours that leave an axis no room to turn.
 ghost use Rattle.std.specs.Prelude.{◌≡◌, ◌≤◌, length};
 ghost use Rattle.cip_digraph.specs.graph.Graph.{edges_at};
-ghost use Rattle.cip_digraph.specs.rings.Alternating.{is_in};
 ghost use Rattle.cip_axis.specs.Biaryls.{hindered_at, is_hindered, stands_beside};
 ghost use Rattle.cip_axis.specs.Listing.{beside_along, is_hindered_outside};
 
