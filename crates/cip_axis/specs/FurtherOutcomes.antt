@@ -1,6 +1,6 @@
 -- What is found of further units: as of the bond or axis unit that each is like, in digraphs that are ranked with the
 -- units of the record alone. IUPAC 2013, P-93; that further units put no descriptors into digraphs is own.
-use Rattle.std.specs.Prelude.{ℕ, List, All}
+use Rattle.std.specs.Prelude.{ℕ, List, map, All}
 use Rattle.cip_rank.specs.declared.rules.Rules.{Rules}
 use Rattle.cip_mol.specs.Drawing.{Drawing}
 use Rattle.cip_mol.specs.declared.outcome.Outcome.{Outcome}

@@ -1,7 +1,7 @@
 use Rattle.std.proofs.Common.{◌≡◌, ◌++◌, drop}
 use Rattle.cip_digraph.specs.graph.Graph.{edges_at}
 use Rattle.cip_axis.specs.Listing.{cumulenes_along}
-use Rattle.cip_axis.proofs.cumulenes.push_from.Given as goal
+use Rattle.cip_axis.proofs.cumulenes.push_cumulenes.Given as goal
 
 abbrev pub invariant-loop-edge : goal.invariant-loop-edge
 invariant-loop-edge l =
