@@ -1,4 +1,5 @@
 use Rattle.std.proofs.Common.{◌≡◌, ◌∙◌, ap, sym, subst, arith, true, Bool, List, length, map, replicate, [], rules}
+use Rattle.std.proofs.lemmas.List.Elements.{All-nil}
 use Rattle.cip_digraph.specs.digraph.NodeList.{parents_of}
 use Rattle.cip_aux.specs.KeptTurns.{AreKept, sites_in}
 use Rattle.cip_aux.specs.Marking.{node_mark, flag_at, AreMarked, AreWanted}
@@ -50,7 +51,7 @@ returns-clause-marks g c =
 pub auxiliaries-found-requires-clause-stands : goal.auxiliaries-found-requires-clause-stands
 auxiliaries-found-requires-clause-stands g c =
     subst (λ (room : Room). AreOpen room.bound (sight_of c.args.whole.now) room.looks) (sym c.begin.ensures) (record
-    { room = c.requires.room; each = search rules })
+    { room = c.requires.room; each = All-nil _ })
 
 pub returns-clause-room : goal.returns-clause-room
 returns-clause-room g c = c.auxiliaries-found.ensures.room ∙ ap (λ (room : Room). room.bound) c.begin.ensures
