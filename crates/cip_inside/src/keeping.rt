@@ -245,36 +245,7 @@ fn keep<N: Nodes>(
     kept.push(look)
 }
 
-// Goes on with a look that constitution leaves open, and keeps it where there is room.
-fn look_on<N: Nodes>(
-    alloc: Global,
-    near: &mut Near,
-    inner: &Inner<'_, N>,
-    asked: &Look<'_>,
-    pairs: &mut [Asked],
-    kept: &mut OpenLooks,
-) -> Result<FoundTurns, AllocError>
-    requires ready { Ready inner.now asked.now.node }
-    requires tops { near.old.tops ≡ asked_tops (parents_of inner.now.sight.told) asked.now.ligands.now asked.now.node }
-    requires left { LeavesOpen inner.now.sight asked.now.node near.old.tops near.old.now pairs.old
-        asked.now.ligands.now }
-    requires open { AreOpen near.old.bound inner.now.sight kept.old }
-    ensures turns { IfOk result (AreSeenTurns inner.now asked.now.node asked.now.ligands.now) }
-    ensures open { AreOpen near.old.bound inner.now.sight kept.new }
-    ensures near { near.new.bound ≡ near.old.bound }
-{
-    if kept.has_room(near.len()) {
-        let place = kept.len();
-        let Ok(()) = keep(alloc, near, inner.whole(), asked, pairs, kept) else {
-            return Err(AllocError);
-        };
-        kept.go_on(alloc, near, inner, place)
-    } else {
-        configured(alloc, near, inner, asked.node, pairs)
-    }
-}
-
-// Looks by branches that were begun.
+// Looks by branches that were begun. A look that constitution leaves open is kept where there is room, and goes on.
 fn look_at<N: Nodes>(
     alloc: Global,
     near: &mut Near,
@@ -293,12 +264,19 @@ fn look_at<N: Nodes>(
     ensures open { AreOpen near.old.bound inner.now.sight kept.new }
     ensures near { near.new.bound ≡ near.old.bound }
 {
+    let whole = inner.whole();
     if near.is_empty() {
         Ok(FoundTurns::of(pairs, pairs, true))
-    } else if near.constitution(inner.whole(), asked.node, pairs) {
+    } else if near.constitution(whole, asked.node, pairs) {
         Ok(FoundTurns::of(pairs, pairs, true))
+    } else if kept.has_room(near.len()) {
+        let place = kept.len();
+        let Ok(()) = keep(alloc, near, whole, asked, pairs, kept) else {
+            return Err(AllocError);
+        };
+        kept.go_on(alloc, near, inner, place)
     } else {
-        look_on(alloc, near, inner, asked, pairs, kept)
+        configured(alloc, near, inner, asked.node, pairs)
     }
 }
 
