@@ -37,6 +37,14 @@ stands_open bound sight other look is near room e same pairs are =
     (ap (λ (n : Nearing). n.tops) e ∙ ap (λ (s : Sight). looked_at s look) same)
     (ap (λ (n : Nearing). n.now) e ∙ stood bound sight look is) are
 
+-- branches that were begun and swapped stand as their ranks were set aside
+pub stood_again : (old begun swapped again : Nearing) (tops : List ℕ) (branches : Branched) (ranks : Saved)
+    → begun ≡ record old { tops = tops } → swapped ≡ record begun { now = branches }
+    → again ≡ record swapped { now = restored ranks swapped.now }
+    → again ≡ record { bound = old.bound; tops = tops; now = restored ranks branches }
+stood_again old begun swapped again tops branches ranks e f g =
+    g ∙ (λ i. record (f i) { now = restored ranks (f i).now }) ∙ (λ i. record (e i) { now = restored ranks branches })
+
 -- and a look whose branches have other ranks since is open still
 pub open_still : (bound : ℕ) (sight : Sight) (look later : Look) → IsOpen bound sight look → (now then : Branched)
     → now ≡ restored look.ranks look.branched → AreSame now then → then.layers.kin.room ≡ bound

@@ -5,13 +5,13 @@ ghost use Rattle.cip_aux.specs.Inner.{Ready};
 ghost use Rattle.cip_aux.specs.Marking.{AreSeenTurns};
 ghost use Rattle.cip_aux.specs.Neighbours.{neighbours_of};
 ghost use Rattle.cip_aux.specs.Sights.{IsReal, sight_of};
-ghost use Rattle.cip_branches.specs.Saving.{restored, saved_of};
+ghost use Rattle.cip_branches.specs.Saving.{saved_of};
 ghost use Rattle.cip_digraph.specs.digraph.NodeList.{parents_of};
 ghost use Rattle.cip_ligands.specs.Taking.{AreSame};
 ghost use Rattle.cip_inside.specs.Asking.{asked_pairs};
 ghost use Rattle.cip_inside.specs.Narrowing.{LeavesOpen, open_tops};
 ghost use Rattle.cip_inside.specs.Near.{ArePlaced, AreTops, asked_tops};
-ghost use Rattle.cip_inside.specs.OpenLooks.{Look as AnyLook, AreOpen, Asks, IsOpen, look_of, looked_at};
+ghost use Rattle.cip_inside.specs.OpenLooks.{Look as AnyLook, AreOpen, Asks, IsOpen, look_of};
 
 use crate::asking::ask_all;
 use crate::narrowing::{MOST_LIGANDS, Tops, move_all, open_tops};
@@ -61,24 +61,6 @@ fn configured<N: Nodes>(
     Ok(found)
 }
 
-// Lets the branches of an open look stand as constitution left them.
-fn reopen<N: Nodes>(near: &mut Near, whole: &Whole<'_, N>, look: &mut OpenLook)
-    requires bound { length whole.now.told ≤ near.old.bound }
-    requires node { look.old.node < length whole.now.told }
-    requires open { IsOpen near.old.bound (sight_of whole.now) (look_of look.old) }
-    ensures near { near.new ≡ record {
-      bound = near.old.bound;
-      tops = looked_at (sight_of whole.now) (look_of look.old);
-      now = restored look.old.ranks look.old.branches;
-    } }
-    ensures look { look.new ≡ record look.old { branches = near.old.now } }
-    ensures room { look.new.branches.layers.kin.room ≡ near.new.bound }
-{
-    near.begin(whole, look.node, look.tops.as_slice());
-    near.swap(&mut look.branches);
-    near.restore(&look.ranks);
-}
-
 /// Goes on with an open look from where constitution left its branches, by the descriptors that count.
 pub fn go_on<N: Nodes>(
     alloc: Global,
@@ -98,7 +80,10 @@ pub fn go_on<N: Nodes>(
         return Err(AllocError);
     };
     let node = look.node;
-    reopen(near, inner.whole(), look);
+    // its branches stand again as constitution left them
+    near.begin(inner.whole(), node, look.tops.as_slice());
+    near.swap(&mut look.branches);
+    near.restore(&look.ranks);
     let found = configured(alloc, near, inner, node, pairs.as_mut_slice());
     drop(pairs);
     near.swap(&mut look.branches);
