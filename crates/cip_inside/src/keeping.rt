@@ -90,36 +90,6 @@ pub fn go_on<N: Nodes>(
     found
 }
 
-// Asks about the same pairs by the branches of open ones alone, and hands back the tops of these.
-fn look_anew<N: Nodes>(
-    alloc: Global,
-    near: &mut Near,
-    whole: &Whole<'_, N>,
-    asked: &Look<'_>,
-    before: &[u32],
-    pairs: &mut [Asked],
-) -> Result<Tops, AllocError>
-    requires room { length whole.now.told ≤ near.old.bound }
-    requires node { asked.now.node < length whole.now.told }
-    requires real { IsReal (sight_of whole.now).nodes asked.now.node }
-    requires before { before.now ≡ near.old.tops }
-    requires tops { near.old.tops ≡ asked_tops (parents_of whole.now.told) asked.now.ligands.now asked.now.node }
-    requires left { LeavesOpen (sight_of whole.now) asked.now.node near.old.tops near.old.now pairs.old
-        asked.now.ligands.now }
-    ensures tops { IfOk result (λ tops. near.new.tops ≡ asked_tops (parents_of whole.now.told) tops.items asked.now.node) }
-    ensures left { IfOk result (λ tops. LeavesOpen (sight_of whole.now) asked.now.node near.new.tops near.new.now pairs.new
-        asked.now.ligands.now) }
-    ensures bound { near.new.bound ≡ near.old.bound }
-{
-    let Ok(open) = open_tops(alloc, before, pairs) else {
-        return Err(AllocError);
-    };
-    near.begin(whole, asked.node, open.as_slice());
-    move_all(near, before, pairs);
-    near.constitution(whole, asked.node, pairs);
-    Ok(open)
-}
-
 // Begins anew with the branches of open pairs alone where the others hold most places, so that these needn't be kept.
 // Hands back the tops of the branches that are left.
 fn narrowed<N: Nodes>(
@@ -144,9 +114,15 @@ fn narrowed<N: Nodes>(
         let Ok(before) = SmallVec::<u32, MOST_LIGANDS>::from_slice(alloc, near.tops()) else {
             return Err(AllocError);
         };
-        let open = look_anew(alloc, near, whole, asked, before.as_slice(), pairs);
+        let earlier = before.as_slice();
+        let Ok(open) = open_tops(alloc, earlier, pairs) else {
+            return Err(AllocError);
+        };
+        near.begin(whole, asked.node, open.as_slice());
+        move_all(near, earlier, pairs);
         drop(before);
-        open
+        near.constitution(whole, asked.node, pairs);
+        Ok(open)
     } else {
         Tops::from_slice(alloc, asked.ligands)
     }
