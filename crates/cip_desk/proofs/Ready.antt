@@ -7,11 +7,12 @@ use Rattle.cip_label.specs.declared.digraphs.Ranking.{Ranking}
 use Rattle.cip_letters.specs.declared.asked.Asked.{Asked}
 use Rattle.cip_mol.specs.declared.site.Ligand.{Ligand}
 use Rattle.std.specs.Prelude.{List}
-use Rattle.cip_desk.specs.Keeping.{FoundAs, KeptAs, StandsAnyway, kept_of}
+use Rattle.cip_desk.specs.Keeping.{FoundAs, HaveRoom, IsOpen, IsReady, KeptAs, StandsAnyway, kept_of}
 use Rattle.cip_desk.specs.Standing.{Standing, both_as, standing_of}
 use Rattle.cip_desk.specs.declared.bench.Bench.{Bench}
 use Rattle.cip_desk.specs.declared.kept_root.KeptRoot.{KeptRoot}
 use Rattle.cip_desk.specs.declared.memo.Found.{Found}
+use Rattle.cip_desk.specs.declared.memo.Found.TheVariants.{Open}
 
 pub found_kept : (bench : Bench) (found : Found) (kept : KeptRoot) → bench.memo.found ≡ Some found
     → bench.memo.root ≡ Some kept → KeptAs bench bench.memo.found bench.memo.root
@@ -29,3 +30,14 @@ told_ranked setting root ligands bound noted ranking standing proper told natura
     let are : standing ≡ both_as noted = λ i. record { natural = natural i; turned = turned i } in
     subst (λ (s : Standing). RankedAs setting bound root ligands (standing_of s) ranking) (sym are)
     (told.each setting.units proper.sites)
+
+-- an open root that is kept, whose branches stand as they were set aside
+pub open_ready : (bound : ℕ) (bench : Bench) (found : Found) (kept : KeptRoot) → HaveRoom bound bench
+    → bench.memo.found ≡ Some found → bench.memo.root ≡ Some kept → found ≡ Open
+    → IsOpen kept bench.arena bench.work bench.tables → IsReady bound bench
+open_ready bound bench found kept room some root is stands = record {
+  room = room;
+  kept = subst (λ (found : Option Found). KeptAs bench found bench.memo.root) (sym some)
+      (subst (λ (root : Option KeptRoot). KeptAs bench (Some found) root) (sym root)
+      (subst (FoundAs kept bench.arena bench.work bench.tables) (sym is) stands));
+}
