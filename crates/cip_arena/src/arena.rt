@@ -1,13 +1,12 @@
 // The digraph of a root, grown sphere by sphere in memory that was reserved.
-ghost use Rattle.std.specs.Prelude.{◌≡◌, ◌<◌, ◌≤◌, ◌+◌, ◌-◌, ◌^◌, ℕ, List, [], ◌∷◌, ◌++◌, cond, length, replicate};
+ghost use Rattle.std.specs.Prelude.{◌≡◌, ◌<◌, ◌≤◌, ◌+◌, ◌-◌, ℕ, List, [], ◌∷◌, ◌++◌, cond, length, replicate};
 ghost use Rattle.std.specs.Prelude.{unwrap_or, IfOk};
 ghost use Rattle.cip_rank.specs.Tree.{last_parent};
-ghost use Rattle.cip_digraph.specs.graph.Graph.{other_end as end_of};
 ghost use Rattle.cip_digraph.specs.digraph.Digraph.{children, digraph};
 ghost use Rattle.cip_digraph.specs.digraph.NodeList.{told_at, parents_of};
 ghost use Rattle.cip_digraph.specs.digraph.Telling.{node_at};
 ghost use Rattle.cip_arena.specs.Walk.{walk, is_above as stands_above, vertex_above as parent_vertex, Keeps};
-ghost use Rattle.cip_arena.specs.Making.{neighbours_told, with_neighbour, with_edge, with_children, with_sphere};
+ghost use Rattle.cip_arena.specs.Making.{with_neighbour, with_edge, with_children, with_sphere};
 ghost use Rattle.cip_arena.specs.Making.{edge_size as size_of_edge, node_size as size_of_node, size_upto};
 ghost use Rattle.cip_arena.specs.Growth.{Holds, GrownAs};
 

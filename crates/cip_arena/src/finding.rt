@@ -1,15 +1,8 @@
 // The way from a node up to the root.
-ghost use Rattle.std.specs.Prelude.{◌≡◌, ◌<◌, ◌≤◌, ◌==◌, ℕ, suc, length, IfSome};
+ghost use Rattle.std.specs.Prelude.{◌≡◌, ◌<◌, ◌≤◌, ◌==◌, length, IfSome};
 ghost use Rattle.cip_arena.specs.Walk.{walk, is_above as stands_above, vertex_above as parent_vertex, IsEarlier, IsMarked};
 
-use crate::presence::may_stand;
 use cip_digraph::Told;
-
-fn has_vertex(told: &Told, vertex: u32) -> bool
-    ensures { result ≡ (told.now.vertex == vertex) }
-{
-    told.vertex == vertex
-}
 
 // Looks at one node after the other.
 #[tactic(auto, using(crate::proofs::Walked::step_up, crate::proofs::Walked::found_here, crate::proofs::Walked::none_at_root))]
@@ -22,12 +15,12 @@ fn find_on(nodes: &[Told], node: u32, vertex: u32) -> Option<u32>
     let mut at = node;
     while at != 0 {
         let told = &nodes[at as usize];
-        if has_vertex(told, vertex) {
+        if told.vertex == vertex {
             return Some(at);
         }
         at = told.parent;
     }
-    if has_vertex(&nodes[0], vertex) {
+    if nodes[0].vertex == vertex {
         Some(0)
     } else {
         None
@@ -43,10 +36,9 @@ pub fn find_above(nodes: &[Told], present: &[bool], node: u32, vertex: u32) -> O
     ensures found { result ≡ walk nodes.now node vertex }
     ensures low { IfSome result (λ at. at ≤ node) }
 {
-    if may_stand(present, vertex) {
-        find_on(nodes, node, vertex)
-    } else {
-        None
+    match present.get(vertex as usize) {
+        Some(false) => None,
+        _ => find_on(nodes, node, vertex),
     }
 }
 
@@ -59,7 +51,7 @@ pub fn is_above(nodes: &[Told], node: u32, vertex: u32) -> bool
     if node == 0 {
         false
     } else {
-        has_vertex(&nodes[nodes[node as usize].parent as usize], vertex)
+        nodes[nodes[node as usize].parent as usize].vertex == vertex
     }
 }
 

@@ -1,16 +1,6 @@
 // Which vertices may have a node: where a vertex has none, no way up has to be searched for it.
-ghost use Rattle.std.specs.Prelude.{◌≡◌, ◌≤◌, true, slice_index_or, vec_capacity};
+ghost use Rattle.std.specs.Prelude.{◌≡◌, ◌≤◌, true, vec_capacity};
 ghost use Rattle.cip_arena.specs.Walk.{with_mark};
-
-/// Whether a vertex may have a node: its flag is set, or stands beyond the column.
-pub fn may_stand(flags: &[bool], vertex: u32) -> bool
-    ensures { result ≡ slice_index_or flags.now vertex true }
-{
-    match flags.get(vertex as usize) {
-        Some(flag) => *flag,
-        None => true,
-    }
-}
 
 /// Sets the flag of a vertex, where the column reaches so far.
 pub fn mark_vertex(flags: &mut Vec<bool>, vertex: u32)

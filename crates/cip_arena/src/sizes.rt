@@ -1,5 +1,5 @@
 // How many nodes the next sphere has, before any is made.
-ghost use Rattle.std.specs.Prelude.{◌≡◌, ◌<◌, ◌≤◌, ◌+◌, ◌-◌, ◌*◌, ◌^◌, ℕ, cond, length, IfSome, IfNone};
+ghost use Rattle.std.specs.Prelude.{◌≡◌, ◌<◌, ◌≤◌, ◌+◌, ◌-◌, ◌^◌, cond, length, IfSome, IfNone};
 ghost use Rattle.cip_arena.specs.Walk.{IsEarlier};
 ghost use Rattle.cip_arena.specs.Making.{edge_size as size_of_edge, node_size as size_of_node};
 ghost use Rattle.cip_arena.specs.Making.{real_vertex as vertex_if_real, size_upto};

@@ -1,5 +1,5 @@
 // What is told of one node.
-ghost use Rattle.std.specs.Prelude.{◌≡◌, ◌<◌, ◌≤◌, ◌+◌, ◌-◌, ◌*◌, ◌/◌, ◌^◌, ℕ, length, sum, map};
+ghost use Rattle.std.specs.Prelude.{◌≡◌, ◌<◌, ◌≤◌, ◌+◌, ◌-◌, ◌*◌, ◌/◌, ◌^◌, length, sum, map};
 ghost use Rattle.cip_arena.specs.Walk.{comes_from};
 ghost use Rattle.cip_arena.specs.Making.{real_told, closure_told, duplicate_told};
 ghost use Rattle.cip_digraph.specs.graph.Graph.{vertex_at, other_end as end_of};

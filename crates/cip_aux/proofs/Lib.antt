@@ -11,7 +11,6 @@ pub mod ReadyNodes
 pub mod RootTurns
 pub mod RootView
 pub mod RootsAt
-pub mod Rows
 pub mod SitesJoin
 pub mod Subtrees
 pub mod Told

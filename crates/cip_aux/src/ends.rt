@@ -115,34 +115,6 @@ fn ends_turns<N: Nodes, V: Viewer>(
     }
 }
 
-// The turns of a unit with two ends, where a vertex is one of them: that end is the nearer one.
-fn two_ends<N: Nodes, V: Viewer>(
-    alloc: Global,
-    inner: &Inner<'_, N>,
-    viewer: &mut V,
-    vertex: u32,
-    ends: &TwoEnds<'_>,
-) -> Result<FoundTurns, AllocError>
-    requires ready { Ready inner.now inner.now.from }
-    requires vertex { vertex ≡ (node_at inner.now.sight.nodes inner.now.from).vertex }
-    requires onwards { Joins inner.now.sight.graph ends.now.near.at ends.now.between ends.now.far.at }
-    requires back { Joins inner.now.sight.graph ends.now.far.at ends.now.between ends.now.near.at }
-    requires stands { V.stands viewer.old inner.now.sight }
-    ensures room { V.room viewer.new ≡ V.room viewer.old }
-    ensures stands { V.stands viewer.new inner.now.sight }
-    ensures turns { IfOk result (λ found. AreEndTurns inner.now inner.now.from found.by_constitution
-        (option_to_list ends.now.between) (nearer_first vertex (as_end ends.now.near ∷ as_end ends.now.far ∷ []))
-        found.turns) }
-{
-    if ends.near.at == vertex {
-        ends_turns(alloc, inner, viewer, ends)
-    } else if ends.far.at == vertex {
-        ends_turns(alloc, inner, viewer, &ends.reversed())
-    } else {
-        Ok(no_turns())
-    }
-}
-
 /// The turns of a unit at the nearer of its ends, seen from the node, whose vertex this is.
 pub fn unit_turns<N: Nodes, V: Viewer>(
     alloc: Global,
@@ -168,6 +140,15 @@ pub fn unit_turns<N: Nodes, V: Viewer>(
                 Ok(no_turns())
             }
         }
-        Ends::Two(_, two) => two_ends(alloc, inner, viewer, vertex, two),
+        // the end that is this vertex is the nearer one
+        Ends::Two(_, ends) => {
+            if ends.near.at == vertex {
+                ends_turns(alloc, inner, viewer, ends)
+            } else if ends.far.at == vertex {
+                ends_turns(alloc, inner, viewer, &ends.reversed())
+            } else {
+                Ok(no_turns())
+            }
+        }
     }
 }

@@ -4,7 +4,7 @@ ghost use Rattle.cip_digraph.specs.digraph.NodeList.{told_at, parents_of};
 ghost use Rattle.cip_digraph.specs.digraph.Telling.{node_at};
 ghost use Rattle.cip_digraph.specs.units.Units.{sites_of};
 ghost use Rattle.cip_aux.specs.KeptTurns.{AreKept, sites_in};
-ghost use Rattle.cip_aux.specs.Marking.{UnitsJoin, node_mark, flag_at, AreMarked, AreInner, AreWanted};
+ghost use Rattle.cip_aux.specs.Marking.{UnitsJoin, node_mark, flag_at, AreMarked, AreWanted};
 ghost use Rattle.cip_aux.specs.Neighbours.{atom_told};
 ghost use Rattle.cip_aux.specs.Sights.{Shows, sight_of};
 
@@ -27,38 +27,6 @@ fn atom_at<N: Nodes>(nodes: &N, node: u32) -> Option<u32>
     match nodes.kind(node) {
         NodeKind::Real => nodes.vertex(node),
         NodeKind::Closure | NodeKind::Multiple | NodeKind::Delocalised => None,
-    }
-}
-
-// The descriptor at a node, by those of the nodes strictly below it.
-fn mark_of<N: Nodes, V: Viewer>(
-    alloc: Global,
-    inner: &Inner<'_, N>,
-    viewer: &mut V,
-    units: &UnitsAt<'_>,
-    kept: &mut KeptTurns,
-) -> Result<Option<Descriptor>, AllocError>
-    requires shows { Shows inner.now.sight }
-    requires within { inner.now.from < length inner.now.sight.nodes }
-    requires joined { UnitsJoin inner.now.sight units.now }
-    requires below { AreInner inner.now units.now }
-    requires stands { V.stands viewer.old inner.now.sight }
-    requires kept { AreKept inner.now.sight (sites_in units.now) kept.old.items }
-    ensures room { V.room viewer.new ≡ V.room viewer.old }
-    ensures stands { V.stands viewer.new inner.now.sight }
-    ensures kept { AreKept inner.now.sight (sites_in units.now) kept.new.items }
-    ensures kept_room { kept.new.room ≡ kept.old.room }
-    ensures mark { IfOk result (λ mark. mark
-        ≡ node_mark inner.now.sight units.now (node_at inner.now.sight.nodes inner.now.from)) }
-{
-    let node = inner.from();
-    let Some(vertex) = atom_at(inner.whole().nodes(), node) else {
-        return Ok(None);
-    };
-    if node == 0 {
-        Ok(None)
-    } else {
-        first_letter(alloc, inner, viewer, vertex, units, kept)
     }
 }
 
@@ -112,9 +80,17 @@ fn wanted_mark<N: Nodes, V: Viewer>(
         (node_mark (sight_of whole.now) wanted.now.units.now (node_at (sight_of whole.now).nodes behind.now.node))
         None) }
 {
-    if wanted.is_at(behind.node) {
-        let inner = Inner::new(whole, behind.node, behind.marks);
-        mark_of(alloc, &inner, viewer, wanted.units, kept)
+    let node = behind.node;
+    if wanted.is_at(node) {
+        let Some(vertex) = atom_at(whole.nodes(), node) else {
+            return Ok(None);
+        };
+        if node == 0 {
+            Ok(None)
+        } else {
+            let inner = Inner::new(whole, node, behind.marks);
+            first_letter(alloc, &inner, viewer, vertex, wanted.units, kept)
+        }
     } else {
         Ok(None)
     }

@@ -1,11 +1,10 @@
 // The ligands of a root, and the other end of a unit, by number.
-ghost use Rattle.std.specs.Prelude.{◌≡◌, ◌<◌, ◌-◌, List, [], length, map, IfOk, IfSome};
-ghost use Rattle.std.specs.List.{range_with_len};
+ghost use Rattle.std.specs.Prelude.{◌≡◌, ◌<◌, ◌-◌, length, map, IfOk, IfSome};
 ghost use Rattle.cip_rank.specs.Tree.{IsTree, children_of};
 ghost use Rattle.cip_digraph.specs.rules.Auxiliary.{stands_for};
-ghost use Rattle.cip_digraph.specs.digraph.NodeList.{told_at, parents_of};
-ghost use Rattle.cip_aux.specs.Neighbours.{first_where, neighbours_of, parent_of, is_real_of, ligand_number};
-ghost use Rattle.cip_aux.specs.Neighbours.{real_child, shape_at, node_told};
+ghost use Rattle.cip_digraph.specs.digraph.NodeList.{parents_of};
+ghost use Rattle.cip_aux.specs.Neighbours.{first_where, parent_of, is_real_of, ligand_number};
+ghost use Rattle.cip_aux.specs.Neighbours.{real_child, shape_at};
 
 use cip_digraph::{NodeKind, Nodes};
 use cip_mol::{Ligand, Ligands};
@@ -75,18 +74,6 @@ fn ligand_parent<N: Nodes>(nodes: &N, node: u32, vertex: u32) -> Option<u32>
     }
 }
 
-fn neighbour<N: Nodes>(nodes: &N, node: u32, vertex: u32) -> Option<u32>
-    requires within { node < length (N.nodes nodes.now) }
-    requires tree { IsTree (parents_of (N.nodes nodes.now)) }
-    ensures { result ≡ first_where (λ number. stands_for vertex (shape_at (N.nodes nodes.now) number))
-        (neighbours_of (parents_of (N.nodes nodes.now)) node) }
-{
-    match ligand_child(nodes, node, vertex) {
-        Some(child) => Some(child),
-        None => ligand_parent(nodes, node, vertex),
-    }
-}
-
 fn ligand<N: Nodes>(nodes: &N, node: u32, ligand: Ligand) -> Option<u32>
     requires within { node < length (N.nodes nodes.now) }
     requires tree { IsTree (parents_of (N.nodes nodes.now)) }
@@ -94,7 +81,10 @@ fn ligand<N: Nodes>(nodes: &N, node: u32, ligand: Ligand) -> Option<u32>
 {
     match ligand {
         Ligand::LonePair => None,
-        Ligand::Vertex(vertex) => neighbour(nodes, node, vertex),
+        Ligand::Vertex(vertex) => match ligand_child(nodes, node, vertex) {
+            Some(child) => Some(child),
+            None => ligand_parent(nodes, node, vertex),
+        },
     }
 }
 

@@ -106,20 +106,6 @@ fn add_unit(rows: &mut Rows, unit: &Unit, place: usize) -> Result<(), AllocError
     }
 }
 
-fn rows_of(alloc: Global, units: &[Unit]) -> Result<Rows, AllocError>
-    ensures { IfOk result (AreRows units.now units.now) }
-{
-    let mut rows = Rows {
-        rows: Vec::new(alloc),
-    };
-    for (place, unit) in units.iter().enumerate() {
-        let Ok(()) = add_unit(&mut rows, unit, place) else {
-            return Err(AllocError);
-        };
-    }
-    Ok(rows)
-}
-
 /// The units of a record, and by vertex the places of those of known geometry that end there.
 #[derive(Drop)]
 pub struct UnitsAt<'a> {
@@ -144,9 +130,14 @@ impl<'a> UnitsAt<'a> {
     pub fn new(alloc: Global, units: &'a [Unit]) -> Result<UnitsAt<'a>, AllocError>
         ensures { IfOk result (λ at. at ≡ units.now) }
     {
-        let Ok(rows) = rows_of(alloc, units) else {
-            return Err(AllocError);
+        let mut rows = Rows {
+            rows: Vec::new(alloc),
         };
+        for (place, unit) in units.iter().enumerate() {
+            let Ok(()) = add_unit(&mut rows, unit, place) else {
+                return Err(AllocError);
+            };
+        }
         Ok(UnitsAt { units, rows })
     }
 

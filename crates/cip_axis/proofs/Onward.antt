@@ -1,5 +1,5 @@
 -- The double bonds that lead on along a chain, one edge at a time.
-use Rattle.std.proofs.Common.{◌≡◌, ◌<◌, ◌+◌, ℕ, Bool, true, false, cond, not, ◌==◌, ◌&&◌, List, [], ◌∷◌, length, drop, get_or, map, refl, sym, ap, ◌∙◌, arith}
+use Rattle.std.proofs.Common.{◌≡◌, ◌<◌, ◌+◌, ℕ, Bool, true, false, cond, not, ◌==◌, ◌&&◌, List, ◌∷◌, length, drop, get_or, map, refl, sym, ap, ◌∙◌, arith}
 use Rattle.std.specs.Prelude.{filter, slice_index_or}
 use Rattle.std.proofs.lemmas.List.{drop_more}
 use Rattle.cip_digraph.specs.declared.graph.Edge.{Edge}

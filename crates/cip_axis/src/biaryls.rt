@@ -33,7 +33,9 @@ pub fn push_biaryls(
         ++ biaryls_of source.now.molecule.now source.now.graph.now source.now.positions.now a) }
 {
     for edge in source.graph.edges_at(a) {
-        push_biaryl(alloc, source, a, edge, reached, units)?;
+        let Ok(()) = push_biaryl(alloc, source, a, edge, reached, units) else {
+            return Err(AllocError);
+        };
     }
     Ok(())
 }
@@ -53,11 +55,13 @@ fn push_biaryl(
         (units.new ≡ units.old
         ++ one_biaryl source.now.molecule.now source.now.graph.now source.now.positions.now a edge.now) }
 {
-    if is_biaryl(alloc, source.graph, source.positions, a, edge, reached)? {
-        let unit = biaryl_unit(source.molecule, source.graph, a, edge.other_end(a));
-        units.push(unit)
-    } else {
-        Ok(())
+    match is_biaryl(alloc, source.graph, source.positions, a, edge, reached) {
+        Ok(true) => {
+            let unit = biaryl_unit(source.molecule, source.graph, a, edge.other_end(a));
+            units.push(unit)
+        }
+        Ok(false) => Ok(()),
+        Err(error) => Err(error),
     }
 }
 
@@ -94,9 +98,13 @@ fn is_biaryl(
 {
     if can_be_biaryl(graph, positions, a, edge) {
         let b = edge.other_end(a);
-        let small = is_in_small_ring(graph, a, b, reached)?;
+        let Ok(small) = is_in_small_ring(graph, a, b, reached) else {
+            return Err(AllocError);
+        };
         if small || are_three_hindered(alloc, graph, a, b) {
-            let lies_in_ring = is_in_ring(graph, a, b, reached)?;
+            let Ok(lies_in_ring) = is_in_ring(graph, a, b, reached) else {
+                return Err(AllocError);
+            };
             Ok(!lies_in_ring && are_three_hindered(alloc, graph, a, b))
         } else {
             Ok(false)

@@ -14,11 +14,15 @@ pub fn chain_over(alloc: Global, graph: &Graph, a: u32, next: u32) -> Result<Vec
 {
     let most = graph.vertices().len();
     let mut chain = Vec::new(alloc);
-    chain.push(a)?;
+    let Ok(()) = chain.push(a) else {
+        return Err(AllocError);
+    };
     let mut before = a;
     let mut at = next;
     for _ in 0..most {
-        chain.push(at)?;
+        let Ok(()) = chain.push(at) else {
+            return Err(AllocError);
+        };
         if leads_on(graph, before, at) {
             let on = next_atom(graph, before, at);
             before = at;

@@ -1,12 +1,12 @@
 // Cumulenes: chains of at least three double bonds.
-ghost use Rattle.std.specs.Prelude.{◌≡◌, ◌<◌, ◌++◌, ◌≤◌, ◌∷◌, ◌^◌, All, IfOk, OnOk, length};
+ghost use Rattle.std.specs.Prelude.{◌≡◌, ◌<◌, ◌++◌, ◌≤◌, ◌^◌, All, IfOk, OnOk, length};
 ghost use Rattle.cip_mol.specs.Sites.{IsSite};
 ghost use Rattle.cip_digraph.specs.graph.Graph.{edges_at};
 ghost use Rattle.cip_ring.specs.AnyRings.{is_in_ring};
 ghost use Rattle.cip_axis.specs.Cumulenes.{any_bond, chain_over, first_atom, is_cumulene, last_atom};
 ghost use Rattle.cip_axis.specs.Further.{cumulene_geometry, cumulene_site, cumulene_unit, cumulenes_of, has_crossed};
 ghost use Rattle.cip_axis.specs.Likeness.{like};
-ghost use Rattle.cip_axis.specs.Listing.{IsGraphOf, can_be_cumulene, cumulenes_along, first_in_ring, one_cumulene};
+ghost use Rattle.cip_axis.specs.Listing.{IsGraphOf, can_be_cumulene, first_in_ring, one_cumulene};
 
 use crate::chains::{chain_over, leads_on};
 use crate::site::{FurtherSite, FurtherUnit};
@@ -19,7 +19,7 @@ use cip_ring::{VertexSet, is_in_ring};
 use cip_unit::{end_ligands, is_axis_end};
 use std::alloc::{AllocError, Global};
 
-/// Adds the cumulenes of a first end. The set serves the search for rings.
+/// Adds the cumulenes of a first end, along each of its double bonds. The set serves the search for rings.
 pub fn push_cumulenes(
     alloc: Global,
     source: &Source<'_>,
@@ -31,33 +31,19 @@ pub fn push_cumulenes(
     requires within { a < source.now.graph.now.drawn }
     ensures { OnOk result (units.new ≡ units.old ++ cumulenes_of source.now.molecule.now source.now.graph.now a) }
 {
-    if source.graph.edges_at(a).len() == 3 {
-        push_from(alloc, source, a, reached, units)
+    let edges = source.graph.edges_at(a);
+    if edges.len() == 3 {
+        for edge in edges {
+            if edge.order == 2 {
+                let Ok(()) = push_over(alloc, source, a, edge.other_end(a), reached, units) else {
+                    return Err(AllocError);
+                };
+            }
+        }
+        Ok(())
     } else {
         Ok(())
     }
-}
-
-// Along each of its double bonds.
-fn push_from(
-    alloc: Global,
-    source: &Source<'_>,
-    a: u32,
-    reached: &mut VertexSet,
-    units: &mut FurtherUnits,
-) -> Result<(), AllocError>
-    requires source { IsGraphOf source.now.molecule.now source.now.graph.now }
-    requires within { a < source.now.graph.now.drawn }
-    ensures { OnOk result
-        (units.new ≡ units.old
-        ++ cumulenes_along source.now.molecule.now source.now.graph.now a (edges_at source.now.graph.now a)) }
-{
-    for edge in source.graph.edges_at(a) {
-        if edge.order == 2 {
-            push_over(alloc, source, a, edge.other_end(a), reached, units)?;
-        }
-    }
-    Ok(())
 }
 
 // Adds the unit of the chain over a neighbour, where it is one.
@@ -80,8 +66,13 @@ fn push_over(
     if leads_on(source.graph, a, next) {
         // Reading the vertices tells that there are few.
         let _count = source.graph.vertices().len();
-        let chain = chain_over(alloc, source.graph, a, next)?;
-        if is_cumulene(source.graph, &chain, reached)? {
+        let Ok(chain) = chain_over(alloc, source.graph, a, next) else {
+            return Err(AllocError);
+        };
+        let Ok(is_unit) = is_cumulene(source.graph, &chain, reached) else {
+            return Err(AllocError);
+        };
+        if is_unit {
             let unit = cumulene_unit(source.molecule, source.graph, &chain);
             units.push(unit)
         } else {
@@ -97,19 +88,14 @@ fn is_cumulene(graph: &Graph, chain: &[u32], reached: &mut VertexSet) -> Result<
     ensures { IfOk result (λ found. found ≡ is_cumulene graph.now chain.now) }
 {
     if can_be_cumulene(graph, chain) {
-        Ok(!lies_in_ring(graph, chain, reached)?)
+        // One bond is asked: a ring through the first goes through all.
+        match is_in_ring(graph, chain[0], chain[1], reached) {
+            Ok(lies_in_ring) => Ok(!lies_in_ring),
+            Err(error) => Err(error),
+        }
     } else {
         Ok(false)
     }
-}
-
-// Whether a bond of a chain lies in a ring. One is asked: a ring through the first goes through all.
-fn lies_in_ring(graph: &Graph, chain: &[u32], reached: &mut VertexSet) -> Result<bool, AllocError>
-    requires some { 2 ≤ length chain.now }
-    requires rings { any_bond (is_in_ring graph.now) chain.now ≡ first_in_ring graph.now chain.now }
-    ensures { IfOk result (λ found. found ≡ any_bond (is_in_ring graph.now) chain.now) }
-{
-    is_in_ring(graph, chain[0], chain[1], reached)
 }
 
 // Whether a chain is a unit if it lies in no ring.
@@ -164,18 +150,10 @@ fn has_crossed(molecule: &Molecule, chain: &[u32]) -> bool
     requires { All (λ atom. atom < length molecule.now.atoms) chain.now }
     ensures { result ≡ has_crossed molecule.now.bonds chain.now }
 {
-    match chain.split_first() {
-        Some((first, rest)) => has_crossed_behind(molecule, *first, rest),
-        None => false,
-    }
-}
-
-fn has_crossed_behind(molecule: &Molecule, first: u32, rest: &[u32]) -> bool
-    requires first { first < length molecule.now.atoms }
-    requires rest { All (λ atom. atom < length molecule.now.atoms) rest.now }
-    ensures { result ≡ has_crossed molecule.now.bonds (first ∷ rest.now) }
-{
-    let mut before = first;
+    let Some((first, rest)) = chain.split_first() else {
+        return false;
+    };
+    let mut before = *first;
     for atom in rest {
         if is_crossed(molecule, before, *atom) {
             return true;

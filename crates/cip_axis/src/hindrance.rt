@@ -1,8 +1,7 @@
 // Neighbours that leave an axis no room to turn.
 ghost use Rattle.std.specs.Prelude.{◌≡◌, ◌≤◌, length};
 ghost use Rattle.cip_digraph.specs.graph.Graph.{edges_at};
-ghost use Rattle.cip_digraph.specs.rings.Alternating.{is_in};
-ghost use Rattle.cip_axis.specs.Biaryls.{hindered_at, is_hindered, stands_beside};
+ghost use Rattle.cip_axis.specs.Biaryls.{hindered_at, stands_beside};
 ghost use Rattle.cip_axis.specs.Listing.{beside_along, is_hindered_outside};
 
 use crate::counting::one_if;
@@ -26,13 +25,9 @@ pub fn hindered_count(alloc: Global, graph: &Graph, unit: &[u32], end: u32) -> u
 fn is_hindered_outside(alloc: Global, graph: &Graph, unit: &[u32], end: u32, neighbour: u32) -> bool
     ensures { result ≡ is_hindered_outside graph.now unit.now end neighbour }
 {
-    !unit.contains(&neighbour) && is_hindered(alloc, graph, end, neighbour)
-}
-
-fn is_hindered(alloc: Global, graph: &Graph, end: u32, neighbour: u32) -> bool
-    ensures { result ≡ is_hindered graph.now end neighbour }
-{
-    graph.edges_at(neighbour).len() == 3 && beside_along(alloc, graph, end, neighbour)
+    !unit.contains(&neighbour)
+        && graph.edges_at(neighbour).len() == 3
+        && beside_along(alloc, graph, end, neighbour)
 }
 
 fn beside_along(alloc: Global, graph: &Graph, end: u32, neighbour: u32) -> bool

@@ -33,11 +33,35 @@ pub fn further(
         positions,
     };
     let atoms = molecule.atoms().len() as u32;
-    let mut reached = VertexSet::new(alloc, graph.vertices().len())?;
+    let Ok(mut reached) = VertexSet::new(alloc, graph.vertices().len()) else {
+        return Err(AllocError);
+    };
     let mut units = FurtherUnits::new(alloc);
-    push_all_cumulenes(alloc, &source, atoms, &mut reached, &mut units)?;
-    push_all_biaryls(alloc, &source, atoms, &mut reached, &mut units)?;
-    Ok(units)
+    match push_all(alloc, &source, atoms, &mut reached, &mut units) {
+        Ok(()) => Ok(units),
+        Err(error) => Err(error),
+    }
+}
+
+fn push_all(
+    alloc: Global,
+    source: &Source<'_>,
+    atoms: u32,
+    reached: &mut VertexSet,
+    units: &mut FurtherUnits,
+) -> Result<(), AllocError>
+    requires source { IsGraphOf source.now.molecule.now source.now.graph.now }
+    requires atoms { atoms ≡ source.now.graph.now.drawn }
+    ensures { OnOk result
+        (units.new ≡ (units.old
+        ++ flat_map (cumulenes_of source.now.molecule.now source.now.graph.now) (range_with_len 0 atoms))
+        ++ flat_map (biaryls_of source.now.molecule.now source.now.graph.now source.now.positions.now)
+        (range_with_len 0 atoms)) }
+{
+    match push_all_cumulenes(alloc, source, atoms, reached, units) {
+        Ok(()) => push_all_biaryls(alloc, source, atoms, reached, units),
+        Err(error) => Err(error),
+    }
 }
 
 fn push_all_cumulenes(
@@ -54,7 +78,9 @@ fn push_all_cumulenes(
         ++ flat_map (cumulenes_of source.now.molecule.now source.now.graph.now) (range_with_len 0 atoms)) }
 {
     for atom in 0..atoms {
-        push_cumulenes(alloc, source, atom, reached, units)?;
+        let Ok(()) = push_cumulenes(alloc, source, atom, reached, units) else {
+            return Err(AllocError);
+        };
     }
     Ok(())
 }
@@ -74,7 +100,9 @@ fn push_all_biaryls(
         (range_with_len 0 atoms)) }
 {
     for atom in 0..atoms {
-        push_biaryls(alloc, source, atom, reached, units)?;
+        let Ok(()) = push_biaryls(alloc, source, atom, reached, units) else {
+            return Err(AllocError);
+        };
     }
     Ok(())
 }

@@ -1,7 +1,6 @@
 // Branches that end with the last sphere and hold no atom of a unit.
-ghost use Rattle.std.specs.Prelude.{◌≡◌, ◌<◌, ◌≤◌, ◌==◌, ◌&&◌, ◌++◌, ◌∷◌, [], ℕ, true, false, length, vec_capacity};
+ghost use Rattle.std.specs.Prelude.{◌≡◌, ◌<◌, ◌≤◌, ◌==◌, ◌&&◌, ℕ, true, false, length, vec_capacity};
 ghost use Rattle.std.specs.Prelude.{flat_map, slice_index_or};
-ghost use Rattle.cip_rank.specs.Tree.{IsTree};
 ghost use Rattle.cip_digraph.specs.digraph.Digraph.{is_real as is_kind_real};
 ghost use Rattle.cip_digraph.specs.rings.Alternating.{is_in};
 ghost use Rattle.cip_digraph.specs.units.Ends.{atoms_of};

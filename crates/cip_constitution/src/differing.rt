@@ -1,10 +1,10 @@
 // Ligands that differ by the numbers of their branches.
-ghost use Rattle.std.specs.Prelude.{◌≡◌, ◌<◌, ◌∷◌, ℕ, length, slice_index};
+ghost use Rattle.std.specs.Prelude.{◌≡◌, ◌<◌, length, slice_index};
 ghost use Rattle.std.specs.List.{list_all};
 ghost use Rattle.cip_digraph.specs.units.Ranked.{every_pair};
 ghost use Rattle.cip_constitution.specs.Ending.{are_unlike};
 ghost use Rattle.cip_constitution.specs.Following.{numbers_of};
-ghost use Rattle.cip_constitution.specs.Standing.{have_other_ranks, differ_told};
+ghost use Rattle.cip_constitution.specs.Standing.{differ_told};
 
 use crate::standing::number_of;
 use cip_arena::Arena;
@@ -30,9 +30,12 @@ fn part_from(arena: &Arena, branches: &Branches, ligand: &Ligand, others: &[Liga
     requires { 0 < length arena.now.nodes }
     ensures { result ≡ list_all (differ_told (numbers_of branches.now) arena.now.nodes ligand.now) others.now }
 {
-    others
-        .iter()
-        .all(|other| part(arena, branches, ligand, other))
+    for other in others {
+        if !part(arena, branches, ligand, other) {
+            return false;
+        }
+    }
+    true
 }
 
 /// Whether the branches of two have parted. A lone pair's is its own.
@@ -70,7 +73,12 @@ fn are_unlike(a: &Ligand, b: &Ligand) -> bool
 fn unlike_from(ligand: &Ligand, others: &[Ligand]) -> bool
     ensures { result ≡ list_all (are_unlike ligand.now) others.now }
 {
-    others.iter().all(|other| are_unlike(ligand, other))
+    for other in others {
+        if !are_unlike(ligand, other) {
+            return false;
+        }
+    }
+    true
 }
 
 /// Whether no two ligands are of the same vertex.

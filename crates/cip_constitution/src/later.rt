@@ -1,34 +1,20 @@
 // The rules behind Rule 1a, over the branches that settling followed to their ends.
-ghost use Rattle.std.specs.Prelude.{◌≡◌, ◌<◌, ◌≤◌, ℕ, List, true, if◌then◌else◌, length, slice_index, slice_set};
+ghost use Rattle.std.specs.Prelude.{◌≡◌, ◌<◌, ◌≤◌, ℕ, List, true, length};
 ghost use Rattle.std.specs.List.{list_all};
 ghost use Rattle.cip_branches.specs.Deciding.{AreFollowed};
 ghost use Rattle.cip_digraph.specs.graph.Graph.{Graph};
 ghost use Rattle.cip_letters.specs.Asking.{is_decided};
 ghost use Rattle.cip_ligands.specs.Taking.{AreSame};
 ghost use Rattle.cip_rows.specs.Keys.{AreKeyed};
-ghost use Rattle.cip_rows.specs.Parting.{has_flag};
 ghost use Rattle.cip_constitution.specs.FollowedOut.{AreConstituted, AreFollowedOut, AreOrdered, with_flags};
 
 use crate::work::Work;
 use cip_arena::Arena;
-use cip_branches::Branches;
 use cip_letters::Asked;
 use cip_ligands::{
     ByDistance, ByMass, Marked, Readings, decide_configuration, decide_constitution,
 };
 use cip_rank::Rules;
-
-// Flags the node at a place, where its branch is wanted still.
-fn flag_place(branches: &Branches, place: u32, flags: &mut [bool])
-    requires place { place < length branches.now.layers.kin.ups }
-    requires node { slice_index branches.now.layers.kin.nodes place < length flags.old }
-    ensures { flags.new ≡ (if has_flag branches.now.wanted (slice_index branches.now.layers.kin.branches place)
-        then slice_set flags.old (slice_index branches.now.layers.kin.nodes place) true else flags.old) }
-{
-    if branches.is_wanted(branches.branch(place)) {
-        flags[branches.node(place) as usize] = true;
-    }
-}
 
 impl Work {
     /// Takes Rules 1b and 2 over the branches of a root whose digraph is whole, as long as a pair is undecided, and says
@@ -57,8 +43,11 @@ impl Work {
         ensures flagged { flags.new ≡ with_flags self.now.branched (length self.now.branched.layers.kin.ups) flags.old }
         ensures len { length flags.new ≡ length flags.old }
     {
-        for place in 0..self.branches.len() {
-            flag_place(&self.branches, place, flags);
+        let branches = &self.branches;
+        for place in 0..branches.len() {
+            if branches.is_wanted(branches.branch(place)) {
+                flags[branches.node(place) as usize] = true;
+            }
         }
     }
 

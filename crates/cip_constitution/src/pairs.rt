@@ -1,6 +1,6 @@
 // Each two ligands of a root, by their vertices.
 ghost use Rattle.std.specs.Prelude.{◌≡◌, ◌≤◌, ◌+◌, ◌++◌, length, flat_map, vec_capacity};
-ghost use Rattle.cip_constitution.specs.Pairs.{pair_with, pairs_at, pairs_of};
+ghost use Rattle.cip_constitution.specs.Pairs.{pair_with, pairs_of};
 
 use cip_mol::Ligand;
 
@@ -20,19 +20,10 @@ pub fn pair_up(ligands: &[Ligand], pairs: &mut Vec<Pair>)
     pairs.clear();
     let mut rest = ligands;
     while let [ligand, others @ ..] = rest {
-        pair_all(ligand, others, pairs);
+        if let Ligand::Vertex(a) = ligand {
+            pair_with_each(*a, others, pairs);
+        }
         rest = others;
-    }
-}
-
-fn pair_all(one: &Ligand, ligands: &[Ligand], pairs: &mut Vec<Pair>)
-    requires room { length pairs.old.items + length (pairs_at ligands.now one.now) ≤ vec_capacity pairs.old }
-    ensures pairs { pairs.new.items ≡ pairs.old.items ++ pairs_at ligands.now one.now }
-    ensures room { vec_capacity pairs.old ≤ vec_capacity pairs.new }
-{
-    match one {
-        Ligand::LonePair => {}
-        Ligand::Vertex(a) => pair_with_each(*a, ligands, pairs),
     }
 }
 

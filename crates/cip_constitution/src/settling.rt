@@ -1,5 +1,5 @@
 // A digraph grown until its ligands are settled.
-ghost use Rattle.std.specs.Prelude.{◌≡◌, ◌<◌, ◌≤◌, ◌+◌, ℕ, length};
+ghost use Rattle.std.specs.Prelude.{◌≡◌, ◌<◌, ◌≤◌, ◌+◌, length};
 ghost use Rattle.cip_arena.specs.Growth.{Holds};
 ghost use Rattle.cip_constitution.specs.FollowedOut.{AreFollowedOut};
 ghost use Rattle.cip_constitution.specs.Noting.{Notes};

@@ -26,17 +26,9 @@ pub fn number_of<N: Nodes>(nodes: &N, ligand: &Ligand) -> Option<u32>
     ensures number { result ≡ ligand_number (N.nodes nodes.now) ligand.now }
     ensures within { IfSome result (λ node. node < length (N.nodes nodes.now)) }
 {
-    match ligand {
-        Ligand::LonePair => None,
-        Ligand::Vertex(vertex) => child_of(nodes, *vertex),
-    }
-}
-
-fn child_of<N: Nodes>(nodes: &N, vertex: u32) -> Option<u32>
-    requires { 0 < length (N.nodes nodes.now) }
-    ensures number { result ≡ ligand_number (N.nodes nodes.now) (Vertex vertex) }
-    ensures within { IfSome result (λ node. node < length (N.nodes nodes.now)) }
-{
+    let Ligand::Vertex(vertex) = *ligand else {
+        return None;
+    };
     let (first, past) = nodes.table().children(0);
     for node in first..past {
         if is_of(nodes, node, vertex) {

@@ -1,5 +1,5 @@
 // Ligands tried by the numbers of their branches.
-ghost use Rattle.std.specs.Prelude.{◌≡◌, ◌<◌, ◌≤◌, ◌-◌, ℕ, false, [], length};
+ghost use Rattle.std.specs.Prelude.{◌≡◌, ◌<◌, ◌≤◌, ◌-◌, false, []};
 ghost use Rattle.std.specs.Prelude.{IfOk};
 ghost use Rattle.cip_branches.specs.Deciding.{no_branches};
 ghost use Rattle.cip_constitution.specs.Pairs.{pairs_of};

@@ -41,16 +41,6 @@ pub on_ok : {T E : Type 0} {A D : Type 0} (result : Result T E) → OnOk result 
 on_ok (Ok value) a all = all a
 on_ok (Err error) a all = tt
 
-pub on_both : {T E : Type 0} {A B D : Type 0} (result : Result T E) → OnOk result A → OnOk result B → (A → B → D)
-    → OnOk result D
-on_both (Ok value) a b all = all a b
-on_both (Err error) a b all = tt
-
-pub on_three : {T E : Type 0} {A B C D : Type 0} (result : Result T E) → OnOk result A → OnOk result B → OnOk result C
-    → (A → B → C → D) → OnOk result D
-on_three (Ok value) a b c all = all a b c
-on_three (Err error) a b c all = tt
-
 module _ (setting : records.Setting) (ligands : List Ligand) (a : Growth)
     (h : Holds setting.graph setting.positions a) (sound : IsSound setting.graph)
     (fit : IsFit setting.graph a.root ligands) (fits : length a.nodes ≤ a.bound) where

@@ -1,5 +1,5 @@
 // Roots whose digraph is grown anew.
-ghost use Rattle.std.specs.Prelude.{◌≡◌, ◌≤◌, ◌∷◌, [], IfOk, OnOk};
+ghost use Rattle.std.specs.Prelude.{◌≡◌, ◌≤◌, ◌∷◌, [], IfOk};
 ghost use Rattle.cip_constitution.specs.FollowedOut.{AreFollowedOut};
 ghost use Rattle.cip_constitution.specs.Noting.{Notes};
 ghost use Rattle.cip_constitution.specs.Pairs.{pairs_of};
@@ -10,16 +10,16 @@ ghost use Rattle.cip_label.specs.Standing.{RankedAs};
 ghost use Rattle.cip_label.specs.declared.digraphs.Ranking.TheVariants.{Known};
 ghost use Rattle.cip_label.specs.Steps.{Rises};
 ghost use Rattle.cip_desk.specs.Desks.{settled_by};
-ghost use Rattle.cip_desk.specs.Keeping.{FoundAs, HaveRoom, StandsAnyway, kept_of, ranking_in};
-ghost use Rattle.cip_desk.specs.Rooting.{HasRoom, IsRooted};
-ghost use Rattle.cip_desk.specs.Standing.{both_as, standing_of};
+ghost use Rattle.cip_desk.specs.Keeping.{FoundAs, HaveRoom, kept_of, ranking_in};
+ghost use Rattle.cip_desk.specs.Rooting.{IsRooted};
+ghost use Rattle.cip_desk.specs.Standing.{standing_of};
 
 use crate::bench::Bench;
 use crate::branches::{Branches, take_noted};
 use crate::early::RootedLigands;
 use crate::memo::Found;
 use crate::rooted::Rooted;
-use crate::whole::{Tables, rank_whole};
+use crate::whole::rank_whole;
 use cip_arena::Arena;
 use cip_constitution::{Settled, Work, settle};
 use cip_label::Ranking;
@@ -65,44 +65,6 @@ fn settle_root<L: Ledger>(
     )
 }
 
-// Ranks the ligands of a root by how they were settled.
-fn rank_settled(
-    alloc: Global,
-    settled: Settled,
-    rooted: &Rooted<'_, '_>,
-    work: &mut Work,
-    tables: &mut Tables,
-    branches: &mut Branches,
-) -> Result<Found, AllocError>
-    requires rooted { IsRooted rooted.now.setting.now rooted.now.root rooted.now.ligands.now rooted.now.arena.now }
-    requires settled { SettledAs (settled_by rooted.now.setting.now rooted.now.ligands.now) rooted.now.arena.now settled }
-    requires pairs { work.old.pairs ≡ pairs_of rooted.now.ligands.now }
-    requires noted { settled ≡ Settled.Ordered → Notes rooted.now.setting.now.graph rooted.now.setting.now.positions
-        rooted.now.arena.now.root rooted.now.arena.now.bound rooted.now.arena.now.sphere work.old.pairs work.old.noted }
-    requires followed { settled ≡ Settled.Whole → AreFollowedOut rooted.now.setting.now.graph
-        rooted.now.setting.now.positions rooted.now.arena.now work.old }
-    requires room { HasRoom rooted.now.arena.now.bound tables.old }
-    ensures found { IfOk result (FoundAs (kept_of rooted.now.setting.now rooted.now.root rooted.now.ligands.now)
-        rooted.now.arena.now work.new tables.new) }
-    ensures ranking { IfOk result (λ found. RankedAs rooted.now.setting.now rooted.now.arena.now.bound rooted.now.root
-        rooted.now.ligands.now (standing_of branches.new) (ranking_in found)) }
-    ensures work { work.new.bound ≡ work.old.bound }
-    ensures room { HasRoom rooted.now.arena.now.bound tables.new }
-{
-    match settled {
-        Settled::Over => Ok(Found::Told(Ranking::Over)),
-        Settled::Tied => Ok(Found::Told(Ranking::Tied)),
-        Settled::Ordered => {
-            // what Rule 1a decides between them was noted while they were settled
-            let Ok(()) = take_noted(work, branches, &mut tables.aside.noted) else {
-                return Err(AllocError);
-            };
-            Ok(Found::Told(Ranking::Known))
-        }
-        Settled::Whole => rank_whole(alloc, rooted, work, tables, branches),
-    }
-}
-
 /// Ranks the ligands of a root by its digraph, as far as they need it.
 pub fn rank_anew<L: Ledger>(
     alloc: Global,
@@ -123,18 +85,24 @@ pub fn rank_anew<L: Ledger>(
         steps.old steps.new }
 {
     let settled = settle_root(&mut bench.arena, &mut bench.work, told, steps);
-    let rooted = Rooted {
-        arena: &bench.arena,
-        setting: told.setting,
-        root: told.root,
-        ligands: told.ligands,
-    };
-    rank_settled(
-        alloc,
-        settled,
-        &rooted,
-        &mut bench.work,
-        &mut bench.tables,
-        branches,
-    )
+    match settled {
+        Settled::Over => Ok(Found::Told(Ranking::Over)),
+        Settled::Tied => Ok(Found::Told(Ranking::Tied)),
+        Settled::Ordered => {
+            // what Rule 1a decides between them was noted while they were settled
+            let Ok(()) = take_noted(&bench.work, branches, &mut bench.tables.aside.noted) else {
+                return Err(AllocError);
+            };
+            Ok(Found::Told(Ranking::Known))
+        }
+        Settled::Whole => {
+            let rooted = Rooted {
+                arena: &bench.arena,
+                setting: told.setting,
+                root: told.root,
+                ligands: told.ligands,
+            };
+            rank_whole(alloc, &rooted, &mut bench.work, &mut bench.tables, branches)
+        }
+    }
 }

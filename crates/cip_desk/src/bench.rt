@@ -1,10 +1,10 @@
 // Roots that two spheres don't tell: their digraphs are grown, and what costs much is kept.
-ghost use Rattle.std.specs.Prelude.{◌≡◌, ◌≤◌, ◌<◌, ◌^◌, ◌∷◌, [], IfOk, None};
+ghost use Rattle.std.specs.Prelude.{◌<◌, ◌^◌, ◌∷◌, [], IfOk, None};
 ghost use Rattle.cip_digraph.specs.units.Ends.{end_at};
 ghost use Rattle.cip_label.specs.Fitting.{IsFit};
 ghost use Rattle.cip_label.specs.Standing.{RankedAs};
 ghost use Rattle.cip_label.specs.Steps.{Rises};
-ghost use Rattle.cip_desk.specs.Keeping.{FoundAs, IsReady, HaveRoom, kept_of};
+ghost use Rattle.cip_desk.specs.Keeping.{IsReady};
 ghost use Rattle.cip_desk.specs.Standing.{standing_of};
 
 use crate::anew::rank_anew;
@@ -53,53 +53,8 @@ impl Bench {
     }
 }
 
-// Keeps what was found of a root, if it costs much to find it once more.
-fn keep(
-    alloc: Global,
-    told: &RootedLigands<'_, '_>,
-    found: Found,
-    bench: &mut Bench,
-) -> Result<(), AllocError>
-    requires room { HaveRoom told.now.bound bench.old }
-    requires none { bench.old.memo.found ≡ None }
-    requires found { FoundAs (kept_of told.now.setting.now told.now.root told.now.ligands.now)
-        bench.old.arena bench.old.work bench.old.tables found }
-    ensures { IsReady told.now.bound bench.new }
-{
-    if is_costly(&bench.arena, told.setting, found) {
-        bench.memo.keep(alloc, told, found)
-    } else {
-        Ok(())
-    }
-}
-
-// Forgets what was kept, grows the digraph of a root and ranks its ligands.
-fn rank_other<L: Ledger>(
-    alloc: Global,
-    told: &RootedLigands<'_, '_>,
-    bench: &mut Bench,
-    branches: &mut Branches,
-    steps: &mut Steps<L>,
-) -> Result<Ranking, AllocError>
-    requires fit { IsFit told.now.setting.now.graph told.now.root told.now.ligands.now }
-    requires room { HaveRoom told.now.bound bench.old }
-    ensures ready { IsReady told.now.bound bench.new }
-    ensures ranking { IfOk result (RankedAs told.now.setting.now told.now.bound told.now.root told.now.ligands.now
-        (standing_of branches.new)) }
-    ensures cost { Rises told.now.setting.now told.now.bound (end_at told.now.root told.now.ligands.now ∷ [])
-        steps.old steps.new }
-{
-    bench.memo.found = None;
-    let Ok(found) = rank_anew(alloc, told, bench, branches, steps) else {
-        return Err(AllocError);
-    };
-    let Ok(()) = keep(alloc, told, found, bench) else {
-        return Err(AllocError);
-    };
-    Ok(found.ranking())
-}
-
-/// Ranks the ligands of a root that two spheres don't tell apart.
+/// Ranks the ligands of a root that two spheres don't tell apart. One that isn't kept is grown and ranked, in the place of
+/// what was kept, if it costs much to find it once more.
 pub fn rank_late<L: Ledger>(
     alloc: Global,
     told: &RootedLigands<'_, '_>,
@@ -117,6 +72,17 @@ pub fn rank_late<L: Ledger>(
 {
     match bench.memo.found_of(told) {
         Some(found) => recall(alloc, told, found, bench, branches),
-        None => rank_other(alloc, told, bench, branches, steps),
+        None => {
+            bench.memo.found = None;
+            let Ok(found) = rank_anew(alloc, told, bench, branches, steps) else {
+                return Err(AllocError);
+            };
+            if is_costly(&bench.arena, told.setting, found) {
+                let Ok(()) = bench.memo.keep(alloc, told, found) else {
+                    return Err(AllocError);
+                };
+            }
+            Ok(found.ranking())
+        }
     }
 }

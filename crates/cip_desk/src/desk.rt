@@ -1,5 +1,4 @@
 // The digraphs of roots, grown and ranked one after the other at one desk.
-ghost use Rattle.std.specs.Prelude.{◌≡◌};
 ghost use Rattle.cip_desk.specs.Standing.{standing_of};
 
 use crate::bench::{Bench, rank_late};

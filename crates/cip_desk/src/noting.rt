@@ -1,34 +1,25 @@
 // What two spheres tell of each two branches.
 ghost use Rattle.std.specs.Prelude.{◌≡◌, ◌++◌, OnOk};
-ghost use Rattle.cip_desk.specs.Branches.{answer_between, answers_at, answers_of};
+ghost use Rattle.cip_desk.specs.Branches.{answers_at, answers_of};
 
 use crate::shown::{Shown, tell};
 use cip_letters::Asked;
 use std::alloc::AllocError;
-
-fn note_two(one: &Shown, other: &Shown, noted: &mut Vec<Asked>) -> Result<(), AllocError>
-    ensures { OnOk result (noted.new.items ≡ noted.old.items ++ answer_between one.now other.now) }
-{
-    if one.vertex != other.vertex {
-        let Ok(()) = noted.push(Asked {
-            first: one.vertex,
-            second: other.vertex,
-            decision: tell(one, other),
-        }) else {
-            return Err(AllocError);
-        };
-    }
-    Ok(())
-}
 
 fn note_with_each(one: &Shown, branches: &[Shown], noted: &mut Vec<Asked>) -> Result<(), AllocError>
     ensures { OnOk result (noted.new.items ≡ noted.old.items ++ answers_at branches.now one.now) }
 {
     let mut rest = branches;
     while let [other, others @ ..] = rest {
-        let Ok(()) = note_two(one, other, noted) else {
-            return Err(AllocError);
-        };
+        if one.vertex != other.vertex {
+            let Ok(()) = noted.push(Asked {
+                first: one.vertex,
+                second: other.vertex,
+                decision: tell(one, other),
+            }) else {
+                return Err(AllocError);
+            };
+        }
         rest = others;
     }
     Ok(())

@@ -1,9 +1,9 @@
 // A root that is kept, ranked once more.
-ghost use Rattle.std.specs.Prelude.{◌≡◌, Some, IfOk, OnOk};
+ghost use Rattle.std.specs.Prelude.{◌≡◌, Some, IfOk};
 ghost use Rattle.cip_label.specs.Fitting.{IsFit};
 ghost use Rattle.cip_label.specs.Standing.{RankedAs};
 ghost use Rattle.cip_label.specs.declared.digraphs.Ranking.TheVariants.{Known};
-ghost use Rattle.cip_desk.specs.Keeping.{HaveRoom, IsOpen, IsReady, kept_of};
+ghost use Rattle.cip_desk.specs.Keeping.{IsReady, kept_of};
 ghost use Rattle.cip_desk.specs.Standing.{standing_of};
 
 use crate::bench::Bench;
@@ -14,35 +14,6 @@ use crate::rooted::Rooted;
 use crate::whole::rank_open;
 use cip_label::Ranking;
 use std::alloc::{AllocError, Global};
-
-// Takes the last rules over the branches of a kept root, which stand again as constitution left them.
-fn reopen(
-    alloc: Global,
-    told: &RootedLigands<'_, '_>,
-    bench: &mut Bench,
-    branches: &mut Branches,
-) -> Result<(), AllocError>
-    requires fit { IsFit told.now.setting.now.graph told.now.root told.now.ligands.now }
-    requires room { HaveRoom told.now.bound bench.old }
-    requires stands { IsOpen (kept_of told.now.setting.now told.now.root told.now.ligands.now)
-        bench.old.arena bench.old.work bench.old.tables }
-    ensures ranked { OnOk result (RankedAs told.now.setting.now told.now.bound told.now.root told.now.ligands.now
-        (standing_of branches.new) Known) }
-    ensures room { HaveRoom told.now.bound bench.new }
-    ensures stands { OnOk result (IsOpen (kept_of told.now.setting.now told.now.root told.now.ligands.now)
-        bench.new.arena bench.new.work bench.new.tables) }
-    ensures memo { bench.new.memo ≡ bench.old.memo }
-{
-    let aside = &bench.tables.aside;
-    bench.work.restore(&aside.ranks, aside.noted.as_slice());
-    let rooted = Rooted {
-        arena: &bench.arena,
-        setting: told.setting,
-        root: told.root,
-        ligands: told.ligands,
-    };
-    rank_open(alloc, &rooted, &mut bench.work, &mut bench.tables, branches)
-}
 
 /// Ranks the ligands of the root that is kept, whatever the senses of units are now.
 pub fn recall(
@@ -69,7 +40,17 @@ pub fn recall(
         }
         Found::Open => {
             bench.memo.found = None;
-            let Ok(()) = reopen(alloc, told, bench, branches) else {
+            // the last rules are taken over its branches, which stand again as constitution left them
+            let aside = &bench.tables.aside;
+            bench.work.restore(&aside.ranks, aside.noted.as_slice());
+            let rooted = Rooted {
+                arena: &bench.arena,
+                setting: told.setting,
+                root: told.root,
+                ligands: told.ligands,
+            };
+            let Ok(()) = rank_open(alloc, &rooted, &mut bench.work, &mut bench.tables, branches)
+            else {
                 return Err(AllocError);
             };
             bench.memo.found = Some(found);

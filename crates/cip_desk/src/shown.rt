@@ -1,8 +1,8 @@
 // What two spheres show of the branches at a root's ligands.
-ghost use Rattle.std.specs.Prelude.{◌≡◌, ◌++◌, ◌≤◌, ◌-◌, IfOk, OnOk};
+ghost use Rattle.std.specs.Prelude.{◌≡◌, ◌≤◌, ◌-◌, IfOk, OnOk};
 ghost use Rattle.cip_letters.specs.Asking.{decided, differing};
 ghost use Rattle.cip_mol.specs.declared.outcome.Rule.TheVariants.{R1a};
-ghost use Rattle.cip_desk.specs.Branches.{branch_at, branch_if, branches_of, told_between};
+ghost use Rattle.cip_desk.specs.Branches.{branch_at, branches_of, told_between};
 
 use crate::keys::{MOST_INLINE, put_below};
 use crate::root::Root;
@@ -46,27 +46,6 @@ fn show(alloc: Global, root: &Root<'_>, vertex: u32) -> Result<Shown, AllocError
     })
 }
 
-fn show_one(
-    alloc: Global,
-    root: &Root<'_>,
-    ligand: &Ligand,
-    shown: &mut Vec<Shown>,
-) -> Result<(), AllocError>
-    ensures { OnOk result (shown.new.items ≡ shown.old.items
-        ++ branch_if root.now.graph.now root.now.positions.now root.now.at ligand.now) }
-{
-    match ligand {
-        Ligand::LonePair => Ok(()),
-        Ligand::Vertex(vertex) => {
-            let Ok(branch) = show(alloc, root, *vertex) else {
-                return Err(AllocError);
-            };
-            shown.push(branch)?;
-            Ok(())
-        }
-    }
-}
-
 /// Shows the branches at ligands; a lone pair has none.
 pub fn show_all(
     alloc: Global,
@@ -80,9 +59,12 @@ pub fn show_all(
     shown.clear();
     let mut rest = ligands;
     while let [ligand, others @ ..] = rest {
-        let Ok(()) = show_one(alloc, root, ligand, shown) else {
-            return Err(AllocError);
-        };
+        if let Ligand::Vertex(vertex) = ligand {
+            let Ok(branch) = show(alloc, root, *vertex) else {
+                return Err(AllocError);
+            };
+            shown.push(branch)?;
+        }
         rest = others;
     }
     Ok(())

@@ -1,23 +1,17 @@
 // Roots that are ranked by their whole digraph.
-ghost use Rattle.std.specs.Prelude.{◌≡◌, ◌<◌, ◌≤◌, ◌^◌, ℕ, true, false, List, length, slice_index, IfOk, OnOk};
+ghost use Rattle.std.specs.Prelude.{◌≡◌, ◌<◌, ◌≤◌, ◌^◌, false, length, IfOk, OnOk};
 ghost use Rattle.std.specs.List.{list_all};
-ghost use Rattle.cip_aux.specs.Marking.{AreMarked, AreWanted, flag_at};
-ghost use Rattle.cip_aux.specs.Sights.{sight_of};
-ghost use Rattle.cip_branches.specs.Deciding.{AreFollowed};
 ghost use Rattle.cip_branches.specs.Saving.{saved_of};
-ghost use Rattle.cip_branches.specs.Standing.{WantedIn};
 ghost use Rattle.cip_constitution.specs.FollowedOut.{AreConstituted, AreFollowedOut};
 ghost use Rattle.cip_constitution.specs.Pairs.{pairs_of};
 ghost use Rattle.cip_constitution.specs.Settling.{SettledAs};
-ghost use Rattle.cip_digraph.specs.digraph.NodeList.{parents_of};
 ghost use Rattle.cip_label.specs.Standing.{RankedAs};
 ghost use Rattle.cip_label.specs.declared.digraphs.Ranking.TheVariants.{Known};
 ghost use Rattle.cip_letters.specs.Asking.{is_decided};
 ghost use Rattle.cip_ligands.specs.Taking.{AreSame};
-ghost use Rattle.cip_rows.specs.Keys.{AreKeyed};
 ghost use Rattle.cip_desk.specs.Desks.{settled_by};
 ghost use Rattle.cip_desk.specs.Keeping.{FoundAs, kept_of, ranking_in};
-ghost use Rattle.cip_desk.specs.Rooting.{HasRoom, IsRooted, HaveMarks, HaveTurns, whole_at};
+ghost use Rattle.cip_desk.specs.Rooting.{HasRoom, IsRooted, HaveMarks, HaveTurns};
 ghost use Rattle.cip_desk.specs.Standing.{standing_of};
 
 use crate::aside::Aside;
@@ -32,7 +26,7 @@ use cip_inside::Sights;
 use cip_label::{Ranking, Setting};
 use cip_letters::Descriptors;
 use cip_ligands::Readings;
-use cip_rank::{Table, both, both_of};
+use cip_rank::{both, both_of};
 use std::alloc::{AllocError, Global};
 
 /// So many nodes have the digraphs that cost much to follow and to look into, or only to grow.
@@ -102,21 +96,7 @@ pub fn is_costly(arena: &Arena, setting: &Setting<'_>, found: Found) -> bool {
         && setting.units().as_slice().len() > 1
 }
 
-// Flags the nodes in those branches that are wanted still, and all nodes below them.
-fn flag_nodes(work: &Work, table: &Table, flags: &mut [bool])
-    requires len { length flags.old ≡ length table.now.parents }
-    requires followed { AreFollowed work.now.branched }
-    requires keyed { AreKeyed (length flags.old) work.now.branched.layers.kin }
-    ensures below { AreWanted table.now.parents flags.new }
-    ensures flagged { (t place : ℕ) → WantedIn work.now.branched t place
-        → flag_at flags.new (slice_index work.now.branched.layers.kin.nodes place) ≡ true }
-    ensures len { length flags.new ≡ length flags.old }
-{
-    work.flag_wanted(flags);
-    flag_below(table, flags);
-}
-
-// Finds the descriptors inside those branches that are wanted still.
+// Finds the descriptors inside those branches that are wanted still, at all nodes in them and below.
 fn find_marks(
     alloc: Global,
     rooted: &Rooted<'_, '_>,
@@ -139,38 +119,16 @@ fn find_marks(
     let Ok(mut flags) = vec![in alloc; false; rooted.arena.len() as usize] else {
         return Err(AllocError);
     };
-    flag_nodes(work, rooted.arena.table(), flags.as_mut_slice());
-    let found = find_flagged(alloc, rooted, flags.as_slice(), tables);
-    drop(flags);
-    found
-}
-
-// Finds the descriptors at flagged nodes.
-fn find_flagged(
-    alloc: Global,
-    rooted: &Rooted<'_, '_>,
-    flags: &[bool],
-    tables: &mut Tables,
-) -> Result<(), AllocError>
-    requires rooted { IsRooted rooted.now.setting.now rooted.now.root rooted.now.ligands.now rooted.now.arena.now }
-    requires settled { SettledAs (settled_by rooted.now.setting.now rooted.now.ligands.now) rooted.now.arena.now
-        Settled.Whole }
-    requires below { AreWanted (parents_of rooted.now.arena.now.nodes) flags.now }
-    requires room { HasRoom rooted.now.arena.now.bound tables.old }
-    requires turns { HaveTurns rooted.now.setting.now rooted.now.arena.now tables.old }
-    ensures marks { OnOk result (AreMarked (sight_of (whole_at rooted.now.setting.now rooted.now.arena.now))
-        rooted.now.setting.now.units flags.now 0 tables.new.marks.marks) }
-    ensures room { HasRoom rooted.now.arena.now.bound tables.new }
-    ensures turns { HaveTurns rooted.now.setting.now rooted.now.arena.now tables.new }
-    ensures aside { tables.new.aside ≡ tables.old.aside }
-{
+    let flagged = flags.as_mut_slice();
+    work.flag_wanted(flagged);
+    flag_below(rooted.arena.table(), flagged);
     let Ok(units) = UnitsAt::new(alloc, rooted.setting.units().as_slice()) else {
         return Err(AllocError);
     };
     let whole = whole_of(rooted);
     let wanted = Wanted {
         units: &units,
-        flags,
+        flags: flags.as_slice(),
     };
     let found = auxiliaries(
         alloc,
@@ -181,6 +139,7 @@ fn find_flagged(
         &mut tables.marks,
     );
     drop(units);
+    drop(flags);
     found
 }
 

@@ -37,6 +37,14 @@ stands_open bound sight other look is near room e same pairs are =
     (ap (λ (n : Nearing). n.tops) e ∙ ap (λ (s : Sight). looked_at s look) same)
     (ap (λ (n : Nearing). n.now) e ∙ stood bound sight look is) are
 
+-- branches that were begun and swapped stand as their ranks were set aside
+pub stood_again : (old begun swapped again : Nearing) (tops : List ℕ) (branches : Branched) (ranks : Saved)
+    → begun ≡ record old { tops = tops } → swapped ≡ record begun { now = branches }
+    → again ≡ record swapped { now = restored ranks swapped.now }
+    → again ≡ record { bound = old.bound; tops = tops; now = restored ranks branches }
+stood_again old begun swapped again tops branches ranks e f g =
+    g ∙ (λ i. record (f i) { now = restored ranks (f i).now }) ∙ (λ i. record (e i) { now = restored ranks branches })
+
 -- and a look whose branches have other ranks since is open still
 pub open_still : (bound : ℕ) (sight : Sight) (look later : Look) → IsOpen bound sight look → (now then : Branched)
     → now ≡ restored look.ranks look.branched → AreSame now then → then.layers.kin.room ≡ bound
@@ -88,17 +96,16 @@ pub some_at : {X : Type 0} (xs : List X) (place : ℕ) → place < length xs →
 some_at [] place within = absurd (omega (arith, within))
 some_at (x ∷ xs) place within = (get_or (x ∷ xs) place x, slice_get-get_or (x ∷ xs) place x within)
 
--- what it is made of
-pub made_of : {X Y : Type 0} (f : X → Y) (xs : List X) (place : ℕ) (y : Y) → slice_get (map f xs) place ≡ Some y
-    → (x : X) × (slice_get xs place ≡ Some x) × (f x ≡ y)
-made_of f xs place y at =
-    let found =
-    some_at xs place
-    (subst (λ n. place < n) (length-map xs f) (slice_get_within (map f xs) place y at)) in (
-      found.0,
-      found.1,
-      same_Some (f found.0) y (sym (ap (option_map f) found.1) ∙ sym (slice_get-map f xs place) ∙ at),
-    )
+-- one of them, by what they are made of
+pub made_at : {X Y : Type 0} (f : X → Y) (xs : List X) (ys : List Y) → map f xs ≡ ys → (place : ℕ) (x : X)
+    → place < length ys → x ≡ get_or xs place x → slice_get ys place ≡ Some (f x)
+made_at {Y = Y} f xs ys made place x within value =
+    subst (λ (zs : List Y). slice_get zs place ≡ Some (f x)) made
+    (slice_get-map f xs place
+    ∙ ap (option_map f)
+    (slice_get-get_or xs place x
+    (subst (λ n. place < n) (sym (ap (λ (zs : List Y). length zs) made) ∙ length-map xs f) within)
+    ∙ ap Some (sym value)))
 
 -- as constitution has just left it
 pub opened : (bound : ℕ) (sight : Sight) (look : Look) (node : ℕ) (ligands asked : List (Option ℕ)) (tops : List ℕ)

@@ -42,10 +42,7 @@ fn carrier<N: Nodes>(nodes: &N, node: u32) -> u32
     requires { node < length (N.nodes nodes.now) }
     ensures { result ≡ carrier_of (N.nodes nodes.now) node }
 {
-    match nodes.table().parent(node) {
-        None => 0,
-        Some(parent) => parent,
-    }
+    nodes.table().parent(node).unwrap_or(0)
 }
 
 // The real node whose distance is the key of a node.
@@ -99,24 +96,16 @@ impl<N: Nodes> Distances<'_, N> {
         (here - meet) + (there - meet)
     }
 
-    // The same, where it may be known.
-    fn away(&self, node: u32) -> u64
-        requires real { IsReal (sight_of self.now.whole.now).nodes node }
-        ensures { result ≡ apart (path_at (sight_of self.now.whole.now).nodes self.now.from)
-            (path_at (sight_of self.now.whole.now).nodes node) }
-    {
-        match self.known.get(node as usize) {
-            Some(steps) => u64::from(*steps),
-            None => self.steps(node),
-        }
-    }
-
     fn distance(&self, node: u32) -> u64
         requires { node < length self.now.whole.now.told }
         ensures { result ≡ distance_at (sight_of self.now.whole.now) self.now.from node }
     {
         let nodes = self.whole.nodes();
-        self.away(source(nodes, self.whole.rules(), node))
+        let source = source(nodes, self.whole.rules(), node);
+        match self.known.get(source as usize) {
+            Some(steps) => u64::from(*steps),
+            None => self.steps(source),
+        }
     }
 }
 

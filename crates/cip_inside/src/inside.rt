@@ -1,5 +1,5 @@
 // The descriptors inside a whole digraph that is told of.
-ghost use Rattle.std.specs.Prelude.{◌≡◌, ◌≤◌, true, length, map, replicate, IfOk, OnOk};
+ghost use Rattle.std.specs.Prelude.{◌≡◌, ◌≤◌, length, map, OnOk};
 ghost use Rattle.cip_digraph.specs.units.Units.{sites_of};
 ghost use Rattle.cip_aux.specs.Marking.{node_mark};
 ghost use Rattle.cip_aux.specs.Sights.{sight_of};
@@ -8,13 +8,8 @@ use crate::sights::Sights;
 use cip_aux::{KeptTurns, UnitsAt, Wanted, Whole, auxiliaries};
 use cip_digraph::Nodes;
 use cip_letters::Descriptors;
+use cip_rank::both_of;
 use std::alloc::{AllocError, Global};
-
-fn all_true(alloc: Global, count: u32) -> Result<Vec<bool>, AllocError>
-    ensures { IfOk result (λ flags. flags.items ≡ replicate count true) }
-{
-    vec![in alloc; true; count as usize]
-}
 
 /// Puts the descriptor at each node of a whole digraph into memory that was reserved; none at the root, at duplicates
 /// and where ligands tie.
@@ -34,12 +29,19 @@ pub fn descriptors_inside<N: Nodes>(
         ≡ map (node_mark (sight_of whole.now) units.now) (sight_of whole.now).nodes) }
 {
     let count = whole.nodes().table().len();
-    let flags = all_true(alloc, count)?;
+    let Ok((flags, mut none)) = both_of(
+        vec![in alloc; true; count as usize],
+        KeptTurns::reserve(alloc, 0),
+    ) else {
+        return Err(AllocError);
+    };
     let wanted = Wanted {
         units,
         flags: flags.as_slice(),
     };
-    let mut none = KeptTurns::reserve(alloc, 0)?;
     sights.begin(0);
-    auxiliaries(alloc, whole, sights, &wanted, &mut none, marks)
+    let found = auxiliaries(alloc, whole, sights, &wanted, &mut none, marks);
+    drop(none);
+    drop(flags);
+    found
 }

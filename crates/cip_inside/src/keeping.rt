@@ -1,18 +1,17 @@
 // Looks into a digraph of which those are kept that constitution leaves open.
-ghost use Rattle.std.specs.Prelude.{◌≡◌, ◌<◌, ◌≤◌, ◌+◌, ℕ, List, true, false, All, Contains, IfOk, IfSome, OnOk, Some, length, map, slice_get};
+ghost use Rattle.std.specs.Prelude.{◌≡◌, ◌<◌, ◌≤◌, ◌+◌, ℕ, List, true, false, All, Contains, IfOk, IfSome, OnOk, Some, length, slice_get};
 ghost use Rattle.std.specs.declared.option.Option.{Option};
 ghost use Rattle.cip_aux.specs.Inner.{Ready};
 ghost use Rattle.cip_aux.specs.Marking.{AreSeenTurns};
 ghost use Rattle.cip_aux.specs.Neighbours.{neighbours_of};
 ghost use Rattle.cip_aux.specs.Sights.{IsReal, sight_of};
-ghost use Rattle.cip_branches.specs.Saving.{restored, saved_of};
+ghost use Rattle.cip_branches.specs.Saving.{saved_of};
 ghost use Rattle.cip_digraph.specs.digraph.NodeList.{parents_of};
 ghost use Rattle.cip_ligands.specs.Taking.{AreSame};
 ghost use Rattle.cip_inside.specs.Asking.{asked_pairs};
 ghost use Rattle.cip_inside.specs.Narrowing.{LeavesOpen, open_tops};
 ghost use Rattle.cip_inside.specs.Near.{ArePlaced, AreTops, asked_tops};
-ghost use Rattle.cip_inside.specs.OpenLooks.{Look as AnyLook, AreOpen, Asks, IsOpen, look_of, looked_at};
-ghost use Rattle.cip_inside.specs.declared.open_looks.OpenLook.{OpenLook as OpenedLook};
+ghost use Rattle.cip_inside.specs.OpenLooks.{Look as AnyLook, AreOpen, Asks, IsOpen, look_of};
 
 use crate::asking::ask_all;
 use crate::narrowing::{MOST_LIGANDS, Tops, move_all, open_tops};
@@ -62,26 +61,8 @@ fn configured<N: Nodes>(
     Ok(found)
 }
 
-// Lets the branches of an open look stand as constitution left them.
-fn reopen<N: Nodes>(near: &mut Near, whole: &Whole<'_, N>, look: &mut OpenLook)
-    requires bound { length whole.now.told ≤ near.old.bound }
-    requires node { look.old.node < length whole.now.told }
-    requires open { IsOpen near.old.bound (sight_of whole.now) (look_of look.old) }
-    ensures near { near.new ≡ record {
-      bound = near.old.bound;
-      tops = looked_at (sight_of whole.now) (look_of look.old);
-      now = restored look.old.ranks look.old.branches;
-    } }
-    ensures look { look.new ≡ record look.old { branches = near.old.now } }
-    ensures room { look.new.branches.layers.kin.room ≡ near.new.bound }
-{
-    near.begin(whole, look.node, look.tops.as_slice());
-    near.swap(&mut look.branches);
-    near.restore(&look.ranks);
-}
-
-// Goes on with an open look from where constitution left its branches, by the descriptors that count.
-fn go_on<N: Nodes>(
+/// Goes on with an open look from where constitution left its branches, by the descriptors that count.
+pub fn go_on<N: Nodes>(
     alloc: Global,
     near: &mut Near,
     inner: &Inner<'_, N>,
@@ -99,41 +80,14 @@ fn go_on<N: Nodes>(
         return Err(AllocError);
     };
     let node = look.node;
-    reopen(near, inner.whole(), look);
+    // its branches stand again as constitution left them
+    near.begin(inner.whole(), node, look.tops.as_slice());
+    near.swap(&mut look.branches);
+    near.restore(&look.ranks);
     let found = configured(alloc, near, inner, node, pairs.as_mut_slice());
     drop(pairs);
     near.swap(&mut look.branches);
     found
-}
-
-// Asks about the same pairs by the branches of open ones alone, and hands back the tops of these.
-fn look_anew<N: Nodes>(
-    alloc: Global,
-    near: &mut Near,
-    whole: &Whole<'_, N>,
-    asked: &Look<'_>,
-    before: &[u32],
-    pairs: &mut [Asked],
-) -> Result<Tops, AllocError>
-    requires room { length whole.now.told ≤ near.old.bound }
-    requires node { asked.now.node < length whole.now.told }
-    requires real { IsReal (sight_of whole.now).nodes asked.now.node }
-    requires before { before.now ≡ near.old.tops }
-    requires tops { near.old.tops ≡ asked_tops (parents_of whole.now.told) asked.now.ligands.now asked.now.node }
-    requires left { LeavesOpen (sight_of whole.now) asked.now.node near.old.tops near.old.now pairs.old
-        asked.now.ligands.now }
-    ensures tops { IfOk result (λ tops. near.new.tops ≡ asked_tops (parents_of whole.now.told) tops.items asked.now.node) }
-    ensures left { IfOk result (λ tops. LeavesOpen (sight_of whole.now) asked.now.node near.new.tops near.new.now pairs.new
-        asked.now.ligands.now) }
-    ensures bound { near.new.bound ≡ near.old.bound }
-{
-    let Ok(open) = open_tops(alloc, before, pairs) else {
-        return Err(AllocError);
-    };
-    near.begin(whole, asked.node, open.as_slice());
-    move_all(near, before, pairs);
-    near.constitution(whole, asked.node, pairs);
-    Ok(open)
 }
 
 // Begins anew with the branches of open pairs alone where the others hold most places, so that these needn't be kept.
@@ -160,9 +114,15 @@ fn narrowed<N: Nodes>(
         let Ok(before) = SmallVec::<u32, MOST_LIGANDS>::from_slice(alloc, near.tops()) else {
             return Err(AllocError);
         };
-        let open = look_anew(alloc, near, whole, asked, before.as_slice(), pairs);
+        let earlier = before.as_slice();
+        let Ok(open) = open_tops(alloc, earlier, pairs) else {
+            return Err(AllocError);
+        };
+        near.begin(whole, asked.node, open.as_slice());
+        move_all(near, earlier, pairs);
         drop(before);
-        open
+        near.constitution(whole, asked.node, pairs);
+        Ok(open)
     } else {
         Tops::from_slice(alloc, asked.ligands)
     }
@@ -246,36 +206,7 @@ fn keep<N: Nodes>(
     kept.push(look)
 }
 
-// Goes on with a look that constitution leaves open, and keeps it where there is room.
-fn look_on<N: Nodes>(
-    alloc: Global,
-    near: &mut Near,
-    inner: &Inner<'_, N>,
-    asked: &Look<'_>,
-    pairs: &mut [Asked],
-    kept: &mut OpenLooks,
-) -> Result<FoundTurns, AllocError>
-    requires ready { Ready inner.now asked.now.node }
-    requires tops { near.old.tops ≡ asked_tops (parents_of inner.now.sight.told) asked.now.ligands.now asked.now.node }
-    requires left { LeavesOpen inner.now.sight asked.now.node near.old.tops near.old.now pairs.old
-        asked.now.ligands.now }
-    requires open { AreOpen near.old.bound inner.now.sight kept.old }
-    ensures turns { IfOk result (AreSeenTurns inner.now asked.now.node asked.now.ligands.now) }
-    ensures open { AreOpen near.old.bound inner.now.sight kept.new }
-    ensures near { near.new.bound ≡ near.old.bound }
-{
-    if kept.has_room(near.len()) {
-        let place = kept.len();
-        let Ok(()) = keep(alloc, near, inner.whole(), asked, pairs, kept) else {
-            return Err(AllocError);
-        };
-        kept.go_on(alloc, near, inner, place)
-    } else {
-        configured(alloc, near, inner, asked.node, pairs)
-    }
-}
-
-// Looks by branches that were begun.
+// Looks by branches that were begun. A look that constitution leaves open is kept where there is room, and goes on.
 fn look_at<N: Nodes>(
     alloc: Global,
     near: &mut Near,
@@ -294,12 +225,19 @@ fn look_at<N: Nodes>(
     ensures open { AreOpen near.old.bound inner.now.sight kept.new }
     ensures near { near.new.bound ≡ near.old.bound }
 {
+    let whole = inner.whole();
     if near.is_empty() {
         Ok(FoundTurns::of(pairs, pairs, true))
-    } else if near.constitution(inner.whole(), asked.node, pairs) {
+    } else if near.constitution(whole, asked.node, pairs) {
         Ok(FoundTurns::of(pairs, pairs, true))
+    } else if kept.has_room(near.len()) {
+        let place = kept.len();
+        let Ok(()) = keep(alloc, near, whole, asked, pairs, kept) else {
+            return Err(AllocError);
+        };
+        kept.go_on(alloc, near, inner, place)
     } else {
-        look_on(alloc, near, inner, asked, pairs, kept)
+        configured(alloc, near, inner, asked.node, pairs)
     }
 }
 
@@ -326,23 +264,4 @@ pub fn look_first<N: Nodes>(
     let found = look_at(alloc, near, inner, asked, pairs.as_mut_slice(), kept);
     drop(pairs);
     found
-}
-
-/// Goes on with the look at a place of those that are kept.
-pub fn look_again<N: Nodes>(
-    alloc: Global,
-    near: &mut Near,
-    inner: &Inner<'_, N>,
-    looks: &mut [OpenLook],
-    place: usize,
-) -> Result<FoundTurns, AllocError>
-    requires place { place < length looks.old }
-    requires ready { (look : OpenedLook) → slice_get looks.old place ≡ Some look → Ready inner.now look.node }
-    requires open { AreOpen near.old.bound inner.now.sight (map look_of looks.old) }
-    ensures turns { (look : OpenedLook) → slice_get looks.old place ≡ Some look
-        → IfOk result (AreSeenTurns inner.now look.node look.ligands.items) }
-    ensures open { AreOpen near.old.bound inner.now.sight (map look_of looks.new) }
-    ensures near { near.new.bound ≡ near.old.bound }
-{
-    go_on(alloc, near, inner, &mut looks[place])
 }

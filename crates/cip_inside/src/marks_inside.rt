@@ -1,6 +1,5 @@
 // The descriptors that count at a node: those of the nodes strictly below it.
-ghost use Rattle.std.specs.Prelude.{◌≡◌, ◌<◌, ◌≤◌, length};
-ghost use Rattle.cip_rank.specs.View.{on_way};
+ghost use Rattle.std.specs.Prelude.{◌≡◌, ◌<◌, length};
 ghost use Rattle.cip_aux.specs.Below.{is_below};
 ghost use Rattle.cip_inside.specs.Marks.{marks_below};
 
@@ -19,31 +18,21 @@ pub struct MarksInside<'a> {
     ghost len: { length marks.now.marks ≡ length table.now.parents },
 }
 
-// The first number that is at most another one on the way from a node to the root, where numbers fall.
-fn climb_to(table: &Table, from: u32, node: u32) -> u32
-    requires { node < length table.now.parents }
-    ensures within { result < length table.now.parents }
-    ensures low { result ≤ from }
-    ensures same { on_way table.now.parents result from ≡ on_way table.now.parents node from }
-{
-    let _count = table.len();
-    let mut at = node;
-    while at > from {
-        at = parent_of(table, at);
-    }
-    at
-}
-
-// Whether a node is strictly below another one.
+// Whether a node is strictly below another one: numbers fall on the way to the root, so it is met, or a lower one is.
 fn is_below(table: &Table, from: u32, node: u32) -> bool
     requires { node < length table.now.parents }
     ensures { result ≡ is_below table.now.parents from node }
 {
     let _count = table.len();
     if node <= from {
-        return false;
+        false
+    } else {
+        let mut at = node;
+        while at > from {
+            at = parent_of(table, at);
+        }
+        at == from
     }
-    climb_to(table, from, node) == from
 }
 
 impl Marked for MarksInside<'_> {

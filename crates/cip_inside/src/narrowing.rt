@@ -1,6 +1,6 @@
 // Pairs that constitution leaves open, asked about once more by their branches alone: the others are let go with all
 // their places.
-ghost use Rattle.std.specs.Prelude.{◌≡◌, ◌++◌, ◌∷◌, [], IfOk, OnOk, Some, filter, map, slice_index};
+ghost use Rattle.std.specs.Prelude.{◌≡◌, IfOk, map, slice_index};
 ghost use Rattle.cip_inside.specs.Narrowing.{is_open_top, is_top_of, moved, open_tops};
 
 use crate::asking::ask;
@@ -34,19 +34,12 @@ fn is_top_of(tops: &[u32], top: u32, pair: &Asked) -> bool
 fn is_open_top(tops: &[u32], pairs: &[Asked], top: u32) -> bool
     ensures { result ≡ is_open_top tops.now pairs.now top }
 {
-    pairs.iter().any(|pair| is_top_of(tops, top, pair))
-}
-
-fn push_if_open(tops: &[u32], pairs: &[Asked], top: u32, found: &mut Tops) -> Result<(), AllocError>
-    ensures { OnOk result (found.new.items ≡ found.old.items
-        ++ map Some (filter (is_open_top tops.now pairs.now) (top ∷ []))) }
-{
-    if is_open_top(tops, pairs, top) {
-        let Ok(()) = found.push(Some(top)) else {
-            return Err(AllocError);
-        };
+    for pair in pairs {
+        if is_top_of(tops, top, pair) {
+            return true;
+        }
     }
-    Ok(())
+    false
 }
 
 /// The tops of the branches in open pairs.
@@ -56,9 +49,11 @@ pub fn open_tops(alloc: Global, tops: &[u32], pairs: &[Asked]) -> Result<Tops, A
 {
     let mut found = SmallVec::new(alloc);
     for top in tops {
-        let Ok(()) = push_if_open(tops, pairs, *top, &mut found) else {
-            return Err(AllocError);
-        };
+        if is_open_top(tops, pairs, *top) {
+            let Ok(()) = found.push(Some(*top)) else {
+                return Err(AllocError);
+            };
+        }
     }
     Ok(found)
 }

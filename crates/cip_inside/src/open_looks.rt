@@ -1,11 +1,11 @@
 // Looks that constitution leaves open, with their branches as they stand behind Rule 2: asked again with other descriptors
 // they need no rule of constitution.
-ghost use Rattle.std.specs.Prelude.{◌≡◌, ◌<◌, ◌≤◌, ◌+◌, ◌^◌, ◌++◌, ◌∷◌, [], true, false, IfOk, IfSome, OnErr, OnOk, Some, length, slice_get};
+ghost use Rattle.std.specs.Prelude.{◌≡◌, ◌<◌, ◌+◌, ◌^◌, ◌++◌, ◌∷◌, [], true, false, IfOk, IfSome, OnErr, OnOk, Some, length, slice_get};
 ghost use Rattle.cip_aux.specs.Inner.{Ready};
 ghost use Rattle.cip_aux.specs.Marking.{AreSeenTurns};
 ghost use Rattle.cip_inside.specs.OpenLooks.{Look as AnyLook, AreOpen, Asks, look_of};
 
-use crate::keeping::look_again;
+use crate::keeping::go_on;
 use crate::narrowing::{MOST_LIGANDS, Tops};
 use crate::near::Near;
 use cip_aux::{FoundTurns, Inner};
@@ -86,7 +86,8 @@ impl OpenLooks {
     {
         match self.looks.pop() {
             Some(look) => {
-                put_by(&mut self.spare, branches_of(look));
+                // what finds no place is let go, by a call as well
+                drop(self.spare.push(branches_of(look)));
                 true
             }
             None => false,
@@ -100,7 +101,14 @@ impl OpenLooks {
         ensures same { self.new ≡ self.old }
     {
         match self.spare.pop() {
-            Some(branches) => fitting(alloc, branches, room),
+            Some(branches) => {
+                if branches.room() == room {
+                    Ok(branches)
+                } else {
+                    drop(branches);
+                    Branches::reserve(alloc, room)
+                }
+            }
             None => Branches::reserve(alloc, room),
         }
     }
@@ -123,7 +131,12 @@ impl OpenLooks {
         ensures asks { IfSome result (λ place. (look : AnyLook) → slice_get self.now place ≡ Some look
             → Asks look node ligands.now) }
     {
-        self.looks.iter().position(|look| look.asks(node, ligands))
+        for (place, look) in self.looks.iter().enumerate() {
+            if look.asks(node, ligands) {
+                return Some(place);
+            }
+        }
+        None
     }
 
     /// Goes on with the look at a place.
@@ -142,7 +155,7 @@ impl OpenLooks {
         ensures open { AreOpen near.old.bound inner.now.sight self.new }
         ensures near { near.new.bound ≡ near.old.bound }
     {
-        look_again(alloc, near, inner, self.looks.as_mut_slice(), place)
+        go_on(alloc, near, inner, &mut self.looks[place])
     }
 
     /// Keeps one more.
@@ -171,22 +184,4 @@ fn branches_of(look: OpenLook) -> Branches {
     drop(pairs);
     drop(ranks);
     branches
-}
-
-// What finds no place is let go, by a call as well.
-fn put_by(spare: &mut Vec<Branches>, branches: Branches) {
-    drop(spare.push(branches));
-}
-
-// These branches, or others where they have another room.
-fn fitting(alloc: Global, branches: Branches, room: u32) -> Result<Branches, AllocError>
-    requires { room + 1 < 2 ^ 32 }
-    ensures { IfOk result (λ branches. branches.layers.kin.room ≡ room) }
-{
-    if branches.room() == room {
-        Ok(branches)
-    } else {
-        drop(branches);
-        Branches::reserve(alloc, room)
-    }
 }

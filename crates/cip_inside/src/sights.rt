@@ -58,13 +58,15 @@ pub(crate) fn configure<N: Nodes>(
     ensures same { AreSame near.old.now near.new.now }
     ensures bound { near.new.bound ≡ near.old.bound }
 {
-    if inner.from() == node && near.leads_down(node) {
-        near.configuration(inner.marks(), pairs, turned);
+    let from = inner.from();
+    let all = inner.marks();
+    if from == node && near.leads_down(node) {
+        near.configuration(all, pairs, turned);
     } else {
         let marks = MarksInside {
             table: inner.whole().nodes().table(),
-            from: inner.from(),
-            marks: inner.marks(),
+            from,
+            marks: all,
         };
         near.configuration(&marks, pairs, turned);
     }

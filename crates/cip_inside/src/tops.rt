@@ -10,7 +10,12 @@ use cip_rows::Column;
 fn is_asked(ligands: &[Option<u32>], node: u32) -> bool
     ensures { result ≡ list_any (is_ligand node) ligands.now }
 {
-    ligands.iter().any(|ligand| *ligand == Some(node))
+    for ligand in ligands {
+        if *ligand == Some(node) {
+            return true;
+        }
+    }
+    false
 }
 
 fn push_if_asked(tops: &mut Column<u32>, ligands: &[Option<u32>], node: u32)

@@ -1,18 +1,9 @@
 // The branches that are wanted: where they lead, and how many places stand in them.
-ghost use Rattle.std.specs.Prelude.{◌≡◌, ◌<◌, ◌≤◌, ◌^◌, ℕ, true, false, length, slice_index};
+ghost use Rattle.std.specs.Prelude.{◌≡◌, ◌<◌, ◌^◌, ℕ, true, false, length, slice_index};
 ghost use Rattle.cip_rows.specs.Parting.{has_flag};
 ghost use Rattle.cip_inside.specs.Near.{LeadsElsewhere};
 
 use cip_branches::Branches;
-
-// Whether a branch isn't wanted, or its top is behind a node.
-fn is_behind(branches: &Branches, branch: u32, top: u32, node: u32) -> bool
-    ensures behind { result ≡ true → has_flag branches.now.wanted branch ≡ true → node < top }
-    ensures wanted { result ≡ false → has_flag branches.now.wanted branch ≡ true }
-    ensures low { result ≡ false → top ≤ node }
-{
-    !branches.is_wanted(branch) || node < top
-}
 
 /// Whether the tops of all branches that are wanted are behind a node.
 pub fn are_behind(branches: &Branches, tops: &[u32], node: u32) -> bool
@@ -22,7 +13,7 @@ pub fn are_behind(branches: &Branches, tops: &[u32], node: u32) -> bool
     ensures elsewhere { result ≡ false → LeadsElsewhere branches.now.wanted tops.now node }
 {
     for branch in 0..tops.len() as u32 {
-        if !is_behind(branches, branch, tops[branch as usize], node) {
+        if tops[branch as usize] <= node && branches.is_wanted(branch) {
             return false;
         }
     }

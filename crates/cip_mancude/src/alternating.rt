@@ -36,8 +36,10 @@ impl<'a> Alternation<'a> {
     pub fn new(alloc: Global, graph: &'a Graph) -> Result<Alternation<'a>, AllocError>
         ensures { IfOk result (λ alternation. alternation ≡ graph.now) }
     {
-        let partners = partners_of(alloc, graph)?;
-        Ok(Alternation { graph, partners })
+        match partners_of(alloc, graph) {
+            Ok(partners) => Ok(Alternation { graph, partners }),
+            Err(error) => Err(error),
+        }
     }
 
     /// With the partners of none. It takes no memory.
@@ -92,7 +94,9 @@ impl<'a> Alternation<'a> {
 fn partners_of(alloc: Global, graph: &Graph) -> Result<Vec<Option<u32>>, AllocError>
     ensures { IfOk result (λ partners. ArePartners graph.now partners.items) }
 {
-    let mut partners = vec![in alloc; None; graph.vertices().len()]?;
+    let Ok(mut partners) = vec![in alloc; None; graph.vertices().len()] else {
+        return Err(AllocError);
+    };
     for edge in graph.edges() {
         note_partners(graph, edge, &mut partners);
     }

@@ -46,16 +46,32 @@ fn has_counted(graph: &Graph) -> bool
 }
 
 // Sets the positions of each vertex.
-#[tactic(auto, unfolding(cip_digraph::specs::rings::Positions::positions_of))]
 fn set_all(alloc: Global, graph: &Graph) -> Result<Positions, AllocError>
     ensures { IfOk result (λ positions. positions ≡ positions_of graph.now) }
 {
-    let count = graph.vertices().len();
-    let alternation = Alternation::new(alloc, graph)?;
-    let mut reached = VertexSet::new(alloc, count)?;
-    let mut positions = Positions::none(alloc, count)?;
-    for vertex in 0..count as u32 {
-        set_positions(alloc, &alternation, vertex, &mut reached, &mut positions)?;
+    let count = graph.vertices().len() as u32;
+    let Ok(alternation) = Alternation::new(alloc, graph) else {
+        return Err(AllocError);
+    };
+    set_each(alloc, &alternation, count)
+}
+
+// The same, where the partners are known.
+#[tactic(auto, unfolding(cip_digraph::specs::rings::Positions::positions_of))]
+fn set_each(alloc: Global, alternation: &Alternation, count: u32) -> Result<Positions, AllocError>
+    requires { count ≡ length alternation.now.vertices }
+    ensures { IfOk result (λ positions. positions ≡ positions_of alternation.now) }
+{
+    let Ok(mut reached) = VertexSet::new(alloc, count as usize) else {
+        return Err(AllocError);
+    };
+    let Ok(mut positions) = Positions::none(alloc, count as usize) else {
+        return Err(AllocError);
+    };
+    for vertex in 0..count {
+        let Ok(()) = set_positions(alloc, alternation, vertex, &mut reached, &mut positions) else {
+            return Err(AllocError);
+        };
     }
     Ok(positions)
 }
@@ -100,7 +116,9 @@ fn set_list(
     ensures { OnOk result
         (positions.new ≡ slice_set positions.old double.vertex (positions_at alternation.now double.vertex)) }
 {
-    let list = positions_at(alloc, alternation, double, positions, reached)?;
+    let Ok(list) = positions_at(alloc, alternation, double, positions, reached) else {
+        return Err(AllocError);
+    };
     positions.set(double.vertex, list.as_slice());
     Ok(())
 }
@@ -141,7 +159,9 @@ fn push_if(positions: &mut SmallVec<u32, 3>, other: u32, found: bool) -> Result<
     ensures { OnOk result (positions.new.items ≡ positions.old.items ++ cond found (other ∷ []) []) }
 {
     if found {
-        positions.push(other)?;
+        let Ok(()) = positions.push(other) else {
+            return Err(AllocError);
+        };
     }
     Ok(())
 }
@@ -162,8 +182,12 @@ fn positions_at(
     let mut positions: SmallVec<u32, 3> = SmallVec::new(alloc);
     for edge in alternation.edges_at(double.vertex) {
         let other = edge.other_end(double.vertex);
-        let found = is_position(alloc, alternation, double, other, before, reached)?;
-        push_if(&mut positions, other, found)?;
+        let Ok(found) = is_position(alloc, alternation, double, other, before, reached) else {
+            return Err(AllocError);
+        };
+        let Ok(()) = push_if(&mut positions, other, found) else {
+            return Err(AllocError);
+        };
     }
     Ok(positions)
 }

@@ -62,11 +62,29 @@ fn finds_ring(
     let mut path = Path::new(alloc);
     path.push(aim.third);
     path.push(next);
-    if reaches_soon(alternation, aim, most, &mut path, next) {
+    goes_round(alternation, aim, next, most, &mut path, reached)
+}
+
+// The same along a path that has begun.
+fn goes_round(
+    alternation: &Alternation,
+    aim: Aim,
+    next: u32,
+    most: u32,
+    path: &mut Path,
+    reached: &mut VertexSet,
+) -> Result<bool, AllocError>
+    requires most { most ≤ 11 }
+    requires begun { path.old ≡ next ∷ aim.third ∷ [] }
+    ensures { IfOk result (λ found. found ≡ reaches alternation.now aim.target most (next ∷ aim.third ∷ []) next) }
+{
+    if reaches_soon(alternation, aim, most, path, next) {
         Ok(true)
-    } else if has_walk(alternation, aim.target, most, next, reached)? {
-        Ok(reaches_by(alternation, aim, most, &mut path, next))
     } else {
-        Ok(false)
+        match has_walk(alternation, aim.target, most, next, reached) {
+            Ok(true) => Ok(reaches_by(alternation, aim, most, path, next)),
+            Ok(false) => Ok(false),
+            Err(error) => Err(error),
+        }
     }
 }

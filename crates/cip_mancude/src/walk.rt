@@ -1,5 +1,5 @@
 // Walks by turns over single and double bonds, which may meet an atom twice: where none leads, no ring does.
-ghost use Rattle.std.specs.Prelude.{◌≡◌, ◌&&◌, IfOk, OnOk, false};
+ghost use Rattle.std.specs.Prelude.{◌≡◌, IfOk, OnOk};
 ghost use Rattle.cip_digraph.specs.rings.Alternating.{is_in};
 ghost use Rattle.cip_digraph.specs.rings.SmallRings.{with_new};
 ghost use Rattle.cip_ring.specs.Steps.{within};
@@ -34,8 +34,10 @@ pub fn has_walk(
 ) -> Result<bool, AllocError>
     ensures { IfOk result (λ found. found ≡ is_in target (within (onward alternation.now) at most)) }
 {
-    within(&Onward { alternation }, at, most, reached)?;
-    Ok(reached.contains(target))
+    match within(&Onward { alternation }, at, most, reached) {
+        Ok(()) => Ok(reached.contains(target)),
+        Err(error) => Err(error),
+    }
 }
 
 fn add_onward(alternation: &Alternation, at: u32, reached: &mut VertexSet) -> Result<(), AllocError>
@@ -43,7 +45,9 @@ fn add_onward(alternation: &Alternation, at: u32, reached: &mut VertexSet) -> Re
 {
     for edge in alternation.edges_at(at) {
         if edge.order == 1 {
-            add_behind(alternation, edge.other_end(at), reached)?;
+            let Ok(()) = add_behind(alternation, edge.other_end(at), reached) else {
+                return Err(AllocError);
+            };
         }
     }
     Ok(())

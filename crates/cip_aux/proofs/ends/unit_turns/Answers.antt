@@ -38,14 +38,20 @@ returns-then-end-vertex-clause-room g c = c.turns_at.ensures.room
 pub returns-then-end-vertex-clause-stands : goal.returns-then-end-vertex-clause-stands
 returns-then-end-vertex-clause-stands g c = c.turns_at.ensures.stands
 
-pub two_ends-requires-clause-ready : goal.two_ends-requires-clause-ready
-two_ends-requires-clause-ready g c = c.requires.ready
+pub ends_turns-requires-clause-stands : goal.ends_turns-requires-clause-stands
+ends_turns-requires-clause-stands g c = c.requires.stands
 
-pub returns-in-Two-clause-stands : goal.returns-in-Two-clause-stands
-returns-in-Two-clause-stands g c = c.two_ends.ensures.stands
+pub ends_turns-requires-clause-ready : goal.ends_turns-requires-clause-ready
+ends_turns-requires-clause-ready g c = c.requires.ready
 
-pub returns-in-Two-clause-room : goal.returns-in-Two-clause-room
-returns-in-Two-clause-room g c = c.two_ends.ensures.room
+pub ends_turns-requires-then-ends-vertex-2-clause-ready : goal.ends_turns-requires-then-ends-vertex-2-clause-ready
+ends_turns-requires-then-ends-vertex-2-clause-ready g c = c.requires.ready
 
-pub two_ends-requires-clause-stands : goal.two_ends-requires-clause-stands
-two_ends-requires-clause-stands g c = c.requires.stands
+pub ends_turns-requires-then-ends-vertex-2-clause-stands : goal.ends_turns-requires-then-ends-vertex-2-clause-stands
+ends_turns-requires-then-ends-vertex-2-clause-stands g c = c.requires.stands
+
+pub returns-then-ends-vertex-clause-stands : goal.returns-then-ends-vertex-clause-stands
+returns-then-ends-vertex-clause-stands g c = c.ends_turns.ensures.stands
+
+pub returns-then-ends-vertex-clause-room : goal.returns-then-ends-vertex-clause-room
+returns-then-ends-vertex-clause-room g c = c.ends_turns.ensures.room

@@ -1,4 +1,4 @@
-use Rattle.std.proofs.Common.{◌≡◌, ◌≤◌, ◌∙◌, ◌∷◌, ◌++◌, [], ap, length, subst, sym, true}
+use Rattle.std.proofs.Common.{◌≡◌, ◌≤◌, ◌∙◌, ◌∷◌, ◌++◌, [], ap, length, subst, sym, true, rules}
 use Rattle.std.proofs.lemmas.Result.{on_ok_weaker}
 use Rattle.cip_mol.specs.Sites.{IsSite}
 use Rattle.cip_digraph.specs.graph.Graph.{edges_at, other_end}
@@ -13,7 +13,7 @@ pub biaryl_unit-unit-requires-clause-shown : goal.biaryl_unit-unit-requires-clau
 biaryl_unit-unit-requires-clause-shown c =
     let source = c.args.source.now in
     let is : is_biaryl source.graph.now source.positions.now c.args.a c.args.edge.now ≡ true =
-    sym c.in_ok-is_biaryl.ensures ∙ c.if-branch.true in
+    search rules in
     subst (λ b. IsSite (length source.molecule.now.atoms) (like (biaryl_site source.graph.now c.args.a b)))
     (sym c.other_end.ensures)
     (biaryl_shown source.graph.now source.positions.now (length source.molecule.now.atoms) c.args.a c.args.edge.now
@@ -23,7 +23,7 @@ pub biaryl_unit-unit-requires-clause-first : goal.biaryl_unit-unit-requires-clau
 biaryl_unit-unit-requires-clause-first c =
     let source = c.args.source.now in
     let is : is_biaryl source.graph.now source.positions.now c.args.a c.args.edge.now ≡ true =
-    sym c.in_ok-is_biaryl.ensures ∙ c.if-branch.true in
+    search rules in
     let three = (biaryl_parts source.graph.now source.positions.now c.args.a c.args.edge.now is).first.three in
     at_most three
 
@@ -31,17 +31,17 @@ pub biaryl_unit-unit-requires-clause-second : goal.biaryl_unit-unit-requires-cla
 biaryl_unit-unit-requires-clause-second c =
     let source = c.args.source.now in
     let is : is_biaryl source.graph.now source.positions.now c.args.a c.args.edge.now ≡ true =
-    sym c.in_ok-is_biaryl.ensures ∙ c.if-branch.true in
+    search rules in
     let three = (biaryl_parts source.graph.now source.positions.now c.args.a c.args.edge.now is).second.three in
     subst (λ b. length (edges_at source.graph.now b) ≤ 3) (sym c.other_end.ensures) (at_most three)
 
-pub returns-then-branch : goal.returns-then-branch
-returns-then-branch c =
+pub returns-in-Ok-true : goal.returns-in-Ok-true
+returns-in-Ok-true c =
     let source = c.args.source.now in
     let graph = source.graph.now in
     let a = c.args.a in
     let edge = c.args.edge.now in
-    let is : is_biaryl graph source.positions.now a edge ≡ true = sym c.in_ok-is_biaryl.ensures ∙ c.if-branch.true in
+    let is : is_biaryl graph source.positions.now a edge ≡ true = search rules in
     on_ok_weaker c.push.result
     (λ so_far. so_far
     ∙ ap (λ more. c.args.units.now ++ more)

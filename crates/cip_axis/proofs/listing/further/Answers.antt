@@ -1,4 +1,4 @@
-use Rattle.std.proofs.Common.{◌≡◌, ◌∙◌, ap, length, sym}
+use Rattle.std.proofs.Common.{◌≡◌, ◌∙◌, ap, length, sym, refl}
 use Rattle.cip_mol.specs.Bonds as bonds
 use Rattle.cip_mol.specs.Drawing.{Drawing}
 use Rattle.cip_digraph.specs.graph.DrawnGraph.{graph_of}
@@ -16,31 +16,23 @@ is_graph : (drawing : Drawing) (graph : Graph) → bonds.IsSound (length drawing
 is_graph drawing graph sound same =
     rw same (record { drawn = drawn_is drawing; leads = drawn_leads drawing sound; sound = drawn_sound drawing sound })
 
-pub push_all_cumulenes-requires-clause-source : goal.push_all_cumulenes-requires-clause-source
-push_all_cumulenes-requires-clause-source c =
+pub push_all-requires-clause-source : goal.push_all-requires-clause-source
+push_all-requires-clause-source c =
     is_graph c.args.molecule.now c.args.graph.now c.atoms.ensures.sound c.requires
 
-pub push_all_biaryls-requires-clause-source : goal.push_all_biaryls-requires-clause-source
-push_all_biaryls-requires-clause-source c =
-    is_graph c.args.molecule.now c.args.graph.now c.atoms.ensures.sound c.requires
-
-pub push_all_cumulenes-requires-clause-atoms : goal.push_all_cumulenes-requires-clause-atoms
-push_all_cumulenes-requires-clause-atoms c = ap length c.atoms.ensures.value
+pub push_all-requires-clause-atoms : goal.push_all-requires-clause-atoms
+push_all-requires-clause-atoms c = ap length c.atoms.ensures.value
     ∙ sym (rw c.requires (drawn_is c.args.molecule.now))
 
-pub push_all_biaryls-requires-clause-atoms : goal.push_all_biaryls-requires-clause-atoms
-push_all_biaryls-requires-clause-atoms c = ap length c.atoms.ensures.value
-    ∙ sym (rw c.requires (drawn_is c.args.molecule.now))
-
-pub returns : goal.returns
-returns c =
+pub returns-in-Ok-push_all : goal.returns-in-Ok-push_all
+returns-in-Ok-push_all c =
     let drawing = c.args.molecule.now in
     let graph = c.args.graph.now in
     let positions = c.args.positions.now in
     let value =
     units_are drawing graph positions _ _ _ _
     (ap length c.atoms.ensures.value ∙ sym (rw c.requires (drawn_is drawing)))
-    c.new-units.ensures c.in_ok-push_all_cumulenes.ensures c.in_ok-push_all_biaryls.ensures in
+    c.new-units.ensures refl c.in-Ok-push_all.ensures in
     record {
       value = value;
       fit = rw value (further_units_are_fit drawing graph positions (is_graph drawing graph c.atoms.ensures.sound c.requires).sound);

@@ -6,4 +6,4 @@ pub loop-atom-preserved : goal.loop-atom-preserved
 loop-atom-preserved c =
     let source = c.args.source.now in
     units_more (biaryls_of source.molecule.now source.graph.now source.positions.now) c.loop-atom.atom _ _ _
-    c.loop-atom.invariant c.in_ok-push_biaryls.ensures
+    c.loop-atom.invariant c.in-Ok.ensures

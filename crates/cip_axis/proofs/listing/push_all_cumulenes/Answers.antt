@@ -6,4 +6,4 @@ pub loop-atom-preserved : goal.loop-atom-preserved
 loop-atom-preserved c =
     let source = c.args.source.now in
     units_more (cumulenes_of source.molecule.now source.graph.now) c.loop-atom.atom _ _ _ c.loop-atom.invariant
-    c.in_ok-push_cumulenes.ensures
+    c.in-Ok.ensures

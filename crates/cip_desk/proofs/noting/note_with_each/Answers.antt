@@ -7,3 +7,6 @@ loop-rest-preserved c = grind (arith, common_steps)
 
 pub returns : goal.returns
 returns c = grind (arith, common_steps)
+
+pub loop-rest-preserved-in-Ok : goal.loop-rest-preserved-in-Ok
+loop-rest-preserved-in-Ok c = grind (arith, common_steps)

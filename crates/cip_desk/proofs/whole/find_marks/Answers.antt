@@ -1,11 +1,19 @@
-use Rattle.std.proofs.Common.{rules, ◌≡◌, ◌++◌, Bool, List, take, drop, length, ap, ◌∙◌, subst, arith}
+use Rattle.std.proofs.Common.{rules, ◌≡◌, ◌++◌, ℕ, Bool, true, List, slice_index, take, drop, length, ap, ◌∙◌, subst, arith, sym}
 use Rattle.std.proofs.lemmas.Grind.{common_steps}
 use Rattle.std.proofs.Math.Seq.{take-append_seam}
-use Rattle.cip_aux.specs.Marking.{AreMarked}
-use Rattle.cip_aux.specs.Sights.{sight_of}
+use Rattle.cip_aux.specs.Marking.{AreMarked, flag_at, AreWanted}
+use Rattle.cip_aux.specs.Sights.{sight_of, Sight, Whole}
+use Rattle.cip_branches.specs.Standing.{WantedIn}
+use Rattle.cip_rows.specs.Keys.{AreKeyed}
 use Rattle.cip_desk.specs.Rooting.{whole_at}
 use Rattle.cip_desk.proofs.KnownRoots.{on_ok}
-use Rattle.cip_desk.proofs.RootMarks.{have_marks}
+use Rattle.cip_desk.proofs.RootMarks.{have_marks, wanted_set}
+use Rattle.cip_aux.specs.KeptTurns.{sites_in}
+use Rattle.cip_aux.proofs.Keeping.{same_kept}
+use Rattle.cip_digraph.specs.units.Units.{sites_of}
+use Rattle.cip_inside.specs.OpenLooks.{AreOpen}
+use Rattle.cip_digraph.specs.digraph.NodeList.{parents_of}
+use Rattle.cip_mol.specs.declared.site.Unit as units
 use Rattle.cip_desk.proofs.whole.find_marks.Goals as goal
 
 pub returns-clause-marks : goal.returns-clause-marks
@@ -13,40 +21,71 @@ returns-clause-marks c =
     let setting = c.args.rooted.now.setting.now in
     let arena = c.args.rooted.now.arena.now in
     let work = c.args.work.now in
-    let flags = c.flag_nodes.new.flags in
-    let marks = c.find_flagged-found.new.tables.marks.marks in
+    let flags = c.flag_below.new.flags in
+    let marks = c.auxiliaries-found.new.marks.marks in
     let count : c.in-Ok.flags.len ≡ length flags = search rules in
-    let wanted : c.as_slice.result.now ≡ flags = c.as_slice.ensures.value
+    let wanted : c.as_slice-2.result.now ≡ flags = c.as_slice-2.ensures.value
     ∙ ap (λ n. take n (flags ++ drop (length flags) c.in-Ok.flags.items)) count
     ∙ take-append_seam flags (drop (length flags) c.in-Ok.flags.items) in
-    on_ok c.find_flagged-found.result c.find_flagged-found.ensures.marks
+    let now = work.branched in
+    let many : length arena.nodes ≡ length c.as_mut_slice-flagged.result.now = grind (arith, common_steps) in
+    let flagged : (t place : ℕ) → WantedIn now t place
+    → flag_at flags (slice_index now.layers.kin.nodes place) ≡ true =
+    λ t place p.
+    let node = slice_index now.layers.kin.nodes place in
+    c.flag_below.ensures.kept node
+    (ap (λ (fs : List Bool). flag_at fs node) c.flag_wanted.ensures.flagged
+    ∙ wanted_set now c.as_mut_slice-flagged.result.now
+    (subst (λ n. AreKeyed n now.layers.kin) many c.requires.constituted.keyed) c.requires.constituted.followed t place p) in
+    on_ok c.auxiliaries-found.result c.auxiliaries-found.ensures.marks
     (λ are. have_marks setting arena c.requires.rooted.holds work.pairs work.branched work.noted
-    c.requires.constituted flags marks c.flag_nodes.ensures.flagged
-    (subst (λ (fs : List Bool). AreMarked (sight_of (whole_at setting arena)) setting.units fs 0 marks) wanted are))
+    c.requires.constituted flags marks flagged
+    (subst (λ (fs : List Bool). AreMarked (sight_of (whole_at setting arena)) setting.units fs 0 marks) wanted
+    (subst (λ (whole : Whole). AreMarked (sight_of whole) setting.units c.as_slice-2.result.now 0 marks)
+    c.whole_of-whole.ensures
+    (subst (λ (us : List units.Unit). AreMarked (sight_of c.whole_of-whole.result) us c.as_slice-2.result.now 0 marks)
+    (c.in-Ok-new.ensures ∙ c.as_slice.ensures ∙ c.units.ensures.value) are))))
 
-pub flag_nodes-requires-clause-len : goal.flag_nodes-requires-clause-len
-flag_nodes-requires-clause-len c = grind (arith, common_steps)
+pub flag_below-requires : goal.flag_below-requires
+flag_below-requires c = grind (arith, common_steps)
 
-pub find_flagged-found-requires-clause-below : goal.find_flagged-found-requires-clause-below
-find_flagged-found-requires-clause-below c = grind (arith, common_steps)
+pub auxiliaries-found-requires-clause-kept : goal.auxiliaries-found-requires-clause-kept
+auxiliaries-found-requires-clause-kept c =
+    let setting = c.args.rooted.now.setting.now in
+    let arena = c.args.rooted.now.arena.now in
+    let all = c.in-Ok-new.ensures ∙ c.as_slice.ensures ∙ c.units.ensures.value in
+    same_kept (sight_of (whole_at setting arena)) (sight_of c.whole_of-whole.result)
+    (sites_of setting.graph setting.positions) (sites_in c.in-Ok-new.units) c.args.tables.now.turns.items
+    (ap sight_of (sym c.whole_of-whole.ensures)) (sym (ap sites_in all ∙ c.units.ensures.proper.sites))
+    c.requires.turns.0
 
-pub find_flagged-found-requires-clause-settled : goal.find_flagged-found-requires-clause-settled
-find_flagged-found-requires-clause-settled c = c.requires.settled
-
-pub find_flagged-found-requires-clause-room : goal.find_flagged-found-requires-clause-room
-find_flagged-found-requires-clause-room c = c.requires.room
-
-pub find_flagged-found-requires-clause-rooted : goal.find_flagged-found-requires-clause-rooted
-find_flagged-found-requires-clause-rooted c = c.requires.rooted
-
-pub find_flagged-found-requires-clause-turns : goal.find_flagged-found-requires-clause-turns
-find_flagged-found-requires-clause-turns c = c.requires.turns
-
-pub returns-clause-aside : goal.returns-clause-aside
-returns-clause-aside c = c.find_flagged-found.ensures.aside
+pub auxiliaries-found-requires-clause-stands : goal.auxiliaries-found-requires-clause-stands
+auxiliaries-found-requires-clause-stands c =
+    let sights = c.args.tables.now.sights in
+    subst (λ (sight : Sight). AreOpen sights.bound sight sights.looks) (ap sight_of (sym c.whole_of-whole.ensures))
+    c.requires.turns.1
 
 pub returns-clause-turns : goal.returns-clause-turns
-returns-clause-turns c = c.find_flagged-found.ensures.turns
+returns-clause-turns c =
+    let setting = c.args.rooted.now.setting.now in
+    let arena = c.args.rooted.now.arena.now in
+    let all = c.in-Ok-new.ensures ∙ c.as_slice.ensures ∙ c.units.ensures.value in
+    let looks = c.auxiliaries-found.new.viewer.looks in (
+      same_kept (sight_of c.whole_of-whole.result) (sight_of (whole_at setting arena)) (sites_in c.in-Ok-new.units)
+          (sites_of setting.graph setting.positions) c.auxiliaries-found.new.kept.items
+          (ap sight_of c.whole_of-whole.ensures) (ap sites_in all ∙ c.units.ensures.proper.sites)
+          c.auxiliaries-found.ensures.kept,
+      subst (λ (sight : Sight). AreOpen c.auxiliaries-found.new.viewer.bound sight looks)
+          (ap sight_of c.whole_of-whole.ensures) c.auxiliaries-found.ensures.stands,
+    )
 
-pub returns-clause-room : goal.returns-clause-room
-returns-clause-room c = c.find_flagged-found.ensures.room
+pub auxiliaries-found-requires-clause-wanted : goal.auxiliaries-found-requires-clause-wanted
+auxiliaries-found-requires-clause-wanted c =
+    let flags = c.flag_below.new.flags in
+    let count : c.in-Ok.flags.len ≡ length flags = search rules in
+    let wanted : c.as_slice-2.result.now ≡ flags = c.as_slice-2.ensures.value
+    ∙ ap (λ n. take n (flags ++ drop (length flags) c.in-Ok.flags.items)) count
+    ∙ take-append_seam flags (drop (length flags) c.in-Ok.flags.items) in
+    subst (λ (whole : Whole). AreWanted (parents_of whole.told) c.as_slice-2.result.now) (sym c.whole_of-whole.ensures)
+    (subst (AreWanted (parents_of c.args.rooted.now.arena.now.nodes)) (sym wanted)
+    (subst (λ (ps : List ℕ). AreWanted ps flags) c.table.ensures c.flag_below.ensures.below))

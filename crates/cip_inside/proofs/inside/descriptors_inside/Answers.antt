@@ -1,9 +1,7 @@
-use Rattle.std.proofs.Common.{◌≡◌, ◌∙◌, ap, sym, subst, arith, true, Bool, List, length, map, rules}
+use Rattle.std.proofs.Common.{◌≡◌, ◌∙◌, ap, sym, subst, arith, true, Bool, List, length, map, replicate, [], rules}
+use Rattle.std.proofs.lemmas.List.Elements.{All-nil}
 use Rattle.cip_digraph.specs.digraph.NodeList.{parents_of}
-use Rattle.std.specs.declared.option.Option.{Option}
-use Rattle.cip_rows.specs.Reserved.{Reserved}
 use Rattle.cip_aux.specs.KeptTurns.{AreKept, sites_in}
-use Rattle.cip_aux.specs.declared.kept_turns.KeptTurn.{KeptTurn}
 use Rattle.cip_aux.specs.Marking.{node_mark, flag_at, AreMarked, AreWanted}
 use Rattle.cip_aux.specs.Sights.{sight_of}
 use Rattle.cip_aux.proofs.Keeping.{none_kept}
@@ -14,18 +12,20 @@ use Rattle.cip_inside.specs.OpenLooks.{AreOpen}
 use Rattle.cip_inside.specs.Room.{Room}
 use Rattle.cip_inside.proofs.inside.descriptors_inside.Goals as goal
 
-pub auxiliaries-requires-clause-wanted : goal.auxiliaries-requires-clause-wanted
-auxiliaries-requires-clause-wanted g c =
+pub auxiliaries-found-requires-clause-wanted : goal.auxiliaries-found-requires-clause-wanted
+auxiliaries-found-requires-clause-wanted g c =
     let parents = parents_of c.args.whole.now.told in
-    subst (AreWanted parents) (sym (c.as_slice.ensures.value ∙ c.in_ok-flags.ensures))
+    let made : c.in-Ok.flags.items ≡ replicate c.len-count.result true = search rules in
+    subst (AreWanted parents) (sym (c.as_slice.ensures.value ∙ made))
     (all_wanted parents c.len-count.result
     (c.len-count.ensures.len ∙ ap length c.table.ensures ∙ ap (λ all. length (parents_of all)) c.nodes.ensures.told))
 
-pub auxiliaries-requires-clause-kept : goal.auxiliaries-requires-clause-kept
-auxiliaries-requires-clause-kept g c =
+pub auxiliaries-found-requires-clause-kept : goal.auxiliaries-found-requires-clause-kept
+auxiliaries-found-requires-clause-kept g c =
     let sight = sight_of c.args.whole.now in
     let sites = sites_in c.args.units.now in
-    subst (λ (kept : Reserved (Option KeptTurn)). AreKept sight sites kept.items) (sym c.in_ok-none.ensures)
+    let made : c.in-Ok.none.items ≡ [] = search rules in
+    subst (AreKept sight sites) (sym made)
     (none_kept sight sites)
 
 pub returns-clause-marks : goal.returns-clause-marks
@@ -33,33 +33,34 @@ returns-clause-marks g c =
     let whole = c.args.whole.now in
     let sight = sight_of whole in
     let all = c.args.units.now in
-    let marks = c.auxiliaries.new.marks.marks in
+    let marks = c.auxiliaries-found.new.marks.marks in
     let shows = whole_shows whole c.nodes.ensures.whole in
     let count : c.len-count.result ≡ length sight.nodes =
     c.len-count.ensures.len ∙ ap length c.table.ensures ∙ ap (λ told. length (parents_of told)) c.nodes.ensures.told
     ∙ sym shows.told.len in
+    let made : c.in-Ok.flags.items ≡ replicate c.len-count.result true = search rules in
     on_by (AreMarked sight all c.as_slice.result.now 0 marks) (marks ≡ map (node_mark sight all) sight.nodes)
-    c.auxiliaries.result
+    c.auxiliaries-found.result
     (λ are.
     all_marked sight all c.as_slice.result.now marks
     (λ k low. subst (λ (flags : List Bool). flag_at flags k ≡ true)
-    (sym (c.as_slice.ensures.value ∙ c.in_ok-flags.ensures))
+    (sym (c.as_slice.ensures.value ∙ made))
     (wanted_at c.len-count.result k (omega (arith, low, count)))) are)
-    c.auxiliaries.ensures.marks
+    c.auxiliaries-found.ensures.marks
 
-pub auxiliaries-requires-clause-stands : goal.auxiliaries-requires-clause-stands
-auxiliaries-requires-clause-stands g c =
+pub auxiliaries-found-requires-clause-stands : goal.auxiliaries-found-requires-clause-stands
+auxiliaries-found-requires-clause-stands g c =
     subst (λ (room : Room). AreOpen room.bound (sight_of c.args.whole.now) room.looks) (sym c.begin.ensures) (record
-    { room = c.requires.room; each = search rules })
+    { room = c.requires.room; each = All-nil _ })
 
 pub returns-clause-room : goal.returns-clause-room
-returns-clause-room g c = c.auxiliaries.ensures.room ∙ ap (λ (room : Room). room.bound) c.begin.ensures
+returns-clause-room g c = c.auxiliaries-found.ensures.room ∙ ap (λ (room : Room). room.bound) c.begin.ensures
 
-pub auxiliaries-requires-clause-sites : goal.auxiliaries-requires-clause-sites
-auxiliaries-requires-clause-sites g c = c.requires.sites
+pub auxiliaries-found-requires-clause-sites : goal.auxiliaries-found-requires-clause-sites
+auxiliaries-found-requires-clause-sites g c = c.requires.sites
 
-pub auxiliaries-requires-clause-bound : goal.auxiliaries-requires-clause-bound
-auxiliaries-requires-clause-bound g c = c.requires.bound
+pub auxiliaries-found-requires-clause-bound : goal.auxiliaries-found-requires-clause-bound
+auxiliaries-found-requires-clause-bound g c = c.requires.bound
 
 pub returns-clause-bound : goal.returns-clause-bound
-returns-clause-bound g c = c.auxiliaries.ensures.bound
+returns-clause-bound g c = c.auxiliaries-found.ensures.bound

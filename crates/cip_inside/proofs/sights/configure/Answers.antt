@@ -18,9 +18,9 @@ returns-then-leads_down-clause-ordered g c = λ begin mark within is undone agre
     let near = c.args.near.now in
     c.configuration.ensures.decided inner.sight c.args.node begin mark within is undone
     (subst (λ (marks : List (Option Descriptor)). AreMarksOf (node_at inner.sight.nodes) (marked_by mark) marks
-    near.now) (sym c.marks.ensures)
+    near.now) (sym c.marks-all.ensures)
     (marks_are inner c.args.node c.requires.ready near.tops c.requires.tops near.now c.requires.placed
-    (sym c.from.ensures ∙ c.if-from-node.true) (c.leads_down.ensures.down c.if-leads_down.true) mark agrees))
+    (sym c.from-from.ensures ∙ c.if-from-node.true) (c.leads_down.ensures.down c.if-leads_down.true) mark agrees))
 
 pub configuration-requires-else-from-node-clause-keyed : goal.configuration-requires-else-from-node-clause-keyed
 configuration-requires-else-from-node-clause-keyed g c =
@@ -29,7 +29,7 @@ configuration-requires-else-from-node-clause-keyed g c =
     let parents = c.table.ensures
     ∙ ap parents_of (c.nodes.ensures.told ∙ ap (λ (s : Sight). s.told) c.whole.ensures) in
     subst (λ (marks : List (Option Descriptor)). AreKeyed (length marks) near.now.layers.kin)
-    (sym (λ i. marks_below (parents i) (c.from-else-from-node.ensures i) (c.marks-else-from-node.ensures i)))
+    (sym (λ i. marks_below (parents i) (c.from-from.ensures i) (c.marks-all.ensures i)))
     (counted_keyed inner c.args.node c.requires.ready near.tops near.now c.requires.placed)
 
 pub returns-else-from-node-clause-ordered : goal.returns-else-from-node-clause-ordered
@@ -40,7 +40,7 @@ returns-else-from-node-clause-ordered g c = λ begin mark within is undone agree
     ∙ ap parents_of (c.nodes.ensures.told ∙ ap (λ (s : Sight). s.told) c.whole.ensures) in
     c.configuration-else-from-node.ensures.decided inner.sight c.args.node begin mark within is undone
     (subst (λ (marks : List (Option Descriptor)). AreMarksOf (node_at inner.sight.nodes) (marked_by mark) marks
-    near.now) (sym (λ i. marks_below (parents i) (c.from-else-from-node.ensures i) (c.marks-else-from-node.ensures i)))
+    near.now) (sym (λ i. marks_below (parents i) (c.from-from.ensures i) (c.marks-all.ensures i)))
     (counted_are inner c.args.node c.requires.ready near.tops near.now c.requires.placed mark agrees))
 
 pub configuration-requires-clause-followed : goal.configuration-requires-clause-followed
@@ -50,7 +50,7 @@ pub configuration-requires-clause-keyed : goal.configuration-requires-clause-key
 configuration-requires-clause-keyed g c =
     let ready = c.requires.ready in
     subst (λ n. AreKeyed n c.args.near.now.now.layers.kin)
-    (sym (ap (λ (marks : List (Option Descriptor)). length marks) c.marks.ensures ∙ ready.marks ∙ ready.shows.told.len
+    (sym (ap (λ (marks : List (Option Descriptor)). length marks) c.marks-all.ensures ∙ ready.marks ∙ ready.shows.told.len
     ∙ parents_len c.args.inner.now.sight.told)) c.requires.placed.keyed
 
 pub configuration-requires-clause-room : goal.configuration-requires-clause-room
@@ -74,7 +74,7 @@ invariant_of-marks g c =
     let parents = c.table.ensures
     ∙ ap parents_of (c.nodes.ensures.told ∙ ap (λ (s : Sight). s.told) c.whole.ensures) in
     record {
-      len = ap (λ (marks : List (Option Descriptor)). length marks) c.marks-else-from-node.ensures ∙ ready.marks
+      len = ap (λ (marks : List (Option Descriptor)). length marks) c.marks-all.ensures ∙ ready.marks
           ∙ ready.shows.told.len ∙ sym (ap (λ (ps : List ℕ). length ps) parents);
     }
 

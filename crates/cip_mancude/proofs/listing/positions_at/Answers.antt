@@ -14,13 +14,13 @@ is_position-requires-clause-near c =
 pub loop-edge-preserved : goal.loop-edge-preserved
 loop-edge-preserved c =
     along_next c.args.alternation.now c.args.double.vertex _ _ c.loop-edge.edge-index _ c.other_end-other.result
-    c.in_ok-found.found _ _ c.edges_at-edge-items.ensures.value
+    c.in-Ok.found _ _ c.edges_at-edge-items.ensures.value
     c.loop-edge-test.true c.loop-edge.invariant c.other_end-other.ensures
-    (c.in_ok-found.ensures
+    (c.in-Ok.ensures
     ∙ ap (λ partner. (c.other_end-other.result == partner)
     || closes_ring c.args.alternation.now c.args.double.vertex c.other_end-other.result)
     (partner_of c.args.alternation.now c.args.double.vertex c.args.double.partner (sym c.requires.partner)))
-    c.in_ok-push_if.ensures
+    c.in-Ok-push_if.ensures
 
 pub returns-clause-value : goal.returns-clause-value
 returns-clause-value c =

@@ -28,3 +28,12 @@ tell_duplicate-told-requires-clause-stands g c = grind (arith, common_steps)
 
 pub returns-else-edge-clause-size : goal.returns-else-edge-clause-size
 returns-else-edge-clause-size g c = grind (arith, common_steps)
+
+pub add_copies-requires-clause-below : goal.add_copies-requires-clause-below
+add_copies-requires-clause-below g c = grind (arith, common_steps)
+
+pub returns-then-edge-clause-last : goal.returns-then-edge-clause-last
+returns-then-edge-clause-last g c = grind (arith, common_steps)
+
+pub add_copies-requires-clause-in_order : goal.add_copies-requires-clause-in_order
+add_copies-requires-clause-in_order g c = grind (arith, common_steps)
