@@ -11,24 +11,24 @@ use Rattle.cip_unit.proofs.bonds.push_bond.Goals as goal
 
 pub push_unit-requires : goal.push_unit-requires
 push_unit-requires c =
-    rw (c.end_ligands.ensures, c.end_ligands-then-branch.ensures, c.other_end-b.ensures)
+    rw (c.end_ligands.ensures, c.end_ligands-then-is_unit.ensures, c.other_end-b.ensures)
     (bond_shown c.args.sketch.now.graph.now c.args.sketch.now.positions.now _ c.args.a c.args.edge.now c.requires.drawn
-    c.requires.within c.requires.leads (sym c.in_ok-is_bond_unit.ensures ∙ c.if-branch.true))
+    c.requires.within c.requires.leads (sym c.in-Ok.ensures ∙ c.if-is_unit.true))
 
-pub returns-then-branch : goal.returns-then-branch
-returns-then-branch c =
+pub returns-then-is_unit : goal.returns-then-is_unit
+returns-then-is_unit c =
     let same : ◌≡◌ {A = Site}
-    (Bond c.args.a c.other_end-b.result c.end_ligands.result c.end_ligands-then-branch.result)
+    (Bond c.args.a c.other_end-b.result c.end_ligands.result c.end_ligands-then-is_unit.result)
     (bond_site c.args.sketch.now.graph.now c.args.a c.args.edge.now) =
-    rw (c.end_ligands.ensures, c.end_ligands-then-branch.ensures, c.other_end-b.ensures) refl in
+    rw (c.end_ligands.ensures, c.end_ligands-then-is_unit.ensures, c.other_end-b.ensures) refl in
     on_ok_weaker c.push_unit.result
     (λ so_far. so_far
     ∙ ap (λ sites. c.args.units.now ++ units_at c.args.sketch.now.molecule.now sites)
     (ap (λ site. site ∷ []) same
     ∙ one_is (is_bond_unit c.args.sketch.now.graph.now c.args.sketch.now.positions.now c.args.a c.args.edge.now)
     (bond_site c.args.sketch.now.graph.now c.args.a c.args.edge.now)
-    (sym c.in_ok-is_bond_unit.ensures ∙ c.if-branch.true)))
+    (sym c.in-Ok.ensures ∙ c.if-is_unit.true)))
     c.push_unit.ensures
 
-pub end_ligands-requires-then-branch : goal.end_ligands-requires-then-branch
-end_ligands-requires-then-branch c = grind (arith, common_steps)
+pub end_ligands-requires-then-is_unit : goal.end_ligands-requires-then-is_unit
+end_ligands-requires-then-is_unit c = grind (arith, common_steps)

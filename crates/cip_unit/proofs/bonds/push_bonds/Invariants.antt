@@ -3,7 +3,7 @@ use Rattle.std.specs.Prelude.{flat_map}
 use Rattle.cip_digraph.specs.units.DoubleBonds.{bond_sites}
 use Rattle.cip_digraph.specs.graph.Graph.{edges_at}
 use Rattle.cip_unit.specs.Sites.{one_bond_site, units_at}
-use Rattle.cip_unit.proofs.bonds.push_bonds_from.Given as goal
+use Rattle.cip_unit.proofs.bonds.push_bonds.Given as goal
 
 abbrev pub invariant-loop-edge : goal.invariant-loop-edge
 invariant-loop-edge l =

@@ -3,7 +3,7 @@ use Rattle.std.specs.Prelude.{flat_map}
 use Rattle.std.specs.List.{range_with_len}
 use Rattle.cip_digraph.specs.units.Allenes.{axis_sites}
 use Rattle.cip_unit.specs.Sites.{units_at}
-use Rattle.cip_unit.proofs.listing.push_each_axis.Given as goal
+use Rattle.cip_unit.proofs.listing.push_all_axes.Given as goal
 
 abbrev pub invariant-loop-atom : goal.invariant-loop-atom
 invariant-loop-atom l =
