@@ -35,7 +35,9 @@ impl<'a> MarkedUnits<'a> {
     pub fn of(alloc: Global, units: &'a [Unit], count: u32) -> Result<MarkedUnits<'a>, AllocError>
         ensures { IfOk result (λ marked. marked ≡ units.now) }
     {
-        let mut flags = Vec::with_capacity(alloc, count as usize)?;
+        let Ok(mut flags) = Vec::with_capacity(alloc, count as usize) else {
+            return Err(AllocError);
+        };
         clear_flags(&mut flags, count);
         mark_units(units, &mut flags);
         Ok(MarkedUnits { units, flags })
@@ -125,5 +127,10 @@ fn is_in_units(units: &[Unit], vertex: u32) -> bool
 fn is_of_any(units: &[Unit], vertex: u32) -> bool
     ensures { result ≡ list_any (λ unit. is_in vertex (atoms_of unit.site)) units.now }
 {
-    units.iter().any(|unit| is_atom_of(&unit.site, vertex))
+    for unit in units {
+        if is_atom_of(&unit.site, vertex) {
+            return true;
+        }
+    }
+    false
 }
