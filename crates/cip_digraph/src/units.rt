@@ -1,6 +1,5 @@
 // The stereogenic units of a molecule.
 ghost use Rattle.std.specs.Prelude.{◌≡◌, ◌++◌, ◌∷◌, [], IfOk, OnOk, OnErr};
-ghost use Rattle.cip_digraph.specs.rings.Alternating.{is_in};
 ghost use Rattle.cip_digraph.specs.units.Descriptors.{opposite};
 ghost use Rattle.cip_digraph.specs.units.Inverted.{inverted, inverted_unit, is_centre_among, turned_geometry};
 

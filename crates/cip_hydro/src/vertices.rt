@@ -1,5 +1,5 @@
 // The vertices of a molecule's graph.
-ghost use Rattle.std.specs.Prelude.{◌≡◌, ◌<◌, ◌≤◌, ◌+◌, ◌^◌, ◌++◌, [], IfOk, length, map, replicate, vec_capacity, vec_len};
+ghost use Rattle.std.specs.Prelude.{◌≡◌, ◌<◌, ◌≤◌, ◌+◌, ◌^◌, ◌++◌, IfOk, length, map, replicate, vec_capacity, vec_len};
 ghost use Rattle.std.specs.List.{range_with_len};
 ghost use Rattle.cip_digraph.specs.graph.DrawnGraph.{atom_vertex, hydrogen};
 ghost use Rattle.cip_hydro.specs.Surroundings.{surroundings_of};

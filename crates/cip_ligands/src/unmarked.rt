@@ -1,8 +1,6 @@
 // Whether any descriptor stands in branches that are wanted.
-ghost use Rattle.std.specs.Prelude.{◌≡◌, ◌≢◌, ◌<◌, true, false, length, slice_index, None};
-ghost use Rattle.std.specs.List.{slice_index_or};
+ghost use Rattle.std.specs.Prelude.{◌≡◌, ◌<◌, true, false, length};
 ghost use Rattle.cip_branches.specs.Deciding.{AreFollowed};
-ghost use Rattle.cip_rows.specs.Parting.{has_flag};
 ghost use Rattle.cip_rows.specs.Keys.{AreKeyed};
 ghost use Rattle.cip_ligands.specs.Marked.{AreUnmarked, IsSomeMarked};
 

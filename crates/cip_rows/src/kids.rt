@@ -1,9 +1,8 @@
 // The order of places by the sets of their children.
-ghost use Rattle.std.specs.Prelude.{◌≡◌, ◌<◌, ◌≤◌, ◌+◌, ℕ, true, length, map, slice_index};
+ghost use Rattle.std.specs.Prelude.{◌≡◌, ◌<◌, ◌≤◌, ℕ, length, map, slice_index};
 ghost use Rattle.std.specs.Ordering.{nat_cmp, on};
 ghost use Rattle.std.specs.Cmp.Lexicographic.{slice_cmp};
-ghost use Rattle.cip_rank.specs.Ranged.{KeepsOthers};
-ghost use Rattle.cip_rows.specs.Kids.{kids_of, kid_set, HoldKidSets, KnowTheirKids};
+ghost use Rattle.cip_rows.specs.Kids.{kids_of, HoldKidSets, KnowTheirKids};
 ghost use Rattle.cip_rows.specs.Rows.{number_in};
 
 use crate::family::Family;

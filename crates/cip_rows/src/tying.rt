@@ -1,8 +1,8 @@
 // Spheres in which places that tie compare alike: parting their classes leaves them as they are.
-ghost use Rattle.std.specs.Prelude.{◌≡◌, ◌<◌, ◌≤◌, ◌↔◌, true, length, slice_index};
+ghost use Rattle.std.specs.Prelude.{◌≡◌, ◌<◌, ◌≤◌, ◌↔◌, true, length};
 ghost use Rattle.std.specs.declared.cmp.Ordering.TheVariants.{Equal};
 ghost use Rattle.cip_rows.specs.Parting.{TieAlike};
-ghost use Rattle.cip_rows.specs.Rows.{AreClassed, number_in};
+ghost use Rattle.cip_rows.specs.Rows.{AreClassed};
 
 use crate::order::Order;
 use cip_rank::sorting::NodeOrder;
