@@ -57,7 +57,7 @@ impl<'a> MarkedUnits<'a> {
         if (vertex as usize) < self.flags.len() {
             self.flags[vertex as usize]
         } else {
-            is_in_units(self.units, vertex)
+            is_of_any(self.units, vertex)
         }
     }
 }
@@ -118,12 +118,6 @@ fn is_atom_of(site: &Site, vertex: u32) -> bool
 }
 
 // Whether a vertex is an atom of some unit.
-fn is_in_units(units: &[Unit], vertex: u32) -> bool
-    ensures { result ≡ is_in vertex (flat_map (λ unit. atoms_of unit.site) units.now) }
-{
-    is_of_any(units, vertex)
-}
-
 fn is_of_any(units: &[Unit], vertex: u32) -> bool
     ensures { result ≡ list_any (λ unit. is_in vertex (atoms_of unit.site)) units.now }
 {

@@ -24,8 +24,9 @@ returns-then-has_mark c =
     let directions = c.args.directions.now in
     let marks = c.args.marks.now in
     let clear : has_clash directions ≡ false = sym c.has_clash.ensures ∙ c.if-has_clash.false in
-    rw (c.as_slice.ensures.value, c.places-places.ensures, c.is_reentrant.ensures) at c.show_by_places.ensures
-    ∙ sym (ap (λ b. cond b (Unknown Coincident) (by_order directions marks)) clear)
+    let shown : c.show_by_places.result ≡ by_order directions marks =
+    rw (c.as_slice.ensures.value, c.places-places.ensures, c.is_reentrant.ensures) at c.show_by_places.ensures in
+    shown ∙ sym (ap (λ b. cond b (Unknown Coincident) (by_order directions marks)) clear)
 
 pub show_by_places-requires-clause-marks : goal.show_by_places-requires-clause-marks
 show_by_places-requires-clause-marks c = grind (arith, common_steps)
