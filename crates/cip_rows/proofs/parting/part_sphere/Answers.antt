@@ -1,5 +1,5 @@
-use Rattle.std.proofs.Common.{arith, rules, ◌≡◌, ◌∙◌, true, false, inr}
-use Rattle.cip_rows.specs.Parting.{has_flag}
+use Rattle.std.proofs.Common.{arith, rules, ◌≡◌, ◌∙◌, true, false, inr, subst}
+use Rattle.cip_rows.specs.Parting.{PartsSphere, has_flag}
 use Rattle.cip_rows.proofs.PartedSphere.{begun, skipped, went_on}
 use Rattle.cip_rows.proofs.parting.part_sphere.Goals as goal
 
@@ -46,3 +46,10 @@ loop-row-preserved g c =
       numbers_len = before.numbers_len;
       room = before.room;
     }
+
+pub returns-clause-parted : goal.returns-clause-parted
+returns-clause-parted g c =
+    let ended : c.loop-row.row ≡ c.args.to = omega (arith, c.loop-row.invariant.high, c.loop-row-test.false) in
+    subst (λ n. PartsSphere (g.S.NodeOrder.order c.args.by.now) c.args.from c.args.to n c.args.flags.now
+    c.args.order.now.rows c.loop-row.order.rows c.args.order.now.numbers c.loop-row.order.numbers) ended
+    c.loop-row.invariant.parts

@@ -1,8 +1,8 @@
-use Rattle.std.proofs.Common.{◌≡◌, ◌∙◌, ◌++◌, ◌∷◌, [], ap, refl, sym, arith}
+use Rattle.std.proofs.Common.{◌≡◌, ◌∙◌, ◌++◌, ◌∷◌, [], ap, sym, arith}
 use Rattle.std.proofs.lemmas.Result.{on_ok_weaker}
 use Rattle.cip_mol.specs.declared.site.Site.{Site}
 use Rattle.cip_mol.specs.declared.site.Site.TheVariants.{Bond}
-use Rattle.cip_digraph.specs.units.DoubleBonds.{bond_site, is_bond_unit}
+use Rattle.cip_digraph.specs.units.DoubleBonds.{bond_site, end_ligands, is_bond_unit}
 use Rattle.cip_unit.specs.Sites.{units_at}
 use Rattle.cip_unit.proofs.Kept.{one_is}
 use Rattle.cip_unit.proofs.Shown.{bond_shown}
@@ -17,10 +17,14 @@ push_unit-requires c =
 
 pub returns-then-is_unit : goal.returns-then-is_unit
 returns-then-is_unit c =
+    let graph = c.args.sketch.now.graph.now in
+    let a = c.args.a in
+    let other = c.other_end-b.ensures in
+    let first = c.end_ligands.ensures ∙ ap (λ b. end_ligands graph (a ∷ b ∷ []) a) other in
+    let second = c.end_ligands-then-is_unit.ensures ∙ ap (λ b. end_ligands graph (a ∷ b ∷ []) b) other in
     let same : ◌≡◌ {A = Site}
-    (Bond c.args.a c.other_end-b.result c.end_ligands.result c.end_ligands-then-is_unit.result)
-    (bond_site c.args.sketch.now.graph.now c.args.a c.args.edge.now) =
-    rw (c.end_ligands.ensures, c.end_ligands-then-is_unit.ensures, c.other_end-b.ensures) refl in
+    (Bond a c.other_end-b.result c.end_ligands.result c.end_ligands-then-is_unit.result)
+    (bond_site graph a c.args.edge.now) = λ i. Bond a (other i) (first i) (second i) in
     on_ok_weaker c.push_unit.result
     (λ so_far. so_far
     ∙ ap (λ sites. c.args.units.now ++ units_at c.args.sketch.now.molecule.now sites)

@@ -32,3 +32,6 @@ push_bond-requires-clause-leads c = λ order.
 
 pub loop-edge-preserved : goal.loop-edge-preserved
 loop-edge-preserved c = grind (arith, common_steps)
+
+pub returns : goal.returns
+returns c = grind (arith, common_steps)
