@@ -70,10 +70,15 @@ fn push_bond(
         ++ units_at sketch.now.molecule.now (one_bond_site sketch.now.graph.now sketch.now.positions.now a edge.now)) }
 {
     let b = edge.other_end(a);
-    let Ok(is_unit) = is_bond_unit(sketch.graph, sketch.positions, a, b, edge, reached) else {
+    if !can_be_bond_unit(sketch.graph, sketch.positions, a, b, edge) {
+        return Ok(());
+    }
+    let Ok(in_ring) = is_in_small_ring(sketch.graph, a, b, reached) else {
         return Err(AllocError);
     };
-    if is_unit {
+    if in_ring {
+        Ok(())
+    } else {
         let unit = [a, b];
         let site = Site::Bond {
             a,
@@ -82,29 +87,6 @@ fn push_bond(
             second: end_ligands(sketch.graph, &unit, b),
         };
         push_unit(sketch.molecule, site, units)
-    } else {
-        Ok(())
-    }
-}
-
-fn is_bond_unit(
-    graph: &Graph,
-    positions: &Positions,
-    a: u32,
-    b: u32,
-    edge: &Edge,
-    reached: &mut VertexSet,
-) -> Result<bool, AllocError>
-    requires { b ≡ other_end a edge.now }
-    ensures { IfOk result (λ found. found ≡ is_bond_unit graph.now positions.now a edge.now) }
-{
-    if can_be_bond_unit(graph, positions, a, b, edge) {
-        match is_in_small_ring(graph, a, b, reached) {
-            Ok(found) => Ok(!found),
-            Err(fault) => Err(fault),
-        }
-    } else {
-        Ok(false)
     }
 }
 
