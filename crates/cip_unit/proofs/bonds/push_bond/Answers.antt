@@ -1,13 +1,14 @@
-use Rattle.std.proofs.Common.{◌≡◌, ◌∙◌, ◌++◌, ◌&&◌, ◌∷◌, [], Bool, true, false, not, ap, refl, sym, arith}
+use Rattle.std.proofs.Common.{◌≡◌, ◌∙◌, ◌++◌, ◌&&◌, ◌∷◌, [], Bool, true, false, not, length, ap, refl, subst, sym, ◌≤◌}
 use Rattle.std.proofs.lemmas.Result.{on_ok_weaker}
 use Rattle.cip_mol.specs.declared.site.Site.{Site}
 use Rattle.cip_mol.specs.declared.site.Site.TheVariants.{Bond}
 use Rattle.cip_digraph.specs.units.DoubleBonds.{bond_site, end_ligands, is_bond_unit}
+use Rattle.cip_digraph.specs.graph.Graph.{edges_at, other_end}
 use Rattle.cip_digraph.specs.rings.SmallRings.{is_in_small_ring}
 use Rattle.cip_unit.specs.Sites.{units_at}
 use Rattle.cip_unit.proofs.Kept.{one_is}
-use Rattle.cip_unit.proofs.Shown.{bond_shown}
-use Rattle.std.proofs.lemmas.Grind.{common_steps}
+use Rattle.cip_unit.proofs.FewUnits.{bond_end_few}
+use Rattle.cip_unit.proofs.Shown.{bond_shown, unit_parts}
 use Rattle.cip_unit.proofs.bonds.push_bond.Goals as goal
 
 -- what can be a unit is one outside of small rings
@@ -47,5 +48,25 @@ returns-else-in_ring c =
     is))
     c.push_unit.ensures
 
+pub end_ligands-requires : goal.end_ligands-requires
+end_ligands-requires c =
+    let ring = ap (is_in_small_ring c.args.sketch.now.graph.now c.args.a) (sym c.other_end-b.ensures)
+    ∙ sym c.in-Ok.ensures ∙ c.if-in_ring.false in
+    let is : is_bond_unit c.args.sketch.now.graph.now c.args.sketch.now.positions.now c.args.a c.args.edge.now ≡ true =
+    unit_on _ _ (sym c.can_be_bond_unit.ensures ∙ c.if-not-can_be_bond_unit.false) ring in
+    let graph = c.args.sketch.now.graph.now in
+    let other = other_end c.args.a c.args.edge.now in
+    bond_end_few graph (c.args.a ∷ other ∷ []) c.args.a
+    (unit_parts graph c.args.sketch.now.positions.now c.args.a c.args.edge.now is).first
+
 pub end_ligands-requires-else-in_ring : goal.end_ligands-requires-else-in_ring
-end_ligands-requires-else-in_ring c = grind (arith, common_steps)
+end_ligands-requires-else-in_ring c =
+    let ring = ap (is_in_small_ring c.args.sketch.now.graph.now c.args.a) (sym c.other_end-b.ensures)
+    ∙ sym c.in-Ok.ensures ∙ c.if-in_ring.false in
+    let is : is_bond_unit c.args.sketch.now.graph.now c.args.sketch.now.positions.now c.args.a c.args.edge.now ≡ true =
+    unit_on _ _ (sym c.can_be_bond_unit.ensures ∙ c.if-not-can_be_bond_unit.false) ring in
+    let graph = c.args.sketch.now.graph.now in
+    let parts = unit_parts graph c.args.sketch.now.positions.now c.args.a c.args.edge.now is in
+    let other = other_end c.args.a c.args.edge.now in
+    subst (λ b. length (edges_at graph b) ≤ 3) (sym c.other_end-b.ensures)
+    (bond_end_few graph (c.args.a ∷ other ∷ []) other parts.second)
