@@ -1,7 +1,6 @@
 // The neighbours of nodes that lead away from the one that a tree is seen from.
 ghost use Rattle.std.specs.Prelude.{◌≡◌, ◌<◌, ◌≤◌, ◌+◌, [], ◌∷◌, length};
 ghost use Rattle.cip_rank.specs.Tree.{children_of};
-ghost use Rattle.cip_rank.specs.View.{parent_list};
 ghost use Rattle.cip_branches.specs.Around.{kept_off, kids_around};
 ghost use Rattle.cip_branches.specs.Layers.{with_nodes};
 
@@ -42,17 +41,6 @@ impl Spheres {
         }
     }
 
-    // Adds the parent of a node, if it has one.
-    fn push_parent(&mut self, table: &Table, node: u32, branch: u32, up: u32, number: u32)
-        requires node { node < length table.now.parents }
-        requires room { length self.old.kin.ups + length (parent_list table.now.parents node) ≤ self.old.kin.room }
-        ensures { self.new ≡ with_nodes (parent_list table.now.parents node) branch up number self.old }
-    {
-        if let Some(parent) = table.parent(node) {
-            self.push_place(parent, branch, up, number);
-        }
-    }
-
     // Adds the children of a node.
     fn push_children(&mut self, table: &Table, node: u32, branch: u32, up: u32, number: u32)
         requires node { node < length table.now.parents }
@@ -82,7 +70,9 @@ impl Spheres {
     {
         if is_set(around.way, node) {
             self.push_off(around, node, branch, up, number);
-            self.push_parent(around.table, node, branch, up, number);
+            if let Some(parent) = around.table.parent(node) {
+                self.push_place(parent, branch, up, number);
+            }
         } else {
             self.push_children(around.table, node, branch, up, number);
         }

@@ -55,7 +55,9 @@ impl Branches {
         ensures { IfOk result (λ branches. branches ≡ no_branches room) }
     {
         let flags = both_of(Column::reserve(alloc, room), Column::reserve(alloc, room));
-        let ((wanted, opens), spheres) = both_of(flags, Spheres::reserve(alloc, room))?;
+        let Ok(((wanted, opens), spheres)) = both_of(flags, Spheres::reserve(alloc, room)) else {
+            return Err(AllocError);
+        };
         Ok(Branches {
             spheres,
             wanted,

@@ -38,7 +38,9 @@ impl SavedRanks {
         ensures { IfOk result (λ saved. saved ≡ record { room = room; rows = []; numbers = []; wanted = [] }) }
     {
         let ranks = both_of(Column::reserve(alloc, room), Column::reserve(alloc, room));
-        let ((rows, numbers), wanted) = both_of(ranks, Column::reserve(alloc, room))?;
+        let Ok(((rows, numbers), wanted)) = both_of(ranks, Column::reserve(alloc, room)) else {
+            return Err(AllocError);
+        };
         Ok(SavedRanks {
             rows,
             numbers,

@@ -49,11 +49,16 @@ impl Spheres {
         }) }
     {
         let places = both_of(Family::reserve(alloc, room), Order::reserve(alloc, room));
+        // the columns that a pass needs
+        let pass = both_of(Column::reserve(alloc, room), Column::reserve(alloc, room));
         let columns = both_of(
             Column::reserve(alloc, room + 1),
-            reserve_columns(alloc, room),
+            both_of(pass, Column::reserve(alloc, room)),
         );
-        let ((family, order), (starts, ((before, flags), sets))) = both_of(places, columns)?;
+        let Ok(((family, order), (starts, ((before, flags), sets)))) = both_of(places, columns)
+        else {
+            return Err(AllocError);
+        };
         Ok(Spheres {
             family,
             order,
@@ -73,17 +78,4 @@ impl Spheres {
     {
         self.starts.as_slice()[sphere as usize]
     }
-}
-
-// The columns that a pass needs.
-fn reserve_columns(
-    alloc: Global,
-    room: u32,
-) -> Result<((Column<u32>, Column<bool>), Column<u32>), AllocError>
-    ensures before { IfOk result (λ columns. columns.0.0 ≡ record { room = room; items = [] }) }
-    ensures flags { IfOk result (λ columns. columns.0.1 ≡ record { room = room; items = [] }) }
-    ensures sets { IfOk result (λ columns. columns.1 ≡ record { room = room; items = [] }) }
-{
-    let columns = both_of(Column::reserve(alloc, room), Column::reserve(alloc, room));
-    both_of(columns, Column::reserve(alloc, room))
 }

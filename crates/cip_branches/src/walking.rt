@@ -33,24 +33,7 @@ impl Spheres {
         self.sets.push(0);
     }
 
-    // Adds the neighbours that lead away from the node at a place.
-    fn walk_place(&mut self, around: &Around<'_>, place: u32, number: u32)
-        requires place { place < length self.old.kin.ups }
-        requires node { slice_index self.old.kin.nodes place < length around.now.table.now.parents }
-        requires room { length self.old.kin.ups + length (kids_around around.now.table.now.parents around.now.way.now
-            (slice_index self.old.kin.nodes place)) ≤ self.old.kin.room }
-        ensures { self.new ≡ with_kids (kids_around around.now.table.now.parents around.now.way.now
-            (slice_index self.old.kin.nodes place)) place number self.old }
-    {
-        let branch = self.family.branch(place);
-        let node = self.family.node(place);
-        let first = self.family.len();
-        self.push_around(around, node, branch, place, number);
-        let count = self.family.len() - first;
-        self.family.set_children(place, first, count);
-    }
-
-    // The same, where the branch of the place is wanted.
+    // Adds the neighbours that lead away from the node at a place, where the branch of the place is wanted.
     fn walk_place_if(&mut self, around: &Around<'_>, wanted: &[bool], place: u32, number: u32)
         requires place { place < length self.old.kin.ups }
         requires node { slice_index self.old.kin.nodes place < length around.now.table.now.parents }
@@ -62,8 +45,13 @@ impl Spheres {
         ensures skipped { has_flag wanted.now (slice_index self.old.kin.branches place) ≡ false
             → self.new ≡ self.old }
     {
-        if is_set(wanted, self.family.branch(place)) {
-            self.walk_place(around, place, number);
+        let branch = self.family.branch(place);
+        if is_set(wanted, branch) {
+            let node = self.family.node(place);
+            let first = self.family.len();
+            self.push_around(around, node, branch, place, number);
+            let count = self.family.len() - first;
+            self.family.set_children(place, first, count);
         }
     }
 

@@ -94,7 +94,9 @@ impl Graph {
     pub fn copy(&self, alloc: Global) -> Result<Graph, AllocError>
         ensures { IfOk result (λ copy. copy ≡ self.now) }
     {
-        let vertices = Vec::from_slice(alloc, &self.vertices)?;
+        let Ok(vertices) = Vec::from_slice(alloc, &self.vertices) else {
+            return Err(AllocError);
+        };
         match Vec::from_slice(alloc, &self.edges) {
             Ok(edges) => Graph::new(alloc, vertices, edges, self.drawn),
             Err(error) => Err(error),

@@ -53,18 +53,20 @@ impl Positions {
     pub fn none(alloc: Global, vertices: usize) -> Result<Positions, AllocError>
         ensures { IfOk result (λ positions. positions ≡ replicate vertices []) }
     {
-        Ok(Positions {
-            lists: vec![in alloc; NO_POSITIONS; vertices]?,
-        })
+        match vec![in alloc; NO_POSITIONS; vertices] {
+            Ok(lists) => Ok(Positions { lists }),
+            Err(fault) => Err(fault),
+        }
     }
 
     /// The same positions once more.
     pub fn copy(&self, alloc: Global) -> Result<Positions, AllocError>
         ensures { IfOk result (λ copy. copy ≡ self.now) }
     {
-        Ok(Positions {
-            lists: Vec::from_slice(alloc, &self.lists)?,
-        })
+        match Vec::from_slice(alloc, &self.lists) {
+            Ok(lists) => Ok(Positions { lists }),
+            Err(fault) => Err(fault),
+        }
     }
 
     /// Whether other positions are the same ones.

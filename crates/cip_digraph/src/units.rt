@@ -1,6 +1,5 @@
 // The stereogenic units of a molecule.
 ghost use Rattle.std.specs.Prelude.{◌≡◌, ◌++◌, ◌∷◌, [], IfOk, OnOk, OnErr};
-ghost use Rattle.cip_digraph.specs.rings.Alternating.{is_in};
 ghost use Rattle.cip_digraph.specs.units.Descriptors.{opposite};
 ghost use Rattle.cip_digraph.specs.units.Inverted.{inverted, inverted_unit, is_centre_among, turned_geometry};
 
@@ -55,10 +54,11 @@ impl Units {
     {
         let mut copy = Units::new(alloc);
         for unit in self.list() {
-            copy.push(Unit {
-                site: unit.site.copy(),
-                geometry: unit.geometry,
-            })?;
+            let site = unit.site.copy();
+            let geometry = unit.geometry;
+            let Ok(()) = copy.push(Unit { site, geometry }) else {
+                return Err(AllocError);
+            };
         }
         Ok(copy)
     }
@@ -67,9 +67,13 @@ impl Units {
     pub fn inverted(&self, alloc: Global, atoms: &[u32]) -> Result<Units, AllocError>
         ensures { IfOk result (λ units. units ≡ inverted atoms.now self.now) }
     {
-        let mut units = self.copy(alloc)?;
-        units.invert(atoms);
-        Ok(units)
+        match self.copy(alloc) {
+            Ok(mut units) => {
+                units.invert(atoms);
+                Ok(units)
+            }
+            Err(fault) => Err(fault),
+        }
     }
 
     /// Turns the centres at these atoms. A second call turns them back.
@@ -100,15 +104,9 @@ fn is_centre_among(atoms: &[u32], site: &Site) -> bool
     ensures { result ≡ is_centre_among atoms.now site.now }
 {
     match site {
-        Site::Centre { at, .. } => is_in(*at, atoms),
+        Site::Centre { at, .. } => atoms.contains(at),
         Site::Bond { .. } | Site::Axis { .. } => false,
     }
-}
-
-fn is_in(vertex: u32, vertices: &[u32]) -> bool
-    ensures { result ≡ is_in vertex vertices.now }
-{
-    vertices.iter().any(|other| *other == vertex)
 }
 
 fn turned(geometry: Geometry) -> Geometry

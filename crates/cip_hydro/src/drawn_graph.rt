@@ -14,7 +14,9 @@ pub fn graph_of(alloc: Global, molecule: &Molecule) -> Result<Graph, AllocError>
     ensures { IfOk result (λ graph. graph ≡ graph_of molecule.now) }
 {
     let drawn = molecule.atoms().len();
-    let surroundings = surroundings_of(alloc, molecule)?;
+    let Ok(surroundings) = surroundings_of(alloc, molecule) else {
+        return Err(AllocError);
+    };
     let further = hydrogen_count(&surroundings);
     let Ok(vertices) = vertices_of(alloc, molecule, &surroundings, further) else {
         return Err(AllocError);

@@ -24,7 +24,9 @@ pub fn edges_of(
         ≡ map (bond_edge molecule.now) molecule.now.bonds
         ++ hydrogen_edges (length molecule.now.atoms) (carriers_from 0 surroundings.now)) }
 {
-    let mut edges = Vec::with_capacity(alloc, molecule.bonds().len() + further)?;
+    let Ok(mut edges) = Vec::with_capacity(alloc, molecule.bonds().len() + further) else {
+        return Err(AllocError);
+    };
     push_bonds(&mut edges, molecule, surroundings);
     push_hydrogens(&mut edges, surroundings.len() as u32, surroundings);
     Ok(edges)

@@ -24,7 +24,9 @@ pub fn surroundings_of(alloc: Global, molecule: &Molecule) -> Result<Vec<Surroun
     ensures few { IfOk result (λ all. All HasFew all.items) }
 {
     let count = molecule.atoms().len();
-    let mut all = Vec::with_capacity(alloc, count)?;
+    let Ok(mut all) = Vec::with_capacity(alloc, count) else {
+        return Err(AllocError);
+    };
     for atom in 0..count as u32 {
         all.push_reserved(surroundings_at(molecule, atom));
     }

@@ -1,5 +1,5 @@
 // The vertices of a molecule's graph.
-ghost use Rattle.std.specs.Prelude.{◌≡◌, ◌<◌, ◌≤◌, ◌+◌, ◌^◌, ◌++◌, [], IfOk, length, map, replicate, vec_capacity, vec_len};
+ghost use Rattle.std.specs.Prelude.{◌≡◌, ◌<◌, ◌≤◌, ◌+◌, ◌^◌, ◌++◌, IfOk, length, map, replicate, vec_capacity, vec_len};
 ghost use Rattle.std.specs.List.{range_with_len};
 ghost use Rattle.cip_digraph.specs.graph.DrawnGraph.{atom_vertex, hydrogen};
 ghost use Rattle.cip_hydro.specs.Surroundings.{surroundings_of};
@@ -31,26 +31,15 @@ pub fn vertices_of(
         ≡ map (atom_vertex molecule.now) (range_with_len 0 (length molecule.now.atoms))
         ++ replicate further hydrogen) }
 {
-    let mut vertices = Vec::with_capacity(alloc, surroundings.len() + further)?;
-    push_atoms(&mut vertices, molecule, surroundings);
-    push_hydrogens(&mut vertices, further);
-    Ok(vertices)
-}
-
-// There is room for the atoms.
-fn push_atoms(vertices: &mut Vec<Vertex>, molecule: &Molecule, surroundings: &[Surroundings])
-    requires around { surroundings.now ≡ surroundings_of molecule.now }
-    requires none { vertices.old.items ≡ [] }
-    requires empty { vec_len vertices.old ≡ 0 }
-    requires room { length surroundings.now ≤ vec_capacity vertices.old }
-    ensures value { vertices.new.items
-        ≡ map (atom_vertex molecule.now) (range_with_len 0 (length molecule.now.atoms)) }
-    ensures count { vec_len vertices.new ≡ length surroundings.now }
-    ensures room { vec_capacity vertices.new ≡ vec_capacity vertices.old }
-{
+    let Ok(mut vertices) = Vec::with_capacity(alloc, surroundings.len() + further) else {
+        return Err(AllocError);
+    };
+    // there is room for all of them
     for (number, atom) in molecule.atoms().iter().enumerate() {
         vertices.push_reserved(atom_vertex(atom, surroundings[number].lone));
     }
+    push_hydrogens(&mut vertices, further);
+    Ok(vertices)
 }
 
 fn atom_vertex(atom: &Atom, lone: bool) -> Vertex

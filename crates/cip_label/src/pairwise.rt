@@ -43,22 +43,23 @@ fn push_decided<D: Digraphs>(
         ≡ decided.old.items ++ map (between (D.standing digraphs.now) r_first one) others.now) }
 {
     for other in others {
-        decided.push(decide(digraphs, one, *other, r_first))?;
+        let Ok(()) = decided.push(decide(digraphs, one, *other, r_first)) else {
+            return Err(AllocError);
+        };
     }
     Ok(())
-}
-
-fn is_tie(decision: Option<Decision>) -> bool
-    ensures { result ≡ is_tie decision }
-{
-    decision.is_none()
 }
 
 /// Whether two of the ligands tie.
 pub fn has_tie(decided: &[Option<Decision>]) -> bool
     ensures { result ≡ list_any is_tie decided.now }
 {
-    decided.iter().any(|decision| is_tie(*decision))
+    for decision in decided {
+        if decision.is_none() {
+            return true;
+        }
+    }
+    false
 }
 
 fn is_by_rule_5(decision: Option<Decision>) -> bool
@@ -74,7 +75,12 @@ fn is_by_rule_5(decision: Option<Decision>) -> bool
 pub fn has_rule_5(decided: &[Option<Decision>]) -> bool
     ensures { result ≡ list_any is_by_rule_5 decided.now }
 {
-    decided.iter().any(|decision| is_by_rule_5(*decision))
+    for decision in decided {
+        if is_by_rule_5(*decision) {
+            return true;
+        }
+    }
+    false
 }
 
 // Where a pair stands among each two of so many ligands.

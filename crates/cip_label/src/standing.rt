@@ -29,12 +29,14 @@ pub fn decide<D: Digraphs>(
 pub fn reversed(decision: Option<Decision>) -> Option<Decision>
     ensures { result ≡ reversed decision }
 {
-    let decision = decision?;
-    Some(Decision {
-        side: decision.side.reverse(),
-        rule: decision.rule,
-        sphere: decision.sphere,
-    })
+    match decision {
+        Some(decision) => Some(Decision {
+            side: decision.side.reverse(),
+            rule: decision.rule,
+            sphere: decision.sphere,
+        }),
+        None => None,
+    }
 }
 
 fn against_lone_pair(side: Ordering) -> Decision

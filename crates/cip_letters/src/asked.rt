@@ -17,5 +17,10 @@ pub struct Asked {
 pub fn are_decided(asked: &[Asked]) -> bool
     ensures { result ≡ list_all is_decided asked.now }
 {
-    asked.iter().all(|one| one.decision.is_some())
+    for one in asked {
+        if one.decision.is_none() {
+            return false;
+        }
+    }
+    true
 }

@@ -35,7 +35,9 @@ impl<'a> MarkedUnits<'a> {
     pub fn of(alloc: Global, units: &'a [Unit], count: u32) -> Result<MarkedUnits<'a>, AllocError>
         ensures { IfOk result (λ marked. marked ≡ units.now) }
     {
-        let mut flags = Vec::with_capacity(alloc, count as usize)?;
+        let Ok(mut flags) = Vec::with_capacity(alloc, count as usize) else {
+            return Err(AllocError);
+        };
         clear_flags(&mut flags, count);
         mark_units(units, &mut flags);
         Ok(MarkedUnits { units, flags })
@@ -55,7 +57,7 @@ impl<'a> MarkedUnits<'a> {
         if (vertex as usize) < self.flags.len() {
             self.flags[vertex as usize]
         } else {
-            is_in_units(self.units, vertex)
+            is_of_any(self.units, vertex)
         }
     }
 }
@@ -116,14 +118,13 @@ fn is_atom_of(site: &Site, vertex: u32) -> bool
 }
 
 // Whether a vertex is an atom of some unit.
-fn is_in_units(units: &[Unit], vertex: u32) -> bool
-    ensures { result ≡ is_in vertex (flat_map (λ unit. atoms_of unit.site) units.now) }
-{
-    is_of_any(units, vertex)
-}
-
 fn is_of_any(units: &[Unit], vertex: u32) -> bool
     ensures { result ≡ list_any (λ unit. is_in vertex (atoms_of unit.site)) units.now }
 {
-    units.iter().any(|unit| is_atom_of(&unit.site, vertex))
+    for unit in units {
+        if is_atom_of(&unit.site, vertex) {
+            return true;
+        }
+    }
+    false
 }

@@ -1,5 +1,5 @@
 // The turns of ligands that are in rank order.
-ghost use Rattle.std.specs.Prelude.{◌≡◌, ◌≤◌, length};
+ghost use Rattle.std.specs.Prelude.{◌≡◌, ◌≤◌, count_by, length, nat_lt};
 ghost use Rattle.cip_mol.specs.FlatCentres.{inversions};
 ghost use Rattle.cip_digraph.specs.units.Descriptors.{is_odd};
 ghost use Rattle.cip_letters.specs.TurnsOf.{places_turns};
@@ -27,10 +27,21 @@ fn inversions(places: &[u32]) -> usize
 {
     let mut count = 0;
     for (at, place) in places.iter().enumerate() {
-        count += places[at + 1..]
-            .iter()
-            .filter(|later| **later < *place)
-            .count();
+        count += lower_places(*place, &places[at + 1..]);
+    }
+    count
+}
+
+// How many places are lower than this one.
+fn lower_places(place: u32, places: &[u32]) -> usize
+    ensures value { result ≡ count_by (λ other. nat_lt other place) places.now }
+    ensures few { result ≤ length places.now }
+{
+    let mut count = 0;
+    for other in places {
+        if *other < place {
+            count += 1;
+        }
     }
     count
 }

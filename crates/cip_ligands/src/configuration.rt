@@ -9,7 +9,7 @@ ghost use Rattle.cip_branches.specs.Deciding.{AreFollowed};
 ghost use Rattle.cip_rows.specs.Keys.{AreKeyed};
 ghost use Rattle.cip_letters.specs.declared.asked.Asked.{Asked as AnyAsked};
 ghost use Rattle.cip_letters.specs.Asking.{AreWithin, is_decided, with_found};
-ghost use Rattle.cip_ligands.specs.Configuring.{DecidesOn, DecidesAll};
+ghost use Rattle.cip_ligands.specs.Configuring.{DecidesOn};
 ghost use Rattle.cip_ligands.specs.Counting.{TakesMarked, TakesMarkedOnce};
 ghost use Rattle.cip_ligands.specs.Deciding.{AreDecidedBy};
 ghost use Rattle.cip_ligands.specs.Marked.{AreMarksOf};
@@ -74,29 +74,7 @@ fn decide_before_readings<M: Marked>(
     take_marked(branches, marks, Rule::R3, asked) || take_marked(branches, marks, Rule::R4a, asked)
 }
 
-// Rules 4b and 4c.
-fn decide_from_readings<M: Marked>(
-    branches: &mut Branches,
-    readings: &mut Readings,
-    marks: &M,
-    asked: &mut [Asked],
-) -> bool
-    requires followed { AreFollowed branches.old }
-    requires keyed { AreKeyed (length (M.marks marks.now)) branches.old.layers.kin }
-    requires room { length branches.old.layers.kin.ups ≤ readings.old.bound }
-    ensures decided { DecidesOn (M.marks marks.now) R4b R5 branches.old asked.old branches.new asked.new }
-    ensures followed { AreFollowed branches.new }
-    ensures all { result ≡ list_all is_decided asked.new }
-    ensures kin { branches.new.layers.kin ≡ branches.old.layers.kin }
-    ensures same { AreSame branches.old branches.new }
-    ensures wanted { WantsNoMore branches.old branches.new }
-    ensures bound { readings.new.bound ≡ readings.old.bound }
-{
-    take_readings(branches, readings, marks, asked);
-    are_decided(asked) || take_marked(branches, marks, Rule::R4c, asked)
-}
-
-// All rules before the last one.
+// All rules before the last one: 3 and 4a, 4b and 4c.
 fn decide_before_last<M: Marked>(
     branches: &mut Branches,
     readings: &mut Readings,
@@ -114,8 +92,12 @@ fn decide_before_last<M: Marked>(
     ensures wanted { WantsNoMore branches.old branches.new }
     ensures bound { readings.new.bound ≡ readings.old.bound }
 {
-    decide_before_readings(branches, marks, asked)
-        || decide_from_readings(branches, readings, marks, asked)
+    if decide_before_readings(branches, marks, asked) {
+        true
+    } else {
+        take_readings(branches, readings, marks, asked);
+        are_decided(asked) || take_marked(branches, marks, Rule::R4c, asked)
+    }
 }
 
 // Rule 5, both ways.
@@ -161,30 +143,6 @@ fn decide_last<M: Marked>(
     }
 }
 
-// Rules 3 to 5, the last one both ways.
-fn decide_marked<M: Marked>(
-    branches: &mut Branches,
-    readings: &mut Readings,
-    marks: &M,
-    asked: &mut [Asked],
-    turned: &mut [Asked],
-)
-    requires followed { AreFollowed branches.old }
-    requires keyed { AreKeyed (length (M.marks marks.now)) branches.old.layers.kin }
-    requires room { length branches.old.layers.kin.ups ≤ readings.old.bound }
-    requires len { length turned.old ≡ length asked.old }
-    ensures decided { DecidesAll (M.marks marks.now) branches.old asked.old asked.new turned.new }
-    ensures kin { branches.new.layers.kin ≡ branches.old.layers.kin }
-    ensures same { AreSame branches.old branches.new }
-    ensures bound { readings.new.bound ≡ readings.old.bound }
-{
-    if decide_before_last(branches, readings, marks, asked) {
-        turned.copy_from_slice(asked);
-    } else {
-        decide_last(branches, readings, marks, asked, turned);
-    }
-}
-
 /// Takes Rules 3 to 5 in turn over branches that stand by Rule 2, by the descriptors of their nodes, each only as far as
 /// a pair is undecided. Kind R has precedence in Rule 5; what is decided between the same branches where kind S has it
 /// comes into `turned`. Where no descriptor stands they decide nothing. What is decided stays. No memory is taken.
@@ -212,7 +170,9 @@ pub fn decide_configuration<M: Marked>(
 {
     if are_unmarked(branches, marks) {
         turned.copy_from_slice(asked);
+    } else if decide_before_last(branches, readings, marks, asked) {
+        turned.copy_from_slice(asked);
     } else {
-        decide_marked(branches, readings, marks, asked, turned);
+        decide_last(branches, readings, marks, asked, turned);
     }
 }

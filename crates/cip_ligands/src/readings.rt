@@ -198,14 +198,13 @@ fn ask_sides(branches: &Branches, sides: &mut Column<Asked>)
 fn is_s_higher(sides: &[Asked], branch: u32) -> bool
     ensures { result ≡ has_flag (s_higher sides.now) branch }
 {
-    match sides.get(branch as usize) {
-        Some(
-            Asked {
-                decision: Some(found),
-                ..
-            },
-        ) => found.side == Ordering::Less,
-        _ => false,
+    if (branch as usize) < sides.len() {
+        match sides[branch as usize].decision {
+            Some(found) => found.side == Ordering::Less,
+            None => false,
+        }
+    } else {
+        false
     }
 }
 

@@ -1,8 +1,6 @@
 // What a drawing shows of an axis.
 ghost use Rattle.std.specs.Prelude.{◌≡◌, length};
 ghost use Rattle.cip_mol.specs.Geometry.{axis_geometry, axis_in_plane};
-ghost use Rattle.cip_mol.specs.FlatAxes.{by_marks};
-ghost use Rattle.cip_mol.specs.Points.{point, step, steps};
 ghost use Rattle.cip_mol.specs.Sites.{IsEnd};
 ghost use Rattle.cip_orient.specs.DrawnEnds.{IsDrawn, of_drawn_axis};
 
@@ -12,7 +10,6 @@ use crate::flat_axis::show_by_marks;
 use crate::marks::{has_either, marks_to};
 use crate::pairs::{PairSign, show_drawn_pairs};
 use cip_mol::{Cause, Geometry, Molecule, TwoEnds};
-use cip_num::Sign;
 
 /// What is shown of an axis between two ends.
 pub(crate) fn show_axis(molecule: &Molecule, ends: &TwoEnds<'_>) -> Geometry
@@ -52,38 +49,13 @@ fn show_in_plane(molecule: &Molecule, near: &DrawnEnd, far: &DrawnEnd) -> Geomet
 {
     let marks = marks_to(molecule, near.at, &near.ligands);
     let other_marks = marks_to(molecule, far.at, &far.ligands);
-    show_marked(
-        molecule,
-        near,
-        far,
-        marks.as_slice(),
-        other_marks.as_slice(),
-    )
-}
-
-// The same by marks that are known.
-fn show_marked(
-    molecule: &Molecule,
-    near: &DrawnEnd,
-    far: &DrawnEnd,
-    marks: &[Sign],
-    other_marks: &[Sign],
-) -> Geometry
-    requires near { IsDrawn (length molecule.now.atoms) near.now }
-    requires far { IsDrawn (length molecule.now.atoms) far.now }
-    requires marks { length marks.now ≡ length near.now.ligands }
-    requires other_marks { length other_marks.now ≡ length far.now.ligands }
-    ensures { result ≡ by_marks (step (point molecule.now.atoms near.now.at) (point molecule.now.atoms far.now.at))
-        marks.now other_marks.now (steps molecule.now.atoms near.now.at near.now.ligands)
-        (steps molecule.now.atoms far.now.at far.now.ligands) }
-{
     let axis = step_between(molecule, near.at, far.at);
     let firsts = steps(molecule, near.at, &near.ligands);
     let seconds = steps(molecule, far.at, &far.ligands);
     show_by_marks(
         axis,
-        marks,
-        other_marks,
+        marks.as_slice(),
+        other_marks.as_slice(),
         firsts.as_slice(),
         seconds.as_slice(),
     )

@@ -39,28 +39,13 @@ fn show_drawn(molecule: &Molecule, at: u32, drawn: &AtMostFour<u32>) -> Geometry
         else in_plane (flat_steps molecule.now.atoms at drawn.now) (map (mark_to at molecule.now.bonds) drawn.now)) }
 {
     if molecule.is_spatial() {
-        show_by_points(molecule, at, drawn)
+        let points = points(molecule, drawn);
+        show_in_space(point(molecule, at), points.as_slice())
     } else {
-        show_by_directions(molecule, at, drawn)
+        let directions = flat_steps(molecule, at, drawn);
+        let marks = marks_to(molecule, at, drawn);
+        show_in_plane(directions.as_slice(), marks.as_slice())
     }
-}
-
-fn show_by_points(molecule: &Molecule, at: u32, drawn: &AtMostFour<u32>) -> Geometry
-    requires { IsDrawnCentre (length molecule.now.atoms) at drawn.now }
-    ensures { result ≡ in_space (point molecule.now.atoms at) (map (point molecule.now.atoms) drawn.now) }
-{
-    let points = points(molecule, drawn);
-    show_in_space(point(molecule, at), points.as_slice())
-}
-
-fn show_by_directions(molecule: &Molecule, at: u32, drawn: &AtMostFour<u32>) -> Geometry
-    requires { IsDrawnCentre (length molecule.now.atoms) at drawn.now }
-    ensures { result
-        ≡ in_plane (flat_steps molecule.now.atoms at drawn.now) (map (mark_to at molecule.now.bonds) drawn.now) }
-{
-    let directions = flat_steps(molecule, at, drawn);
-    let marks = marks_to(molecule, at, drawn);
-    show_in_plane(directions.as_slice(), marks.as_slice())
 }
 
 fn show_in_space(centre: Vec3, points: &[Vec3]) -> Geometry

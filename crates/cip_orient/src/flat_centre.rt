@@ -4,7 +4,6 @@ ghost use Rattle.cip_num.specs.Around.{places};
 ghost use Rattle.cip_num.specs.Plane.{IsSmall};
 ghost use Rattle.cip_mol.specs.FlatCentres.{by_votes, common, has_minus, has_plus, in_plane, inversions, is_left, is_marked_inside, is_reentrant, lies_between, turned, turned_by_place, votes};
 ghost use Rattle.cip_mol.specs.Senses.{sense_of};
-ghost use Rattle.cip_orient.specs.OrderedMarks.{by_order};
 
 use crate::marks::{has_mark, opposite};
 use cip_mol::{AtMostFour, Cause, Geometry, Sense};
@@ -21,23 +20,12 @@ pub(crate) fn show_in_plane(directions: &[Vec2], marks: &[Sign]) -> Geometry
     if has_clash(directions) {
         Geometry::Unknown(Cause::Coincident)
     } else if has_mark(marks) {
-        show_by_order(directions, marks)
+        let places = places(directions);
+        show_by_places(is_reentrant(directions, marks), places.as_slice(), marks)
     } else {
         // Most centres have no mark: the order of their directions isn't looked for.
         Geometry::Unknown(Cause::NoMark)
     }
-}
-
-// By the marks in the counterclockwise order of the directions.
-fn show_by_order(directions: &[Vec2], marks: &[Sign]) -> Geometry
-    requires small { All IsSmall directions.now }
-    requires few { length directions.now ≤ 4 }
-    requires some { 0 < length directions.now }
-    requires marks { length marks.now ≡ length directions.now }
-    ensures { result ≡ by_order directions.now marks.now }
-{
-    let places = places(directions);
-    show_by_places(is_reentrant(directions, marks), places.as_slice(), marks)
 }
 
 // By the places of the directions in that order.

@@ -24,15 +24,15 @@ pub fn within<S: Steps>(
 ) -> Result<(), AllocError>
     ensures { OnOk result (reached.new ≡ within (S.step steps.now) from most) }
 {
-    if let Err(error) = start(from, reached) {
-        return Err(error);
-    }
+    let Ok(()) = start(from, reached) else {
+        return Err(AllocError);
+    };
     let mut done = 0;
     for _ in 0..most {
         let count = reached.len();
-        if let Err(error) = step_on(steps, done, reached) {
-            return Err(error);
-        }
+        let Ok(()) = step_on(steps, done, reached) else {
+            return Err(AllocError);
+        };
         done = count;
     }
     Ok(())
@@ -49,9 +49,9 @@ pub fn steps_to<S: Steps>(
 ) -> Result<Option<u32>, AllocError>
     ensures { IfOk result (TellsLeast (S.step steps.now) from target most) }
 {
-    if let Err(error) = start(from, reached) {
-        return Err(error);
-    }
+    let Ok(()) = start(from, reached) else {
+        return Err(AllocError);
+    };
     let mut done = 0;
     for taken in 0..most {
         if reached.contains(target) {
@@ -61,9 +61,9 @@ pub fn steps_to<S: Steps>(
         if count == done {
             return Ok(None);
         }
-        if let Err(error) = step_on(steps, done, reached) {
-            return Err(error);
-        }
+        let Ok(()) = step_on(steps, done, reached) else {
+            return Err(AllocError);
+        };
         done = count;
     }
     if reached.contains(target) {
@@ -77,7 +77,9 @@ fn start(from: u32, reached: &mut VertexSet) -> Result<(), AllocError>
     ensures { OnOk result (reached.new ≡ from ∷ []) }
 {
     reached.clear();
-    reached.reserve()?;
+    let Ok(()) = reached.reserve() else {
+        return Err(AllocError);
+    };
     reached.insert_if(true, from)
 }
 
@@ -89,7 +91,9 @@ fn step_on<S: Steps>(steps: &S, done: usize, reached: &mut VertexSet) -> Result<
 {
     for place in done..reached.len() {
         let vertex = reached.get(place);
-        steps.add_steps(vertex, reached)?;
+        let Ok(()) = steps.add_steps(vertex, reached) else {
+            return Err(AllocError);
+        };
     }
     Ok(())
 }

@@ -34,10 +34,13 @@ impl VertexSet {
     pub fn new(alloc: Global, marks: usize) -> Result<VertexSet, AllocError>
         ensures { IfOk result (λ set. set ≡ []) }
     {
-        Ok(VertexSet {
-            vertices: Vec::new(alloc),
-            marks: vec![in alloc; false; marks]?,
-        })
+        match vec![in alloc; false; marks] {
+            Ok(marks) => Ok(VertexSet {
+                vertices: Vec::new(alloc),
+                marks,
+            }),
+            Err(fault) => Err(fault),
+        }
     }
 
     /// How many vertices there are.
@@ -70,7 +73,9 @@ impl VertexSet {
         ensures { OnOk result (self.new ≡ with_new self.old (cond wanted (vertex ∷ []) [])) }
     {
         if wanted && !self.contains(vertex) {
-            self.vertices.push(vertex)?;
+            let Ok(()) = self.vertices.push(vertex) else {
+                return Err(AllocError);
+            };
             set_mark(&mut self.marks, vertex, true);
         }
         Ok(())

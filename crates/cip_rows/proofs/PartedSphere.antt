@@ -225,13 +225,6 @@ module _ (compare : ℕ → ℕ → Ordering) (from to : ℕ) (flags : List Bool
         (class_is row past mid_rows mid low high parts.classed head on.1) on.2
   ]
 
-  pub goes_ahead : (row past : ℕ) → row < to → (mid_rows mid new_rows new : List ℕ)
-      → StepsOn compare row to past flags mid_rows new_rows mid new → (row < past) × (past ≤ to)
-  goes_ahead row past high mid_rows mid new_rows new steps = elim steps [
-    | inl over ↦ let is = over.1 in (omega (arith, is), omega (arith, is, high))
-    | inr on ↦ (on.1.some, on.1.high)
-  ]
-
   -- all classes of two and more are parted
   pub sphere_split : IsTotalOrder compare → HaveFlags rows numbers from to flags → (new_rows new : List ℕ)
       → Parts to new_rows new → OrdersPlaces (IsRow rows from to) (then_cmp (by_number numbers) compare) new

@@ -1,9 +1,8 @@
 // The order of places by the sets of their children.
-ghost use Rattle.std.specs.Prelude.{◌≡◌, ◌<◌, ◌≤◌, ◌+◌, ℕ, true, length, map, slice_index};
+ghost use Rattle.std.specs.Prelude.{◌≡◌, ◌<◌, ◌≤◌, ℕ, length, map, slice_index};
 ghost use Rattle.std.specs.Ordering.{nat_cmp, on};
 ghost use Rattle.std.specs.Cmp.Lexicographic.{slice_cmp};
-ghost use Rattle.cip_rank.specs.Ranged.{KeepsOthers};
-ghost use Rattle.cip_rows.specs.Kids.{kids_of, kid_set, HoldKidSets, KnowTheirKids};
+ghost use Rattle.cip_rows.specs.Kids.{kids_of, HoldKidSets, KnowTheirKids};
 ghost use Rattle.cip_rows.specs.Rows.{number_in};
 
 use crate::family::Family;
@@ -50,22 +49,6 @@ impl NodeOrder for ByKids<'_> {
         (lists_total nat_cmp_total) };
 }
 
-// Writes the set of a place, where it is wanted.
-fn write_set_if(is_wanted: bool, family: &Family, numbers: &[u32], place: u32, sets: &mut [u32])
-    requires place { place < length family.now.ups }
-    requires numbers { length family.now.ups ≤ length numbers.now }
-    requires room { length family.now.ups ≤ length sets.old }
-    ensures set { is_wanted ≡ true → map (slice_index sets.new) (kids_of family.now place)
-        ≡ kid_set (kids_of family.now) numbers.now place }
-    ensures others { KeepsOthers (slice_index family.now.firsts place)
-        (slice_index family.now.firsts place + slice_index family.now.counts place) sets.old sets.new }
-{
-    if is_wanted {
-        let (first, past) = family.children(place);
-        write_part(numbers, sets, first as usize, past as usize);
-    }
-}
-
 /// Writes the sets of the places in some rows whose class has a flag.
 pub fn write_kid_sets(
     family: &Family,
@@ -84,7 +67,9 @@ pub fn write_kid_sets(
 {
     for row in from..to {
         let place = order.place(row);
-        let is_wanted = flags[order.number(place) as usize];
-        write_set_if(is_wanted, family, order.numbers(), place, sets);
+        if flags[order.number(place) as usize] {
+            let (first, past) = family.children(place);
+            write_part(order.numbers(), sets, first as usize, past as usize);
+        }
     }
 }

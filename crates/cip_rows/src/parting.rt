@@ -1,31 +1,10 @@
 // The classes of one sphere.
-ghost use Rattle.std.specs.Prelude.{◌≡◌, ◌<◌, ◌≤◌, length};
-ghost use Rattle.cip_rows.specs.Parting.{FlagHeads, PartsSphere, StepsOn};
+ghost use Rattle.std.specs.Prelude.{◌≡◌, ◌≤◌, length};
+ghost use Rattle.cip_rows.specs.Parting.{FlagHeads, PartsSphere};
 ghost use Rattle.cip_rows.specs.Rows.{AreClassed};
 
 use crate::order::Order;
 use cip_rank::sorting::NodeOrder;
-
-// Parts the class that begins at a row, if it has a flag. Returns the row to go on with.
-fn part_at<S: NodeOrder>(by: &S, order: &mut Order, row: u32, to: u32, flags: &[bool]) -> u32
-    requires some { row < to }
-    requires within { to ≤ length order.old.rows }
-    requires flags { to ≤ length flags.now }
-    requires nodes { S.nodes by.now ≡ length order.old.numbers }
-    ensures stepped { StepsOn (S.order by.now) row to result flags.now order.old.rows order.new.rows order.old.numbers
-        order.new.numbers }
-    ensures len { length order.new.rows ≡ length order.old.rows }
-    ensures numbers_len { length order.new.numbers ≡ length order.old.numbers }
-    ensures room { order.new.room ≡ order.old.room }
-{
-    if flags[row as usize] {
-        let past = order.class_end(row, to);
-        order.part_class(by, row, past);
-        past
-    } else {
-        row + 1
-    }
-}
 
 /// Parts each class of a sphere that has a flag.
 pub fn part_sphere<S: NodeOrder>(by: &S, order: &mut Order, from: u32, to: u32, flags: &[bool])
@@ -41,6 +20,12 @@ pub fn part_sphere<S: NodeOrder>(by: &S, order: &mut Order, from: u32, to: u32, 
 {
     let mut row = from;
     while row < to {
-        row = part_at(by, order, row, to, flags);
+        if flags[row as usize] {
+            let past = order.class_end(row, to);
+            order.part_class(by, row, past);
+            row = past;
+        } else {
+            row += 1;
+        }
     }
 }

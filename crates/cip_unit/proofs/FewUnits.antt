@@ -61,6 +61,13 @@ double_end_few z charge edges e =
     edges_few edges ((z == 6) || (z == 14) || (z == 32) || ((z == 7) && int_eq charge (pos 1)))
     (z == 7) (int_eq charge (pos 0)) e
 
+pub bond_end_few : (graph : Graph) (unit : List ℕ) (atom : ℕ) → is_bond_end graph unit atom ≡ true
+    → length (edges_at graph atom) ≤ 3
+bond_end_few graph unit atom is =
+    let vertex = vertex_at graph atom in
+    double_end_few vertex.z vertex.charge (length (edges_at graph atom))
+    (and_parts (is_double_end vertex.z vertex.charge (length (edges_at graph atom))) (has_end_bonds graph unit atom) is).0
+
 module _ (graph : Graph) where
   abbrev degree : ℕ → ℕ
   degree vertex = length (edges_at graph vertex)

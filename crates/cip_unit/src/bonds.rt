@@ -27,11 +27,18 @@ pub fn push_bonds(
         ++ units_at sketch.now.molecule.now (bond_sites sketch.now.graph.now sketch.now.positions.now a)) }
 {
     // Most atoms are no first end: their bonds aren't looked at.
-    if can_begin(sketch, a) {
-        push_bonds_from(sketch, a, reached, units)
-    } else {
-        Ok(())
+    if !can_begin(sketch, a) {
+        return Ok(());
     }
+    for edge in sketch.graph.edges_at(a) {
+        // Most bonds are single: no site is made for them.
+        if is_counted_double(edge) {
+            let Ok(()) = push_bond(sketch, a, edge, reached, units) else {
+                return Err(AllocError);
+            };
+        }
+    }
+    Ok(())
 }
 
 fn can_begin(sketch: &Sketch<'_>, a: u32) -> bool
@@ -39,27 +46,6 @@ fn can_begin(sketch: &Sketch<'_>, a: u32) -> bool
 {
     sketch.positions.of(a).len() <= 1
         && is_double_end(vertex_at(sketch.graph, a), sketch.graph.edges_at(a).len())
-}
-
-fn push_bonds_from(
-    sketch: &Sketch<'_>,
-    a: u32,
-    reached: &mut VertexSet,
-    units: &mut Units,
-) -> Result<(), AllocError>
-    requires drawn { sketch.now.graph.now.drawn ≡ length sketch.now.molecule.now.atoms }
-    requires within { a < sketch.now.graph.now.drawn }
-    requires leads { LeadsToAtoms sketch.now.graph.now }
-    ensures { OnOk result (units.new ≡ units.old
-        ++ units_at sketch.now.molecule.now (bond_sites sketch.now.graph.now sketch.now.positions.now a)) }
-{
-    for edge in sketch.graph.edges_at(a) {
-        // Most bonds are single: no site is made for them.
-        if is_counted_double(edge) {
-            push_bond(sketch, a, edge, reached, units)?;
-        }
-    }
-    Ok(())
 }
 
 fn is_counted_double(edge: &Edge) -> bool
@@ -84,7 +70,15 @@ fn push_bond(
         ++ units_at sketch.now.molecule.now (one_bond_site sketch.now.graph.now sketch.now.positions.now a edge.now)) }
 {
     let b = edge.other_end(a);
-    if is_bond_unit(sketch.graph, sketch.positions, a, b, edge, reached)? {
+    if !can_be_bond_unit(sketch.graph, sketch.positions, a, b, edge) {
+        return Ok(());
+    }
+    let Ok(in_ring) = is_in_small_ring(sketch.graph, a, b, reached) else {
+        return Err(AllocError);
+    };
+    if in_ring {
+        Ok(())
+    } else {
         let unit = [a, b];
         let site = Site::Bond {
             a,
@@ -93,26 +87,6 @@ fn push_bond(
             second: end_ligands(sketch.graph, &unit, b),
         };
         push_unit(sketch.molecule, site, units)
-    } else {
-        Ok(())
-    }
-}
-
-fn is_bond_unit(
-    graph: &Graph,
-    positions: &Positions,
-    a: u32,
-    b: u32,
-    edge: &Edge,
-    reached: &mut VertexSet,
-) -> Result<bool, AllocError>
-    requires { b ≡ other_end a edge.now }
-    ensures { IfOk result (λ found. found ≡ is_bond_unit graph.now positions.now a edge.now) }
-{
-    if can_be_bond_unit(graph, positions, a, b, edge) {
-        Ok(!is_in_small_ring(graph, a, b, reached)?)
-    } else {
-        Ok(false)
     }
 }
 

@@ -1,8 +1,8 @@
 // Centres: the atoms that can be chirality centres.
-ghost use Rattle.std.specs.Prelude.{◌≡◌, ◌<◌, ◌≤◌, ◌++◌, ◌&&◌, ◌||◌, ◌==◌, OnOk, drop, filter, is_some, length, map, nat_le, true};
+ghost use Rattle.std.specs.Prelude.{◌≡◌, ◌<◌, ◌≤◌, ◌++◌, ◌&&◌, ◌||◌, ◌==◌, OnOk, drop, filter, is_some, length, map, true};
 ghost use Rattle.cip_elem.specs.Electrons.{outer_of};
 ghost use Rattle.cip_mol.specs.declared.site.Ligand.TheVariants as variants;
-ghost use Rattle.cip_digraph.specs.units.Centres.{centre_ligands, drawn_neighbours, is_centre, is_quadriligant};
+ghost use Rattle.cip_digraph.specs.units.Centres.{centre_ligands, is_centre, is_quadriligant};
 ghost use Rattle.cip_digraph.specs.graph.Graph.{edges_at, neighbours};
 ghost use Rattle.cip_digraph.specs.graph.GraphRanges.{IsElement};
 ghost use Rattle.cip_digraph.specs.graph.Incidence.{leads_lower};
@@ -57,16 +57,10 @@ fn is_centre(graph: &Graph, atom: u32) -> bool
     requires { atom < graph.now.drawn }
     ensures { result ≡ is_centre graph.now atom }
 {
-    // Most atoms have other bonds: their neighbours aren't counted.
+    // Most atoms have other bonds: their neighbours aren't counted. Edges ascend, and drawn atoms come first: the third
+    // edge tells whether three neighbours are drawn.
     has_centre_bonds(&graph.vertices()[atom as usize], graph.edges_at(atom).len())
-        && has_three_drawn(graph, atom)
-}
-
-// Edges ascend, and drawn atoms come first: the third edge tells.
-fn has_three_drawn(graph: &Graph, atom: u32) -> bool
-    ensures { result ≡ nat_le 3 (length (drawn_neighbours graph.now atom)) }
-{
-    leads_to_drawn(graph.edges_at(atom), 2, atom, graph.drawn())
+        && leads_to_drawn(graph.edges_at(atom), 2, atom, graph.drawn())
 }
 
 // Whether there is an edge at a place that leads from an atom to one of the drawn ones.

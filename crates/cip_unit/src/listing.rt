@@ -32,8 +32,12 @@ pub fn units(
     };
     let atoms = molecule.atoms().len() as u32;
     let mut units = Units::new(alloc);
-    push_all_centres(&sketch, atoms, &mut units)?;
-    push_all_doubles(alloc, &sketch, atoms, &mut units)?;
+    let Ok(()) = push_all_centres(&sketch, atoms, &mut units) else {
+        return Err(AllocError);
+    };
+    let Ok(()) = push_all_doubles(alloc, &sketch, atoms, &mut units) else {
+        return Err(AllocError);
+    };
     Ok(units)
 }
 
@@ -45,7 +49,9 @@ fn push_all_centres(sketch: &Sketch<'_>, atoms: u32, units: &mut Units) -> Resul
         ++ units_at sketch.now.molecule.now (flat_map (centre_sites sketch.now.graph.now) (range_with_len 0 atoms))) }
 {
     for atom in 0..atoms {
-        push_centre(sketch.molecule, sketch.graph, atom, units)?;
+        let Ok(()) = push_centre(sketch.molecule, sketch.graph, atom, units) else {
+            return Err(AllocError);
+        };
     }
     Ok(())
 }
@@ -65,7 +71,9 @@ fn push_all_doubles(
         (with_bonds sketch.now.molecule.now sketch.now.graph.now sketch.now.positions.now atoms units.old)) }
 {
     if has_double(sketch.graph) {
-        push_all_bonds(alloc, sketch, atoms, units)?;
+        let Ok(()) = push_all_bonds(alloc, sketch, atoms, units) else {
+            return Err(AllocError);
+        };
         push_all_axes(sketch, atoms, units)
     } else {
         Ok(())
@@ -95,9 +103,13 @@ fn push_all_bonds(
     ensures { OnOk result
         (units.new ≡ with_bonds sketch.now.molecule.now sketch.now.graph.now sketch.now.positions.now atoms units.old) }
 {
-    let mut reached = VertexSet::new(alloc, sketch.graph.vertices().len())?;
+    let Ok(mut reached) = VertexSet::new(alloc, sketch.graph.vertices().len()) else {
+        return Err(AllocError);
+    };
     for atom in 0..atoms {
-        push_bonds(sketch, atom, &mut reached, units)?;
+        let Ok(()) = push_bonds(sketch, atom, &mut reached, units) else {
+            return Err(AllocError);
+        };
     }
     Ok(())
 }
@@ -109,11 +121,15 @@ fn push_all_axes(sketch: &Sketch<'_>, atoms: u32, units: &mut Units) -> Result<(
     requires leads { LeadsToAtoms sketch.now.graph.now }
     ensures { OnOk result (units.new ≡ with_axes sketch.now.molecule.now sketch.now.graph.now atoms units.old) }
 {
-    if has_allene(sketch.graph, atoms) {
-        push_each_axis(sketch, atoms, units)
-    } else {
-        Ok(())
+    if !has_allene(sketch.graph, atoms) {
+        return Ok(());
     }
+    for atom in 0..atoms {
+        let Ok(()) = push_axes(sketch, atom, units) else {
+            return Err(AllocError);
+        };
+    }
+    Ok(())
 }
 
 fn has_allene(graph: &Graph, atoms: u32) -> bool
@@ -125,16 +141,4 @@ fn has_allene(graph: &Graph, atoms: u32) -> bool
         }
     }
     false
-}
-
-fn push_each_axis(sketch: &Sketch<'_>, atoms: u32, units: &mut Units) -> Result<(), AllocError>
-    requires drawn { sketch.now.graph.now.drawn ≡ length sketch.now.molecule.now.atoms }
-    requires atoms { atoms ≡ sketch.now.graph.now.drawn }
-    requires leads { LeadsToAtoms sketch.now.graph.now }
-    ensures { OnOk result (units.new ≡ with_axes sketch.now.molecule.now sketch.now.graph.now atoms units.old) }
-{
-    for atom in 0..atoms {
-        push_axes(sketch, atom, units)?;
-    }
-    Ok(())
 }

@@ -20,8 +20,8 @@ returns-in-Ok-clause-outcome g c =
     ∙ known_by_one c.args.setting.now (g.D.Digraphs.bound c.args.digraphs.now) (as_site c.args.ends.now) c.args.sense
     (as_end c.in-One.end) (one_end _ c.in-One.end c.in-One.is)
 
-pub returns-in_default-clause-cost : goal.returns-in_default-clause-cost
-returns-in_default-clause-cost g c =
+pub returns-in-Err-clause-cost : goal.returns-in-Err-clause-cost
+returns-in-Err-clause-cost g c =
     in_site c.args.setting.now (g.D.Digraphs.bound c.args.digraphs.now) (as_site c.args.ends.now)
     (as_end c.in-One.end ∷ []) c.args.steps.now c.rank_root.new.steps (one_end _ c.in-One.end c.in-One.is)
     c.rank_root.ensures.cost
@@ -64,14 +64,14 @@ returns-in-Ok-rank_behind-clause-outcome g c =
     (are_ranked c.args.setting.now bound _ one other c.in-Ok-rank_root.near c.in-Ok-rank_behind.far
     c.rank_root-in-Two.ensures.kept c.in-Ok-rank_root.ensures.ranked c.in-Ok-rank_behind.ensures.ranked)
 
-pub returns-in_default-rank_root-clause-cost : goal.returns-in_default-rank_root-clause-cost
-returns-in_default-rank_root-clause-cost g c =
+pub returns-in-Err-rank_root-clause-cost : goal.returns-in-Err-rank_root-clause-cost
+returns-in-Err-rank_root-clause-cost g c =
     one_of_two c.args.setting.now (g.D.Digraphs.bound c.args.digraphs.now) (as_site c.args.ends.now)
     (as_end c.in-Two.two.near) (as_end c.in-Two.two.far) (two_ends _ _ c.in-Two.two c.in-Two.is)
     c.args.steps.now c.rank_root-in-Two.new.steps c.rank_root-in-Two.ensures.cost
 
-pub returns-in_default-rank_behind-clause-cost : goal.returns-in_default-rank_behind-clause-cost
-returns-in_default-rank_behind-clause-cost g c =
+pub returns-in-Err-rank_behind-clause-cost : goal.returns-in-Err-rank_behind-clause-cost
+returns-in-Err-rank_behind-clause-cost g c =
     both c.args.setting.now (g.D.Digraphs.bound c.args.digraphs.now) (as_site c.args.ends.now)
     (as_end c.in-Two.two.near) (as_end c.in-Two.two.far) (two_ends _ _ c.in-Two.two c.in-Two.is)
     c.args.steps.now c.rank_root-in-Two.new.steps c.rank_behind.new.steps _ c.rank_root-in-Two.ensures.kept

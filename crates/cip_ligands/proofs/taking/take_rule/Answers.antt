@@ -96,3 +96,13 @@ returns-clause-kin g c = c.loop-far.invariant.kin
 
 pub next_rule-requires-clause-keyed : goal.next_rule-requires-clause-keyed
 next_rule-requires-clause-keyed g c = c.requires.keyed
+
+pub deepen-requires-clause-far : goal.deepen-requires-clause-far
+deepen-requires-clause-far g c =
+    omega (
+      arith,
+      ap (λ (b : Branched). b.last) c.next_rule.ensures.others,
+      c.loop-far.invariant.end,
+      c.last-last.ensures.last,
+      c.loop-far-test.true,
+    )

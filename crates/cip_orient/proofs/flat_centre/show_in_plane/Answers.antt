@@ -16,5 +16,17 @@ returns-else-has_mark c =
     let unmarked : has_mark marks ≡ false = sym c.has_mark.ensures ∙ c.if-has_mark.false in
     sym (ap (λ b. cond b (Unknown Coincident) (by_order directions marks)) clear ∙ shows_none directions marks unmarked)
 
-pub show_by_order-requires-clause-some : goal.show_by_order-requires-clause-some
-show_by_order-requires-clause-some c = grind (arith, common_steps)
+pub show_by_places-requires-clause-few : goal.show_by_places-requires-clause-few
+show_by_places-requires-clause-few c = rw c.as_slice.ensures.value c.as_slice.ensures.few
+
+pub returns-then-has_mark : goal.returns-then-has_mark
+returns-then-has_mark c =
+    let directions = c.args.directions.now in
+    let marks = c.args.marks.now in
+    let clear : has_clash directions ≡ false = sym c.has_clash.ensures ∙ c.if-has_clash.false in
+    let shown : c.show_by_places.result ≡ by_order directions marks =
+    rw (c.as_slice.ensures.value, c.places-places.ensures, c.is_reentrant.ensures) at c.show_by_places.ensures in
+    shown ∙ sym (ap (λ b. cond b (Unknown Coincident) (by_order directions marks)) clear)
+
+pub show_by_places-requires-clause-marks : goal.show_by_places-requires-clause-marks
+show_by_places-requires-clause-marks c = grind (arith, common_steps)

@@ -1,16 +1,15 @@
-use Rattle.std.proofs.Common.{arith}
+use Rattle.std.proofs.Common.{arith, ◌∙◌}
+use Rattle.cip_mol.specs.Pairs.{by_pairs}
+use Rattle.cip_orient.specs.PairSigns.{pair_sign}
 use Rattle.std.proofs.lemmas.Grind.{common_steps}
 use Rattle.cip_orient.proofs.pairs.show_drawn_pairs.Goals as goal
 
 pub returns : goal.returns
 returns c =
-    rw (
-      c.as_slice.ensures.value,
-      c.as_slice-2.ensures.value,
-      c.steps-firsts.ensures.value,
-      c.steps-seconds.ensures.value,
-      c.step_between-between.ensures.value,
-    ) at c.show_pairs.ensures
+    let firsts = c.as_slice.ensures.value ∙ c.steps-firsts.ensures.value in
+    let seconds = c.as_slice-2.ensures.value ∙ c.steps-seconds.ensures.value in
+    c.show_pairs.ensures
+    ∙ (λ i. by_pairs (pair_sign c.args.sign (c.step_between-between.ensures.value i)) (firsts i) (seconds i))
 
 pub steps-seconds-requires-clause-within : goal.steps-seconds-requires-clause-within
 steps-seconds-requires-clause-within c = grind (arith, common_steps)

@@ -18,7 +18,7 @@ loop-place-preserved g c =
     record {
       value =
           one_more (g.S.Steps.step c.args.steps.now) _ _ _ _ _ lt c.loop-place.invariant.value c.get-vertex.ensures
-          c.in_ok-add_steps.ensures;
+          c.in-Ok.ensures;
       upto = omega (arith, lt);
     }
 

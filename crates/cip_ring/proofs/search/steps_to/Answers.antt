@@ -13,10 +13,10 @@ loop-taken-preserved g c =
     let counted : c.len-count.result ≡ length old = c.len-count.ensures in
     let out : is_in c.args.target old ≡ false = sym c.if-contains.ensures in
     record {
-      value = c.in_default-step_on.ensures ∙ ap (next_within step) c.loop-taken.invariant.value
+      value = c.in-Ok-step_on.ensures ∙ ap (next_within step) c.loop-taken.invariant.value
           ∙ sym (ap (within step c.args.from) (add-one c.loop-taken.taken));
-      upto = rw (counted, c.in_default-step_on.ensures) (no_shorter old (flat_map step old));
-      done = rw (counted, c.in_default-step_on.ensures) (next_done step old);
+      upto = rw (counted, c.in-Ok-step_on.ensures) (no_shorter old (flat_map step old));
+      done = rw (counted, c.in-Ok-step_on.ensures) (next_done step old);
       before = below_more _ _ c.loop-taken.invariant.before
           (ap (is_in c.args.target) (sym c.loop-taken.invariant.value) ∙ out);
     }

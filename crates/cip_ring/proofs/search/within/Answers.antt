@@ -10,8 +10,8 @@ loop-preserved g c =
     let old = c.loop.reached in
     let counted : c.len-count.result ≡ length old = c.len-count.ensures in
     record {
-      value = c.in_default-step_on.ensures ∙ ap (next_within step) c.loop.invariant.value
+      value = c.in-Ok-step_on.ensures ∙ ap (next_within step) c.loop.invariant.value
           ∙ sym (ap (within step c.args.from) (add-one c.loop.counter));
-      within = rw (counted, c.in_default-step_on.ensures) (no_shorter old (flat_map step old));
-      done = rw (counted, c.in_default-step_on.ensures) (next_done step old);
+      within = rw (counted, c.in-Ok-step_on.ensures) (no_shorter old (flat_map step old));
+      done = rw (counted, c.in-Ok-step_on.ensures) (next_done step old);
     }

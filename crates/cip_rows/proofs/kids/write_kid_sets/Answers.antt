@@ -1,14 +1,32 @@
-use Rattle.std.proofs.Common.{rules}
+use Rattle.std.proofs.Common.{◌+◌, rules, true, false, refl, sym, subst}
+use Rattle.std.proofs.lemmas.Bool.{false≢true}
+use Rattle.cip_rows.specs.Kids.{kids_of, HoldKidSets}
 use Rattle.cip_rows.proofs.WrittenSets.{sets_written}
 use Rattle.cip_rows.proofs.kids.write_kid_sets.Goals as goal
+use Rattle.cip_rows.proofs.kids.write_kid_sets.Goals.{then-flags-number, else-flags-number}
 
 pub loop-row-preserved : goal.loop-row-preserved
-loop-row-preserved c = record {
-  hold = sets_written c.args.family.now.firsts c.args.family.now.counts c.args.family.now.ups c.args.order.now.rows
-      c.args.order.now.numbers c.numbers.result.now c.args.from c.args.to c.loop-row.row c.place-place.result c.number.result
-      _ c.args.flags.now c.loop-row.sets c.write_set_if.new.sets
-      c.requires.known (search rules) (search rules) c.place-place.ensures.place c.number.ensures
-      (search rules) c.numbers.ensures
-      c.write_set_if.ensures.set
-      c.write_set_if.ensures.others c.loop-row.invariant.hold;
-}
+loop-row-preserved c =
+    let family = c.args.family.now in
+    let order = c.args.order.now in
+    record {
+      hold = elim c.if-flags-number.branch [
+        | then-flags-number w ↦
+            subst (λ sets. HoldKidSets (kids_of family) order.rows order.numbers c.args.from (c.loop-row.row + 1)
+            c.args.flags.now sets)
+            (sym w.sets-is)
+            (sets_written family.firsts family.counts family.ups order.rows order.numbers w.numbers.result.now c.args.from
+            c.args.to c.loop-row.row c.place-place.result c.number.result true c.args.flags.now c.loop-row.sets
+            w.write_part.new.sets c.requires.known (search rules) (search rules) c.place-place.ensures.place
+            c.number.ensures (search rules) w.numbers.ensures (λ e. search rules) (search rules) c.loop-row.invariant.hold)
+        | else-flags-number w ↦
+            subst (λ sets. HoldKidSets (kids_of family) order.rows order.numbers c.args.from (c.loop-row.row + 1)
+            c.args.flags.now sets)
+            (sym w.sets-is)
+            (sets_written family.firsts family.counts family.ups order.rows order.numbers order.numbers c.args.from
+            c.args.to c.loop-row.row c.place-place.result c.number.result false c.args.flags.now c.loop-row.sets
+            c.loop-row.sets c.requires.known (search rules) (search rules) c.place-place.ensures.place c.number.ensures
+            (sym w.if-flags-number.false) refl (λ e. absurd (false≢true e))
+            (record { len = refl; before = λ k lt. refl; behind = λ k le. refl }) c.loop-row.invariant.hold)
+      ];
+    }

@@ -7,3 +7,6 @@ returns-then-other-drawn c = grind (arith, common_steps)
 
 pub returns : goal.returns
 returns c = grind (arith, common_steps)
+
+pub loop-edge-preserved : goal.loop-edge-preserved
+loop-edge-preserved c = grind (arith, common_steps)

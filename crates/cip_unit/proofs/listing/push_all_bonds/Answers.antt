@@ -8,7 +8,7 @@ pub loop-atom-preserved : goal.loop-atom-preserved
 loop-atom-preserved c =
     units_more c.args.sketch.now.molecule.now
     (bond_sites c.args.sketch.now.graph.now c.args.sketch.now.positions.now) c.loop-atom.atom _ _ _ c.loop-atom.invariant
-    c.in_ok-push_bonds.ensures
+    c.in-Ok-push_bonds.ensures
 
 pub push_bonds-requires-clause-leads : goal.push_bonds-requires-clause-leads
 push_bonds-requires-clause-leads c = grind (arith, common_steps)

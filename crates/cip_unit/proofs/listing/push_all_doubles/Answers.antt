@@ -11,5 +11,5 @@ returns-else-has_double c =
 pub push_all_axes-requires-clause-leads : goal.push_all_axes-requires-clause-leads
 push_all_axes-requires-clause-leads c = grind (arith, common_steps)
 
-pub returns-in_ok-push_all_bonds : goal.returns-in_ok-push_all_bonds
-returns-in_ok-push_all_bonds c = grind (arith, common_steps)
+pub returns-in-Ok : goal.returns-in-Ok
+returns-in-Ok c = grind (arith, common_steps)

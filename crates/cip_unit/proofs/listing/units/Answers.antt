@@ -24,4 +24,4 @@ pub returns : goal.returns
 returns c =
     units_are c.args.molecule.now c.args.graph.now c.args.positions.now _ _ _ _
     (ap length c.atoms.ensures.value ∙ sym (rw c.requires (drawn_is c.args.molecule.now))) c.new-units.ensures
-    c.in_ok-push_all_centres.ensures c.in_ok-push_all_doubles.ensures
+    c.in-Ok.ensures c.in-Ok-push_all_doubles.ensures

@@ -1,4 +1,5 @@
-use Rattle.std.proofs.Common.{◌≡◌, ◌++◌, ℕ, true, cond, List, length, arith, ◌∙◌, sym, ap, length-append}
+use Rattle.std.proofs.Common.{◌≡◌, ◌++◌, ◌∷◌, [], ℕ, true, cond, List, length, rules, arith, ◌∙◌, sym, ap, length-append}
+use Rattle.std.proofs.lemmas.List.{append-nil}
 use Rattle.cip_rank.specs.Tree.{children_of}
 use Rattle.cip_rank.specs.View.{parent_list}
 use Rattle.cip_branches.specs.Around.{kept_off, kids_around}
@@ -28,26 +29,39 @@ push_off-requires-clause-room c =
     let many = ap (λ (ns : List ℕ). length ns) kids ∙ length-append off up in
     omega (arith, many, c.requires.room)
 
-pub push_parent-requires-clause-room : goal.push_parent-requires-clause-room
-push_parent-requires-clause-room c =
+pub push_place-requires : goal.push_place-requires
+push_place-requires c =
     let parents = c.args.around.now.table.now.parents in
     let off = kept_off c.args.around.now.way.now (children_of parents c.args.node) in
     let up = parent_list parents c.args.node in
-    let kids = around_is (goal.at.push_parent-requires-clause-room c).After-is_set c.if-is_set.true in
+    let here : up ≡ c.in-Some.parent ∷ [] = search rules in
+    let kids = around_is (goal.at.push_place-requires c).After-is_set c.if-is_set.true in
     let many = ap (λ (ns : List ℕ). length ns) kids ∙ length-append off up in
     let places = ap (λ (s : Layers). length s.kin.ups) c.push_off.ensures
     ∙ places_more off c.args.branch c.args.up c.args.number c.args.self.now in
     let room = ap (λ (s : Layers). s.kin.room) c.push_off.ensures
     ∙ room_stays off c.args.branch c.args.up c.args.number c.args.self.now in
-    omega (arith, many, places, room, c.requires.room)
+    let one = ap (λ (ns : List ℕ). length ns) here in
+    omega (arith, many, places, room, one, c.requires.room)
 
-pub returns-then-is_set : goal.returns-then-is_set
-returns-then-is_set c =
+pub returns-in-Some : goal.returns-in-Some
+returns-in-Some c =
     let parents = c.args.around.now.table.now.parents in
     let off = kept_off c.args.around.now.way.now (children_of parents c.args.node) in
     let up = parent_list parents c.args.node in
-    let kids = around_is (goal.at.returns-then-is_set c).After-is_set c.if-is_set.true in
+    let here : up ≡ c.in-Some.parent ∷ [] = search rules in
+    let kids = around_is (goal.at.returns-in-Some c).After-is_set c.if-is_set.true in
     let push = λ (ns : List ℕ) (s : Layers). with_nodes ns c.args.branch c.args.up c.args.number s in
-    c.push_parent.ensures ∙ ap (push up) c.push_off.ensures
+    c.push_place.ensures ∙ ap (λ (ns : List ℕ). push ns c.push_off.new.self) (sym here) ∙ ap (push up) c.push_off.ensures
     ∙ sym (nodes_both off up c.args.branch c.args.up c.args.number c.args.self.now)
     ∙ ap (λ (ns : List ℕ). push ns c.args.self.now) (sym kids)
+
+pub returns-in_default : goal.returns-in_default
+returns-in_default c =
+    let parents = c.args.around.now.table.now.parents in
+    let off = kept_off c.args.around.now.way.now (children_of parents c.args.node) in
+    let none : parent_list parents c.args.node ≡ [] = search rules in
+    let kids = around_is (goal.at.returns-in_default c).After-is_set c.if-is_set.true in
+    c.push_off.ensures
+    ∙ ap (λ (ns : List ℕ). with_nodes ns c.args.branch c.args.up c.args.number c.args.self.now)
+    (sym (kids ∙ ap (λ (ns : List ℕ). off ++ ns) none ∙ append-nil off))

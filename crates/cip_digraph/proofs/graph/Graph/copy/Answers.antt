@@ -5,5 +5,5 @@ use Rattle.cip_digraph.proofs.graph.Graph.copy.Goals as goal
 pub new-requires-clause-range : goal.new-requires-clause-range
 new-requires-clause-range c = grind (arith, common_steps)
 
-pub returns-in-Ok : goal.returns-in-Ok
-returns-in-Ok c = grind (arith, common_steps)
+pub returns-in-Ok-from_slice : goal.returns-in-Ok-from_slice
+returns-in-Ok-from_slice c = grind (arith, common_steps)
