@@ -7,11 +7,11 @@ use Rattle.cip_digraph.specs.rules.Auxiliary.{nearer_first, root_at, roots_at}
 use Rattle.cip_digraph.specs.units.Ends.{end_at}
 use Rattle.cip_digraph.specs.digraph.NodeList.{parents_of}
 use Rattle.cip_digraph.specs.digraph.Telling.{node_at}
-use Rattle.cip_letters.specs.declared.turns.Turns.{Turns}
+use Rattle.cip_digraph.specs.declared.turns.Turns.{Turns}
 use Rattle.cip_aux.specs.Inner.{Inner, Ready}
 use Rattle.cip_aux.specs.Marking.{AreRootTurns, AreEndTurns}
 use Rattle.cip_aux.specs.Neighbours.{shape_at}
-use Rattle.cip_letters.specs.TurnsOf.{both_turns, root_turns, roots_turns}
+use Rattle.cip_digraph.specs.TurnsOf.{both_turns, root_turns, roots_turns}
 use Rattle.std.specs.Prelude.{option_to_list}
 use Rattle.cip_aux.specs.Joining.{Joins, far_number}
 use Rattle.cip_aux.specs.Sights.{path_at}

@@ -17,7 +17,7 @@ use Rattle.std.specs.Prelude.{option_to_list}
 use Rattle.cip_aux.specs.Joining.{Joins, next_child, far_number}
 use Rattle.cip_aux.specs.Sights.{Sight, Shows, path_at, IsReal}
 use Rattle.cip_aux.proofs.Paths.{hangs, path_is, real_is, some_path, within_parents}
-use Rattle.cip_letters.proofs.PairTurns.{any_mapped}
+use Rattle.cip_digraph.proofs.PairTurns.{any_mapped}
 use Rattle.cip_aux.proofs.RootTurns.{first_same, children_within}
 
 first_found : (test : ℕ → Bool) (P : ℕ → Type 0) (ns : List ℕ) (n : ℕ) → AllByRecursion P ns

@@ -9,10 +9,10 @@ use Rattle.cip_mol.specs.declared.site.Unit as units
 use Rattle.cip_digraph.specs.digraph.Telling.{node_at}
 use Rattle.cip_digraph.specs.rules.Auxiliary.{nearer_first, roots_at}
 use Rattle.cip_digraph.specs.units.Ends.{End, ends_of}
-use Rattle.cip_letters.specs.declared.turns.Turns.{Turns}
-use Rattle.cip_letters.specs.LentEnds.{ends_in}
-use Rattle.cip_letters.specs.TurnsOf.{roots_turns}
-use Rattle.cip_letters.proofs.LentEnds.{ends_are}
+use Rattle.cip_digraph.specs.declared.turns.Turns.{Turns}
+use Rattle.cip_digraph.specs.LentEnds.{ends_in}
+use Rattle.cip_digraph.specs.TurnsOf.{roots_turns}
+use Rattle.cip_digraph.proofs.LentEnds.{ends_are}
 use Rattle.cip_rows.specs.Reserved.{Reserved}
 use Rattle.cip_aux.specs.Inner.{Inner, AgreesInside, Counts}
 use Rattle.cip_aux.specs.KeptTurns.{AreConstant, AreKept, if_of, kept_at, site_at, sites_in}

@@ -17,9 +17,9 @@ use Rattle.cip_digraph.specs.digraph.Telling.{node_at}
 use Rattle.cip_digraph.specs.digraph.View.{real_at, view_children, seen_from}
 use Rattle.cip_digraph.proofs.lists.Elements.{all_by, all_append}
 use Rattle.cip_digraph.proofs.orders.Whole.{order_total}
-use Rattle.cip_letters.specs.Sides.{found_side, Sides, number_side, pair_sides}
-use Rattle.cip_letters.specs.TurnsOf.{turns_of, root_turns}
-use Rattle.cip_letters.proofs.PairTurns.{turns_are, two_mapped}
+use Rattle.cip_digraph.specs.Sides.{found_side, Sides, number_side, pair_sides}
+use Rattle.cip_digraph.specs.TurnsOf.{turns_of, root_turns}
+use Rattle.cip_digraph.proofs.PairTurns.{turns_are, two_mapped}
 use Rattle.cip_aux.specs.Neighbours.{parent_of, neighbours_of, first_where, ligand_number, shape_at, ligand_at}
 use Rattle.cip_aux.specs.Sights.{Sight, Shows, SidesAre, path_at, IsReal}
 use Rattle.cip_aux.proofs.Paths.{earlier}

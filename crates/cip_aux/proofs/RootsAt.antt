@@ -12,9 +12,9 @@ use Rattle.cip_digraph.specs.digraph.Digraph.{Node}
 use Rattle.cip_digraph.specs.units.Ends.{End}
 use Rattle.cip_digraph.specs.graph.Graph.{Graph}
 use Rattle.cip_digraph.specs.units.Ranked.{Root}
-use Rattle.cip_letters.specs.Lettered.{turned_letter}
-use Rattle.cip_letters.specs.TurnsOf.{both_turns, root_turns, roots_turns}
-use Rattle.cip_letters.proofs.LettersTurn.{letter_is}
+use Rattle.cip_digraph.specs.Lettered.{turned_letter}
+use Rattle.cip_digraph.specs.TurnsOf.{both_turns, root_turns, roots_turns}
+use Rattle.cip_digraph.proofs.LettersTurn.{letter_is}
 
 few_roots : (rules : Rules) (graph : Graph) (positions : List (List ℕ)) (mark : List ℕ → Option Descriptor)
     (path between : List ℕ) (ends : List End)

@@ -5,11 +5,11 @@ use Rattle.std.specs.Option.{is_some}
 use Rattle.std.specs.declared.option.Option.{Option}
 use Rattle.cip_digraph.specs.declared.decision.Decision.{Decision}
 use Rattle.cip_digraph.specs.units.Descriptors.{is_odd}
-use Rattle.cip_letters.specs.declared.turns.Turns.{Turns}
-use Rattle.cip_letters.specs.Sides.{found_side, is_below, is_tied}
-use Rattle.cip_letters.specs.TurnsOf.{turns_of}
-use Rattle.cip_letters.specs.Asking.{is_decided}
-use Rattle.cip_letters.specs.declared.asked.Asked.{Asked}
+use Rattle.cip_digraph.specs.declared.turns.Turns.{Turns}
+use Rattle.cip_digraph.specs.Sides.{found_side, is_below, is_tied}
+use Rattle.cip_digraph.specs.TurnsOf.{turns_of}
+use Rattle.cip_digraph.specs.Asking.{is_decided}
+use Rattle.cip_digraph.specs.declared.asked.Asked.{Asked}
 use Rattle.cip_aux.specs.Turning.{side_at}
 
 tied_pairs : (pairs : List Asked) → list_any is_tied (map side_at pairs) ≡ not (list_all is_decided pairs)

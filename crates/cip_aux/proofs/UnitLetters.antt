@@ -12,16 +12,16 @@ use Rattle.cip_mol.specs.Ends.{between_of}
 use Rattle.cip_digraph.specs.units.Ends.{ends_of}
 use Rattle.cip_digraph.specs.digraph.Telling.{node_at}
 use Rattle.cip_digraph.specs.digraph.View.{real_at}
-use Rattle.cip_letters.specs.declared.turns.Turns.{Turns}
+use Rattle.cip_digraph.specs.declared.turns.Turns.{Turns}
 use Rattle.cip_aux.specs.Inner.{Inner, AgreesInside, Ready}
 use Rattle.cip_aux.specs.Marking.{AreEndTurns, IsUnitLetter, IsFirstLetter}
-use Rattle.cip_letters.specs.Lettered.{turned_letter}
-use Rattle.cip_letters.specs.TurnsOf.{roots_turns}
+use Rattle.cip_digraph.specs.Lettered.{turned_letter}
+use Rattle.cip_digraph.specs.TurnsOf.{roots_turns}
 use Rattle.cip_aux.specs.Sights.{path_at}
 use Rattle.cip_aux.proofs.RootsAt.{unit_letter_is}
 use Rattle.cip_aux.specs.UnitsAt.{ArePlaces, ends_at, unit_at}
 use Rattle.cip_aux.proofs.FirstLetters.{first_filtered}
-use Rattle.cip_letters.proofs.OddTurns.{rest_is}
+use Rattle.cip_digraph.proofs.OddTurns.{rest_is}
 use Rattle.cip_aux.proofs.Paths.{real_is}
 
 module _ (inner : Inner) (node : ℕ) (r : Ready inner node) where

@@ -9,8 +9,8 @@ use Rattle.cip_mol.specs.declared.site.Unit as units
 use Rattle.cip_digraph.specs.digraph.Telling.{node_at}
 use Rattle.cip_digraph.specs.rules.Auxiliary.{nearer_first, roots_at}
 use Rattle.cip_digraph.specs.units.Ends.{ends_of}
-use Rattle.cip_letters.specs.declared.turns.Turns.{Turns}
-use Rattle.cip_letters.specs.TurnsOf.{roots_turns}
+use Rattle.cip_digraph.specs.declared.turns.Turns.{Turns}
+use Rattle.cip_digraph.specs.TurnsOf.{roots_turns}
 use Rattle.cip_aux.specs.Sights.{Sight, path_at}
 use Rattle.cip_aux.specs.declared.kept_turns.KeptTurn.{KeptTurn}
 

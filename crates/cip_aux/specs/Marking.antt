@@ -10,9 +10,9 @@ use Rattle.cip_digraph.specs.digraph.Telling.{node_at}
 use Rattle.cip_digraph.specs.rules.Auxiliary.{root_at, roots_at, unit_letter, first_letter, auxiliary}
 use Rattle.cip_digraph.specs.units.Ends.{End}
 use Rattle.cip_aux.specs.Below.{is_below}
-use Rattle.cip_letters.specs.declared.turns.Turns.{Turns}
-use Rattle.cip_letters.specs.Sides.{pair_sides}
-use Rattle.cip_letters.specs.TurnsOf.{root_turns, roots_turns, turns_of}
+use Rattle.cip_digraph.specs.declared.turns.Turns.{Turns}
+use Rattle.cip_digraph.specs.Sides.{pair_sides}
+use Rattle.cip_digraph.specs.TurnsOf.{root_turns, roots_turns, turns_of}
 use Rattle.cip_aux.specs.Inner.{Inner, AgreesInside, Counts, mark_at}
 use Rattle.cip_aux.specs.Joining.{EndsJoin}
 use Rattle.cip_aux.specs.Sights.{Sight, path_at, seen_sides}

@@ -11,7 +11,7 @@ use Rattle.cip_digraph.specs.graph.Graph.{Graph}
 use Rattle.cip_digraph.specs.graph.SoundGraphs.{IsSound}
 use Rattle.cip_digraph.specs.rules.Decisions.{order}
 use Rattle.cip_aux.specs.Whole.{IsTold}
-use Rattle.cip_letters.specs.Sides.{found_side, Sides}
+use Rattle.cip_digraph.specs.Sides.{found_side, Sides}
 
 -- a whole digraph, up to its last sphere, what is told of its nodes, and the wording by which it is ranked
 pub record Whole : Type 0 where

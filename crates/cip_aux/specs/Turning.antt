@@ -2,9 +2,9 @@
 use Rattle.std.specs.Prelude.{Bool, List, map}
 use Rattle.std.specs.declared.cmp.Ordering.{Ordering}
 use Rattle.std.specs.declared.option.Option.{Option}
-use Rattle.cip_letters.specs.Sides.{found_side}
-use Rattle.cip_letters.specs.TurnsOf.{turns_of}
-use Rattle.cip_letters.specs.declared.asked.Asked.{Asked}
+use Rattle.cip_digraph.specs.Sides.{found_side}
+use Rattle.cip_digraph.specs.TurnsOf.{turns_of}
+use Rattle.cip_digraph.specs.declared.asked.Asked.{Asked}
 use Rattle.cip_aux.specs.declared.viewer.FoundTurns.{FoundTurns}
 
 -- which of two precedes

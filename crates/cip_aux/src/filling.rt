@@ -14,8 +14,7 @@ use crate::letters::first_letter;
 use crate::units_at::UnitsAt;
 use crate::viewer::Viewer;
 use crate::whole::Whole;
-use cip_digraph::{NodeKind, Nodes};
-use cip_letters::Descriptors;
+use cip_digraph::{Descriptors, NodeKind, Nodes};
 use cip_mol::Descriptor;
 use std::alloc::{AllocError, Global};
 

@@ -3,8 +3,7 @@ ghost use Rattle.std.specs.Prelude.{◌≡◌};
 ghost use Rattle.cip_aux.specs.Sights.{sight_of};
 
 use crate::whole::Whole;
-use cip_digraph::Nodes;
-use cip_letters::Descriptors;
+use cip_digraph::{Descriptors, Nodes};
 use std::marker::Model;
 
 /// A node of a whole digraph, and the descriptors of the nodes strictly below it. Those of others don't count.

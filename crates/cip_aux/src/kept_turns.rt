@@ -2,7 +2,7 @@
 ghost use Rattle.std.specs.Prelude.{◌≡◌, ◌≤◌, [], None, Some, IfOk, replicate, slice_set};
 ghost use Rattle.cip_aux.specs.KeptTurns.{kept_at};
 
-use cip_letters::Turns;
+use cip_digraph::Turns;
 use cip_rows::Column;
 use std::alloc::{AllocError, Global};
 use std::marker::Model;

@@ -15,8 +15,7 @@ use crate::inner::Inner;
 use crate::kept_turns::{KeptTurn, KeptTurns};
 use crate::units_at::UnitsAt;
 use crate::viewer::Viewer;
-use cip_digraph::Nodes;
-use cip_letters::{Turns, named};
+use cip_digraph::{Nodes, Turns, named};
 use cip_mol::{Descriptor, Geometry};
 use std::alloc::{AllocError, Global};
 

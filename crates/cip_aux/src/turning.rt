@@ -1,11 +1,11 @@
 // How what is decided between pairs of ligands turns a sense.
 ghost use Rattle.std.specs.Prelude.{◌≡◌, count_by, map};
 ghost use Rattle.cip_digraph.specs.units.Descriptors.{is_odd};
-ghost use Rattle.cip_letters.specs.Sides.{is_below};
+ghost use Rattle.cip_digraph.specs.Sides.{is_below};
 ghost use Rattle.cip_aux.specs.Turning.{found_by, side_at};
 
 use crate::viewer::FoundTurns;
-use cip_letters::{Asked, Turns, are_decided, is_odd};
+use cip_digraph::{Asked, Turns, are_decided, is_odd};
 use std::cmp::Ordering;
 
 // The later one of two ligands precedes.

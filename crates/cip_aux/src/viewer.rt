@@ -7,8 +7,7 @@ ghost use Rattle.cip_aux.specs.Neighbours.{neighbours_of};
 ghost use Rattle.cip_aux.specs.Sights.{Sight};
 
 use crate::inner::Inner;
-use cip_digraph::Nodes;
-use cip_letters::Turns;
+use cip_digraph::{Nodes, Turns};
 use std::alloc::{AllocError, Global};
 
 /// How ligands turn a sense, not at all where two of them tie, and whether constitution alone told it: then it holds

@@ -4,14 +4,14 @@ use Rattle.std.specs.Prelude.{IfSome, IsSome}
 use Rattle.std.specs.Io.KnownBytes.{IsAtEnd}
 use Rattle.std.specs.Result.{IsErrOf, IsOk}
 use Rattle.cip_io.specs.Faults.{Rose}
-use Rattle.cip_stream.specs.Due.{due, verdict_of}
-use Rattle.cip_stream.specs.Limits.{answered}
-use Rattle.cip_stream.specs.Endings.{AnswersTaken, EndsAs, Grew, IsWhole}
-use Rattle.cip_stream.specs.Manner.{Manner}
-use Rattle.cip_stream.specs.declared.limits.Limits.{Limits}
-use Rattle.cip_stream.specs.declared.stop.Stop.{Stop}
-use Rattle.cip_stream.specs.declared.stop.Stop.TheVariants as stops
-use Rattle.cip_stream.specs.declared.verdict.Verdict.{Verdict}
+use Rattle.cip_batch.specs.Due.{due, verdict_of}
+use Rattle.cip_batch.specs.Limits.{answered}
+use Rattle.cip_batch.specs.Endings.{AnswersTaken, EndsAs, Grew, IsWhole}
+use Rattle.cip_batch.specs.Manner.{Manner}
+use Rattle.cip_batch.specs.declared.limits.Limits.{Limits}
+use Rattle.cip_batch.specs.declared.stop.Stop.{Stop}
+use Rattle.cip_batch.specs.declared.stop.Stop.TheVariants as stops
+use Rattle.cip_batch.specs.declared.verdict.Verdict.{Verdict}
 use Rattle.cip_words.specs.declared.settings.Task.{Task}
 use Rattle.cip_words.specs.declared.settings.Task.TheVariants as tasks
 use Rattle.cip_commands.specs.Endings.{ending_after, ending_by, missed, status_of}

@@ -3,8 +3,8 @@ use Rattle.std.proofs.Common.{◌≡◌, ℕ, List, Bool, Err, refl, arith}
 use Rattle.std.specs.Result.{IsErrOf}
 use Rattle.cip_io.specs.Faults.{Rose}
 use Rattle.cip_print.specs.declared.answer.Answer.{Answer}
-use Rattle.cip_stream.specs.declared.stop.Stop.{Stop}
-use Rattle.cip_stream.specs.declared.stop.Stop.TheVariants as stops
+use Rattle.cip_batch.specs.declared.stop.Stop.{Stop}
+use Rattle.cip_batch.specs.declared.stop.Stop.TheVariants as stops
 use Rattle.cip_commands.specs.ExitStatuses.{WRITE_FAULT}
 use Rattle.cip_commands.specs.Making.{Makes}
 use Rattle.cip_commands.specs.Statuses.{MeansOfMaking, MeansOfTrying, Stream}

@@ -2,8 +2,8 @@
 use Rattle.std.proofs.Common.{◌≡◌, ◌<◌, ℕ, zero, suc, List, [], ◌∷◌, Option, Some, None, refl, subst, arith, length}
 use Rattle.std.specs.Prelude.{◌↔◌, ⊤, Contains}
 use Rattle.std.specs.List.{slice_index_or}
-use Rattle.cip_stream.specs.declared.limits.Limits.{Limits}
-use Rattle.cip_stream.specs.Manner.{Manner}
+use Rattle.cip_batch.specs.declared.limits.Limits.{Limits}
+use Rattle.cip_batch.specs.Manner.{Manner}
 use Rattle.cip_words.specs.Settings.{action_of}
 use Rattle.cip_words.specs.declared.settings.Action.{Action}
 use Rattle.cip_words.specs.declared.settings.Action.TheVariants as does

@@ -11,7 +11,7 @@ use Rattle.cip_change.proofs.SetReads.{set_reads}
 use Rattle.cip_change.specs.SetAnswers.{GivesMark, set_answer}
 use Rattle.cip_change.specs.declared.set_answers.SetAnswer.{SetAnswer}
 use Rattle.cip_change.specs.declared.set_answers.SetAnswer.TheVariants as sets
-use Rattle.cip_stream.specs.Batches.{Telling, telling}
+use Rattle.cip_batch.specs.Batches.{Telling, telling}
 use Rattle.cip_words.specs.Ranges.{Labelling}
 use Rattle.cip_words.specs.declared.settings.Task.{Task}
 use Rattle.cip_words.specs.declared.settings.Task.TheVariants.{Set, Mirror}

@@ -3,9 +3,9 @@ use Rattle.std.specs.Prelude.{ℕ, List, [], ◌∷◌, ◌++◌, codes, Bool, t
 use Rattle.std.specs.declared.option.Option.{Option}
 use Rattle.cip_change.specs.RefusalNames.{refusal_name}
 use Rattle.cip_change.specs.declared.set_answers.SetRefusal.{SetRefusal}
-use Rattle.cip_stream.specs.declared.stop.Stop.{Stop}
-use Rattle.cip_stream.specs.declared.stop.Stop.TheVariants as stops
-use Rattle.cip_stream.specs.declared.verdict.Verdict.{Verdict}
+use Rattle.cip_batch.specs.declared.stop.Stop.{Stop}
+use Rattle.cip_batch.specs.declared.stop.Stop.TheVariants as stops
+use Rattle.cip_batch.specs.declared.verdict.Verdict.{Verdict}
 use Rattle.cip_text.specs.Lines.{line_feed}
 use Rattle.cip_words.specs.declared.settings.Task.{Task}
 use Rattle.cip_words.specs.declared.settings.Task.TheVariants.{Set, Mirror}

@@ -4,8 +4,8 @@ use Rattle.std.specs.declared.option.Option.{Option}
 use Rattle.std.specs.Io.KnownBytes.{Appends}
 use Rattle.cip_io.specs.Growth.{AppendsPrefix}
 use Rattle.cip_make.specs.Made.{made}
-use Rattle.cip_stream.specs.declared.stop.Stop.{Stop}
-use Rattle.cip_stream.specs.declared.stop.Stop.TheVariants as stops
+use Rattle.cip_batch.specs.declared.stop.Stop.{Stop}
+use Rattle.cip_batch.specs.declared.stop.Stop.TheVariants as stops
 
 -- the text of the first so many records of a series
 abbrev pub made_text : ℕ → ℕ → List ℕ

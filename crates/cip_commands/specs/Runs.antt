@@ -4,10 +4,10 @@ use Rattle.std.specs.declared.option.Option.{Option}
 use Rattle.std.specs.Io.KnownBytes.{Appends}
 use Rattle.cip_io.specs.Faults.{Rose}
 use Rattle.cip_io.specs.Growth.{AppendsPrefix}
-use Rattle.cip_stream.specs.declared.limits.Limits.{Limits}
-use Rattle.cip_stream.specs.Due.{verdict_of}
-use Rattle.cip_stream.specs.Limits.{answered}
-use Rattle.cip_stream.specs.Manner.{Manner}
+use Rattle.cip_batch.specs.declared.limits.Limits.{Limits}
+use Rattle.cip_batch.specs.Due.{verdict_of}
+use Rattle.cip_batch.specs.Limits.{answered}
+use Rattle.cip_batch.specs.Manner.{Manner}
 use Rattle.cip_words.specs.Settings.{action_of}
 use Rattle.cip_words.specs.declared.settings.Action.{Action}
 use Rattle.cip_words.specs.declared.settings.Action.TheVariants as does

@@ -5,12 +5,12 @@ use Rattle.std.specs.Io.KnownBytes.{Appends, IsAtEnd}
 use Rattle.cip_io.specs.Faults.{Rose}
 use Rattle.cip_io.specs.Growth.{AppendsPrefix}
 use Rattle.cip_print.specs.declared.answer.Answer.{Answer}
-use Rattle.cip_stream.specs.declared.limits.Limits.{Limits}
-use Rattle.cip_stream.specs.Due.{due, verdict_of}
-use Rattle.cip_stream.specs.Endings.{AnswersTaken, Grew, GrewTo, IsLimited}
-use Rattle.cip_stream.specs.Limits.{answered, limit_place}
-use Rattle.cip_stream.specs.Manner.{Manner}
-use Rattle.cip_stream.specs.declared.verdict.Verdict.{Verdict}
+use Rattle.cip_batch.specs.declared.limits.Limits.{Limits}
+use Rattle.cip_batch.specs.Due.{due, verdict_of}
+use Rattle.cip_batch.specs.Endings.{AnswersTaken, Grew, GrewTo, IsLimited}
+use Rattle.cip_batch.specs.Limits.{answered, limit_place}
+use Rattle.cip_batch.specs.Manner.{Manner}
+use Rattle.cip_batch.specs.declared.verdict.Verdict.{Verdict}
 use Rattle.cip_words.specs.Help.{help}
 use Rattle.cip_words.specs.Settings.{action_of}
 use Rattle.cip_words.specs.declared.settings.Action.{Action}

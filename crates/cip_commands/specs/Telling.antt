@@ -10,8 +10,8 @@ use Rattle.cip_print.specs.Explaining as telling
 use Rattle.cip_print.specs.Values.{values_of}
 use Rattle.cip_rank.specs.declared.rules.Rules.{Rules}
 use Rattle.cip_answer.specs.Answers.{answer_by, is_flagged}
-use Rattle.cip_stream.specs.Manner.{Manner}
-use Rattle.cip_stream.specs.declared.verdict.Verdict.{Verdict}
+use Rattle.cip_batch.specs.Manner.{Manner}
+use Rattle.cip_batch.specs.declared.verdict.Verdict.{Verdict}
 use Rattle.cip_words.specs.Ranges.{Labelling}
 use Rattle.cip_words.specs.declared.settings.Task.{Task}
 use Rattle.cip_words.specs.declared.settings.Task.TheVariants.{Annotate, Explain, Set, Mirror, Groups, Axes}

@@ -8,7 +8,7 @@ use Rattle.cip_print.specs.declared.answer.Answer.{Answer}
 use Rattle.cip_print.specs.Explaining as telling
 use Rattle.cip_answer.specs.Answers.{answer_without_items, is_flagged}
 use Rattle.cip_change.specs.SetAnswers.{set_without_items}
-use Rattle.cip_stream.specs.Batches.{Telling}
+use Rattle.cip_batch.specs.Batches.{Telling}
 use Rattle.cip_words.specs.Ranges.{Labelling}
 use Rattle.cip_words.specs.declared.settings.Task.{Task}
 use Rattle.cip_words.specs.declared.settings.Task.TheVariants.{Annotate, Explain, Set, Mirror, Groups, Axes}

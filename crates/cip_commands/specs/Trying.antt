@@ -10,9 +10,9 @@ use Rattle.cip_print.specs.Tallies as tallies
 use Rattle.cip_print.specs.Tallies.{Counts, tally, summary_line}
 use Rattle.cip_rank.specs.declared.rules.Rules.{Rules}
 use Rattle.cip_answer.specs.Answers.{answer_by, is_flagged}
-use Rattle.cip_stream.specs.declared.stop.Stop.{Stop}
-use Rattle.cip_stream.specs.declared.stop.Stop.TheVariants as stops
-use Rattle.cip_stream.specs.Endings.{Grew}
+use Rattle.cip_batch.specs.declared.stop.Stop.{Stop}
+use Rattle.cip_batch.specs.declared.stop.Stop.TheVariants as stops
+use Rattle.cip_batch.specs.Endings.{Grew}
 use Rattle.cip_words.specs.Ranges.{Labelling, Series}
 use Rattle.cip_commands.specs.declared.series.Numbered.{Numbered}
 

@@ -1,6 +1,6 @@
 // What each command does, and how it ends.
 ghost use Rattle.std.specs.Prelude.{◌<◌, ◌+◌, ◌^◌};
-ghost use Rattle.cip_stream.specs.Reading.{TakesAtMost};
+ghost use Rattle.cip_batch.specs.Reading.{TakesAtMost};
 ghost use Rattle.cip_commands.specs.Endings.{status_of};
 ghost use Rattle.cip_commands.specs.Runs.{IsMissed};
 ghost use Rattle.cip_commands.specs.Statuses.{stream, streams, MeansOf, MeansOfMaking, MeansOfTrying, MeansOfHelp};
@@ -12,10 +12,9 @@ use crate::ending::Ending;
 use crate::making::write_made;
 use crate::series::Trial;
 use crate::trial::write_summary;
-use cip_batch::Gate;
+use cip_batch::{Crew, Gate, Limits, Stop, answer_stream};
 use cip_io::{Sink, Source, push_all};
 use cip_label::Digraphs;
-use cip_stream::{Crew, Limits, Stop, answer_stream};
 use cip_words::{Series, help_text};
 use std::alloc::Global;
 use std::thread::Threads;

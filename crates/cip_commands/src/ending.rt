@@ -5,8 +5,8 @@ ghost use Rattle.cip_commands.specs.Endings.{ending_after, line_of, refusal_line
 use crate::status::{
     DONE, FLAGGED, LIMIT, NOT_CHANGED, OUT_OF_MEMORY, READ_FAULT, WORDS_REFUSED, WRITE_FAULT,
 };
+use cip_batch::{Stop, Verdict};
 use cip_change::SetRefusal;
-use cip_stream::{Stop, Verdict};
 use cip_words::Task;
 
 /// Why a record isn't changed as it was asked.

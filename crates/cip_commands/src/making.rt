@@ -3,9 +3,9 @@ ghost use Rattle.std.specs.Prelude.{◌≤◌, IsErrOf};
 ghost use Rattle.cip_io.specs.Faults.{Rose};
 ghost use Rattle.cip_commands.specs.Making.{Makes};
 
+use cip_batch::Stop;
 use cip_io::{Sink, push_all};
 use cip_make::record;
-use cip_stream::Stop;
 use cip_words::Series;
 use std::alloc::Global;
 

@@ -1,6 +1,6 @@
 // What the words ask for, done.
 ghost use Rattle.std.specs.Prelude.{◌≡◌, ◌≤◌, ◌<◌, ◌+◌, ◌^◌, ◌⊎◌, None, false};
-ghost use Rattle.cip_stream.specs.Reading.{TakesAtMost};
+ghost use Rattle.cip_batch.specs.Reading.{TakesAtMost};
 ghost use Rattle.cip_words.specs.Settings.{settings_of};
 ghost use Rattle.cip_commands.specs.Endings.{line_of, status_of};
 ghost use Rattle.cip_commands.specs.ExitStatuses.{DONE, FLAGGED};
@@ -11,10 +11,9 @@ use crate::asked::Asked;
 use crate::commands::{answer_records, help, make, try_made};
 use crate::ending::Ending;
 use crate::series::Trial;
-use cip_batch::Gate;
+use cip_batch::{Crew, Gate, Limits};
 use cip_io::{Sink, Source, push_all};
 use cip_label::Digraphs;
-use cip_stream::{Crew, Limits};
 use cip_words::{Action, read_words};
 use std::marker::PhantomData;
 use std::thread::Threads;

@@ -1,6 +1,6 @@
 // What is told of a record, by what is asked.
 ghost use Rattle.std.specs.Prelude.{◌≡◌, ◌≤◌, ◌<◌, ◌-◌, ◌^◌, IfOk, length};
-ghost use Rattle.cip_stream.specs.Batches.{telling};
+ghost use Rattle.cip_batch.specs.Batches.{telling};
 ghost use Rattle.cip_print.specs.Values.{HasRoom};
 ghost use Rattle.cip_answer.specs.Answers.{is_flagged};
 ghost use Rattle.cip_commands.specs.Telling.{manner_of, plainly, with_answer};
@@ -10,12 +10,12 @@ use crate::asked::Asked;
 use crate::desk::Desk;
 use crate::ending::{Missed, Note};
 use cip_answer::is_flagged;
+use cip_batch::{Teller, Told, Verdict};
 use cip_change::{MirrorAnswer, SetAnswer, mirror_lines};
 use cip_item::{has_label_item, lines_with_item, lines_without_label_items};
 use cip_label::Digraphs;
 use cip_mol::CentreLetter;
 use cip_print::{Answer, explain_text, item_values};
-use cip_stream::{Teller, Told, Verdict};
 use cip_text::RecordLines;
 use cip_words::{Labelling, Task};
 use std::alloc::{AllocError, Global};

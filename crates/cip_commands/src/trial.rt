@@ -6,12 +6,11 @@ ghost use Rattle.cip_commands.specs.Trying.{answer_of, answers_to, counted, with
 use crate::desk::Desk;
 use crate::series::{Numbered, Trial};
 use cip_answer::is_flagged;
-use cip_batch::{Gate, Job, Worker, map_batch};
+use cip_batch::{Crew, Gate, Job, Stop, Worker, map_batch};
 use cip_io::{Sink, push_all};
 use cip_label::Digraphs;
 use cip_make::record;
 use cip_print::{Answer, Tally};
-use cip_stream::{Crew, Stop};
 use std::alloc::{AllocError, Global};
 use std::marker::{Model, PhantomData};
 use std::thread::Threads;

@@ -20,8 +20,8 @@ use Rattle.cip_digraph.specs.graph.SoundGraphs.{IsSound}
 use Rattle.cip_digraph.specs.rules.Auxiliary.{ligand_node}
 use Rattle.cip_digraph.specs.rules.Decisions.{order}
 use Rattle.cip_digraph.specs.rules.Orders.{Seen, rule_2}
-use Rattle.cip_letters.specs.declared.asked.Asked.{Asked}
-use Rattle.cip_letters.specs.Asking.{AreWithin, with_found}
+use Rattle.cip_digraph.specs.declared.asked.Asked.{Asked}
+use Rattle.cip_digraph.specs.Asking.{AreWithin, with_found}
 use Rattle.cip_ligands.specs.Deciding.{AreDecidedBy, AreOfConstitution}
 use Rattle.cip_ligands.specs.Marked.{AreMarksOf}
 use Rattle.cip_ligands.specs.Orders.{rules_before}

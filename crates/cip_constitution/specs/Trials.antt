@@ -6,7 +6,7 @@ use Rattle.cip_branches.specs.Deciding.{Branched}
 use Rattle.cip_rows.specs.Keys.{AreKeyed}
 use Rattle.cip_digraph.specs.digraph.Digraph.{sphere}
 use Rattle.cip_digraph.specs.graph.SoundGraphs.{IsSound}
-use Rattle.cip_letters.specs.declared.asked.Asked.{Asked}
+use Rattle.cip_digraph.specs.declared.asked.Asked.{Asked}
 use Rattle.cip_constitution.specs.declared.ending.Trial.{Trial}
 use Rattle.cip_constitution.specs.declared.pairs.Pair.{Pair}
 use Rattle.cip_constitution.specs.declared.setting.Setting as given

@@ -5,7 +5,7 @@ ghost use Rattle.cip_constitution.specs.Aside.{Fits};
 
 use crate::work::Work;
 use cip_branches::SavedRanks;
-use cip_letters::Asked;
+use cip_digraph::Asked;
 
 impl Work {
     /// Sets the branches aside as they stand.

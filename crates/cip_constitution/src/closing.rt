@@ -11,8 +11,7 @@ ghost use Rattle.cip_constitution.specs.Trials.{told, is_open_in};
 
 use crate::setting::Setting;
 use cip_arena::Arena;
-use cip_digraph::{NodeKind, Nodes};
-use cip_letters::MarkedUnits;
+use cip_digraph::{MarkedUnits, NodeKind, Nodes};
 use cip_rank::Table;
 
 fn is_atom_of_unit(arena: &Arena, units: &MarkedUnits<'_>, node: u32) -> bool

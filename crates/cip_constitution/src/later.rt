@@ -3,14 +3,14 @@ ghost use Rattle.std.specs.Prelude.{◌≡◌, ◌<◌, ◌≤◌, ℕ, List, tr
 ghost use Rattle.std.specs.List.{list_all};
 ghost use Rattle.cip_branches.specs.Deciding.{AreFollowed};
 ghost use Rattle.cip_digraph.specs.graph.Graph.{Graph};
-ghost use Rattle.cip_letters.specs.Asking.{is_decided};
+ghost use Rattle.cip_digraph.specs.Asking.{is_decided};
 ghost use Rattle.cip_ligands.specs.Taking.{AreSame};
 ghost use Rattle.cip_rows.specs.Keys.{AreKeyed};
 ghost use Rattle.cip_constitution.specs.FollowedOut.{AreConstituted, AreFollowedOut, AreOrdered, with_flags};
 
 use crate::work::Work;
 use cip_arena::Arena;
-use cip_letters::Asked;
+use cip_digraph::Asked;
 use cip_ligands::{
     ByDistance, ByMass, Marked, Readings, decide_configuration, decide_constitution,
 };

@@ -9,7 +9,7 @@ use crate::pairs::Pair;
 use crate::standing::number_of;
 use cip_arena::Arena;
 use cip_branches::Branches;
-use cip_letters::Asked;
+use cip_digraph::Asked;
 use cip_ligands::note;
 use cip_mol::{Ligand, Rule};
 

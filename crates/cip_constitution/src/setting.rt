@@ -1,6 +1,5 @@
 // What the ligands of a root are asked about.
-use cip_digraph::{Graph, Positions};
-use cip_letters::MarkedUnits;
+use cip_digraph::{Graph, MarkedUnits, Positions};
 use cip_mol::Ligand;
 use cip_rank::Rules;
 

@@ -8,8 +8,7 @@ ghost use Rattle.cip_constitution.specs.Settling.{setting_of, SettledAs, cost_of
 use crate::setting::Setting;
 use crate::work::Work;
 use cip_arena::{Arena, Grown};
-use cip_digraph::{Graph, Positions};
-use cip_letters::MarkedUnits;
+use cip_digraph::{Graph, MarkedUnits, Positions};
 use cip_mol::Ligand;
 use cip_rank::{Rules, Steps};
 use std::sync::ledger::Ledger;

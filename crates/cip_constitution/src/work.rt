@@ -17,7 +17,7 @@ use crate::setting::Setting;
 use crate::taking::take_both;
 use cip_arena::Arena;
 use cip_branches::{Branches, SavedRanks};
-use cip_letters::Asked;
+use cip_digraph::Asked;
 use cip_mol::Ligands;
 use cip_rank::both_of;
 use cip_rows::Column;

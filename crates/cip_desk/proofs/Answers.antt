@@ -8,8 +8,8 @@ use Rattle.cip_label.specs.Settings.{Setting}
 use Rattle.cip_constitution.specs.Noting.{asked_by}
 use Rattle.cip_constitution.specs.Pairs.{pair, pair_with, pairs_at, pairs_of}
 use Rattle.cip_constitution.specs.declared.pairs.Pair.{Pair}
-use Rattle.cip_letters.specs.Asking.{with_found}
-use Rattle.cip_letters.specs.declared.asked.Asked.{Asked}
+use Rattle.cip_digraph.specs.Asking.{with_found}
+use Rattle.cip_digraph.specs.declared.asked.Asked.{Asked}
 use Rattle.cip_desk.specs.Branches.{Branch, answer_between, answers_at, answers_of, branch_at, branch_if, branches_of}
 use Rattle.cip_desk.specs.ToldEarly.{found_early, noted_early}
 use Rattle.cip_desk.proofs.Counted.{flat_append}

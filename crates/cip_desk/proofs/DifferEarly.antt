@@ -32,8 +32,8 @@ use Rattle.cip_constitution.proofs.seen.Rules.{IsFurther, seen_1a}
 use Rattle.cip_constitution.specs.Noting.{asked_by, by_atoms}
 use Rattle.cip_constitution.specs.Pairs.{pair, pair_with, pairs_at, pairs_of}
 use Rattle.cip_constitution.specs.declared.pairs.Pair.{Pair}
-use Rattle.cip_letters.specs.Asking.{decided, differing, is_decided, with_found}
-use Rattle.cip_letters.specs.declared.asked.Asked.{Asked}
+use Rattle.cip_digraph.specs.Asking.{decided, differing, is_decided, with_found}
+use Rattle.cip_digraph.specs.declared.asked.Asked.{Asked}
 use Rattle.cip_desk.specs.ToldEarly.{found_early, noted_early}
 use Rattle.cip_desk.proofs.NeighbourNodes.{neighbour_further}
 use Rattle.cip_desk.proofs.ToldBranches.{first_of_two, sets_compared}

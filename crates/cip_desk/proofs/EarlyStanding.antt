@@ -52,8 +52,8 @@ use Rattle.cip_arena.specs.Growth.{Growth, Holds}
 use Rattle.cip_constitution.specs.Noting.{asked_by, by_atoms, top_of, Notes}
 use Rattle.cip_constitution.specs.Pairs.{pairs_of}
 use Rattle.cip_constitution.proofs.seen.Rules.{IsFurther, seen_1a}
-use Rattle.cip_letters.specs.declared.asked.Asked.{Asked}
-use Rattle.cip_letters.specs.Asking.{decided, with_found}
+use Rattle.cip_digraph.specs.declared.asked.Asked.{Asked}
+use Rattle.cip_digraph.specs.Asking.{decided, with_found}
 use Rattle.cip_ligands.specs.Orders.{found_below}
 use Rattle.cip_ligands.proofs.FoundWithin.{same_difference}
 use Rattle.cip_constitution.specs.declared.pairs.Pair.{Pair}

@@ -10,7 +10,7 @@ use Rattle.cip_mol.specs.declared.site.Ligand.{Ligand}
 use Rattle.cip_mol.specs.declared.site.Ligand.TheVariants.{Vertex}
 use Rattle.cip_digraph.specs.declared.decision.Decision.{Decision}
 use Rattle.cip_label.specs.Standing.{reversed}
-use Rattle.cip_letters.specs.declared.asked.Asked.{Asked}
+use Rattle.cip_digraph.specs.declared.asked.Asked.{Asked}
 use Rattle.cip_constitution.specs.declared.pairs.Pair.{Pair}
 use Rattle.cip_constitution.specs.Pairs.{pair, pair_with, pairs_at, pairs_of}
 use Rattle.cip_desk.specs.Standing.{found_of}

@@ -9,9 +9,9 @@ use Rattle.cip_constitution.specs.Aside.{Fits}
 use Rattle.cip_constitution.specs.FollowedOut.{AreConstituted}
 use Rattle.cip_constitution.specs.Following.{Trying}
 use Rattle.cip_constitution.specs.Pairs.{pairs_of}
-use Rattle.cip_letters.specs.Asking.{is_decided}
+use Rattle.cip_digraph.specs.Asking.{is_decided}
 use Rattle.cip_ligands.specs.Taking.{AreSame}
-use Rattle.cip_letters.specs.declared.asked.Asked.{Asked}
+use Rattle.cip_digraph.specs.declared.asked.Asked.{Asked}
 use Rattle.cip_ligands.proofs.TakenSteps.{stands_back}
 use Rattle.cip_desk.specs.Keeping.{IsOpen, IsWholeAnyway, with_units}
 use Rattle.cip_desk.specs.Rooting.{HaveTurns}

@@ -12,7 +12,7 @@ use Rattle.cip_digraph.proofs.orders.Early.{itself}
 use Rattle.cip_constitution.specs.Noting.{asked_by}
 use Rattle.cip_constitution.specs.Pairs.{pairs_of}
 use Rattle.cip_constitution.specs.declared.pairs.Pair.{Pair}
-use Rattle.cip_letters.specs.Asking.{with_found}
+use Rattle.cip_digraph.specs.Asking.{with_found}
 use Rattle.cip_label.specs.Standing.{reversed}
 use Rattle.cip_label.proofs.OppositeOrders.{order_reversed}
 use Rattle.cip_desk.specs.Standing.{Standing, asked_in, by_vertices, found_of, standing_of}

@@ -4,7 +4,7 @@ use Rattle.std.specs.declared.option.Option.{Option}
 use Rattle.cip_label.specs.Settings.{IsProper, Setting}
 use Rattle.cip_label.specs.Standing.{RankedAs}
 use Rattle.cip_label.specs.declared.digraphs.Ranking.{Ranking}
-use Rattle.cip_letters.specs.declared.asked.Asked.{Asked}
+use Rattle.cip_digraph.specs.declared.asked.Asked.{Asked}
 use Rattle.cip_mol.specs.declared.site.Ligand.{Ligand}
 use Rattle.std.specs.Prelude.{List}
 use Rattle.cip_desk.specs.Keeping.{FoundAs, HaveRoom, IsOpen, IsReady, KeptAs, StandsAnyway, kept_of}

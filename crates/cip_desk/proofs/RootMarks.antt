@@ -13,7 +13,7 @@ use Rattle.cip_digraph.specs.digraph.Telling.{node_at}
 use Rattle.cip_inside.proofs.Constituted.{place_low}
 use Rattle.cip_aux.proofs.FlaggedNodes.{set_len, set_stays, set_there}
 use Rattle.cip_label.specs.Settings.{Setting}
-use Rattle.cip_letters.specs.declared.asked.Asked.{Asked}
+use Rattle.cip_digraph.specs.declared.asked.Asked.{Asked}
 use Rattle.cip_mol.specs.declared.descriptor.Descriptor.{Descriptor}
 use Rattle.cip_rows.specs.Keys.{AreKeyed}
 use Rattle.cip_rows.specs.Parting.{has_flag}

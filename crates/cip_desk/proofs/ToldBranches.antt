@@ -14,7 +14,7 @@ use Rattle.cip_digraph.specs.graph.Graph.{Graph}
 use Rattle.cip_digraph.specs.rules.Decisions.{Difference, first_difference, or_else}
 use Rattle.cip_digraph.specs.rules.Keys.{atomic_key}
 use Rattle.cip_constitution.specs.Noting.{by_atoms}
-use Rattle.cip_letters.specs.Asking.{decided, differing}
+use Rattle.cip_digraph.specs.Asking.{decided, differing}
 use Rattle.cip_ligands.specs.Orders.{found_below}
 use Rattle.cip_ligands.proofs.NodeKeys.{pos_cmp}
 use Rattle.cip_desk.specs.Branches.{branch_at, told_between}

@@ -26,8 +26,8 @@ use Rattle.cip_constitution.specs.Noting.{asked_by}
 use Rattle.cip_constitution.specs.Pairs.{pairs_of}
 use Rattle.cip_constitution.proofs.followed.Pairs.{asked_within}
 use Rattle.cip_label.proofs.LigandNodes.{one_node}
-use Rattle.cip_letters.specs.declared.asked.Asked.{Asked}
-use Rattle.cip_letters.specs.Asking.{AreWithin, is_decided, with_found}
+use Rattle.cip_digraph.specs.declared.asked.Asked.{Asked}
+use Rattle.cip_digraph.specs.Asking.{AreWithin, is_decided, with_found}
 use Rattle.cip_ligands.specs.Marked.{AreMarksOf}
 use Rattle.cip_ligands.specs.Orders.{decided_in_turn}
 use Rattle.cip_ligands.proofs.RulesGoOn.{order_told}

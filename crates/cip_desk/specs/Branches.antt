@@ -14,8 +14,8 @@ use Rattle.cip_digraph.specs.graph.Graph.{Graph, other_end, vertex_at}
 use Rattle.cip_digraph.specs.rings.Positions.{is_delocalised, mean_key}
 use Rattle.cip_digraph.specs.rules.Decisions.{or_else}
 use Rattle.cip_digraph.specs.rules.Keys.{atomic_key}
-use Rattle.cip_letters.specs.Asking.{decided, differing}
-use Rattle.cip_letters.specs.declared.asked.Asked.{Asked}
+use Rattle.cip_digraph.specs.Asking.{decided, differing}
+use Rattle.cip_digraph.specs.declared.asked.Asked.{Asked}
 
 -- keys put one after the other into keys that descend
 abbrev pub put_all : List ℕ → List ℕ → List ℕ

@@ -14,8 +14,8 @@ use Rattle.cip_label.specs.Settings.{Setting, StandAtSites, setting_of}
 use Rattle.cip_label.specs.Standing.{RankedAs}
 use Rattle.cip_label.specs.declared.digraphs.Ranking.{Ranking}
 use Rattle.cip_label.specs.declared.digraphs.Ranking.TheVariants.{Known}
-use Rattle.cip_letters.specs.Asking.{is_decided}
-use Rattle.cip_letters.specs.declared.asked.Asked.{Asked}
+use Rattle.cip_digraph.specs.Asking.{is_decided}
+use Rattle.cip_digraph.specs.declared.asked.Asked.{Asked}
 use Rattle.cip_mol.specs.declared.site.Ligand.{Ligand}
 use Rattle.cip_mol.specs.declared.site.Unit as units
 use Rattle.cip_desk.specs.Desks.{settled_by}

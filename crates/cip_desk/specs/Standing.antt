@@ -7,7 +7,7 @@ use Rattle.cip_label.specs.Standing.{reversed}
 use Rattle.cip_constitution.specs.FollowedOut.{AreOrdered}
 use Rattle.cip_constitution.specs.Following.{Trying}
 use Rattle.cip_constitution.specs.declared.pairs.Pair.{Pair}
-use Rattle.cip_letters.specs.declared.asked.Asked.{Asked}
+use Rattle.cip_digraph.specs.declared.asked.Asked.{Asked}
 
 -- what is decided between neighbours, by their vertices, with R first and with S first
 pub record Standing : Type 0 where

@@ -8,9 +8,9 @@ use Rattle.cip_digraph.specs.digraph.Digraph.{digraph, real_node}
 use Rattle.cip_digraph.specs.rules.EarlyOrder.{differ_within}
 use Rattle.cip_digraph.specs.units.Ends.{end_at}
 use Rattle.cip_label.specs.Settings.{Setting}
-use Rattle.cip_letters.specs.Asking.{with_found}
+use Rattle.cip_digraph.specs.Asking.{with_found}
 use Rattle.cip_ligands.specs.Orders.{found_below}
-use Rattle.cip_letters.specs.declared.asked.Asked.{Asked}
+use Rattle.cip_digraph.specs.declared.asked.Asked.{Asked}
 use Rattle.cip_constitution.specs.Noting.{asked_by, by_atoms}
 use Rattle.cip_constitution.specs.Pairs.{pairs_of}
 

@@ -2,7 +2,7 @@
 ghost use Rattle.std.specs.Prelude.{◌≡◌, IfOk};
 
 use cip_branches::SavedRanks;
-use cip_letters::Asked;
+use cip_digraph::Asked;
 use cip_rank::both_of;
 use std::alloc::{AllocError, Global};
 

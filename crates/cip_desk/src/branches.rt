@@ -6,9 +6,8 @@ ghost use Rattle.cip_rows.specs.Keys.{AreKeyed};
 ghost use Rattle.cip_desk.specs.Standing.{StandsOrdered, both_as, by_vertices, found_of, standing_of};
 
 use cip_constitution::{Pair, Work};
-use cip_digraph::Decision;
+use cip_digraph::{Asked, Decision, Descriptors};
 use cip_label::reversed;
-use cip_letters::{Asked, Descriptors};
 use cip_ligands::Readings;
 use cip_rank::both_of;
 use std::alloc::{AllocError, Global};

@@ -8,8 +8,8 @@ use crate::counting::are_few;
 use crate::noting::note_each;
 use crate::root::Root;
 use crate::shown::{Shown, show_all};
+use cip_digraph::{Asked, are_decided};
 use cip_label::Setting;
-use cip_letters::{Asked, are_decided};
 use cip_mol::Ligands;
 use cip_rank::both_of;
 use std::alloc::{AllocError, Global};
@@ -40,7 +40,7 @@ pub struct Early {
 
 impl Model for Early {
     ghost use Rattle.std.specs.Prelude.{List};
-    ghost use Rattle.cip_letters.specs.declared.asked.Asked as asked;
+    ghost use Rattle.cip_digraph.specs.declared.asked.Asked as asked;
 
     ghost Value = { List asked.Asked };
 

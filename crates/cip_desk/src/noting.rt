@@ -3,7 +3,7 @@ ghost use Rattle.std.specs.Prelude.{◌≡◌, ◌++◌, OnOk};
 ghost use Rattle.cip_desk.specs.Branches.{answers_at, answers_of};
 
 use crate::shown::{Shown, tell};
-use cip_letters::Asked;
+use cip_digraph::Asked;
 use std::alloc::AllocError;
 
 fn note_with_each(one: &Shown, branches: &[Shown], noted: &mut Vec<Asked>) -> Result<(), AllocError>

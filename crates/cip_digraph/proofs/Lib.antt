@@ -1,3 +1,10 @@
+pub mod LentEnds
+pub mod LettersTurn
+pub mod Odd
+pub mod OddTurns
+pub mod PairTurns
+pub mod RanksTurn
+pub mod UnitAtoms
 pub mod bonds
 pub mod lists
 pub mod marks

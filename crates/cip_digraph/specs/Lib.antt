@@ -1,4 +1,13 @@
+pub mod Asking
+pub mod Falls
 pub mod Laws
+pub mod LentEnds
+pub mod Lettered
+pub mod MarkColumns
+pub mod Marking
+pub mod Marks
+pub mod Sides
+pub mod TurnsOf
 pub mod digraph
 pub mod graph
 pub mod outcome

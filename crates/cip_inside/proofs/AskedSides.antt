@@ -14,11 +14,11 @@ use Rattle.cip_digraph.specs.rules.Decisions.{order}
 use Rattle.cip_digraph.specs.rules.Orders.{Seen}
 use Rattle.cip_digraph.specs.declared.decision.Decision.{Decision}
 use Rattle.cip_digraph.proofs.lists.Elements.{all_append, by_recursion}
-use Rattle.cip_letters.specs.declared.asked.Asked.{Asked}
-use Rattle.cip_letters.specs.Asking.{AreWithin, with_found}
+use Rattle.cip_digraph.specs.declared.asked.Asked.{Asked}
+use Rattle.cip_digraph.specs.Asking.{AreWithin, with_found}
 use Rattle.cip_aux.specs.Neighbours.{first_where, neighbours_of, parent_of}
-use Rattle.cip_letters.specs.Sides.{found_side, number_side, pair_sides}
-use Rattle.cip_letters.proofs.OddTurns.{rest_is}
+use Rattle.cip_digraph.specs.Sides.{found_side, number_side, pair_sides}
+use Rattle.cip_digraph.proofs.OddTurns.{rest_is}
 use Rattle.cip_aux.specs.Turning.{side_at}
 use Rattle.cip_inside.specs.Asking.{asked_of, asked_pairs, branch_at}
 use Rattle.cip_inside.specs.Near.{asked_tops, branch_of, is_ligand}

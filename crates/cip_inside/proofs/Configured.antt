@@ -15,8 +15,8 @@ use Rattle.cip_mol.specs.declared.descriptor.Descriptor.{Descriptor}
 use Rattle.cip_digraph.specs.digraph.NodeList.{parents_of}
 use Rattle.cip_digraph.specs.digraph.Telling.{node_at}
 use Rattle.cip_digraph.specs.rules.Decisions.{order}
-use Rattle.cip_letters.specs.declared.asked.Asked.{Asked}
-use Rattle.cip_letters.specs.Asking.{AreWithin, with_found}
+use Rattle.cip_digraph.specs.declared.asked.Asked.{Asked}
+use Rattle.cip_digraph.specs.Asking.{AreWithin, with_found}
 use Rattle.cip_ligands.specs.Marked.{AreMarksOf}
 use Rattle.cip_digraph.proofs.lists.Elements.{all_by}
 use Rattle.cip_aux.specs.Below.{is_below}

@@ -17,8 +17,8 @@ use Rattle.cip_branches.specs.Standing.{node_in, WantedIn, AreKeysOf}
 use Rattle.cip_branches.specs.Turning.{in_sphere}
 use Rattle.cip_rank.specs.View.{on_way}
 use Rattle.cip_aux.proofs.WholeTold.{parents_len}
-use Rattle.cip_letters.specs.declared.asked.Asked.{Asked}
-use Rattle.cip_letters.specs.Asking.{AreWithin, is_decided, with_found}
+use Rattle.cip_digraph.specs.declared.asked.Asked.{Asked}
+use Rattle.cip_digraph.specs.Asking.{AreWithin, is_decided, with_found}
 use Rattle.cip_ligands.specs.Deciding.{AreOfConstitution}
 use Rattle.cip_ligands.specs.Taking.{WantsNoMore}
 use Rattle.cip_ligands.proofs.FoundWithin.{same_found}

@@ -48,8 +48,8 @@ use Rattle.cip_inside.specs.Near.{AreTops, AreFollowedFrom, seen_at, top_node}
 use Rattle.cip_inside.proofs.AwayNodes.{IsAway, away_below, height_away}
 use Rattle.cip_inside.proofs.Constituted.{place_low}
 use Rattle.cip_inside.proofs.HangingPlaces.{hanging}
-use Rattle.cip_letters.specs.declared.asked.Asked.{Asked}
-use Rattle.cip_letters.specs.Asking.{AreWithin, decided, found_between, with_found}
+use Rattle.cip_digraph.specs.declared.asked.Asked.{Asked}
+use Rattle.cip_digraph.specs.Asking.{AreWithin, decided, found_between, with_found}
 use Rattle.cip_ligands.specs.Orders.{found_below}
 use Rattle.cip_ligands.proofs.FoundRules.{noted_next}
 use Rattle.cip_ligands.proofs.FoundWithin.{same_found}

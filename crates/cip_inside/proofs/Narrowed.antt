@@ -15,9 +15,9 @@ use Rattle.cip_digraph.specs.digraph.Digraph.{Node}
 use Rattle.cip_digraph.specs.digraph.NodeList.{parents_of}
 use Rattle.cip_digraph.specs.digraph.Telling.{node_at}
 use Rattle.cip_digraph.specs.rules.Decisions.{difference_by, first_decision, order}
-use Rattle.cip_letters.specs.Sides.{found_side}
-use Rattle.cip_letters.specs.declared.asked.Asked.{Asked}
-use Rattle.cip_letters.specs.Asking.{AreWithin, is_decided, kept_or, with_found}
+use Rattle.cip_digraph.specs.Sides.{found_side}
+use Rattle.cip_digraph.specs.declared.asked.Asked.{Asked}
+use Rattle.cip_digraph.specs.Asking.{AreWithin, is_decided, kept_or, with_found}
 use Rattle.cip_ligands.specs.Orders.{decided_in_turn}
 use Rattle.cip_ligands.proofs.FoundWithin.{all_within}
 use Rattle.cip_ligands.proofs.RulesGoOn.{order_told}

@@ -13,7 +13,7 @@ use Rattle.cip_aux.specs.Sights.{Sight}
 use Rattle.cip_branches.specs.Deciding.{Branched}
 use Rattle.cip_branches.specs.Saving.{Saved, restored, saved_of}
 use Rattle.cip_digraph.specs.digraph.NodeList.{parents_of}
-use Rattle.cip_letters.specs.declared.asked.Asked.{Asked}
+use Rattle.cip_digraph.specs.declared.asked.Asked.{Asked}
 use Rattle.cip_ligands.specs.Taking.{AreSame}
 use Rattle.cip_ligands.proofs.TakenSteps.{same_still, stands_back}
 use Rattle.cip_inside.specs.Narrowing.{LeavesOpen}

@@ -8,15 +8,15 @@ use Rattle.cip_mol.specs.declared.outcome.Rule.TheVariants.{R1a, R1b, R2, R3, R4
 use Rattle.cip_digraph.specs.digraph.NodeList.{parents_of}
 use Rattle.cip_digraph.specs.digraph.Telling.{node_at}
 use Rattle.cip_digraph.specs.rules.Decisions.{order}
-use Rattle.cip_letters.specs.declared.asked.Asked.{Asked}
-use Rattle.cip_letters.specs.Asking.{is_decided, with_found}
+use Rattle.cip_digraph.specs.declared.asked.Asked.{Asked}
+use Rattle.cip_digraph.specs.Asking.{is_decided, with_found}
 use Rattle.cip_ligands.specs.Orders.{decided_in_turn}
 use Rattle.cip_ligands.proofs.RulesGoOn.{order_told}
 use Rattle.cip_aux.specs.Inner.{Inner, AgreesInside}
 use Rattle.cip_aux.specs.Marking.{AreSeenTurns}
 use Rattle.cip_aux.specs.Neighbours.{neighbours_of}
-use Rattle.cip_letters.specs.Sides.{pair_sides}
-use Rattle.cip_letters.specs.TurnsOf.{turns_of}
+use Rattle.cip_digraph.specs.Sides.{pair_sides}
+use Rattle.cip_digraph.specs.TurnsOf.{turns_of}
 use Rattle.cip_aux.specs.Sights.{Sight, seen_sides}
 use Rattle.cip_aux.specs.Turning.{found_by, side_at}
 use Rattle.cip_inside.specs.Asking.{asked_pairs}

@@ -5,9 +5,9 @@ use Rattle.std.specs.declared.option.Option.{Option}
 use Rattle.cip_aux.specs.Sights.{Sight, seen_sides}
 use Rattle.cip_branches.specs.Deciding.{Branched}
 use Rattle.cip_digraph.specs.rules.Decisions.{order}
-use Rattle.cip_letters.specs.Sides.{pair_sides}
-use Rattle.cip_letters.specs.Asking.{AreWithin, is_decided, with_found}
-use Rattle.cip_letters.specs.declared.asked.Asked.{Asked}
+use Rattle.cip_digraph.specs.Sides.{pair_sides}
+use Rattle.cip_digraph.specs.Asking.{AreWithin, is_decided, with_found}
+use Rattle.cip_digraph.specs.declared.asked.Asked.{Asked}
 use Rattle.cip_mol.specs.declared.descriptor.Descriptor.{Descriptor}
 use Rattle.cip_aux.specs.Turning.{side_at}
 use Rattle.cip_inside.specs.Asking.{asked_between, asked_of}

@@ -19,8 +19,8 @@ use Rattle.cip_mol.specs.declared.descriptor.Descriptor.{Descriptor}
 use Rattle.cip_mol.specs.declared.outcome.Rule.TheVariants.{R1a, R1b, R2}
 use Rattle.cip_rank.specs.Tree.{children_of}
 use Rattle.cip_rank.specs.View.{on_way, parent_list}
-use Rattle.cip_letters.specs.declared.asked.Asked.{Asked}
-use Rattle.cip_letters.specs.Asking.{with_found}
+use Rattle.cip_digraph.specs.declared.asked.Asked.{Asked}
+use Rattle.cip_digraph.specs.Asking.{with_found}
 use Rattle.cip_ligands.specs.Deciding.{AreDecidedBy, AreOfConstitution}
 use Rattle.cip_ligands.specs.Orders.{decided_in_turn}
 

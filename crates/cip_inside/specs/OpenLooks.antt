@@ -6,7 +6,7 @@ use Rattle.cip_branches.specs.Deciding.{Branched}
 use Rattle.cip_branches.specs.Saving.{Saved, saved_of}
 use Rattle.cip_digraph.specs.digraph.NodeList.{parents_of}
 use Rattle.cip_ligands.specs.Taking.{AreSame}
-use Rattle.cip_letters.specs.declared.asked.Asked.{Asked}
+use Rattle.cip_digraph.specs.declared.asked.Asked.{Asked}
 use Rattle.cip_inside.specs.Narrowing.{LeavesOpen}
 use Rattle.cip_inside.specs.Near.{asked_tops}
 use Rattle.cip_inside.specs.declared.open_looks.OpenLook.{OpenLook}

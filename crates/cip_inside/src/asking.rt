@@ -3,8 +3,7 @@ ghost use Rattle.std.specs.Prelude.{◌≡◌, ◌++◌, IfOk, OnOk, map};
 ghost use Rattle.cip_inside.specs.Asking.{asked_between, known, asked_of, asked_pairs};
 
 use crate::near::Near;
-use cip_digraph::Decision;
-use cip_letters::{Asked, MOST_PAIRS};
+use cip_digraph::{Asked, Decision, MOST_PAIRS};
 use cip_mol::Rule;
 use smallvec::SmallVec;
 use std::alloc::{AllocError, Global};

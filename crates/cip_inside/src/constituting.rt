@@ -3,7 +3,7 @@ ghost use Rattle.std.specs.Prelude.{◌≡◌, ◌<◌, ◌≤◌, ◌^◌, All,
 ghost use Rattle.std.specs.List.{list_all};
 ghost use Rattle.cip_aux.specs.Sights.{IsReal, sight_of};
 ghost use Rattle.cip_digraph.specs.digraph.NodeList.{parents_of};
-ghost use Rattle.cip_letters.specs.Asking.{AreWithin, is_decided};
+ghost use Rattle.cip_digraph.specs.Asking.{AreWithin, is_decided};
 ghost use Rattle.cip_inside.specs.Keys.{IsFlagged};
 ghost use Rattle.cip_inside.specs.Near.{AreTops, AreConstituted};
 
@@ -12,8 +12,7 @@ use crate::following::follow_all;
 use crate::stepping::{SeenFrom, count_steps};
 use cip_aux::Whole;
 use cip_branches::Branches;
-use cip_digraph::Nodes;
-use cip_letters::{Asked, are_decided};
+use cip_digraph::{Asked, Nodes, are_decided};
 use cip_ligands::{ByMass, decide_constitution};
 use cip_rows::Column;
 

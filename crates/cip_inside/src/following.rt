@@ -3,14 +3,13 @@ ghost use Rattle.std.specs.Prelude.{◌≡◌, ◌<◌, ◌≤◌, All, true, fa
 ghost use Rattle.std.specs.List.{list_any};
 ghost use Rattle.cip_aux.specs.Sights.{IsReal, sight_of};
 ghost use Rattle.cip_digraph.specs.digraph.NodeList.{parents_of};
-ghost use Rattle.cip_letters.specs.Asking.{AreWithin};
+ghost use Rattle.cip_digraph.specs.Asking.{AreWithin};
 ghost use Rattle.cip_inside.specs.Keys.{IsFlagged};
 ghost use Rattle.cip_inside.specs.Near.{AreTops, AreFollowedFrom};
 
 use cip_aux::Whole;
 use cip_branches::{Around, Branches};
-use cip_digraph::Nodes;
-use cip_letters::Asked;
+use cip_digraph::{Asked, Nodes};
 use cip_ligands::{ByAtom, note};
 use cip_mol::Rule;
 

@@ -6,8 +6,7 @@ ghost use Rattle.cip_aux.specs.Sights.{sight_of};
 
 use crate::sights::Sights;
 use cip_aux::{KeptTurns, UnitsAt, Wanted, Whole, auxiliaries};
-use cip_digraph::Nodes;
-use cip_letters::Descriptors;
+use cip_digraph::{Descriptors, Nodes};
 use cip_rank::both_of;
 use std::alloc::{AllocError, Global};
 

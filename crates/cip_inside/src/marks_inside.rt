@@ -3,7 +3,7 @@ ghost use Rattle.std.specs.Prelude.{◌≡◌, ◌<◌, length};
 ghost use Rattle.cip_aux.specs.Below.{is_below};
 ghost use Rattle.cip_inside.specs.Marks.{marks_below};
 
-use cip_letters::Descriptors;
+use cip_digraph::Descriptors;
 use cip_ligands::Marked;
 use cip_mol::Descriptor;
 use cip_rank::Table;

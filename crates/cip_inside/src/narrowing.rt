@@ -5,7 +5,7 @@ ghost use Rattle.cip_inside.specs.Narrowing.{is_open_top, is_top_of, moved, open
 
 use crate::asking::ask;
 use crate::near::Near;
-use cip_letters::Asked;
+use cip_digraph::Asked;
 use smallvec::SmallVec;
 use std::alloc::{AllocError, Global};
 

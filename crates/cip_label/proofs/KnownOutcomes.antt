@@ -15,9 +15,9 @@ use Rattle.cip_digraph.specs.units.Ends.{End, ends_of}
 use Rattle.cip_digraph.specs.outcome.Outcomes.{label_of}
 use Rattle.cip_digraph.specs.units.Ranked.{Root, Reason, decisions, has_tie, last_reason, place_order, ranks, side_of}
 use Rattle.cip_digraph.specs.units.Ranked.{turned_ranks}
-use Rattle.cip_letters.specs.declared.turns.Turns.{Turns}
-use Rattle.cip_letters.specs.TurnsOf.{places_turns, together}
-use Rattle.cip_letters.proofs.LettersTurn.{letter_of_both}
+use Rattle.cip_digraph.specs.declared.turns.Turns.{Turns}
+use Rattle.cip_digraph.specs.TurnsOf.{places_turns, together}
+use Rattle.cip_digraph.proofs.LettersTurn.{letter_of_both}
 use Rattle.cip_label.specs.declared.roots.Ranked.{Ranked}
 use Rattle.cip_label.specs.declared.roots.Ranked.TheVariants as rankeds
 use Rattle.cip_label.specs.Settings.{Setting, cost_in, known_in, root_in}

@@ -21,8 +21,8 @@ use Rattle.cip_digraph.specs.units.Ranked.{decisions_along, decisions_behind, ha
 use Rattle.cip_digraph.specs.units.Ranked.{ligand_order, place_order, ranked_places, ranks, side_of, some_pair}
 use Rattle.cip_digraph.proofs.orders.Early.{itself}
 use Rattle.cip_digraph.proofs.ties.Turned.{tie_turned}
-use Rattle.cip_letters.specs.Sides.{each_two}
-use Rattle.cip_letters.proofs.PairTurns.{any_mapped, pairs_mapped}
+use Rattle.cip_digraph.specs.Sides.{each_two}
+use Rattle.cip_digraph.proofs.PairTurns.{any_mapped, pairs_mapped}
 use Rattle.cip_label.specs.declared.roots.Ranked.{Ranked}
 use Rattle.cip_label.specs.declared.roots.Ranked.TheVariants as rankeds
 use Rattle.cip_label.specs.declared.digraphs.Ranking.{Ranking}

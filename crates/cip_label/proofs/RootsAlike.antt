@@ -20,7 +20,7 @@ use Rattle.cip_digraph.specs.units.Ranked.{last_reason, ligand_order, place_orde
 use Rattle.cip_digraph.specs.units.Ranked.{some_pair, turned_ranks}
 use Rattle.cip_digraph.specs.graph.SoundGraphs.{IsSound}
 use Rattle.cip_digraph.specs.digraph.View.{real_at, view_children}
-use Rattle.cip_letters.proofs.PairTurns.{pairs_mapped}
+use Rattle.cip_digraph.proofs.PairTurns.{pairs_mapped}
 use Rattle.cip_label.specs.declared.roots.Ranked.{Ranked}
 use Rattle.cip_label.specs.declared.roots.Ranked.TheVariants as rankeds
 use Rattle.cip_label.specs.Fitting.{IsFit, IsNeighbour}

@@ -10,8 +10,8 @@ use Rattle.cip_mol.specs.declared.ends.Ends.{Ends}
 use Rattle.cip_mol.specs.declared.ends.Ends.TheVariants.{One, Two}
 use Rattle.cip_mol.specs.declared.site.Site.{Site}
 use Rattle.cip_digraph.specs.units.Ends.{End, ends_of}
-use Rattle.cip_letters.specs.LentEnds.{as_end, ends_in}
-use Rattle.cip_letters.proofs.LentEnds.{ends_are}
+use Rattle.cip_digraph.specs.LentEnds.{as_end, ends_in}
+use Rattle.cip_digraph.proofs.LentEnds.{ends_are}
 use Rattle.cip_digraph.specs.graph.Graph.{Graph}
 use Rattle.cip_label.specs.Fitting.{IsFit, IsFitSite}
 

@@ -9,9 +9,9 @@ use Rattle.cip_digraph.specs.units.Descriptors.{reason_needed}
 use Rattle.cip_digraph.specs.units.Ends.{End}
 use Rattle.cip_digraph.specs.units.Ranked as digraphs
 use Rattle.cip_digraph.specs.units.Ranked.{Root, has_tie, later_reason, ranks, turned_ranks}
-use Rattle.cip_letters.specs.declared.turns.Turns.{Turns}
-use Rattle.cip_letters.specs.Lettered.{letter_in}
-use Rattle.cip_letters.specs.TurnsOf.{places_turns, together}
+use Rattle.cip_digraph.specs.declared.turns.Turns.{Turns}
+use Rattle.cip_digraph.specs.Lettered.{letter_in}
+use Rattle.cip_digraph.specs.TurnsOf.{places_turns, together}
 use Rattle.cip_label.specs.declared.reasons.Reason.{Reason}
 use Rattle.cip_label.specs.declared.roots.Ranked.{Ranked}
 use Rattle.cip_label.specs.declared.roots.Ranked.TheVariants.{Ordered, Tie, Over}

@@ -7,8 +7,7 @@ ghost use Rattle.cip_label.specs.Pairwise.{between, compared, decided_at, decide
 
 use crate::digraphs::Digraphs;
 use crate::standing::{decide, reversed};
-use cip_digraph::Decision;
-use cip_letters::MOST_PAIRS;
+use cip_digraph::{Decision, MOST_PAIRS};
 use cip_mol::{Ligand, Rule};
 use smallvec::SmallVec;
 use std::alloc::{AllocError, Global};

@@ -2,7 +2,7 @@
 ghost use Rattle.std.specs.Prelude.{◌≡◌, ◌≤◌, ◌∷◌, [], false, true, IfOk, length};
 ghost use Rattle.std.specs.List.{list_any};
 ghost use Rattle.cip_digraph.specs.units.Ranked.{is_tie};
-ghost use Rattle.cip_letters.specs.LentEnds.{as_end};
+ghost use Rattle.cip_digraph.specs.LentEnds.{as_end};
 ghost use Rattle.cip_label.specs.Fitting.{IsFit};
 ghost use Rattle.cip_label.specs.Labelling.{ranked_root};
 ghost use Rattle.cip_label.specs.Pairwise.{decided_each, ranked_in, ranked_once, turned_each};

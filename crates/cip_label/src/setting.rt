@@ -3,8 +3,7 @@ ghost use Rattle.std.specs.Prelude.{◌≡◌, ◌<◌, IfOk, Some, length, slic
 ghost use Rattle.cip_label.specs.Fitting.{IsFitSite};
 ghost use Rattle.cip_label.specs.Settings.{IsProper, StandAtSites, setting_of};
 
-use cip_digraph::{Graph, Positions};
-use cip_letters::MarkedUnits;
+use cip_digraph::{Graph, MarkedUnits, Positions};
 use cip_mol::Unit;
 use cip_rank::Rules;
 use std::alloc::{AllocError, Global};

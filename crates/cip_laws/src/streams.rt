@@ -1,5 +1,5 @@
 // Laws of the text that is due for a stream.
-ghost use Rattle.cip_stream.specs.Dividing.{StreamsDivide};
+ghost use Rattle.cip_batch.specs.Dividing.{StreamsDivide};
 
 /// Where nothing that is due depends on a record's number, what is due for a stream within the limits is due for its
 /// front up to a closed record, and then for what follows.

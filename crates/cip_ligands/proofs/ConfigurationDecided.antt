@@ -9,8 +9,8 @@ use Rattle.cip_digraph.specs.digraph.Digraph.{Node}
 use Rattle.cip_digraph.specs.rules.Decisions.{rules_in_turn, order}
 use Rattle.cip_digraph.specs.rules.Orders.{Seen, rule_4a}
 use Rattle.cip_branches.specs.Deciding.{Branched}
-use Rattle.cip_letters.specs.declared.asked.Asked.{Asked}
-use Rattle.cip_letters.specs.Asking.{AreWithin, is_decided, with_found}
+use Rattle.cip_digraph.specs.declared.asked.Asked.{Asked}
+use Rattle.cip_digraph.specs.Asking.{AreWithin, is_decided, with_found}
 use Rattle.cip_ligands.specs.Configuring.{DecidesOn}
 use Rattle.cip_ligands.specs.Counting.{TakesMarked}
 use Rattle.cip_ligands.specs.Deciding.{AreDecidedBy, AreReadyFor}

@@ -16,8 +16,8 @@ use Rattle.cip_rows.specs.Kin.{Kin}
 use Rattle.cip_branches.specs.Standing.{node_in, WantedIn, AreKeysOf}
 use Rattle.cip_branches.specs.Views.{IsEnded}
 use Rattle.cip_branches.proofs.taken.Among.{was_wanted, ends_now, rule_begun, rule_deeper, rule_stands}
-use Rattle.cip_letters.specs.declared.asked.Asked.{Asked}
-use Rattle.cip_letters.specs.Asking.{decided, kept_or, with_found, differing, found_between}
+use Rattle.cip_digraph.specs.declared.asked.Asked.{Asked}
+use Rattle.cip_digraph.specs.Asking.{decided, kept_or, with_found, differing, found_between}
 use Rattle.cip_ligands.proofs.FoundWithin.{first_split, decided_else, one_more, with_both, all_stay, no_more, same_found}
 use Rattle.cip_ligands.specs.Orders.{found_below}
 use Rattle.cip_ligands.specs.Taking.{TakenTo, TakesRule}

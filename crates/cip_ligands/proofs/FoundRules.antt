@@ -11,8 +11,8 @@ use Rattle.cip_branches.specs.Deciding.{Branched}
 use Rattle.cip_branches.specs.Standing.{node_in, WantedIn, AreKeysOf, StandsBy}
 use Rattle.cip_branches.specs.Views.{IsEnded}
 use Rattle.cip_branches.proofs.taken.Rules.{AllOf, stand_all, stand_back}
-use Rattle.cip_letters.specs.declared.asked.Asked.{Asked}
-use Rattle.cip_letters.specs.Asking.{AreWithin, decided, kept_or, with_found, differing, found_between}
+use Rattle.cip_digraph.specs.declared.asked.Asked.{Asked}
+use Rattle.cip_digraph.specs.Asking.{AreWithin, decided, kept_or, with_found, differing, found_between}
 use Rattle.cip_ligands.specs.Orders.{found_below}
 use Rattle.cip_ligands.specs.Taking.{TakesRule}
 use Rattle.cip_ligands.proofs.FoundAmong as among

@@ -13,8 +13,8 @@ use Rattle.cip_digraph.proofs.orders.Exchanged.{found_at}
 use Rattle.cip_digraph.proofs.lists.Elements.{by_recursion}
 use Rattle.cip_ligands.proofs.FirstNone.{none_at}
 use Rattle.cip_digraph.specs.declared.decision.Decision.{Decision}
-use Rattle.cip_letters.specs.declared.asked.Asked.{Asked}
-use Rattle.cip_letters.specs.Asking.{AreWithin, is_decided, decided, kept_or, with_found, differing}
+use Rattle.cip_digraph.specs.declared.asked.Asked.{Asked}
+use Rattle.cip_digraph.specs.Asking.{AreWithin, is_decided, decided, kept_or, with_found, differing}
 
 split_by : (s : ℕ) (r : Ordering) (first second : Option Difference)
     → found_at s (or_else first second) r ≡ or_else (found_at s first r) second

@@ -9,8 +9,8 @@ use Rattle.cip_mol.specs.declared.descriptor.Descriptor.TheVariants as letters
 use Rattle.cip_mol.specs.declared.outcome.Rule.{Rule}
 use Rattle.cip_mol.specs.declared.outcome.Rule.TheVariants.{R5}
 use Rattle.cip_branches.specs.Deciding.{Branched, AreFollowed}
-use Rattle.cip_letters.specs.declared.asked.Asked.{Asked}
-use Rattle.cip_letters.specs.Asking.{found_between, with_found}
+use Rattle.cip_digraph.specs.declared.asked.Asked.{Asked}
+use Rattle.cip_digraph.specs.Asking.{found_between, with_found}
 use Rattle.cip_ligands.specs.Counting.{AreUncounted, TakesMarked}
 use Rattle.cip_ligands.specs.Orders.{mark_key}
 use Rattle.cip_ligands.specs.Taking.{TakesRule}

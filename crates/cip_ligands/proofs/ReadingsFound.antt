@@ -37,8 +37,8 @@ use Rattle.cip_branches.proofs.taken.Ended.{deep}
 use Rattle.cip_branches.proofs.doubled.Ranks.{double_order, twins_followed}
 use Rattle.cip_branches.proofs.doubled.Starts.{kept_at_most, number_first, number_second}
 use Rattle.cip_branches.proofs.doubled.Stands.{IsReading, wants_twin, twin_named, read_each, itself, node_first, node_second, view_before, ended_before, ended_twins, twins_stand, reading_in, top_node}
-use Rattle.cip_letters.specs.declared.asked.Asked.{Asked}
-use Rattle.cip_letters.specs.Asking.{AreWithin, decided, differing, found_between, is_decided, kept_or, with_found}
+use Rattle.cip_digraph.specs.declared.asked.Asked.{Asked}
+use Rattle.cip_digraph.specs.Asking.{AreWithin, decided, differing, found_between, is_decided, kept_or, with_found}
 use Rattle.cip_ligands.specs.Counting.{AreUncounted}
 use Rattle.cip_ligands.specs.Marked.{AreMarksOf}
 use Rattle.cip_ligands.specs.Orders.{decided_by, found_below, mark_key}

@@ -14,8 +14,8 @@ use Rattle.cip_digraph.proofs.orders.Whole.{total_1a, total_1b, total_2, total_3
 use Rattle.cip_branches.specs.Deciding.{Branched}
 use Rattle.cip_branches.specs.Standing.{node_in, WantedIn, AreKeysOf, StandsBy}
 use Rattle.cip_branches.specs.Views.{IsEnded}
-use Rattle.cip_letters.specs.declared.asked.Asked.{Asked}
-use Rattle.cip_letters.specs.Asking.{AreWithin, decided, with_found}
+use Rattle.cip_digraph.specs.declared.asked.Asked.{Asked}
+use Rattle.cip_digraph.specs.Asking.{AreWithin, decided, with_found}
 use Rattle.cip_ligands.specs.Orders.{is_keyed}
 use Rattle.cip_ligands.proofs.FoundWithin.{same_found}
 use Rattle.cip_ligands.proofs.FoundWithin.{same_difference}

@@ -14,8 +14,8 @@ use Rattle.cip_branches.specs.Deciding.{Branched, AreDecided}
 use Rattle.cip_branches.specs.Standing.{node_in, WantedIn, AreKeysOf, StandsBy}
 use Rattle.cip_branches.specs.Views.{IsEnded}
 use Rattle.cip_branches.proofs.taken.Rules.{followed_taken, rule_stands}
-use Rattle.cip_letters.specs.declared.asked.Asked.{Asked}
-use Rattle.cip_letters.specs.Asking.{AreWithin, is_decided, decided, kept_or, with_found}
+use Rattle.cip_digraph.specs.declared.asked.Asked.{Asked}
+use Rattle.cip_digraph.specs.Asking.{AreWithin, is_decided, decided, kept_or, with_found}
 use Rattle.cip_ligands.specs.Orders.{is_keyed}
 use Rattle.cip_ligands.proofs.FoundWithin.{with_both, all_stay, same_found, all_within}
 use Rattle.cip_ligands.proofs.RulesInTurn.{turn_both, turn_one}

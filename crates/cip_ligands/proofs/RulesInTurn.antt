@@ -5,7 +5,7 @@ use Rattle.std.specs.declared.option.Option.{Option}
 use Rattle.cip_mol.specs.declared.outcome.Rule.{Rule}
 use Rattle.cip_digraph.specs.rules.Decisions.{Difference, first_decision}
 use Rattle.cip_digraph.specs.declared.decision.Decision.{Decision}
-use Rattle.cip_letters.specs.Asking.{decided, kept_or}
+use Rattle.cip_digraph.specs.Asking.{decided, kept_or}
 use Rattle.cip_ligands.proofs.FoundWithin.{kept_kept, kept_none}
 
 pub first_by : (rule : Rule) (found : Option Difference) (later : Option Decision)

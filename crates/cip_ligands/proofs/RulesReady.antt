@@ -6,8 +6,8 @@ use Rattle.cip_mol.specs.declared.outcome.Rule.{Rule}
 use Rattle.cip_digraph.specs.rules.Orders.{Seen}
 use Rattle.cip_branches.specs.Deciding.{Branched}
 use Rattle.cip_branches.specs.Standing.{AreKeysOf}
-use Rattle.cip_letters.specs.declared.asked.Asked.{Asked}
-use Rattle.cip_letters.specs.Asking.{AreWithin, is_decided, with_found}
+use Rattle.cip_digraph.specs.declared.asked.Asked.{Asked}
+use Rattle.cip_digraph.specs.Asking.{AreWithin, is_decided, with_found}
 use Rattle.cip_ligands.specs.Deciding.{AreDecidedBy, AreReadyFor}
 use Rattle.cip_ligands.specs.Orders.{is_keyed, key_by, order_before, order_by, decided_in_turn, rules_before}
 use Rattle.cip_ligands.specs.Taking.{TakesRule}

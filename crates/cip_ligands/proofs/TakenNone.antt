@@ -9,8 +9,8 @@ use Rattle.cip_digraph.specs.declared.decision.Decision.{Decision}
 use Rattle.cip_branches.specs.Deciding.{Branched, AreFollowed}
 use Rattle.cip_branches.specs.Taking.{Deepens, SplitsFirst}
 use Rattle.cip_branches.proofs.taken.Even.{deeper_even, stay, then_told}
-use Rattle.cip_letters.specs.declared.asked.Asked.{Asked}
-use Rattle.cip_letters.specs.Asking.{decided, differing, found_between, kept_or, with_found}
+use Rattle.cip_digraph.specs.declared.asked.Asked.{Asked}
+use Rattle.cip_digraph.specs.Asking.{decided, differing, found_between, kept_or, with_found}
 use Rattle.cip_ligands.specs.Taking.{TakenTo, TakesRule}
 
 -- what was found at the first depth stays, where no number changes

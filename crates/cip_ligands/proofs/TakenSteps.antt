@@ -13,8 +13,8 @@ use Rattle.cip_branches.proofs.refined.Kept.{same_itself}
 use Rattle.cip_branches.proofs.taken.Saved.{put_back}
 use Rattle.cip_branches.proofs.taken.Among.{was_wanted}
 use Rattle.cip_branches.proofs.taken.Kept.{kept_on}
-use Rattle.cip_letters.specs.declared.asked.Asked.{Asked}
-use Rattle.cip_letters.specs.Asking.{kept_or, with_found, found_between}
+use Rattle.cip_digraph.specs.declared.asked.Asked.{Asked}
+use Rattle.cip_digraph.specs.Asking.{kept_or, with_found, found_between}
 use Rattle.cip_ligands.proofs.FoundWithin.{with_both}
 use Rattle.cip_ligands.specs.Counting.{TakesMarked}
 use Rattle.cip_ligands.specs.Taking.{AreSame, TakenTo, TakesSoFar, TakesRule, WantsNoMore}

@@ -26,8 +26,8 @@ use Rattle.cip_rows.specs.Parting.{has_flag}
 use Rattle.cip_branches.specs.Standing.{node_in, WantedIn, AreShown}
 use Rattle.cip_branches.specs.Views.{IsEnded}
 use Rattle.cip_rows.proofs.Cases.{cases_same}
-use Rattle.cip_letters.specs.declared.asked.Asked.{Asked}
-use Rattle.cip_letters.specs.Asking.{AreWithin, decided, kept_or, with_found}
+use Rattle.cip_digraph.specs.declared.asked.Asked.{Asked}
+use Rattle.cip_digraph.specs.Asking.{AreWithin, decided, kept_or, with_found}
 use Rattle.cip_ligands.specs.Deciding.{AreDecidedBy}
 use Rattle.cip_ligands.specs.Marked.{AreMarksOf, AreUnmarked}
 use Rattle.cip_ligands.specs.Orders.{decided_in_turn, order_before, rules_before}

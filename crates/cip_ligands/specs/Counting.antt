@@ -8,7 +8,7 @@ use Rattle.cip_mol.specs.declared.outcome.Rule.{Rule}
 use Rattle.cip_branches.specs.Deciding.{Branched}
 use Rattle.cip_branches.specs.Standing.{WantedIn}
 use Rattle.cip_rows.specs.Parting.{has_flag}
-use Rattle.cip_letters.specs.declared.asked.Asked.{Asked}
+use Rattle.cip_digraph.specs.declared.asked.Asked.{Asked}
 use Rattle.cip_ligands.specs.Orders.{mark_key}
 use Rattle.cip_ligands.specs.Taking.{TakesRule}
 

@@ -8,8 +8,8 @@ use Rattle.cip_digraph.specs.rules.Orders.{Seen}
 use Rattle.cip_branches.specs.Deciding.{Branched}
 use Rattle.cip_branches.specs.Standing.{node_in, WantedIn, StandsBy}
 use Rattle.cip_branches.specs.Views.{IsEnded}
-use Rattle.cip_letters.specs.declared.asked.Asked.{Asked}
-use Rattle.cip_letters.specs.Asking.{is_decided, with_found}
+use Rattle.cip_digraph.specs.declared.asked.Asked.{Asked}
+use Rattle.cip_digraph.specs.Asking.{is_decided, with_found}
 use Rattle.cip_ligands.specs.Orders.{decided_in_turn, order_before, rules_before}
 
 -- Of so many branches the nodes are told. Their numbers stand by an order, that of the rules so far, as far as the

@@ -9,8 +9,8 @@ use Rattle.cip_digraph.specs.rules.Orders.{Seen, all_tie, rule_1a}
 use Rattle.cip_branches.specs.Deciding.{Branched, AreDecided}
 use Rattle.cip_branches.specs.Standing.{node_in, WantedIn, AreKeysOf}
 use Rattle.cip_branches.specs.Views.{IsEnded}
-use Rattle.cip_letters.specs.declared.asked.Asked.{Asked}
-use Rattle.cip_letters.specs.Asking.{AreWithin, is_decided, with_found}
+use Rattle.cip_digraph.specs.declared.asked.Asked.{Asked}
+use Rattle.cip_digraph.specs.Asking.{AreWithin, is_decided, with_found}
 use Rattle.cip_ligands.specs.Orders.{is_keyed}
 use Rattle.cip_ligands.specs.Deciding.{AreDecidedBy}
 use Rattle.cip_ligands.specs.Orders.{key_by, order_before, order_by, decided_in_turn, found_below}

@@ -9,7 +9,7 @@ use Rattle.cip_digraph.specs.declared.decision.Decision.{Decision}
 use Rattle.cip_digraph.specs.rules.Decisions.{first_difference, difference_by, first_decision}
 use Rattle.cip_digraph.specs.rules.Kinds.{marked, geometric_key, chirality_key, small_key, capital_key}
 use Rattle.cip_digraph.specs.rules.Orders.{Seen, all_tie, rule_1a, rule_1b, rule_2, rule_3, rule_4a, rule_4c, rule_5}
-use Rattle.cip_letters.specs.Asking.{decided}
+use Rattle.cip_digraph.specs.Asking.{decided}
 
 -- what a comparison finds between two branches at so many depths, as a decision by a rule
 abbrev pub found_below : {N : Type 0} → Rule → (ℕ → N → N → Ordering) → (ℕ → N) → ℕ → ℕ → ℕ → Option Decision

@@ -14,8 +14,8 @@ use Rattle.cip_rows.specs.Reserved.{Reserved}
 use Rattle.cip_branches.specs.Saving.{Saved, saved_of}
 use Rattle.cip_branches.specs.Taking.{KeepsPlaces}
 use Rattle.cip_branches.specs.Twins.{twins_of}
-use Rattle.cip_letters.specs.declared.asked.Asked.{Asked}
-use Rattle.cip_letters.specs.Asking.{is_decided}
+use Rattle.cip_digraph.specs.declared.asked.Asked.{Asked}
+use Rattle.cip_digraph.specs.Asking.{is_decided}
 use Rattle.cip_ligands.specs.Taking.{TakesRule}
 
 -- memory for both readings of branches of so many places

@@ -7,8 +7,8 @@ use Rattle.cip_digraph.specs.declared.decision.Decision.{Decision}
 use Rattle.cip_branches.specs.Deciding.{Branched, FlagsOpen}
 use Rattle.cip_branches.specs.Standing.{WantedIn}
 use Rattle.cip_branches.specs.Taking.{KeepsPlaces, SplitsFirst, Deepens}
-use Rattle.cip_letters.specs.declared.asked.Asked.{Asked}
-use Rattle.cip_letters.specs.Asking.{is_decided, kept_or, with_found, found_between}
+use Rattle.cip_digraph.specs.declared.asked.Asked.{Asked}
+use Rattle.cip_digraph.specs.Asking.{is_decided, kept_or, with_found, found_between}
 
 -- a rule begins, and finds what the tops' numbers tell
 pub record BeginsRule (begin : Branched) (keys : List ℤ) (rule : Rule) (now : Branched)

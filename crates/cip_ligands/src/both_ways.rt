@@ -7,7 +7,7 @@ ghost use Rattle.cip_ligands.specs.Taking.{TakesOnce, TakesRule};
 
 use crate::taking::take_rule;
 use cip_branches::{Branches, SavedRanks};
-use cip_letters::Asked;
+use cip_digraph::Asked;
 use cip_mol::Rule;
 use cip_rank::Keyed;
 

@@ -9,7 +9,7 @@ ghost use Rattle.cip_rows.specs.Keys.{AreKeyed};
 ghost use Rattle.cip_branches.specs.Deciding.{AreFollowed};
 ghost use Rattle.cip_branches.specs.Standing.{node_in, AreKeysOf, StandsBy, WantedIn};
 ghost use Rattle.cip_branches.specs.Views.{IsEnded};
-ghost use Rattle.cip_letters.specs.Asking.{AreWithin, with_found};
+ghost use Rattle.cip_digraph.specs.Asking.{AreWithin, with_found};
 ghost use Rattle.cip_ligands.specs.Marked.{AreMarksOf};
 ghost use Rattle.cip_ligands.specs.Orders.{decided_by, found_below};
 
@@ -17,7 +17,7 @@ use crate::marked::Marked;
 use crate::readings::{Readings, take_both};
 use crate::taking::take_rule;
 use cip_branches::{Branches, NodeKeys};
-use cip_letters::Asked;
+use cip_digraph::Asked;
 use cip_mol::Rule;
 
 /// Takes a later rule over branches that stand by the order before it and have ended. What is noted of two of them is

@@ -7,8 +7,8 @@ ghost use Rattle.cip_digraph.specs.rules.Decisions.{order};
 ghost use Rattle.cip_digraph.specs.rules.Orders.{Seen, rule_2};
 ghost use Rattle.cip_branches.specs.Deciding.{AreFollowed};
 ghost use Rattle.cip_rows.specs.Keys.{AreKeyed};
-ghost use Rattle.cip_letters.specs.declared.asked.Asked.{Asked as AnyAsked};
-ghost use Rattle.cip_letters.specs.Asking.{AreWithin, is_decided, with_found};
+ghost use Rattle.cip_digraph.specs.declared.asked.Asked.{Asked as AnyAsked};
+ghost use Rattle.cip_digraph.specs.Asking.{AreWithin, is_decided, with_found};
 ghost use Rattle.cip_ligands.specs.Configuring.{DecidesOn};
 ghost use Rattle.cip_ligands.specs.Counting.{TakesMarked, TakesMarkedOnce};
 ghost use Rattle.cip_ligands.specs.Deciding.{AreDecidedBy};
@@ -25,7 +25,7 @@ use crate::readings::{Readings, take_readings};
 use crate::taking::take_rule;
 use crate::unmarked::are_unmarked;
 use cip_branches::Branches;
-use cip_letters::{Asked, are_decided};
+use cip_digraph::{Asked, are_decided};
 use cip_mol::Rule;
 
 // One of the rules that look at descriptors, which isn't Rule 4b. Where none counts, numbers stand and branches too.

@@ -7,14 +7,14 @@ ghost use Rattle.cip_digraph.specs.rules.Orders.{Seen, rule_1a};
 ghost use Rattle.cip_branches.specs.Deciding.{AreFollowed};
 ghost use Rattle.cip_rows.specs.Keys.{AreKeyed};
 ghost use Rattle.cip_branches.specs.Standing.{AreKeysOf};
-ghost use Rattle.cip_letters.specs.declared.asked.Asked.{Asked as AnyAsked};
-ghost use Rattle.cip_letters.specs.Asking.{AreWithin, is_decided};
+ghost use Rattle.cip_digraph.specs.declared.asked.Asked.{Asked as AnyAsked};
+ghost use Rattle.cip_digraph.specs.Asking.{AreWithin, is_decided};
 ghost use Rattle.cip_ligands.specs.Deciding.{AreDecidedBy, AreOfConstitution};
 ghost use Rattle.cip_ligands.specs.Taking.{WantsNoMore};
 
 use crate::taking::take_rule;
 use cip_branches::Branches;
-use cip_letters::Asked;
+use cip_digraph::Asked;
 use cip_mol::Rule;
 use cip_rank::Keyed;
 

@@ -4,7 +4,7 @@ ghost use Rattle.std.specs.List.{slice_index_or};
 ghost use Rattle.std.specs.declared.option.Option.{Option};
 ghost use Rattle.cip_mol.specs.declared.descriptor.Descriptor.{Descriptor as AnyDescriptor};
 
-use cip_letters::Descriptors;
+use cip_digraph::Descriptors;
 use cip_mol::Descriptor;
 
 /// What tells the descriptors of nodes.

@@ -1,10 +1,9 @@
 // What the numbers of branches decide between pairs of them.
 ghost use Rattle.std.specs.Prelude.{◌≡◌, ◌<◌, ◌+◌, ◌^◌, map};
-ghost use Rattle.cip_letters.specs.Asking.{found_between, with_found};
+ghost use Rattle.cip_digraph.specs.Asking.{found_between, with_found};
 
 use cip_branches::Branches;
-use cip_digraph::Decision;
-use cip_letters::Asked;
+use cip_digraph::{Asked, Decision};
 use cip_mol::Rule;
 use std::cmp::Ordering;
 

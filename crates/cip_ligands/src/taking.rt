@@ -3,12 +3,12 @@ ghost use Rattle.std.specs.Prelude.{◌≡◌, ◌≤◌};
 ghost use Rattle.std.specs.List.{list_all};
 ghost use Rattle.cip_branches.specs.Deciding.{AreFollowed};
 ghost use Rattle.cip_rows.specs.Keys.{AreKeyed};
-ghost use Rattle.cip_letters.specs.Asking.{is_decided};
+ghost use Rattle.cip_digraph.specs.Asking.{is_decided};
 ghost use Rattle.cip_ligands.specs.Taking.{TakesRule, WantsNoMore};
 
 use crate::noting::note;
 use cip_branches::Branches;
-use cip_letters::{Asked, are_decided};
+use cip_digraph::{Asked, are_decided};
 use cip_mol::Rule;
 use cip_rank::Keyed;
 

@@ -11,7 +11,7 @@ use Rattle.cip_digraph.specs.units.Ends.{End, ends_of}
 use Rattle.cip_label.specs.Fitting.{AreFit, IsFit, IsFitSite, IsNeighbour}
 use Rattle.cip_label.specs.Settings.{IsProper, Setting}
 use Rattle.cip_label.proofs.FitUnits.{units_fit}
-use Rattle.cip_letters.specs.Sides.{each_two}
+use Rattle.cip_digraph.specs.Sides.{each_two}
 use Rattle.cip_undefined.specs.Pairs.{end_of, pair, pairs_at, pairs_of}
 use Rattle.cip_undefined.specs.Ties.{tied_sites, ties}
 use Rattle.cip_undefined.specs.UndefinedUnits.{found_among, found_at, found_unit, is_undefined}

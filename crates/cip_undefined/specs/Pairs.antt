@@ -3,7 +3,7 @@ use Rattle.std.specs.Prelude.{ℕ, List, [], ◌∷◌, flat_map}
 use Rattle.cip_mol.specs.declared.site.Ligand.{Ligand}
 use Rattle.cip_mol.specs.declared.site.Site.{Site}
 use Rattle.cip_digraph.specs.units.Ends.{End, end_at, ends_of}
-use Rattle.cip_letters.specs.Sides.{each_two}
+use Rattle.cip_digraph.specs.Sides.{each_two}
 use Rattle.cip_undefined.specs.declared.pairs.Pair.{Pair}
 
 abbrev pub pair : ℕ → Ligand → Ligand → Pair

@@ -2,9 +2,8 @@
 ghost use Rattle.std.specs.Prelude.{◌==◌, ◌<◌, ◌∷◌, ◌++◌, [], None, codes, decimal, length, true};
 ghost use Rattle.cip_text.specs.Lines.{line_feed};
 
-use cip_batch::Open;
+use cip_batch::{Crew, LIMITS, Open, Teller, Told, Verdict, answer_stream};
 use cip_io::{MemSink, MemSource};
-use cip_stream::{Crew, LIMITS, Teller, Told, Verdict, answer_stream};
 use gate_calls::{Row, Text};
 use std::alloc::{AllocError, Global};
 use std::thread::Threads;

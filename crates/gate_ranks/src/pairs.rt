@@ -5,8 +5,7 @@ ghost use Rattle.cip_rows.specs.Keys.{AreKeyed};
 
 use crate::trees::{Case, ROOM};
 use cip_branches::Branches;
-use cip_digraph::Decision;
-use cip_letters::{Asked, Descriptors};
+use cip_digraph::{Asked, Decision, Descriptors};
 use cip_ligands::{Readings, take_readings};
 use cip_mol::Descriptor;
 use gate_calls::Text;

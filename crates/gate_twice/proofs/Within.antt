@@ -1,8 +1,8 @@
 -- Branches of neighbours, and a pair of them.
 use Rattle.std.proofs.Common.{◌≡◌, ◌<◌, ℕ, List, [], ◌∷◌, All, Some, length}
 use Rattle.std.proofs.lemmas.List.Elements.{All-from_recursion}
-use Rattle.cip_letters.specs.declared.asked.Asked.{Asked}
-use Rattle.cip_letters.specs.Asking.{AreWithin}
+use Rattle.cip_digraph.specs.declared.asked.Asked.{Asked}
+use Rattle.cip_digraph.specs.Asking.{AreWithin}
 use Rattle.cip_inside.specs.Near.{branch_of}
 use Rattle.cip_inside.proofs.AskedSides.{branch_is}
 

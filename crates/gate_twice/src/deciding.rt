@@ -1,13 +1,12 @@
 // What is decided between two branches at the root, in either way.
 ghost use Rattle.std.specs.Prelude.{◌≡◌, ◌<◌, ◌≤◌, ◌^◌, IfSome, length};
-ghost use Rattle.cip_letters.specs.Asking.{AreWithin};
+ghost use Rattle.cip_digraph.specs.Asking.{AreWithin};
 ghost use Rattle.cip_tree.specs.Branches.{node_count};
 
 use cip_arena::Arena;
 use cip_aux::Whole;
-use cip_digraph::{Decision, Nodes};
+use cip_digraph::{Asked, Decision, Nodes};
 use cip_inside::Near;
-use cip_letters::Asked;
 use cip_mol::Rule;
 use cip_rank::Rules;
 use cip_tree::{PlainTree, plain_order};

@@ -8,7 +8,7 @@ use crate::tables::Tables;
 use crate::written::written;
 use cip_arena::{Arena, Grown};
 use cip_constitution::settle;
-use cip_letters::MarkedUnits;
+use cip_digraph::MarkedUnits;
 use cip_mol::{Cause, Geometry, Ligand, Ligands, Site, Unit};
 use cip_rank::{Rules, Steps};
 use gate_calls::{Row, Text};

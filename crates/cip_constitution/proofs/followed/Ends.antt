@@ -29,8 +29,8 @@ use Rattle.cip_rank.specs.declared.rules.Rules.{Rules}
 use Rattle.cip_rows.specs.Keys.{AreKeyed}
 use Rattle.cip_rows.specs.Kids.{kids_of}
 use Rattle.cip_rows.specs.Kin.{Kin}
-use Rattle.cip_letters.specs.declared.asked.Asked.{Asked}
-use Rattle.cip_letters.specs.Asking.{AreWithin, decided}
+use Rattle.cip_digraph.specs.declared.asked.Asked.{Asked}
+use Rattle.cip_digraph.specs.Asking.{AreWithin, decided}
 use Rattle.cip_ligands.specs.Deciding.{AreDecidedBy, AreOfConstitution}
 use Rattle.cip_ligands.specs.Orders.{found_below}
 use Rattle.cip_ligands.proofs.FoundWithin.{same_difference, same_found}

@@ -18,8 +18,8 @@ use Rattle.cip_digraph.specs.graph.SoundGraphs.{IsSound}
 use Rattle.cip_digraph.specs.rules.Auxiliary.{ligand_node}
 use Rattle.cip_digraph.proofs.numbered.Kin.{count_is}
 use Rattle.cip_arena.specs.Growth.{Growth, Holds}
-use Rattle.cip_letters.specs.declared.asked.Asked.{Asked}
-use Rattle.cip_letters.specs.Asking.{AreWithin, with_found, found_between}
+use Rattle.cip_digraph.specs.declared.asked.Asked.{Asked}
+use Rattle.cip_digraph.specs.Asking.{AreWithin, with_found, found_between}
 use Rattle.cip_ligands.specs.Orders.{found_below}
 use Rattle.cip_ligands.proofs.FoundRules.{noted_next}
 use Rattle.cip_ligands.proofs.FoundWithin.{nothing_found}

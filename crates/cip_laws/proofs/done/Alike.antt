@@ -3,12 +3,12 @@ use Rattle.std.proofs.Common.{◌≡◌, ℕ, List, [], ◌∷◌, Bool, true, f
 use Rattle.std.specs.Prelude.{Contains, IfSome, IsSome, if◌then◌else◌}
 use Rattle.std.specs.Io.KnownBytes.{Appends}
 use Rattle.cip_print.specs.declared.answer.Answer.{Answer}
-use Rattle.cip_stream.specs.declared.limits.Limits.{Limits}
-use Rattle.cip_stream.specs.Due.{are_flagged, due, verdict_of}
-use Rattle.cip_stream.specs.Endings.{Grew}
-use Rattle.cip_stream.specs.Limits.{answered}
-use Rattle.cip_stream.specs.Manner.{Manner}
-use Rattle.cip_stream.specs.declared.verdict.Verdict.{Verdict}
+use Rattle.cip_batch.specs.declared.limits.Limits.{Limits}
+use Rattle.cip_batch.specs.Due.{are_flagged, due, verdict_of}
+use Rattle.cip_batch.specs.Endings.{Grew}
+use Rattle.cip_batch.specs.Limits.{answered}
+use Rattle.cip_batch.specs.Manner.{Manner}
+use Rattle.cip_batch.specs.declared.verdict.Verdict.{Verdict}
 use Rattle.cip_words.specs.Help.{help}
 use Rattle.cip_words.specs.declared.settings.Action.TheVariants as does
 use Rattle.cip_words.specs.declared.settings.Task.{Task}

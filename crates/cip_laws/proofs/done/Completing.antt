@@ -3,11 +3,11 @@ use Rattle.std.proofs.Common.{◌≡◌, ℕ, List, [], ◌∷◌, true, false, 
 use Rattle.std.specs.Prelude.{Contains, IfSome, IsSome}
 use Rattle.std.specs.Option.{is_some}
 use Rattle.cip_print.specs.declared.answer.Answer.{Answer}
-use Rattle.cip_stream.specs.declared.limits.Limits.{Limits}
-use Rattle.cip_stream.specs.Due.{due}
-use Rattle.cip_stream.specs.Endings.{Grew, IsLimited}
-use Rattle.cip_stream.specs.Limits.{limit_place}
-use Rattle.cip_stream.specs.Manner.{Manner}
+use Rattle.cip_batch.specs.declared.limits.Limits.{Limits}
+use Rattle.cip_batch.specs.Due.{due}
+use Rattle.cip_batch.specs.Endings.{Grew, IsLimited}
+use Rattle.cip_batch.specs.Limits.{limit_place}
+use Rattle.cip_batch.specs.Manner.{Manner}
 use Rattle.cip_words.specs.Settings.{action_of}
 use Rattle.cip_words.specs.declared.settings.Action.{Action}
 use Rattle.cip_words.specs.declared.settings.Action.TheVariants as does

@@ -2,13 +2,13 @@
 use Rattle.std.proofs.Common.{◌≡◌, ℕ, List, [], ◌∷◌, ◌++◌, Bool, true, false, Some, None, ◌||◌, refl, sym, ap, ◌∙◌, subst, max}
 use Rattle.std.specs.Prelude.{Contains}
 use Rattle.std.specs.Io.KnownBytes.{Appends}
-use Rattle.cip_stream.specs.declared.limits.Limits.{Limits}
-use Rattle.cip_stream.specs.Dividing.{Divides}
-use Rattle.cip_stream.specs.Due.{are_flagged, due}
-use Rattle.cip_stream.specs.declared.verdict.Verdict.{Verdict}
-use Rattle.cip_stream.specs.Limits.{limit_place, answered}
-use Rattle.cip_stream.specs.Manner.{Manner}
-use Rattle.cip_stream.proofs.Dividing.{streams_divide}
+use Rattle.cip_batch.specs.declared.limits.Limits.{Limits}
+use Rattle.cip_batch.specs.Dividing.{Divides}
+use Rattle.cip_batch.specs.Due.{are_flagged, due}
+use Rattle.cip_batch.specs.declared.verdict.Verdict.{Verdict}
+use Rattle.cip_batch.specs.Limits.{limit_place, answered}
+use Rattle.cip_batch.specs.Manner.{Manner}
+use Rattle.cip_batch.proofs.Dividing.{streams_divide}
 use Rattle.cip_commands.specs.ExitStatuses.{DONE, FLAGGED, NOT_CHANGED}
 use Rattle.cip_commands.specs.declared.ending.Note.{Note}
 use Rattle.cip_laws.specs.runs.Dividing.{PartsAddUp}

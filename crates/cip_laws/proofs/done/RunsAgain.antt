@@ -1,10 +1,10 @@
 -- A run over what a run wrote.
 use Rattle.std.proofs.Common.{◌≡◌, ℕ, List, [], Option, Some, sym, ap, ◌∙◌, subst}
 use Rattle.std.specs.Io.KnownBytes.{Appends}
-use Rattle.cip_stream.specs.declared.limits.Limits.{Limits}
-use Rattle.cip_stream.specs.Due.{are_flagged, due}
-use Rattle.cip_stream.specs.Limits.{limit_place, answered}
-use Rattle.cip_stream.specs.Manner.{Manner}
+use Rattle.cip_batch.specs.declared.limits.Limits.{Limits}
+use Rattle.cip_batch.specs.Due.{are_flagged, due}
+use Rattle.cip_batch.specs.Limits.{limit_place, answered}
+use Rattle.cip_batch.specs.Manner.{Manner}
 use Rattle.cip_commands.specs.declared.ending.Note.{Note}
 use Rattle.cip_laws.specs.runs.Laws.{EndAlike}
 use Rattle.cip_laws.specs.runs.Repeating.{StreamStays, RunsRepeat}

@@ -19,10 +19,10 @@ use Rattle.cip_print.specs.Values.{values_of}
 use Rattle.cip_laws.proofs.item_values.Fit.{values_are_fit}
 use Rattle.cip_rank.specs.declared.rules.Rules.{Rules}
 use Rattle.cip_answer.specs.Answers.{answer_by, is_flagged}
-use Rattle.cip_stream.specs.declared.limits.Limits.{Limits}
-use Rattle.cip_stream.specs.Due.{are_flagged, due, texts_from, verdict_from}
-use Rattle.cip_stream.specs.Limits.{limit_place, answered}
-use Rattle.cip_stream.proofs.Dividing.{due_within, answered_within}
+use Rattle.cip_batch.specs.declared.limits.Limits.{Limits}
+use Rattle.cip_batch.specs.Due.{are_flagged, due, texts_from, verdict_from}
+use Rattle.cip_batch.specs.Limits.{limit_place, answered}
+use Rattle.cip_batch.proofs.Dividing.{due_within, answered_within}
 use Rattle.cip_laws.specs.runs.Repeating.{EndsAsItSays, StreamsRepeat}
 use Rattle.cip_commands.specs.Telling.{annotated, annotating, is_flagged_record}
 use Rattle.cip_laws.proofs.done.Repeating.{text_is, annotating_repeats}

@@ -1,8 +1,8 @@
 -- A run that nothing disturbs is done, but for want of memory. Own.
 use Rattle.std.specs.Prelude.{◌≡◌, ℕ, List, [], ◌∷◌, Some, None, IfSome, IsSome, Contains}
 use Rattle.cip_io.specs.Faults.{Rose}
-use Rattle.cip_stream.specs.declared.limits.Limits.{Limits}
-use Rattle.cip_stream.specs.Limits.{limit_place}
+use Rattle.cip_batch.specs.declared.limits.Limits.{Limits}
+use Rattle.cip_batch.specs.Limits.{limit_place}
 use Rattle.cip_words.specs.Settings.{action_of}
 use Rattle.cip_words.specs.declared.settings.Action.{Action}
 use Rattle.cip_words.specs.declared.settings.Action.TheVariants as does

@@ -1,8 +1,8 @@
 -- Runs over a stream that is divided behind a closed record. Own.
 use Rattle.std.specs.Prelude.{◌≡◌, ◌++◌, ℕ, List, true, max}
 use Rattle.std.specs.Io.KnownBytes.{Appends}
-use Rattle.cip_stream.specs.declared.limits.Limits.{Limits}
-use Rattle.cip_stream.specs.Dividing.{is_closed}
+use Rattle.cip_batch.specs.declared.limits.Limits.{Limits}
+use Rattle.cip_batch.specs.Dividing.{is_closed}
 use Rattle.cip_words.specs.Ranges.{Labelling}
 use Rattle.cip_words.specs.declared.settings.Action.TheVariants.{Read}
 use Rattle.cip_words.specs.declared.settings.Task.TheVariants.{Annotate}

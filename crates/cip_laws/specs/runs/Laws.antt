@@ -4,7 +4,7 @@ use Rattle.std.specs.Io.KnownBytes.{Appends}
 use Rattle.cip_item.specs.Parts.{without_label_items}
 use Rattle.cip_item.specs.Putting.{with_item}
 use Rattle.cip_rank.specs.declared.rules.Rules.{Rules}
-use Rattle.cip_stream.specs.declared.limits.Limits.{Limits}
+use Rattle.cip_batch.specs.declared.limits.Limits.{Limits}
 use Rattle.cip_words.specs.declared.settings.Action.{Action}
 use Rattle.cip_words.specs.declared.settings.Action.TheVariants.{Read, Make, Trial, Help}
 use Rattle.cip_commands.specs.ExitStatuses.{DONE, FLAGGED, NOT_CHANGED}

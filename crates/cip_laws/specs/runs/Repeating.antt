@@ -9,9 +9,9 @@ use Rattle.cip_rank.specs.declared.rules.Rules.{Rules}
 use Rattle.cip_answer.specs.Answers.{answer_by}
 use Rattle.cip_answer.specs.Laws.{IsComplete}
 use Rattle.cip_frame.specs.Records.{records_of}
-use Rattle.cip_stream.specs.declared.limits.Limits.{Limits}
-use Rattle.cip_stream.specs.Due.{are_flagged, due}
-use Rattle.cip_stream.specs.Limits.{limit_place, answered}
+use Rattle.cip_batch.specs.declared.limits.Limits.{Limits}
+use Rattle.cip_batch.specs.Due.{are_flagged, due}
+use Rattle.cip_batch.specs.Limits.{limit_place, answered}
 use Rattle.cip_words.specs.Ranges.{Labelling}
 use Rattle.cip_words.specs.declared.settings.Action.TheVariants.{Read}
 use Rattle.cip_words.specs.declared.settings.Task.TheVariants.{Annotate}

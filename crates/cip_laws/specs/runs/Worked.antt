@@ -5,9 +5,9 @@ use Rattle.cip_item.specs.Putting.{heading}
 use Rattle.cip_print.specs.Values.{settings_line}
 use Rattle.cip_answer.specs.Worked.{ended, bromochlorofluoromethane, with_returns, labelled}
 use Rattle.cip_rank.specs.declared.rules.Rules.TheVariants.{Wording2018}
-use Rattle.cip_stream.specs.declared.limits.Limits.{Limits}
-use Rattle.cip_stream.specs.Due.{due}
-use Rattle.cip_stream.specs.Limits.{limit_place, answered}
+use Rattle.cip_batch.specs.declared.limits.Limits.{Limits}
+use Rattle.cip_batch.specs.Due.{due}
+use Rattle.cip_batch.specs.Limits.{limit_place, answered}
 use Rattle.cip_commands.specs.Telling.{annotated, annotating, explaining}
 
 abbrev pub with_value : List ℕ → List ℕ → List ℕ

@@ -5,7 +5,7 @@ use Rattle.cip_digraph.specs.units.Ends.{end_at}
 use Rattle.std.specs.Prelude.{IfOk}
 use Rattle.cip_mol.specs.Ends.{between_in}
 use Rattle.cip_mol.specs.declared.ends.Ends.{Ends}
-use Rattle.cip_letters.specs.LentEnds.{ends_in}
+use Rattle.cip_digraph.specs.LentEnds.{ends_in}
 use Rattle.std.proofs.Common.{[], ◌∷◌, sym, subst}
 use Rattle.cip_aux.proofs.EndTurns.{centre_is}
 use Rattle.cip_aux.proofs.NodeMarks.{ok_by}

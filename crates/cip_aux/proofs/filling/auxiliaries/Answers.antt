@@ -1,5 +1,5 @@
 use Rattle.std.proofs.Common.{◌≡◌, ◌<◌, ◌-◌, ◌+◌, ◌∙◌, refl, sym, ap, subst, arith, length, slice_set}
-use Rattle.cip_letters.specs.Marks.{Marks}
+use Rattle.cip_digraph.specs.Marks.{Marks}
 use Rattle.cip_digraph.specs.digraph.NodeList.{parents_of}
 use Rattle.cip_aux.specs.Marking.{AreMarked}
 use Rattle.cip_aux.specs.Sights.{sight_of}

@@ -2,7 +2,7 @@ use Rattle.std.proofs.Common.{rules, ◌<◌, ◌∙◌, refl, subst, length, ar
 use Rattle.std.proofs.lemmas.Grind.{common_steps}
 use Rattle.cip_aux.specs.Marking.{IsUnitLetter}
 use Rattle.cip_aux.specs.UnitsAt.{unit_at}
-use Rattle.cip_letters.proofs.OddTurns.{all_rest}
+use Rattle.cip_digraph.proofs.OddTurns.{all_rest}
 use Rattle.cip_aux.proofs.UnitLetters.{ends_leave, none_here}
 use Rattle.cip_aux.proofs.letters.first_letter.Goals as goal
 

@@ -2,7 +2,7 @@ use Rattle.std.proofs.Common.{◌∙◌, ap, sym, refl, subst, true, false}
 use Rattle.cip_mol.specs.Ends.{between_in, between_of}
 use Rattle.cip_mol.specs.declared.site.Unit as units
 use Rattle.cip_digraph.specs.rules.Auxiliary.{nearer_first}
-use Rattle.cip_letters.specs.LentEnds.{ends_in}
+use Rattle.cip_digraph.specs.LentEnds.{ends_in}
 use Rattle.cip_aux.specs.Marking.{AreEndTurns}
 use Rattle.cip_aux.specs.UnitsAt.{unit_at}
 use Rattle.cip_aux.proofs.Keeping.{found_told, lent_turns, told_kept}

@@ -1,6 +1,6 @@
 use Rattle.std.proofs.Common.{◌∙◌, ap, sym, subst}
 use Rattle.cip_mol.specs.declared.site.Unit as units
-use Rattle.cip_letters.specs.Lettered.{turned_letter}
+use Rattle.cip_digraph.specs.Lettered.{turned_letter}
 use Rattle.cip_aux.specs.Marking.{IsUnitLetter}
 use Rattle.cip_aux.specs.UnitsAt.{unit_at}
 use Rattle.cip_aux.proofs.UnitLetters.{known_letter}

@@ -1,5 +1,5 @@
 use Rattle.std.proofs.Common.{◌≡◌, ◌≤◌, ◌+◌, count_by, drop, map}
-use Rattle.cip_letters.specs.Sides.{is_below}
+use Rattle.cip_digraph.specs.Sides.{is_below}
 use Rattle.cip_aux.specs.Turning.{side_at}
 use Rattle.cip_aux.proofs.turning.is_turned.Given as goal
 

@@ -1,6 +1,6 @@
 use Rattle.std.proofs.Common.{◌-◌, map, ap, ◌∙◌}
 use Rattle.cip_mol.specs.declared.outcome.Rule.TheVariants.{R1a}
-use Rattle.cip_letters.specs.Asking.{with_found, found_between}
+use Rattle.cip_digraph.specs.Asking.{with_found, found_between}
 use Rattle.cip_constitution.proofs.followed.Pairs.{notes_next}
 use Rattle.cip_constitution.proofs.noting.note_sphere.Goals as goal
 

@@ -3,7 +3,7 @@ use Rattle.std.specs.Prelude.{IfOk}
 use Rattle.cip_constitution.specs.Settling.{SettledAs}
 use Rattle.cip_label.specs.Standing.{RankedAs}
 use Rattle.cip_label.specs.declared.digraphs.Ranking.TheVariants.{Known, Over, Tied}
-use Rattle.cip_letters.specs.declared.asked.Asked.{Asked}
+use Rattle.cip_digraph.specs.declared.asked.Asked.{Asked}
 use Rattle.cip_desk.specs.Desks.{settled_by}
 use Rattle.cip_desk.specs.Keeping.{StandsAnyway, kept_of, ranking_in}
 use Rattle.cip_desk.specs.Rooting.{HasRoom}

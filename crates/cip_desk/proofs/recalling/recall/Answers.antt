@@ -9,9 +9,9 @@ use Rattle.cip_constitution.specs.Following.{Trying}
 use Rattle.cip_constitution.specs.declared.pairs.Pair.{Pair}
 use Rattle.cip_label.specs.Standing.{RankedAs}
 use Rattle.cip_label.specs.declared.digraphs.Ranking.TheVariants.{Known}
-use Rattle.cip_letters.specs.Asking.{is_decided}
+use Rattle.cip_digraph.specs.Asking.{is_decided}
 use Rattle.cip_ligands.specs.Taking.{AreSame}
-use Rattle.cip_letters.specs.declared.asked.Asked.{Asked}
+use Rattle.cip_digraph.specs.declared.asked.Asked.{Asked}
 use Rattle.cip_desk.specs.Rooting.{HasRoom}
 use Rattle.cip_desk.specs.Standing.{standing_of}
 use Rattle.cip_desk.specs.declared.aside.Aside.{Aside}

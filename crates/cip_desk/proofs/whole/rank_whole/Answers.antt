@@ -4,7 +4,7 @@ use Rattle.cip_constitution.specs.declared.pairs.Pair.{Pair}
 use Rattle.cip_rank.specs.declared.rules.Rules.{Rules}
 use Rattle.cip_label.specs.Standing.{RankedAs}
 use Rattle.cip_label.specs.declared.digraphs.Ranking.TheVariants.{Known}
-use Rattle.cip_letters.specs.declared.asked.Asked.{Asked}
+use Rattle.cip_digraph.specs.declared.asked.Asked.{Asked}
 use Rattle.cip_desk.specs.Keeping.{StandsAnyway, kept_of}
 use Rattle.cip_desk.specs.Standing.{Standing, both_as, standing_of}
 use Rattle.cip_desk.specs.declared.aside.Aside.{Aside}

@@ -5,7 +5,7 @@ use Rattle.cip_branches.specs.Standing.{node_in, AreKeysOf}
 use Rattle.cip_digraph.specs.declared.nodes.Told.{Told}
 use Rattle.cip_digraph.specs.digraph.Telling.{node_at}
 use Rattle.cip_digraph.proofs.lists.Elements.{by_recursion}
-use Rattle.cip_letters.specs.Asking.{AreWithin}
+use Rattle.cip_digraph.specs.Asking.{AreWithin}
 use Rattle.cip_aux.specs.Sights.{sight_of}
 use Rattle.cip_aux.proofs.Told.{whole_shows}
 use Rattle.cip_ligands.specs.NodeKeys.{mass_keys}

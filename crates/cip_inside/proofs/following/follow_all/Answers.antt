@@ -6,7 +6,7 @@ use Rattle.cip_branches.specs.Walking.{kids_left}
 use Rattle.cip_mol.specs.declared.outcome.Rule.TheVariants.{R1a}
 use Rattle.cip_digraph.specs.declared.nodes.Told.{Told}
 use Rattle.cip_digraph.proofs.lists.Elements.{by_recursion}
-use Rattle.cip_letters.specs.Asking.{AreWithin, found_between, with_found}
+use Rattle.cip_digraph.specs.Asking.{AreWithin, found_between, with_found}
 use Rattle.cip_ligands.proofs.FoundWithin.{nothing_found}
 use Rattle.cip_digraph.specs.digraph.NodeList.{parents_of}
 use Rattle.cip_ligands.specs.NodeKeys.{atomic_keys}

@@ -1,7 +1,7 @@
 use Rattle.std.proofs.Common.{sym, subst, ap, ◌∙◌, List, length}
 use Rattle.cip_aux.specs.Marking.{AreSeenTurns}
 use Rattle.cip_inside.proofs.SeenTurns.{ordered_seen}
-use Rattle.cip_letters.specs.declared.asked.Asked.{Asked}
+use Rattle.cip_digraph.specs.declared.asked.Asked.{Asked}
 use Rattle.cip_inside.proofs.keeping.configured.Goals as goal
 
 pub returns-clause-turns : goal.returns-clause-turns

@@ -2,8 +2,8 @@ use Rattle.std.proofs.Common.{◌≤◌, ◌∙◌, ℕ, List, All, length, sym,
 use Rattle.std.proofs.lemmas.List.Elements.{All-from_recursion}
 use Rattle.cip_aux.specs.Marking.{AreSeenTurns}
 use Rattle.cip_aux.specs.Sights.{IsReal, Sight}
-use Rattle.cip_letters.specs.declared.asked.Asked.{Asked}
-use Rattle.cip_letters.specs.Asking.{AreWithin}
+use Rattle.cip_digraph.specs.declared.asked.Asked.{Asked}
+use Rattle.cip_digraph.specs.Asking.{AreWithin}
 use Rattle.cip_inside.specs.Asking.{asked_pairs}
 use Rattle.cip_inside.specs.Near.{AreConstituted, AreTops, asked_tops}
 use Rattle.cip_inside.specs.OpenLooks.{AreOpen}

@@ -1,6 +1,6 @@
 use Rattle.std.proofs.Common.{◌∙◌, ◌∷◌, [], ap, arith}
 use Rattle.cip_mol.specs.Ends.{as_site}
-use Rattle.cip_letters.specs.LentEnds.{as_end}
+use Rattle.cip_digraph.specs.LentEnds.{as_end}
 use Rattle.cip_label.specs.Labelling.{of_one}
 use Rattle.cip_label.proofs.KnownOutcomes.{are_ranked, fit_together, known_by_one, known_by_two}
 use Rattle.cip_label.proofs.SiteEnds.{few_together, first_fit, one_end, second_fit, two_ends}

@@ -1,5 +1,5 @@
 use Rattle.std.proofs.Common.{refl}
-use Rattle.cip_stream.specs.Limits.{limit_place}
+use Rattle.cip_batch.specs.Limits.{limit_place}
 use Rattle.cip_laws.proofs.runs.worked_streams_are_given.Goals as goal
 
 pub returns : goal.returns

@@ -4,7 +4,7 @@ use Rattle.cip_branches.specs.Deciding.{Branched, AreFollowed}
 use Rattle.cip_rows.specs.Kin.{Kin}
 use Rattle.cip_rows.specs.Keys.{AreKeyed}
 use Rattle.cip_branches.specs.Saving.{Saved, restored}
-use Rattle.cip_letters.specs.declared.asked.Asked.{Asked}
+use Rattle.cip_digraph.specs.declared.asked.Asked.{Asked}
 use Rattle.cip_ligands.specs.Taking.{TakesRule}
 use Rattle.cip_ligands.proofs.TakenSteps.{same_branches, stands_back}
 use Rattle.cip_ligands.proofs.both_ways.take_both_ways.Goals as goal

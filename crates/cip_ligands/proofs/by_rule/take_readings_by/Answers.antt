@@ -3,7 +3,7 @@ use Rattle.std.proofs.lemmas.Bool.{cases_lt}
 use Rattle.std.specs.List.{AllByRecursion}
 use Rattle.cip_mol.specs.declared.outcome.Rule.TheVariants.{R4b}
 use Rattle.cip_branches.specs.Standing.{node_in}
-use Rattle.cip_letters.specs.Asking.{AreWithin}
+use Rattle.cip_digraph.specs.Asking.{AreWithin}
 use Rattle.cip_ligands.specs.Orders.{decided_by}
 use Rattle.cip_ligands.proofs.ReadingsFound.{readings_found, none_asked}
 use Rattle.cip_ligands.proofs.by_rule.take_readings_by.Goals as goal

@@ -1,7 +1,7 @@
 use Rattle.std.proofs.Common.{ap, ◌∙◌, arith}
 use Rattle.std.proofs.lemmas.Grind.{common_steps}
 use Rattle.std.specs.List.{slice_set}
-use Rattle.cip_letters.specs.Asking.{found_between, with_found}
+use Rattle.cip_digraph.specs.Asking.{found_between, with_found}
 use Rattle.cip_ligands.proofs.Noted.{mapped_more}
 use Rattle.cip_ligands.proofs.noting.note.Goals as goal
 

@@ -1,5 +1,5 @@
 use Rattle.std.proofs.Common.{◌≡◌, ◌++◌, map, take, drop}
-use Rattle.cip_letters.specs.Asking.{found_between, with_found}
+use Rattle.cip_digraph.specs.Asking.{found_between, with_found}
 use Rattle.cip_ligands.proofs.noting.note.Given as goal
 
 abbrev pub invariant-loop-one : goal.invariant-loop-one

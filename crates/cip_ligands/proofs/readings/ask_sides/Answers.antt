@@ -2,7 +2,7 @@ use Rattle.std.proofs.Common.{List, ◌++◌, ◌∷◌, [], length, map, sym, a
 use Rattle.std.specs.List.{range_with_len}
 use Rattle.std.proofs.lemmas.List.FromFn.{length-map-range_with_len}
 use Rattle.cip_rows.specs.Reserved.{Reserved}
-use Rattle.cip_letters.specs.declared.asked.Asked.{Asked}
+use Rattle.cip_digraph.specs.declared.asked.Asked.{Asked}
 use Rattle.cip_ligands.specs.Readings.{side_of}
 use Rattle.cip_ligands.proofs.ReadingKeys.{mapped_place}
 use Rattle.cip_ligands.proofs.readings.ask_sides.Goals as goal

@@ -3,9 +3,9 @@ use Rattle.cip_mol.specs.declared.outcome.Rule.TheVariants.{R4b}
 use Rattle.cip_branches.specs.Twins.{twins_of}
 use Rattle.cip_rows.specs.Keys.{AreKeyed}
 use Rattle.cip_rows.specs.Kin.{Kin}
-use Rattle.cip_letters.specs.declared.asked.Asked.{Asked}
+use Rattle.cip_digraph.specs.declared.asked.Asked.{Asked}
 use Rattle.std.specs.List.{list_all}
-use Rattle.cip_letters.specs.Asking.{is_decided}
+use Rattle.cip_digraph.specs.Asking.{is_decided}
 use Rattle.cip_ligands.specs.Readings.{base_of, between}
 use Rattle.cip_ligands.specs.Taking.{TakesRule}
 use Rattle.cip_ligands.proofs.readings.take_pairs.Goals as goal

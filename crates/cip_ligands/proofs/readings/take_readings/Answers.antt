@@ -4,7 +4,7 @@ use Rattle.std.specs.List.{AllByRecursion}
 use Rattle.cip_mol.specs.declared.outcome.Rule.TheVariants.{R4b}
 use Rattle.cip_digraph.specs.rules.Decisions.{difference_by}
 use Rattle.cip_branches.specs.Standing.{node_in}
-use Rattle.cip_letters.specs.Asking.{AreWithin, decided}
+use Rattle.cip_digraph.specs.Asking.{AreWithin, decided}
 use Rattle.cip_ligands.specs.Orders.{decided_by, decided_in_turn}
 use Rattle.cip_ligands.proofs.FoundWithin.{all_within, same_found}
 use Rattle.cip_ligands.proofs.ReadingsFound.{readings_found, readings_none, none_asked}

@@ -4,7 +4,7 @@ use Rattle.std.proofs.lemmas.List.{with_items_is}
 use Rattle.cip_mol.specs.declared.outcome.Rule.TheVariants.{R4b}
 use Rattle.cip_branches.specs.Twins.{twins_of}
 use Rattle.cip_rows.specs.Reserved.{Reserved}
-use Rattle.cip_letters.specs.declared.asked.Asked.{Asked}
+use Rattle.cip_digraph.specs.declared.asked.Asked.{Asked}
 use Rattle.cip_ligands.specs.Taking.{TakesRule}
 use Rattle.cip_ligands.proofs.readings.take_sides.Goals as goal
 use Rattle.cip_ligands.proofs.readings.take_sides.Goals.{After-take_again}

@@ -4,7 +4,7 @@ use Rattle.cip_branches.specs.Twins.{twins_of}
 use Rattle.cip_rows.specs.Keys.{AreKeyed}
 use Rattle.cip_rows.specs.Kin.{Kin}
 use Rattle.cip_rows.specs.Reserved.{Reserved}
-use Rattle.cip_letters.specs.declared.asked.Asked.{Asked}
+use Rattle.cip_digraph.specs.declared.asked.Asked.{Asked}
 use Rattle.cip_ligands.specs.Readings.{reading_keys, ComparesReadings}
 use Rattle.cip_ligands.specs.Taking.{TakesRule}
 use Rattle.cip_ligands.proofs.readings.take_with.Goals as goal

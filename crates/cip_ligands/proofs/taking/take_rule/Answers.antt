@@ -2,7 +2,7 @@ use Rattle.std.proofs.Common.{◌≡◌, ◌+◌, ◌<◌, suc, map, arith, ◌�
 use Rattle.cip_branches.specs.Deciding.{Branched}
 use Rattle.cip_rows.specs.Kin.{Kin}
 use Rattle.cip_rows.specs.Keys.{AreKeyed}
-use Rattle.cip_letters.specs.Asking.{with_found, found_between}
+use Rattle.cip_digraph.specs.Asking.{with_found, found_between}
 use Rattle.cip_ligands.specs.Taking.{TakesSoFar}
 use Rattle.cip_ligands.proofs.TakenSteps.{so_far_begun, so_far_on, fewer_wanted}
 use Rattle.cip_ligands.proofs.taking.take_rule.Goals as goal

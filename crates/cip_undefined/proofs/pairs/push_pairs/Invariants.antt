@@ -1,5 +1,5 @@
 use Rattle.std.proofs.Common.{◌≡◌, ◌++◌, drop}
-use Rattle.cip_letters.specs.Sides.{each_two}
+use Rattle.cip_digraph.specs.Sides.{each_two}
 use Rattle.cip_undefined.specs.Pairs.{pair}
 use Rattle.cip_undefined.proofs.pairs.push_pairs.Given as goal
 

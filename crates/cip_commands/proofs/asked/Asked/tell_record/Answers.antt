@@ -1,7 +1,7 @@
 use Rattle.std.proofs.Common.{rules, ◌≡◌, ◌∙◌, ap, subst, false}
 use Rattle.std.specs.Prelude.{IfOk}
 use Rattle.cip_item.specs.Parts.{has_label_item, without_label_items}
-use Rattle.cip_stream.specs.Batches.{Telling}
+use Rattle.cip_batch.specs.Batches.{Telling}
 use Rattle.cip_commands.specs.TellingBare.{told_bare}
 use Rattle.cip_commands.specs.declared.ending.Note.{Note}
 use Rattle.cip_commands.proofs.ToldBare.{bare_is_told, told_itself}

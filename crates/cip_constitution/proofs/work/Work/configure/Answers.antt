@@ -7,7 +7,7 @@ use Rattle.cip_ligands.specs.Taking.{AreSame}
 use Rattle.cip_ligands.specs.Deciding.{AreDecidedBy}
 use Rattle.cip_ligands.specs.Marked.{AreMarksOf}
 use Rattle.cip_ligands.specs.Orders.{rules_before}
-use Rattle.cip_letters.specs.declared.asked.Asked.{Asked}
+use Rattle.cip_digraph.specs.declared.asked.Asked.{Asked}
 use Rattle.cip_digraph.specs.rules.Orders.{rule_2}
 use Rattle.cip_mol.specs.declared.outcome.Rule.TheVariants.{R3}
 use Rattle.std.specs.Prelude.{true}

@@ -8,10 +8,10 @@ use Rattle.cip_constitution.specs.FollowedOut.{AreConstituted, AreFollowedOut, s
 use Rattle.cip_constitution.specs.Following.{Trying, named}
 use Rattle.cip_constitution.proofs.followed.Ends.{begin, begin_within, constituted, count}
 use Rattle.cip_digraph.specs.rules.Orders.{rule_1a}
-use Rattle.cip_letters.specs.Asking.{is_decided}
+use Rattle.cip_digraph.specs.Asking.{is_decided}
 use Rattle.cip_ligands.specs.Deciding.{AreDecidedBy}
 use Rattle.cip_mol.specs.declared.outcome.Rule.TheVariants.{R1a}
-use Rattle.cip_letters.specs.declared.asked.Asked.{Asked}
+use Rattle.cip_digraph.specs.declared.asked.Asked.{Asked}
 use Rattle.cip_constitution.proofs.work.Work.constitute.Goals as goal
 
 pub decide_constitution-requires-clause-followed : goal.decide_constitution-requires-clause-followed

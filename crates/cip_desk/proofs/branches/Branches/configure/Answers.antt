@@ -1,7 +1,7 @@
 use Rattle.std.proofs.Common.{rules, ◌≡◌, ◌++◌, List, take, drop, length, sym, ap, ◌∙◌, subst}
 use Rattle.std.proofs.Math.Seq.{take-append_seam}
 use Rattle.cip_constitution.specs.FollowedOut.{AreOrdered}
-use Rattle.cip_letters.specs.declared.asked.Asked.{Asked}
+use Rattle.cip_digraph.specs.declared.asked.Asked.{Asked}
 use Rattle.cip_desk.specs.Standing.{by_vertices}
 use Rattle.cip_desk.proofs.KnownRoots.{on_ok}
 use Rattle.cip_desk.proofs.branches.Branches.configure.Goals as goal

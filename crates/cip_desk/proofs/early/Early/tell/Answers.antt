@@ -3,7 +3,7 @@ use Rattle.std.specs.List.{list_all}
 use Rattle.cip_digraph.specs.digraph.Digraph.{digraph}
 use Rattle.cip_digraph.specs.rules.EarlyOrder.{differ_within}
 use Rattle.cip_digraph.specs.units.Ends.{end_at}
-use Rattle.cip_letters.specs.Asking.{is_decided}
+use Rattle.cip_digraph.specs.Asking.{is_decided}
 use Rattle.cip_desk.specs.Branches.{answers_of, branches_of}
 use Rattle.cip_desk.proofs.Answers.{answers_are}
 use Rattle.cip_desk.proofs.DifferEarly.{decided_is}

@@ -1,6 +1,6 @@
 use Rattle.std.proofs.Common.{◌<◌, ◌∙◌, ◌^◌, ℕ, List, All, length, sym, ap, subst, arith}
 use Rattle.cip_digraph.specs.digraph.NodeList.{parents_of}
-use Rattle.cip_letters.specs.Asking.{AreWithin}
+use Rattle.cip_digraph.specs.Asking.{AreWithin}
 use Rattle.cip_aux.specs.Sights.{sight_of}
 use Rattle.cip_aux.proofs.Told.{whole_shows}
 use Rattle.cip_rank.specs.View.{on_way}

@@ -1,0 +1,306 @@
+-- Records that are gathered in batches and answered batch by batch.
+use Rattle.std.proofs.Common.{◌≡◌, ◌<◌, ◌+◌, arith, ℕ, zero, suc, List, [], ◌∷◌, ◌++◌, length, map, take, drop, Option, Result, Ok, Err, refl, Bool, ◌||◌, true, false, Some, None, sym, ◌∙◌, ap, add-zero, append_assoc, append-nil, length-append, subst, get_or}
+use Rattle.std.proofs.Math.Seq.{take-length}
+use Rattle.std.proofs.lemmas.List.{length-map, length-take-le, map-append, take_more, take-append-drop}
+use Rattle.std.specs.Result.{OnOk}
+use Rattle.std.specs.Io.KnownBytes.{Appends}
+use Rattle.cip_batch.specs.declared.stop.Stop.{Stop}
+use Rattle.cip_batch.specs.declared.verdict.Verdict.{Verdict}
+use Rattle.cip_batch.specs.Manner.{Manner}
+use Rattle.cip_batch.specs.Verdicts.{clear, first_note, joined, joined_result}
+use Rattle.cip_batch.specs.Due.{verdict_from, texts_from}
+use Rattle.cip_batch.specs.Endings.{GrewFrom}
+use Rattle.cip_batch.specs.Batches.{Advances, Answers, AnswersFirst, Gathered, Telling, telling, told_from}
+use Rattle.cip_io.specs.Growth.{AppendsPrefix, TakesFront}
+use Rattle.cip_io.proofs.Growth.{appends_none, appends_both, prefix_behind, prefix_longer}
+use Rattle.cip_batch.proofs.Growing.{told_both, verdict_both, texts_both, answers_longer, answers_behind}
+
+told_long : {N : Type 0} (manner : Manner N) (number : ℕ) (records : List (List ℕ))
+    → length (told_from manner number records) ≡ length records
+told_long manner number [] = refl
+told_long manner number (bytes ∷ records) = ap suc (told_long manner (number + 1) records)
+
+-- nothing was written yet
+
+pub none_yet : {N : Type 0} (manner : Manner N) (number : ℕ) (waiting : List (List ℕ)) (old : Option (List ℕ))
+    → Advances manner number waiting number waiting clear old old
+none_yet manner number waiting old = record {
+  answered = [];
+  parts = refl;
+  next = sym (add-zero number);
+  told = refl;
+  written = appends_none old;
+}
+
+pub no_memory : {N : Type 0} (manner : Manner N) (number : ℕ) (records : List (List ℕ)) (old : Option (List ℕ))
+    → GrewFrom manner number records old old
+no_memory manner number records old =
+    record { before = []; front = record { more = records; joined = refl }; written = appends_none old }
+
+-- a whole batch was answered, and none waits any more
+all_answered : {N T : Type 0} (tells : T → Manner N) (before now : Gathered T) (result : Result (Verdict N) Stop)
+    (old new : Option (List ℕ))
+    → OnOk result (now ≡ record before { first = before.first + length before.records; records = [] })
+    → Answers (tells before.teller) before.first before.records result old new
+    → AnswersFirst (tells before.teller) before.first before.records now.first now.records result old new
+all_answered {T = T} tells before now (Ok verdict) old new emptied answers = record {
+  answered = before.records;
+  parts = ap (λ (batch : Gathered T). before.records ++ batch.records) emptied ∙ append-nil before.records;
+  next = ap (λ (batch : Gathered T). batch.first) emptied;
+  told = answers.holds;
+  written = answers.written;
+}
+all_answered tells before now (Err stop) old new emptied answers = answers
+
+pub batch_answered : {N T : Type 0} (tells : T → Manner N) (batch before now : Gathered T)
+    (result : Result (Verdict N) Stop) (old new : Option (List ℕ)) → before ≡ batch
+    → OnOk result (now ≡ record before { first = before.first + length before.records; records = [] })
+    → Answers (tells before.teller) before.first before.records result old new
+    → AnswersFirst (tells batch.teller) batch.first batch.records now.first now.records result old new
+batch_answered {T = T} tells batch before now result old new same emptied answers =
+    subst (λ (b : Gathered T). AnswersFirst (tells b.teller) b.first b.records now.first now.records result old new)
+    same (all_answered tells before now result old new emptied answers)
+
+-- one more record came into a batch, whose jobs tell what is due for them
+pub told_pushed : {N : Type 0} {W : Type 0} (manner : Manner N) (first : ℕ) (tells : W → Telling N)
+    (bytes_of : W → List ℕ) (jobs : List W) (job : W) → map tells jobs ≡ told_from manner first (map bytes_of jobs)
+    → tells job ≡ telling manner (first + length jobs) (bytes_of job)
+    → map tells (jobs ++ job ∷ []) ≡ told_from manner first (map bytes_of (jobs ++ job ∷ []))
+told_pushed manner first tells bytes_of jobs job all one =
+    let place : first + length jobs ≡ first + length (map bytes_of jobs) =
+    ap (λ n. first + n) (sym (length-map jobs bytes_of)) in
+    map-append tells jobs (job ∷ [])
+    ∙ ap (λ told. told ++ tells job ∷ []) all
+    ∙ ap (λ told. told_from manner first (map bytes_of jobs) ++ told ∷ [])
+    (one ∙ ap (λ n. telling manner n (bytes_of job)) place)
+    ∙ sym (told_both manner first (map bytes_of jobs) (bytes_of job ∷ []))
+    ∙ ap (told_from manner first) (sym (map-append bytes_of jobs (job ∷ [])))
+
+-- records came behind those that are gathered
+pub gathers : {N : Type 0} (manner : Manner N) (number first : ℕ) (records waiting more : List (List ℕ))
+    (verdict : Verdict N) (old new : Option (List ℕ)) → Advances manner number records first waiting verdict old new
+    → Advances manner number (records ++ more) first (waiting ++ more) verdict old new
+gathers manner number first records waiting more verdict old new came = record {
+  answered = came.answered;
+  parts = sym (append_assoc came.answered waiting more) ∙ ap (λ xs. xs ++ more) came.parts;
+  next = came.next;
+  told = came.told;
+  written = came.written;
+}
+
+-- those that are gathered were answered
+pub answers_both : {N : Type 0} (manner : Manner N) (number first : ℕ) (records waiting : List (List ℕ))
+    (verdict : Verdict N) (result : Result (Verdict N) Stop) (old middle new : Option (List ℕ))
+    → Advances manner number records first waiting verdict old middle
+    → Answers manner first waiting result middle new
+    → Answers manner number records (joined_result verdict result) old new
+answers_both manner number first records waiting verdict result old middle new came answers =
+    subst (λ xs. Answers manner number xs (joined_result verdict result) old new) came.parts
+    (answers_behind manner number came.answered waiting verdict result old middle new came.told came.written
+    (subst (λ n. Answers manner n waiting result middle new) came.next answers))
+
+-- the first of those that are gathered were answered
+pub advances_both : {N : Type 0} (manner : Manner N) (number first next : ℕ) (records batch rest later : List (List ℕ))
+    (verdict one : Verdict N) (old middle new : Option (List ℕ))
+    → Advances manner number records first (batch ++ rest) verdict old middle
+    → Advances manner first batch next later one middle new
+    → Advances manner number records next (later ++ rest) (joined verdict one) old new
+advances_both manner number first next records batch rest later verdict one old middle new before behind =
+    let answers : Answers manner number (before.answered ++ behind.answered) (Ok (joined verdict one)) old new =
+    answers_behind manner number before.answered behind.answered verdict (Ok one) old middle new before.told
+    before.written (subst (λ n. Answers manner n behind.answered (Ok one) middle new) before.next
+    (record { holds = behind.told; written = behind.written })) in
+    record {
+      answered = before.answered ++ behind.answered;
+      parts = append_assoc before.answered behind.answered (later ++ rest)
+          ∙ ap (λ xs. before.answered ++ xs) (sym (append_assoc behind.answered later rest)
+          ∙ ap (λ xs. xs ++ rest) behind.parts)
+          ∙ before.parts;
+      next = rw (length-append before.answered behind.answered) (omega (arith, before.next, behind.next));
+      told = answers.holds;
+      written = answers.written;
+    }
+
+-- the first of those that are gathered stopped it
+pub stopped_both : {N : Type 0} (manner : Manner N) (number first : ℕ) (records batch rest : List (List ℕ))
+    (verdict : Verdict N) (stop : Stop) (old middle new : Option (List ℕ))
+    → Advances manner number records first (batch ++ rest) verdict old middle
+    → Answers manner first batch (Err stop) middle new → Answers manner number records (Err stop) old new
+stopped_both manner number first records batch rest verdict stop old middle new before answers =
+    answers_both manner number first records (batch ++ rest) verdict (Err stop) old middle new before
+    (answers_longer manner first batch rest stop middle new answers)
+
+-- the number of a record that comes next stays what it is
+pub same_next : {N : Type 0} (manner : Manner N) (number first : ℕ) (records waiting : List (List ℕ))
+    (verdict : Verdict N) (old new : Option (List ℕ)) → Advances manner number records first waiting verdict old new
+    → number + length records ≡ first + length waiting
+same_next manner number first records waiting verdict old new came =
+    let parts : length came.answered + length waiting ≡ length records =
+    sym (length-append came.answered waiting) ∙ ap length came.parts in
+    omega (arith, came.next, parts)
+
+-- what was found for each record
+
+told_at : {N : Type 0} (manner : Manner N) (number : ℕ) (records : List (List ℕ)) (k : ℕ) (d : Telling N)
+    → k < length records
+    → get_or (told_from manner number records) k d ≡ telling manner (number + k) (get_or records k [])
+told_at manner number [] k d within = absurd (omega (arith, within))
+told_at manner number (bytes ∷ records) zero d within =
+    ap (λ n. telling manner n bytes) (sym (add-zero number))
+told_at manner number (bytes ∷ records) (suc k) d within =
+    let place : number + 1 + k ≡ number + suc k = omega arith in
+    told_at manner (number + 1) records k d (omega (arith, within))
+    ∙ ap (λ n. telling manner n (get_or records k [])) place
+
+-- what was found at a place is what is told of the record there
+pub told_here : {N : Type 0} (manner : Manner N) (number : ℕ) (records : List (List ℕ)) (found : List (Telling N))
+    (k : ℕ) (d : Telling N) → found ≡ told_from manner number records → k < length found
+    → get_or found k d ≡ telling manner (number + k) (get_or records k [])
+told_here manner number records found k d all within =
+    ap (λ xs. get_or xs k d) all
+    ∙ told_at manner number records k d (subst (λ n. k < n) (ap length all ∙ told_long manner number records) within)
+
+-- what the records up to one more add, and their texts
+
+note_alone : {N : Type 0} (note : Option N) → first_note note None ≡ note
+note_alone (Some n) = refl
+note_alone None = refl
+
+flag_alone : (flag : Bool) → flag || false ≡ flag
+flag_alone true = refl
+flag_alone false = refl
+
+joined_clear : {N : Type 0} (verdict : Verdict N) → joined verdict clear ≡ verdict
+joined_clear verdict = rw (flag_alone verdict.flagged, note_alone verdict.note) refl
+
+verdict_more : {N : Type 0} (manner : Manner N) (number : ℕ) (records : List (List ℕ)) (k : ℕ) → k < length records
+    → verdict_from manner number (take (k + 1) records)
+    ≡ joined (verdict_from manner number (take k records)) (manner.verdict (number + k) (get_or records k []))
+verdict_more manner number records k within =
+    let bytes = get_or records k [] in
+    let long : length (take k records) ≡ k = length-take-le k records (omega (arith, within)) in
+    ap (verdict_from manner number) (take_more records k [] within)
+    ∙ verdict_both manner number (take k records) (bytes ∷ [])
+    ∙ ap (joined (verdict_from manner number (take k records)))
+    (joined_clear (manner.verdict (number + length (take k records)) bytes)
+    ∙ ap (λ n. manner.verdict (number + n) bytes) long)
+
+texts_more : {N : Type 0} (manner : Manner N) (number : ℕ) (records : List (List ℕ)) (k : ℕ) → k < length records
+    → texts_from manner number (take (k + 1) records)
+    ≡ texts_from manner number (take k records) ++ manner.text (number + k) (get_or records k [])
+texts_more manner number records k within =
+    let bytes = get_or records k [] in
+    let long : length (take k records) ≡ k = length-take-le k records (omega (arith, within)) in
+    ap (texts_from manner number) (take_more records k [] within)
+    ∙ texts_both manner number (take k records) (bytes ∷ [])
+    ∙ ap (λ text. texts_from manner number (take k records) ++ text)
+    (append-nil (manner.text (number + length (take k records)) bytes)
+    ∙ ap (λ n. manner.text (number + n) bytes) long)
+
+-- a front of the texts of the first records is one of all texts
+front_of_all : {N : Type 0} (manner : Manner N) (number : ℕ) (records : List (List ℕ)) (k : ℕ)
+    (old new : Option (List ℕ)) → AppendsPrefix old new (texts_from manner number (take k records))
+    → AppendsPrefix old new (texts_from manner number records)
+front_of_all manner number records k old new prefix =
+    let whole : texts_from manner number (take k records)
+    ++ texts_from manner (number + length (take k records)) (drop k records) ≡ texts_from manner number records =
+    sym (texts_both manner number (take k records) (drop k records))
+    ∙ ap (texts_from manner number) (take-append-drop k records) in
+    subst (AppendsPrefix old new) whole
+    (prefix_longer old new (texts_from manner number (take k records))
+    (texts_from manner (number + length (take k records)) (drop k records)) prefix)
+
+-- the first of the records were told of, so many of them, and the sink took their texts but for what waits
+pub record IsJoined {N : Type 0} (manner : Manner N) (number : ℕ) (records : List (List ℕ)) (count : ℕ)
+    (verdict : Verdict N) (waiting : List ℕ) (old new : Option (List ℕ)) : Type 0 where
+  pub told : verdict_from manner number (take count records) ≡ verdict
+  pub text : TakesFront old new (texts_from manner number (take count records)) waiting
+
+pub none_joined : {N : Type 0} (manner : Manner N) (number : ℕ) (records : List (List ℕ)) (old : Option (List ℕ))
+    → IsJoined manner number records 0 clear [] old old
+none_joined manner number records old = record {
+  told = refl;
+  text = record { front = []; parts = refl; written = appends_none old };
+}
+
+pub one_joined : {N : Type 0} (manner : Manner N) (number : ℕ) (records : List (List ℕ)) (found : List (Telling N))
+    (k : ℕ) (one : Telling N) (verdict : Verdict N) (waiting left : List ℕ) (old middle new : Option (List ℕ))
+    → found ≡ told_from manner number records → k < length found
+    → one ≡ telling manner (number + k) (get_or records k [])
+    → IsJoined manner number records k verdict waiting old middle → TakesFront middle new (waiting ++ one.text) left
+    → IsJoined manner number records (k + 1) (joined verdict one.verdict) left old new
+one_joined {N = N} manner number records found k one verdict waiting left old middle new all within here before takes =
+    let place : k < length records = subst (λ n. k < n) (ap length all ∙ told_long manner number records) within in
+    record {
+      told = verdict_more manner number records k place
+          ∙ ap (λ (t : Telling N). joined (verdict_from manner number (take k records)) t.verdict) (sym here)
+          ∙ ap (λ v. joined v one.verdict) before.told;
+      text = record {
+        front = before.text.front ++ takes.front;
+        parts = append_assoc before.text.front takes.front left
+            ∙ ap (λ text. before.text.front ++ text) takes.parts
+            ∙ sym (append_assoc before.text.front waiting one.text)
+            ∙ ap (λ text. text ++ one.text) before.text.parts
+            ∙ ap (λ (t : Telling N). texts_from manner number (take k records) ++ t.text) here
+            ∙ sym (texts_more manner number records k place);
+        written = appends_both old middle new before.text.front takes.front before.text.written takes.written;
+      };
+    }
+
+-- the sink took a front of the next text, behind what waited
+pub stopped_at : {N : Type 0} (manner : Manner N) (number : ℕ) (records : List (List ℕ)) (found : List (Telling N))
+    (k : ℕ) (one : Telling N) (verdict : Verdict N) (waiting : List ℕ) (old middle new : Option (List ℕ))
+    → found ≡ told_from manner number records → k < length found
+    → one ≡ telling manner (number + k) (get_or records k [])
+    → IsJoined manner number records k verdict waiting old middle
+    → AppendsPrefix middle new (waiting ++ one.text)
+    → AppendsPrefix old new (texts_from manner number records)
+stopped_at {N = N} manner number records found k one verdict waiting old middle new all within here before prefix =
+    let place : k < length records = subst (λ n. k < n) (ap length all ∙ told_long manner number records) within in
+    let so_far : before.text.front ++ (waiting ++ one.text) ≡ texts_from manner number (take (k + 1) records) =
+    sym (append_assoc before.text.front waiting one.text)
+    ∙ ap (λ text. text ++ one.text) before.text.parts
+    ∙ ap (λ (t : Telling N). texts_from manner number (take k records) ++ t.text) here
+    ∙ sym (texts_more manner number records k place) in
+    front_of_all manner number records (k + 1) old new
+    (subst (AppendsPrefix old new) so_far
+    (prefix_behind old middle new before.text.front (waiting ++ one.text) before.text.written prefix))
+
+-- what waits behind all of them is written, or a front of it
+
+whole_found : {N : Type 0} (manner : Manner N) (number : ℕ) (records : List (List ℕ)) (found : List (Telling N))
+    → found ≡ told_from manner number records → take (length found) records ≡ records
+whole_found manner number records found all =
+    ap (λ n. take n records) (ap length all ∙ told_long manner number records) ∙ take-length records
+
+pub all_told : {N : Type 0} (manner : Manner N) (number : ℕ) (records : List (List ℕ)) (found : List (Telling N))
+    (verdict : Verdict N) (waiting : List ℕ) (old new : Option (List ℕ)) → found ≡ told_from manner number records
+    → IsJoined manner number records (length found) verdict waiting old new
+    → verdict_from manner number records ≡ verdict
+all_told manner number records found verdict waiting old new all before =
+    subst (λ xs. verdict_from manner number xs ≡ verdict) (whole_found manner number records found all) before.told
+
+all_parts : {N : Type 0} (manner : Manner N) (number : ℕ) (records : List (List ℕ)) (found : List (Telling N))
+    (verdict : Verdict N) (waiting : List ℕ) (old new : Option (List ℕ)) → found ≡ told_from manner number records
+    → (before : IsJoined manner number records (length found) verdict waiting old new)
+    → before.text.front ++ waiting ≡ texts_from manner number records
+all_parts manner number records found verdict waiting old new all before =
+    before.text.parts ∙ ap (texts_from manner number) (whole_found manner number records found all)
+
+pub all_written : {N : Type 0} (manner : Manner N) (number : ℕ) (records : List (List ℕ)) (found : List (Telling N))
+    (verdict : Verdict N)
+    (waiting : List ℕ) (old middle new : Option (List ℕ)) → found ≡ told_from manner number records
+    → IsJoined manner number records (length found) verdict waiting old middle → Appends middle new waiting
+    → Appends old new (texts_from manner number records)
+all_written manner number records found verdict waiting old middle new all before written =
+    subst (Appends old new) (all_parts manner number records found verdict waiting old middle all before)
+    (appends_both old middle new before.text.front waiting before.text.written written)
+
+pub stopped_behind : {N : Type 0} (manner : Manner N) (number : ℕ) (records : List (List ℕ)) (found : List (Telling N))
+    (verdict : Verdict N) (waiting : List ℕ) (old middle new : Option (List ℕ))
+    → found ≡ told_from manner number records
+    → IsJoined manner number records (length found) verdict waiting old middle → AppendsPrefix middle new waiting
+    → AppendsPrefix old new (texts_from manner number records)
+stopped_behind manner number records found verdict waiting old middle new all before prefix =
+    subst (AppendsPrefix old new) (all_parts manner number records found verdict waiting old middle all before)
+    (prefix_behind old middle new before.text.front waiting before.text.written prefix)

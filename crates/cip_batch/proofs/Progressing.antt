@@ -1,0 +1,122 @@
+-- What a run over a stream keeps from turn to turn.
+use Rattle.std.proofs.Common.{◌≡◌, ◌≤◌, ◌<◌, ◌+◌, ◌-◌, ◌^◌, ℕ, List, [], ◌++◌, length, Option, Some, None, refl, sym, ◌∙◌, ap, arith, append-nil, length-append, subst}
+use Rattle.std.specs.Io.KnownBytes.{Consumes, Keeps}
+use Rattle.cip_frame.specs.Records.{cut_of}
+use Rattle.cip_frame.specs.Framing.{Framing, Holds}
+use Rattle.cip_batch.specs.declared.limits.Limits.{Limits}
+use Rattle.cip_batch.specs.declared.verdict.Verdict.{Verdict}
+use Rattle.cip_batch.specs.Manner.{Manner}
+use Rattle.cip_batch.specs.Verdicts.{clear, joined}
+use Rattle.cip_batch.specs.Batches.{Advances}
+use Rattle.cip_batch.specs.Reading.{Feeds}
+use Rattle.cip_batch.proofs.Batches.{none_yet, gathers, advances_both, same_next}
+use Rattle.cip_batch.proofs.Bounds.{consumes_both}
+use Rattle.cip_batch.proofs.Counting.{few_closed}
+
+-- At the head of a turn: what was taken was fed, its closed records were answered but for those that are gathered, and
+-- the framer holds none.
+pub record Progress {N : Type 0} (manner : Manner N) (limits : Limits) (room : ℕ) (verdict : Verdict N)
+    (left rest old new : Option (List ℕ)) (framer : Framing) (first : ℕ) (batch : List (List ℕ)) : Type 0 where
+  pub fed : List ℕ
+  pub taken : Consumes left rest fed
+  pub holds : Holds (cut_of fed).whole fed framer
+  pub empty : framer.waiting ≡ []
+  pub count : length fed + room ≡ limits.input
+  pub limit : framer.limit ≡ limits.record
+  pub came : Advances manner 1 (cut_of fed).whole first batch verdict old new
+
+-- nothing taken
+
+consumes_none : (left : Option (List ℕ)) → Consumes left left []
+consumes_none None = tt
+consumes_none (Some bytes) = refl
+
+pub keeps_is : (left rest : Option (List ℕ)) → Keeps left rest → Consumes left rest []
+keeps_is None rest same = tt
+keeps_is (Some bytes) None same = absurd same
+keeps_is (Some bytes) (Some others) same = sym same
+
+pub begun : {N : Type 0} (manner : Manner N) (limits : Limits) (left old : Option (List ℕ)) (framer : Framing)
+    → Holds [] [] framer → framer.waiting ≡ [] → framer.limit ≡ limits.record
+    → Progress manner limits limits.input clear left left old old framer 1 []
+begun manner limits left old framer holds empty limit = record {
+  fed = [];
+  taken = consumes_none left;
+  holds = holds;
+  empty = empty;
+  count = omega arith;
+  limit = limit;
+  came = none_yet manner 1 [] old;
+}
+
+-- the numbers of the records that are gathered
+
+pub room_between : {N : Type 0} (manner : Manner N) (limits : Limits) (room : ℕ) (verdict : Verdict N)
+    (left rest old new : Option (List ℕ)) (framer : Framing) (first : ℕ) (batch : List (List ℕ))
+    → Progress manner limits room verdict left rest old new framer first batch → limits.input < 2 ^ 63
+    → first + length batch ≤ 2 ^ 63
+room_between manner limits room verdict left rest old new framer first batch before few =
+    let next = same_next manner 1 first (cut_of before.fed).whole batch verdict old new before.came in
+    omega (arith, next, few_closed before.fed, before.count, few)
+
+-- a turn that brought a piece
+
+-- the records that wait in the framer go on from those that are gathered
+pub record Fed {N : Type 0} (manner : Manner N) (limits : Limits) (room : ℕ) (verdict : Verdict N)
+    (left rest old new : Option (List ℕ)) (framer : Framing) (first : ℕ) (gathered : List (List ℕ)) : Type 0 where
+  pub fed : List ℕ
+  pub taken : Consumes left rest fed
+  pub holds : Holds (cut_of fed).whole fed (record framer { waiting = [] })
+  pub count : length fed + room ≡ limits.input
+  pub limit : framer.limit ≡ limits.record
+  pub came : Advances manner 1 (cut_of fed).whole first gathered verdict old new
+
+pub fed_piece : {N : Type 0} (manner : Manner N) (limits : Limits) (room count : ℕ) (verdict : Verdict N)
+    (left middle rest old new : Option (List ℕ)) (framer now : Framing) (first : ℕ) (batch : List (List ℕ))
+    → Progress manner limits room verdict left middle old new framer first batch
+    → Feeds count room middle rest framer now → now.limit ≡ framer.limit
+    → Fed manner limits (room - count) verdict left rest old new now first (batch ++ now.waiting)
+fed_piece manner limits room count verdict left middle rest old new framer now first batch before feeds limit =
+    let holds = feeds.fed (cut_of before.fed).whole before.fed before.holds in
+    record {
+      fed = before.fed ++ feeds.bytes;
+      taken = consumes_both left middle rest before.fed feeds.bytes before.taken feeds.taken;
+      holds = record {
+        records = append-nil (cut_of (before.fed ++ feeds.bytes)).whole;
+        open_bytes = holds.open_bytes;
+        within = holds.within;
+        fault = holds.fault;
+      };
+      count = rw (length-append before.fed feeds.bytes) (omega (arith, before.count, feeds.counted, feeds.few));
+      limit = limit ∙ before.limit;
+      came = subst (λ records. Advances manner 1 records first (batch ++ now.waiting) verdict old new) holds.records
+          (gathers manner 1 first (cut_of before.fed).whole batch now.waiting verdict old new before.came);
+    }
+
+pub room_fed : {N : Type 0} (manner : Manner N) (limits : Limits) (room : ℕ) (verdict : Verdict N)
+    (left rest old new : Option (List ℕ)) (framer : Framing) (first : ℕ) (gathered : List (List ℕ))
+    → Fed manner limits room verdict left rest old new framer first gathered → limits.input < 2 ^ 63
+    → first + length gathered ≤ 2 ^ 63
+room_fed manner limits room verdict left rest old new framer first gathered fed few =
+    let next = same_next manner 1 first (cut_of fed.fed).whole gathered verdict old new fed.came in
+    omega (arith, next, few_closed fed.fed, fed.count, few)
+
+pub turned : {N : Type 0} (manner : Manner N) (limits : Limits) (room : ℕ) (verdict more : Verdict N)
+    (left rest old half new : Option (List ℕ)) (framer next : Framing) (first later : ℕ)
+    (gathered batch : List (List ℕ)) → Fed manner limits room verdict left rest old half framer first gathered
+    → Advances manner first gathered later batch more half new → next ≡ record framer { waiting = [] }
+    → Progress manner limits room (joined verdict more) left rest old new next later batch
+turned manner limits room verdict more left rest old half new framer next first later gathered batch fed came same =
+    record {
+      fed = fed.fed;
+      taken = fed.taken;
+      holds = subst (Holds (cut_of fed.fed).whole fed.fed) (sym same) fed.holds;
+      empty = ap (λ (f : Framing). f.waiting) same;
+      count = fed.count;
+      limit = ap (λ (f : Framing). f.limit) same ∙ fed.limit;
+      came = subst (λ records. Advances manner 1 (cut_of fed.fed).whole later records (joined verdict more) old new)
+          (append-nil batch)
+          (advances_both manner 1 first later (cut_of fed.fed).whole gathered [] batch verdict more old half new
+          (subst (λ records. Advances manner 1 (cut_of fed.fed).whole first records verdict old half)
+          (sym (append-nil gathered)) fed.came) came);
+    }

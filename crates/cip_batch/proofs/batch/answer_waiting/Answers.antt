@@ -1,0 +1,89 @@
+use Rattle.std.proofs.Common.{◌≡◌, ◌<◌, ◌^◌, ◌++◌, ◌∷◌, [], Err, append_assoc, arith, length, refl, subst, sym, ap, ◌∙◌}
+use Rattle.std.proofs.lemmas.Grind.{common_steps}
+use Rattle.cip_frame.specs.Framing.{Framing}
+use Rattle.cip_batch.specs.Batches.{Advances, Answers}
+use Rattle.cip_batch.proofs.Batches.{advances_both, none_yet, same_next, stopped_both}
+use Rattle.cip_batch.proofs.Faults.{later_twice, rose_later, stays, told_no_fault}
+use Rattle.cip_batch.proofs.batch.answer_waiting.Goals as goal
+
+pub loop-next-init : goal.loop-next-init
+loop-next-init g c =
+    let batch = c.args.batch.now in
+    record {
+      so_far = rw c.clear-verdict.ensures (none_yet (g.T.Teller.manner batch.teller) batch.first
+          (batch.records ++ c.args.framer.now.waiting) (g.K.Sink.taken c.args.sink.now));
+      room = c.requires.room;
+      teller = refl;
+      rest = refl;
+      later = stays (g.K.Sink.faults c.args.sink.now);
+    }
+
+pub returns-in-Err : goal.returns-in-Err
+returns-in-Err g c =
+    let batch = c.args.batch.now in
+    let manner = g.T.Teller.manner batch.teller in
+    let records = batch.records ++ c.args.framer.now.waiting in
+    let now = c.loop-next.batch in
+    let bytes = c.in-Some.next.bytes in
+    let rest = c.next.new.self.waiting in
+    let taken = ap (λ (framer : Framing). now.records ++ framer.waiting) c.in-Some.ensures.some.1
+    ∙ sym (append_assoc now.records (bytes ∷ []) rest) in
+    let before = subst (λ waiting. Advances manner batch.first records now.first waiting c.loop-next.verdict
+    (g.K.Sink.taken c.args.sink.now) (g.K.Sink.taken c.loop-next.sink)) taken c.loop-next.invariant.so_far in
+    let answers = subst (λ t. Answers (g.T.Teller.manner t) now.first (now.records ++ bytes ∷ [])
+    (Err c.in-Err.stop) (g.K.Sink.taken c.loop-next.sink) (g.K.Sink.taken c.take_record.new.sink))
+    c.loop-next.invariant.teller c.in-Err.ensures.answered in
+    record {
+      answered = stopped_both manner batch.first now.first records (now.records ++ bytes ∷ []) rest
+          c.loop-next.verdict c.in-Err.stop _ _ _ before answers;
+      emptied = tt;
+      teller = c.take_record.ensures.teller ∙ c.loop-next.invariant.teller;
+      fault = λ is. rose_later _ _ _ c.loop-next.invariant.later (c.in-Err.ensures.fault is);
+      later = later_twice _ _ _ c.loop-next.invariant.later c.take_record.ensures.later;
+    }
+
+pub loop-next-preserved : goal.loop-next-preserved
+loop-next-preserved g c =
+    let batch = c.args.batch.now in
+    let manner = g.T.Teller.manner batch.teller in
+    let records = batch.records ++ c.args.framer.now.waiting in
+    let now = c.loop-next.batch in
+    let next = c.take_record.new.batch in
+    let bytes = c.in-Some.next.bytes in
+    let rest = c.next.new.self.waiting in
+    let taken = ap (λ (framer : Framing). now.records ++ framer.waiting) c.in-Some.ensures.some.1
+    ∙ sym (append_assoc now.records (bytes ∷ []) rest) in
+    let before = subst (λ waiting. Advances manner batch.first records now.first waiting c.loop-next.verdict
+    (g.K.Sink.taken c.args.sink.now) (g.K.Sink.taken c.loop-next.sink)) taken c.loop-next.invariant.so_far in
+    let behind = subst (λ t. Advances (g.T.Teller.manner t) now.first (now.records ++ bytes ∷ []) next.first
+    next.records c.in-Ok.answered (g.K.Sink.taken c.loop-next.sink) (g.K.Sink.taken c.take_record.new.sink))
+    c.loop-next.invariant.teller c.in-Ok.ensures.answered in
+    let so_far = advances_both manner batch.first now.first next.first records (now.records ++ bytes ∷ []) rest
+    next.records c.loop-next.verdict c.in-Ok.answered _ _ _ before behind in
+    record {
+      so_far = rw c.and-verdict.ensures so_far;
+      room = subst (λ n. n < 2 ^ 64)
+          (same_next manner batch.first next.first records (next.records ++ rest) _ _ _ so_far) c.requires.room;
+      teller = c.take_record.ensures.teller ∙ c.loop-next.invariant.teller;
+      rest = subst (λ (framer : Framing). c.next.new.self ≡ record framer { waiting = rest })
+          (c.loop-next.invariant.rest) (ap (λ (framer : Framing). record framer { waiting = rest })
+          (sym c.in-Some.ensures.some.1));
+      later = later_twice _ _ _ c.loop-next.invariant.later c.take_record.ensures.later;
+    }
+
+pub loop-next-smaller : goal.loop-next-smaller
+loop-next-smaller g c =
+    let taken = ap (λ (framer : Framing). length framer.waiting) c.in-Some.ensures.some.1 in
+    omega (arith, taken)
+
+pub returns-clause-teller : goal.returns-clause-teller
+returns-clause-teller g c = c.loop-next.invariant.teller
+
+pub returns-clause-fault : goal.returns-clause-fault
+returns-clause-fault g c = told_no_fault c.loop-next.verdict
+
+pub returns-clause-later : goal.returns-clause-later
+returns-clause-later g c = c.loop-next.invariant.later
+
+pub take_record-requires-clause-room : goal.take_record-requires-clause-room
+take_record-requires-clause-room g c = grind (arith, common_steps)

@@ -1,0 +1,45 @@
+use Rattle.std.proofs.Common.{◌+◌, subst}
+use Rattle.std.proofs.lemmas.Bool.{false≢true}
+use Rattle.cip_batch.specs.Batches.{Gathered}
+use Rattle.cip_batch.specs.Halting.{AnswersSource}
+use Rattle.cip_batch.proofs.Bounds.{takes_none}
+use Rattle.cip_batch.proofs.Faults.{memory_no_fault, memory_no_read_fault}
+use Rattle.cip_batch.proofs.Untold.{nothing_told}
+use Rattle.cip_batch.proofs.streaming.answer_stream.Goals as goal
+
+pub returns-in_default : goal.returns-in_default
+returns-in_default g c = record {
+  ended = nothing_told (g.T.Teller.manner c.args.teller.now) c.args.limits (g.S.Source.left c.args.source.now)
+      (g.K.Sink.taken c.args.sink.now);
+  whole = λ is. absurd (false≢true is);
+  read_fault = memory_no_read_fault;
+  bounded = takes_none (c.args.limits.input + 1) (g.S.Source.left c.args.source.now);
+  source_fault = memory_no_read_fault;
+  sink_fault = memory_no_fault;
+}
+
+pub returns-in_default-reserve : goal.returns-in_default-reserve
+returns-in_default-reserve g c = record {
+  ended = nothing_told (g.T.Teller.manner c.args.teller.now) c.args.limits (g.S.Source.left c.args.source.now)
+      (g.K.Sink.taken c.args.sink.now);
+  whole = λ is. absurd (false≢true is);
+  read_fault = memory_no_read_fault;
+  bounded = takes_none (c.args.limits.input + 1) (g.S.Source.left c.args.source.now);
+  source_fault = memory_no_read_fault;
+  sink_fault = memory_no_fault;
+}
+
+pub returns : goal.returns
+returns g c =
+    let answered = subst (λ (b : Gathered _). AnswersSource (g.T.Teller.manner b.teller) c.args.limits
+    c.answer_pieces-ended.result (g.S.Source.left c.args.source.now)
+    (g.S.Source.left c.answer_pieces-ended.new.source) (g.K.Sink.taken c.args.sink.now)
+    (g.K.Sink.taken c.answer_pieces-ended.new.sink)) c.new-batch.ensures c.answer_pieces-ended.ensures.answered in
+    record {
+      ended = answered.ended;
+      whole = answered.whole;
+      read_fault = answered.read_fault;
+      bounded = answered.bounded;
+      source_fault = c.answer_pieces-ended.ensures.source_fault;
+      sink_fault = c.answer_pieces-ended.ensures.sink_fault;
+    }

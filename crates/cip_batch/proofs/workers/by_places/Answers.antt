@@ -1,0 +1,18 @@
+use Rattle.std.proofs.Common.{◌++◌, drop, length, IfSome, subst, sym}
+use Rattle.std.proofs.lemmas.List.Elements.{All-append, All-drop, All-take}
+use Rattle.cip_batch.specs.Entries.{ArePlaced, IsAnswer}
+use Rattle.cip_batch.proofs.workers.by_places.Goals as goal
+
+pub returns-in-Ok-put_each-clause-found : goal.returns-in-Ok-put_each-clause-found
+returns-in-Ok-put_each-clause-found g c =
+    let answer = g.J.Job.answer in
+    let jobs = c.args.jobs.now in
+    let before = c.in-Ok.found in
+    let now = c.put_each.new.found in
+    All-take (λ s. IfSome s (IsAnswer answer jobs)) before.len (now ++ drop (length now) before.items)
+    (All-append (λ s. IfSome s (IsAnswer answer jobs)) now _ c.in-Ok-put_each.ensures.found
+    (All-drop (λ s. IfSome s (IsAnswer answer jobs)) (length now) before.items c.in-Ok.ensures))
+
+pub put_each-requires-clause-found : goal.put_each-requires-clause-found
+put_each-requires-clause-found g c κs within =
+    subst (ArePlaced g.J.Job.answer c.args.jobs.now) (sym c.deref_mut.ensures.value) c.in-Ok.ensures

@@ -1,0 +1,11 @@
+use Rattle.std.proofs.Common.{arith, ◌∙◌}
+use Rattle.std.proofs.lemmas.List.{length-set}
+use Rattle.std.proofs.lemmas.Grind.{common_steps}
+use Rattle.cip_batch.proofs.workers.map_batch.Goals as goal
+
+pub complete-requires-after_bounds : goal.complete-requires-after_bounds
+complete-requires-after_bounds g c = grind (arith, common_steps)
+
+pub returns-in-Ok-clause-workers : goal.returns-in-Ok-clause-workers
+returns-in-Ok-clause-workers g c =
+    length-set c.work_together.new.workers 0 _ ∙ c.work_together.ensures.workers

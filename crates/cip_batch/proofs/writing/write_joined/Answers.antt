@@ -1,0 +1,70 @@
+use Rattle.std.proofs.Common.{rules, ◌≡◌, ◌<◌, ◌+◌, [], length, get_or, subst, ◌∙◌}
+use Rattle.cip_batch.specs.Batches.{telling}
+use Rattle.cip_batch.proofs.Batches.{IsJoined, all_told, all_written, none_joined, one_joined, stopped_at, stopped_behind, told_here}
+use Rattle.cip_batch.proofs.Faults.{stays}
+use Rattle.cip_batch.proofs.writing.write_joined.Goals as goal
+
+pub returns-in-Err-clause-stopped : goal.returns-in-Err-clause-stopped
+returns-in-Err-clause-stopped g c =
+    let k = c.loop-one.one-index in
+    let found = c.args.found.now in
+    λ manner number records all.
+    let within : k < length found = search rules in
+    let here : c.one-item.result ≡ telling manner (number + k) (get_or records k []) =
+    c.one-item.is ∙ told_here manner number records found k c.one-item.result all within in
+    (stopped_at manner number records found k c.one-item.result c.loop-one.verdict
+    c.loop-one.joined _ _ _ all within here (c.loop-one.invariant.so_far manner number records all)
+    c.in-Err.ensures.prefix)
+
+pub loop-one-init : goal.loop-one-init
+loop-one-init g c = record {
+  so_far = λ manner number records all. rw (c.clear-verdict.ensures, c.requires)
+      (none_joined manner number records (g.K.Sink.taken c.args.sink.now));
+  later = stays (g.K.Sink.faults c.args.sink.now);
+}
+
+pub loop-one-preserved : goal.loop-one-preserved
+loop-one-preserved g c = record {
+  so_far = λ manner number records all.
+      let k = c.loop-one.one-index in
+      let found = c.args.found.now in
+      let within : k < length found = search rules in
+      let here : c.one-item.result ≡ telling manner (number + k) (get_or records k []) =
+      c.one-item.is ∙ told_here manner number records found k c.one-item.result all within in
+      rw (c.and-verdict.ensures, c.in-Ok.ensures.verdict)
+      (one_joined manner number records found k c.one-item.result c.loop-one.verdict
+      c.loop-one.joined c.push_text.new.joined _ _ _ all within here
+      (c.loop-one.invariant.so_far manner number records all) c.in-Ok.ensures.taken);
+  later = search rules;
+}
+
+pub returns-in-Err-flush-clause-stopped : goal.returns-in-Err-flush-clause-stopped
+returns-in-Err-flush-clause-stopped g c =
+    let found = c.args.found.now in
+    let done : c.loop-one.one-index ≡ length found = search rules in
+    λ manner number records all.
+    let before : IsJoined manner number records (length found) c.loop-one.verdict c.loop-one.joined
+    (g.K.Sink.taken c.args.sink.now) (g.K.Sink.taken c.loop-one.sink) =
+    subst (λ k. IsJoined manner number records k c.loop-one.verdict c.loop-one.joined
+    (g.K.Sink.taken c.args.sink.now) (g.K.Sink.taken c.loop-one.sink)) done
+    (c.loop-one.invariant.so_far manner number records all) in
+    (stopped_behind manner number records found c.loop-one.verdict
+    c.loop-one.joined _ _ _ all before c.in-Err-flush.ensures.prefix)
+
+pub returns-in-Ok-flush-clause-told : goal.returns-in-Ok-flush-clause-told
+returns-in-Ok-flush-clause-told g c =
+    let found = c.args.found.now in
+    let done : c.loop-one.one-index ≡ length found = search rules in
+    λ manner number records all. all_told manner number records found c.loop-one.verdict c.loop-one.joined _ _ all
+    (subst (λ k. IsJoined manner number records k c.loop-one.verdict c.loop-one.joined
+    (g.K.Sink.taken c.args.sink.now) (g.K.Sink.taken c.loop-one.sink)) done
+    (c.loop-one.invariant.so_far manner number records all))
+
+pub returns-in-Ok-flush-clause-written : goal.returns-in-Ok-flush-clause-written
+returns-in-Ok-flush-clause-written g c =
+    let found = c.args.found.now in
+    let done : c.loop-one.one-index ≡ length found = search rules in
+    λ manner number records all. all_written manner number records found c.loop-one.verdict c.loop-one.joined _ _ _ all
+    (subst (λ k. IsJoined manner number records k c.loop-one.verdict c.loop-one.joined
+    (g.K.Sink.taken c.args.sink.now) (g.K.Sink.taken c.loop-one.sink)) done
+    (c.loop-one.invariant.so_far manner number records all)) c.in-Ok-flush.ensures.whole

@@ -1,0 +1,156 @@
+// Answering a whole stream.
+ghost use Rattle.std.specs.Prelude.{◌≡◌, ◌<◌, ◌+◌, ◌-◌, ◌^◌, ◌++◌, [], true, None, IfSome, IsErrOf, IsOk, length};
+ghost use Rattle.std.specs.Io.KnownBytes.{IsAtEnd};
+ghost use Rattle.cip_frame.specs.Framing.{is_within};
+ghost use Rattle.cip_frame.specs.Records.{tail_of};
+ghost use Rattle.cip_io.specs.Faults.{Rose};
+ghost use Rattle.cip_batch.specs.Endings.{EndsAs, AnswersTaken};
+ghost use Rattle.cip_batch.specs.Halting.{AnswersHalted, AnswersSource, ended_by};
+ghost use Rattle.cip_batch.specs.Reading.{IsFresh, TakesAtMost};
+
+use crate::batch::{Batch, answer_batch, answer_rest, answer_tail, answer_waiting};
+use crate::crew::{Crew, Desks};
+use crate::gate::Gate;
+use crate::limits::Limits;
+use crate::reading::{Halt, Turn, feed_next, new_piece};
+use crate::stop::Stop;
+use crate::teller::Teller;
+use crate::verdict::Verdict;
+use cip_frame::{Framer, Tail};
+use cip_io::{Sink, Source};
+use std::alloc::Global;
+use std::mem;
+use std::thread::Threads;
+
+/// Reads the source to its end, or to the first byte past a limit, and writes what is told of its records, batch by
+/// batch. Says what the records add to the end of the run. The crew changes nothing that is written.
+pub fn answer_stream<R: Threads + Sync, G: Gate + Sync, T: Teller + Sync, S: Source, K: Sink>(
+    crew: &Crew<'_, R, G>,
+    teller: &T,
+    limits: Limits,
+    source: &mut S,
+    sink: &mut K,
+) -> Result<Verdict<T::Note>, Stop>
+    requires record { limits.record < 2 ^ 31 }
+    requires input { limits.input < 2 ^ 63 }
+    ensures ended { IfSome (S.left source.old) (EndsAs (T.manner teller.now) limits result
+        (K.taken sink.old) (K.taken sink.new)) }
+    ensures whole { IsOk result → IsAtEnd (S.left source.new) }
+    ensures read_fault { IsErrOf result Stop.ReadFault → AnswersTaken (T.manner teller.now) limits
+        (S.left source.old) (S.left source.new) (K.taken sink.old) (K.taken sink.new) }
+    ensures bounded { TakesAtMost (limits.input + 1) (S.left source.old) (S.left source.new) }
+    ensures source_fault { IsErrOf result Stop.ReadFault → Rose (S.faults source.old) (S.faults source.new) }
+    ensures sink_fault { IsErrOf result Stop.WriteFault → Rose (K.faults sink.old) (K.faults sink.new) }
+{
+    let Ok(piece) = new_piece(crew.alloc) else {
+        return Err(Stop::Memory);
+    };
+    let Ok(mut desks) = Desks::reserve(crew, teller) else {
+        return Err(Stop::Memory);
+    };
+    let mut inflow = Inflow {
+        alloc: crew.alloc,
+        piece,
+        framer: Framer::new(crew.alloc, limits.record),
+    };
+    let mut batch = Batch::new(crew.alloc, teller, crew.workers);
+    let ended = answer_pieces(&mut desks, &mut inflow, &mut batch, limits, source, sink);
+    drop(batch);
+    drop(inflow);
+    drop(desks);
+    ended
+}
+
+// What the bytes of a source come through: room for a piece, and the framer that cuts it.
+#[derive(Drop)]
+struct Inflow {
+    alloc: Global,
+    piece: Vec<u8>,
+    framer: Framer,
+}
+
+impl Inflow {
+    // What follows the last whole record. No more pieces come.
+    fn finish(&mut self) -> Tail
+        requires { self.old.framer.fault ≡ None }
+        ensures small { is_within self.old.framer.limit result ≡ true }
+        ensures tail { result ≡ tail_of self.old.framer.open_bytes }
+    {
+        let framer = mem::replace(&mut self.framer, Framer::new(self.alloc, 0));
+        framer.finish()
+    }
+}
+
+// The same, from the first piece on.
+fn answer_pieces<'a, R: Threads + Sync, G: Gate + Sync, T: Teller + Sync, S: Source, K: Sink>(
+    desks: &mut Desks<'_, R, G, T>,
+    inflow: &mut Inflow,
+    batch: &mut Batch<'a, T>,
+    limits: Limits,
+    source: &mut S,
+    sink: &mut K,
+) -> Result<Verdict<T::Note>, Stop>
+    requires record { limits.record < 2 ^ 31 }
+    requires input { limits.input < 2 ^ 63 }
+    requires piece { 0 < length inflow.old.piece.items }
+    requires fresh { IsFresh limits.record inflow.old.framer }
+    requires first { batch.old.first ≡ 1 }
+    requires none { batch.old.records ≡ [] }
+    ensures answered { AnswersSource (T.manner batch.old.teller) limits result
+        (S.left source.old) (S.left source.new) (K.taken sink.old) (K.taken sink.new) }
+    ensures source_fault { IsErrOf result Stop.ReadFault → Rose (S.faults source.old) (S.faults source.new) }
+    ensures sink_fault { IsErrOf result Stop.WriteFault → Rose (K.faults sink.old) (K.faults sink.new) }
+{
+    let mut room = limits.input;
+    let mut verdict = Verdict::clear();
+    loop {
+        match feed_next(source, &mut inflow.piece, &mut inflow.framer, room) {
+            Ok(Turn::Piece(count)) => {
+                match answer_waiting(desks, &mut inflow.framer, batch, sink) {
+                    Ok(answered) => verdict = verdict.and(answered),
+                    Err(stop) => return Err(stop),
+                }
+                room -= count;
+            }
+            Ok(Turn::Last(halt)) => {
+                return verdict.then(answer_halted(halt, desks, inflow, batch, sink));
+            }
+            Err(stop) => return Err(stop),
+        }
+    }
+}
+
+// Answers the records that are gathered, where nothing more is read.
+fn answer_halted<'a, R: Threads + Sync, G: Gate + Sync, T: Teller + Sync, K: Sink>(
+    halt: Halt,
+    desks: &mut Desks<'_, R, G, T>,
+    inflow: &mut Inflow,
+    batch: &mut Batch<'a, T>,
+    sink: &mut K,
+) -> Result<Verdict<T::Note>, Stop>
+    requires limit { inflow.old.framer.limit < 2 ^ 31 }
+    requires room { batch.old.first + length (batch.old.records ++ inflow.old.framer.waiting) < 2 ^ 64 - 1 }
+    requires sound { halt ≡ Halt.End → inflow.old.framer.fault ≡ None }
+    ensures answered { AnswersHalted (T.manner batch.old.teller) halt batch.old.first batch.old.records
+        inflow.old.framer result (K.taken sink.old) (K.taken sink.new) }
+    ensures fault { IsErrOf result Stop.WriteFault → Rose (K.faults sink.old) (K.faults sink.new) }
+{
+    match halt {
+        Halt::End => answer_tail(desks, inflow.finish(), batch, sink),
+        Halt::Fault => ended_by(Stop::ReadFault, answer_batch(desks, batch, sink)),
+        Halt::Limit => ended_by(
+            Stop::Limit,
+            answer_rest(desks, &mut inflow.framer, batch, sink),
+        ),
+    }
+}
+
+// The cause for which it ends behind records, unless those stopped it.
+fn ended_by<N: Copy>(cause: Stop, answered: Result<Verdict<N>, Stop>) -> Result<Verdict<N>, Stop>
+    ensures { result ≡ ended_by cause answered }
+{
+    match answered {
+        Ok(_) => Err(cause),
+        Err(stop) => Err(stop),
+    }
+}

@@ -1,0 +1,23 @@
+-- The atoms of units, marked by vertex. Own.
+use Rattle.std.specs.Prelude.{◌≡◌, ◌<◌, ℕ, Bool, true, false, List, length, flat_map, slice_index_or, slice_set}
+use Rattle.std.specs.List.{fold}
+use Rattle.cip_mol.specs.declared.site.Unit as units
+use Rattle.cip_digraph.specs.rings.Alternating.{is_in}
+use Rattle.cip_digraph.specs.units.Ends.{atoms_of}
+use Rattle.cip_digraph.specs.declared.marking.MarkedUnits.TheInside.{Inside}
+
+-- the flag of a vertex is set, where the column reaches so far
+abbrev pub with_mark : ℕ → List Bool → List Bool
+with_mark vertex flags = slice_set flags vertex true
+
+-- those of some vertices are set, one after the other
+abbrev pub with_marks : List ℕ → List Bool → List Bool
+with_marks vertices flags = fold (λ before vertex. with_mark vertex before) flags vertices
+
+-- each flag tells whether its vertex is an atom of a unit
+pub record Marks (all : List units.Unit) (flags : List Bool) : Type 0 where
+  pub each : (vertex : ℕ) → vertex < length flags →
+      slice_index_or flags vertex false ≡ is_in vertex (flat_map (λ unit. atoms_of unit.site) all)
+
+abbrev pub HoldMarks : Inside → Type 0
+HoldMarks columns = Marks columns.units.now columns.flags.items

@@ -1,9 +1,0 @@
-pub mod Asking
-pub mod Falls
-pub mod LentEnds
-pub mod Lettered
-pub mod MarkColumns
-pub mod Marking
-pub mod Marks
-pub mod Sides
-pub mod TurnsOf
