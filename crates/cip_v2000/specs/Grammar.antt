@@ -47,6 +47,4 @@ unfoldable pub molecule_of : List (List ℕ) → Result Drawing ReadFault
 molecule_of lines = do
   counts ← read_at lines 3 counts_of
   atoms ← in_turn (atom_row lines) [] counts.atoms 0
-  bonds ← in_turn (bond_row lines counts.atoms) [] counts.bonds 0
-  pairs ← pairs_behind counts.atoms (4 + (counts.atoms + counts.bonds)) lines
-  Ok (record { atoms = settled pairs atoms; bonds = bonds })
+  behind_atoms lines counts atoms
