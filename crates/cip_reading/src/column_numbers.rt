@@ -7,7 +7,7 @@ ghost use Rattle.cip_reading.specs.Fields.{number_in, place_named};
 
 use crate::causes::coordinate;
 use crate::fields::{number, place_of};
-use crate::usual::{usual_decimal, usual_number};
+use crate::usual::{usual_decimal, usual_digit, usual_number};
 use cip_mol::ReadCause;
 use cip_text::columns;
 
@@ -62,7 +62,8 @@ pub fn number_at(most: u32, line: &[u8], first: u32) -> Option<u32>
     }
 }
 
-/// The same where a single digit is usual, which is read in few steps there too.
+/// The same where a single digit is usual, which is read in few steps.
+#[tactic(auto, using(crate::proofs::UsualNumbers::three_read), unfolding(crate::specs::Fields::number_in))]
 pub fn digit_at(most: u32, line: &[u8], first: u32) -> Option<u32>
     requires most { most ≤ 1000000000 }
     requires counted { 0 < first }
@@ -70,7 +71,15 @@ pub fn digit_at(most: u32, line: &[u8], first: u32) -> Option<u32>
     ensures value { result ≡ number_in most (field first (first + 2) line.now) }
     ensures range { IfSome result (λ number. number ≤ most) }
 {
-    number_at(most, line, first)
+    let start = first as usize - 1;
+    if line.len() >= start + 3
+        && let Some(number) = usual_digit(line[start], line[start + 1], line[start + 2])
+        && number <= most
+    {
+        Some(number)
+    } else {
+        number_at(most, line, first)
+    }
 }
 
 /// The place, from 0, of what the number in three columns from this one on names from 1 to a most.

@@ -31,6 +31,18 @@ pub fn usual_number(first: u8, second: u8, third: u8) -> Option<u32>
     }
 }
 
+/// The number in three columns, one digit behind two spaces.
+#[tactic(auto, using(crate::proofs::UsualNumbers::one_digit))]
+pub fn usual_digit(first: u8, second: u8, third: u8) -> Option<u32>
+    ensures { IfSome result (λ number. integer_of (trimmed (first ∷ second ∷ third ∷ [])) ≡ Ok (pos number)) }
+{
+    if first == b' ' && second == b' ' {
+        digit_of(third)
+    } else {
+        None
+    }
+}
+
 /// The decimal in ten columns with its point in the sixth one, in ten-thousandths.
 pub fn usual_decimal(columns: &[u8]) -> Option<i64>
     requires { length columns.now ≡ 10 }
