@@ -54,11 +54,7 @@ pub fn answer_stream<R: Threads + Sync, G: Gate + Sync, T: Teller + Sync, S: Sou
         framer: Framer::new(crew.alloc, limits.record),
     };
     let mut batch = Batch::new(crew.alloc, teller, crew.workers);
-    let ended = answer_pieces(&mut desks, &mut inflow, &mut batch, limits, source, sink);
-    drop(batch);
-    drop(inflow);
-    drop(desks);
-    ended
+    answer_pieces(&mut desks, &mut inflow, &mut batch, limits, source, sink)
 }
 
 // What the bytes of a source come through: room for a piece, and the framer that cuts it.

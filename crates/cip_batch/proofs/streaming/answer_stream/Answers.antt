@@ -32,14 +32,14 @@ returns-in_default-reserve g c = record {
 pub returns : goal.returns
 returns g c =
     let answered = subst (λ (b : Gathered _). AnswersSource (g.T.Teller.manner b.teller) c.args.limits
-    c.answer_pieces-ended.result (g.S.Source.left c.args.source.now)
-    (g.S.Source.left c.answer_pieces-ended.new.source) (g.K.Sink.taken c.args.sink.now)
-    (g.K.Sink.taken c.answer_pieces-ended.new.sink)) c.new-batch.ensures c.answer_pieces-ended.ensures.answered in
+    c.answer_pieces.result (g.S.Source.left c.args.source.now)
+    (g.S.Source.left c.answer_pieces.new.source) (g.K.Sink.taken c.args.sink.now)
+    (g.K.Sink.taken c.answer_pieces.new.sink)) c.new-batch.ensures c.answer_pieces.ensures.answered in
     record {
       ended = answered.ended;
       whole = answered.whole;
       read_fault = answered.read_fault;
       bounded = answered.bounded;
-      source_fault = c.answer_pieces-ended.ensures.source_fault;
-      sink_fault = c.answer_pieces-ended.ensures.sink_fault;
+      source_fault = c.answer_pieces.ensures.source_fault;
+      sink_fault = c.answer_pieces.ensures.sink_fault;
     }
