@@ -6,4 +6,5 @@ pub mod FrameWords
 pub mod Joined
 pub mod NumberWords
 pub mod PlacedWords
+pub mod Places
 pub mod Tables

@@ -5,28 +5,31 @@ ghost use Rattle.cip_v3000.specs.AtomLine.{unless_known};
 ghost use Rattle.cip_v3000.specs.Counted.{is_counted};
 
 use cip_mol::ReadCause;
-use indexmap::IndexSet;
 use std::alloc::{AllocError, Global};
+use std::collections::BTreeMap;
 use std::marker::Model;
 
 /// The greatest index.
 pub const GREATEST: u32 = 1_000_000_000;
 
 /// Indices in order of appearance, none of them twice. Contracts see their list. So far as they are 1, 2, 3 and so on
-/// from the first one on they are counted; the set holds those behind.
+/// from the first one on they are counted; those behind stand in a list, and a map has the place in it of each.
 #[derive(Drop)]
 pub struct Indices {
     counted: u32,
-    others: IndexSet<u32>,
+    others: Vec<u32>,
+    places: BTreeMap<u32, usize>,
 }
 
 impl Model for Indices {
     ghost use Rattle.std.specs.Prelude.{List, ℕ};
-    ghost use Rattle.cip_v3000.specs.Counted.{with_counted};
+    ghost use Rattle.cip_v3000.specs.Counted.{with_counted, GivesPlaces};
 
     ghost Value = { List ℕ };
 
-    ghost view = { λ indices. with_counted indices.counted indices.others.keys };
+    ghost view = { λ indices. with_counted indices.counted indices.others.items };
+
+    ghost invariant = { λ indices. GivesPlaces indices.places indices.others.items };
 }
 
 impl Indices {
@@ -39,7 +42,8 @@ impl Indices {
     {
         Indices {
             counted: 0,
-            others: IndexSet::new(alloc),
+            others: Vec::new(alloc),
+            places: BTreeMap::new(alloc),
         }
     }
 
@@ -52,7 +56,6 @@ impl Indices {
     }
 
     /// Adds an index that isn't there yet at the end.
-    #[tactic(auto, using(crate::proofs::Counted::counted_more, crate::proofs::Counted::none_behind))]
     pub fn push(&mut self, index: u32) -> Result<(), AllocError>
         requires { list_any (nat_eq index) self.old ≡ false }
         ensures { OnOk result (self.new ≡ self.old ++ index ∷ []) }
@@ -61,19 +64,27 @@ impl Indices {
             self.counted = index;
             Ok(())
         } else {
-            match self.others.insert(index) {
-                Ok(_) => Ok(()),
+            let place = self.others.len();
+            match self.others.push(index) {
+                Ok(()) => match self.places.insert(index, place) {
+                    Ok(_) => Ok(()),
+                    Err(_) => {
+                        self.others.pop();
+                        Err(AllocError)
+                    }
+                },
                 Err(_) => Err(AllocError),
             }
         }
     }
 
     /// Whether an index is there.
-    #[tactic(auto, using(crate::proofs::Counted::any_with_counted, crate::proofs::Counted::none_of_none))]
+    #[tactic(auto, using(crate::proofs::Counted::any_with_counted, crate::proofs::Counted::none_of_none, crate::proofs::Places::placed_as_any))]
     pub fn contains(&self, index: u32) -> bool
         ensures { result ≡ list_any (nat_eq index) self.now }
     {
-        is_counted(self.counted, index) || !self.others.is_empty() && self.others.contains(&index)
+        is_counted(self.counted, index)
+            || !self.others.is_empty() && self.places.contains_key(&index)
     }
 
     /// The place of an index, from 0.
@@ -87,8 +98,8 @@ impl Indices {
         } else {
             // Reading how many there are tells that they are few.
             let _others = self.others.len();
-            match self.others.get_index_of(&index) {
-                Some(place) => Some(self.counted as usize + place),
+            match self.places.get(&index) {
+                Some(place) => Some(self.counted as usize + *place),
                 None => None,
             }
         }
