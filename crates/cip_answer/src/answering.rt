@@ -35,12 +35,7 @@ pub fn label_within<D: Digraphs>(
     ensures kept { labeller.new ≡ labeller.old }
 {
     match Drawn::read(alloc, lines.contents()) {
-        Ok(Ok(drawn)) => {
-            let answer = answer_drawn(alloc, labeller, &drawn, rules);
-            // given back by a call of its own, which is quicker to prove than an end that owns it
-            drop(drawn);
-            answer
-        }
+        Ok(Ok(drawn)) => answer_drawn(alloc, labeller, &drawn, rules),
         Ok(Err(fault)) => Ok(Answer::Refused(fault)),
         Err(fault) => Err(fault),
     }
