@@ -11,6 +11,7 @@ ghost use Rattle.cip_answer.specs.FurtherAnswers.{
   further_of_molecule,
 };
 
+use crate::answering::give_back;
 use cip_axis::{FurtherSite, FurtherUnit, further, label_further, like};
 use cip_label::{Digraphs, Labeller, Setting};
 use cip_molfile::Drawn;
@@ -33,7 +34,11 @@ pub fn further_of_lines<D: Digraphs>(
     ensures kept { labeller.new ≡ labeller.old }
 {
     match Drawn::read(alloc, lines) {
-        Ok(Ok(drawn)) => answer_drawn(alloc, labeller, &drawn, rules),
+        Ok(Ok(drawn)) => {
+            let answer = answer_drawn(alloc, labeller, &drawn, rules);
+            give_back(drawn);
+            answer
+        }
         Ok(Err(fault)) => Ok(Answer::Refused(fault)),
         Err(fault) => Err(fault),
     }
