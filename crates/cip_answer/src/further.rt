@@ -11,6 +11,7 @@ ghost use Rattle.cip_answer.specs.FurtherAnswers.{
   further_of_molecule,
 };
 
+use crate::answering::give_back;
 use cip_axis::{FurtherSite, FurtherUnit, further, label_further, like};
 use cip_label::{Digraphs, Labeller, Setting};
 use cip_molfile::Drawn;
@@ -35,8 +36,7 @@ pub fn further_of_lines<D: Digraphs>(
     match Drawn::read(alloc, lines) {
         Ok(Ok(drawn)) => {
             let answer = answer_drawn(alloc, labeller, &drawn, rules);
-            // given back by a call of its own, which is quicker to prove than an end that owns it
-            drop(drawn);
+            give_back(drawn);
             answer
         }
         Ok(Err(fault)) => Ok(Answer::Refused(fault)),
@@ -55,12 +55,10 @@ fn answer_drawn<D: Digraphs>(
     ensures answer { IfOk result (λ answer. answer ≡ further_of_molecule rules labeller.old drawn.now) }
     ensures kept { labeller.new ≡ labeller.old }
 {
-    let Ok(further) = further(alloc, drawn.molecule(), drawn.graph(), drawn.positions()) else {
-        return Err(AllocError);
-    };
-    let answer = answer_further(alloc, labeller, drawn, further.list(), rules);
-    drop(further);
-    answer
+    match further(alloc, drawn.molecule(), drawn.graph(), drawn.positions()) {
+        Ok(further) => answer_further(alloc, labeller, drawn, further.list(), rules),
+        Err(fault) => Err(fault),
+    }
 }
 
 // The further units too stay with the caller.

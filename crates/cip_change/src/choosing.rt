@@ -3,7 +3,7 @@ ghost use Rattle.std.specs.Prelude.{◌≡◌, length, IfOk};
 ghost use Rattle.std.specs.List.{list_any};
 ghost use Rattle.cip_mol.specs.DrawnLigands.{drawn};
 ghost use Rattle.cip_mol.specs.Sites.{IsSite};
-ghost use Rattle.cip_change.specs.Marking.{first_where, is_eligible, is_free, ligands_of, shows_coincident};
+ghost use Rattle.cip_change.specs.Marking.{first_where, is_eligible, is_free, ligands_of, shows_coincident, shows_reentrant};
 
 use crate::marking::{is_free, marked};
 use cip_mol::{Bond, Cause, Geometry, Mark, Molecule, Site};
@@ -62,12 +62,10 @@ fn is_eligible(
     ensures { IfOk result (λ found. found ≡ is_eligible bare.now atom site.now neighbour) }
 {
     if has_free(bare.bonds(), atom, neighbour) {
-        let Ok(up) = marked(alloc, bare, atom, neighbour, Mark::Up) else {
-            return Err(AllocError);
-        };
-        let shown = orient(alloc, &up, site);
-        drop(up);
-        Ok(!matches!(shown, Geometry::Unknown(Cause::Reentrant)))
+        match marked(alloc, bare, atom, neighbour, Mark::Up) {
+            Ok(up) => Ok(!shows_reentrant(orient(alloc, &up, site))),
+            Err(fault) => Err(fault),
+        }
     } else {
         Ok(false)
     }
@@ -82,6 +80,12 @@ fn has_free(bonds: &[Bond], atom: u32, neighbour: u32) -> bool
         }
     }
     false
+}
+
+fn shows_reentrant(geometry: Geometry) -> bool
+    ensures { result ≡ shows_reentrant geometry }
+{
+    matches!(geometry, Geometry::Unknown(Cause::Reentrant))
 }
 
 /// Whether two ligands are drawn in one direction, or one at the centre.

@@ -29,12 +29,7 @@ fn answer_lines(alloc: Global, lines: &RecordLines) -> Result<MirrorAnswer, Allo
     ensures { IfOk result (λ answer. answer ≡ answer_without_items lines.now) }
 {
     match read_molecule(alloc, lines.contents()) {
-        Ok(molecule) => {
-            let answer = answer_drawn(alloc, lines, &molecule);
-            // given back by a call of its own, which is quicker to prove than an end that owns it
-            drop(molecule);
-            answer
-        }
+        Ok(molecule) => answer_drawn(alloc, lines, &molecule),
         Err(ReadRefusal::Fault(fault)) => Ok(MirrorAnswer::Refused(MirrorRefusal::Grammar(fault))),
         Err(ReadRefusal::Memory) => Err(AllocError),
     }

@@ -17,7 +17,7 @@ pub unplaced_by : (b : Bool) (n : ℕ) → None ≡ cond b (Some n) None → b �
 unplaced_by true n e = absurd cc
 unplaced_by false n e = refl
 
-count_kinds : (groups : List Group) → length (kinds_of groups) ≡ length groups
+pub count_kinds : (groups : List Group) → length (kinds_of groups) ≡ length groups
 count_kinds [] = refl
 count_kinds (group ∷ groups) = ap suc (count_kinds groups)
 

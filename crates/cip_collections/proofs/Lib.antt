@@ -1,4 +1,5 @@
 pub mod AtomSteps
+pub mod EndedLines
 pub mod GroupLines
 pub mod KindWords
 pub mod LinesSoFar

@@ -36,7 +36,7 @@ placed_more n count passes le = by (nat_lt n count) passes refl
         let more : nat_lt (count + 1) (count + 1) ≡ false = le-ltb (count + 1) (count + 1) (omega arith) in
         rw (here, more) refl
 
-pushed : {X : Type 0} (test : X → Bool) (xs : List X) (x : X)
+pub pushed : {X : Type 0} (test : X → Bool) (xs : List X) (x : X)
     → position test (xs ++ x ∷ []) ≡ or_here (position test xs) (test x) (length xs)
 pushed test xs x =
     (λ i. placed (position_or_len_push test xs x i) (length-append xs (x ∷ []) i))

@@ -1,6 +1,7 @@
 -- Groups of the same name are one: its line is the first, and the atoms of its lines follow in order. CTfile Formats,
 -- V3000.
-use Rattle.std.specs.Prelude.{ℕ, List, [], ◌∷◌, ◌++◌, map, if◌then◌else◌}
+use Rattle.std.specs.Prelude.{◌≡◌, ℕ, List, [], ◌∷◌, ◌++◌, map, position, if◌then◌else◌}
+use Rattle.std.specs.HashMap.{HashMap, get}
 use Rattle.cip_collections.specs.declared.groups.Group.{Group}
 use Rattle.cip_collections.specs.declared.kinds.GroupKind.{GroupKind}
 use Rattle.cip_collections.specs.Names.{same_kind}
@@ -15,3 +16,7 @@ with_line kind number atoms (group ∷ groups) =
     if same_kind kind group.kind
     then record { kind = group.kind; line = group.line; atoms = group.atoms ++ atoms } ∷ groups
     else group ∷ with_line kind number atoms groups
+
+-- each group is found by its name, at its place
+abbrev pub AreNamed : {S : Type 0} → HashMap GroupKind ℕ S → List Group → Type 0
+AreNamed places groups = (kind : GroupKind) → get same_kind places kind ≡ position (same_kind kind) (kinds_of groups)

@@ -1,12 +1,12 @@
 -- Where the centres of a record stand among its units. Own.
 use Rattle.std.specs.Prelude.{◌≡◌, ℕ, List, Bool, Some, None, nat_eq, position, if◌then◌else◌}
 use Rattle.std.specs.declared.option.Option.{Option}
-use Rattle.indexmap.specs.IndexMap.{IndexMap, get}
+use Rattle.std.specs.HashMap.{HashMap, get}
 use Rattle.cip_mol.specs.declared.site.Unit as units
 use Rattle.cip_collections.specs.Outcomes.{is_centre_at}
 
 -- each centre is found by its atom, at its place
-abbrev pub ArePlaces : {S : Type 0} → IndexMap ℕ ℕ S → List units.Unit → Type 0
+abbrev pub ArePlaces : {S : Type 0} → HashMap ℕ ℕ S → List units.Unit → Type 0
 ArePlaces places all = (atom : ℕ) → get nat_eq places atom ≡ position (is_centre_at atom) all
 
 -- what was found before, and else this place where it passes

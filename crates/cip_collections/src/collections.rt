@@ -1,5 +1,6 @@
 // Collections, line after line.
 ghost use Rattle.std.specs.Prelude.{◌≡◌, ◌≤◌, IfOk, Ok, Some, length, map, if◌then◌else◌};
+ghost use Rattle.std.specs.Result.{result_map_both};
 ghost use Rattle.cip_text.specs.Slices.{texts};
 ghost use Rattle.cip_v3000.specs.declared.frames.FrameLine.TheVariants.{EndTable};
 ghost use Rattle.cip_v3000.specs.Frames.{is_frame};
@@ -38,10 +39,14 @@ impl Found {
         }
     }
 
-    fn into_groups(self) -> Groups
-        ensures { result ≡ self.groups }
+    // What is found where the lines are read. The rest goes here, and not in a caller.
+    fn ended(self, read: Result<(), GroupRefusal>) -> Result<Groups, GroupRefusal>
+        ensures { result ≡ result_map_both (λ _. self.groups) (λ refusal. refusal) read }
     {
-        self.groups
+        match read {
+            Ok(()) => Ok(self.groups),
+            Err(refusal) => Err(refusal),
+        }
     }
 }
 
@@ -56,14 +61,8 @@ pub fn groups_of(alloc: Global, table: &Table<'_>) -> Result<Groups, GroupRefusa
         taken: Indices::new(alloc),
         groups: Groups::new(alloc),
     };
-    match read_lines(alloc, &table.indices, table.rest(), &mut found) {
-        Ok(()) => Ok(found.into_groups()),
-        Err(refusal) => {
-            // given back by a call of its own: written out here it takes three times as long to prove
-            drop(found);
-            Err(refusal)
-        }
-    }
+    let read = read_lines(alloc, &table.indices, table.rest(), &mut found);
+    found.ended(read)
 }
 
 // Reads lines up to the end of the table. What is found stays with the caller, so that no line gives it back.

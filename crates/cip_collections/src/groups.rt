@@ -1,13 +1,13 @@
 // Groups of centres.
-ghost use Rattle.std.specs.Prelude.{◌≡◌, ◌++◌, ◌∷◌, [], OnOk, false};
-ghost use Rattle.std.specs.List.{list_any};
-ghost use Rattle.cip_collections.specs.Grouping.{kinds_of, with_line};
+ghost use Rattle.std.specs.Prelude.{◌≡◌, ◌++◌, ◌∷◌, [], None, OnOk, position};
+ghost use Rattle.std.specs.HashMap.{get};
+ghost use Rattle.cip_collections.specs.Grouping.{kinds_of, with_line, AreNamed};
 ghost use Rattle.cip_collections.specs.Names.{same_kind};
 
 use crate::faults::GroupFault;
 use crate::kinds::GroupKind;
-use crate::names::Names;
 use std::alloc::{AllocError, Global};
+use std::collections::HashMap;
 use std::marker::Model;
 
 /// Atoms, counted from 0. Contracts see the list of them.
@@ -58,21 +58,21 @@ pub struct Group {
 /// Groups in the order of their first lines. Contracts see the list of them.
 #[derive(Drop)]
 pub struct Groups {
-    names: Names,
+    places: HashMap<GroupKind, usize>,
     items: Vec<Group>,
 }
 
 impl Model for Groups {
-    ghost use Rattle.std.specs.Prelude.{◌≡◌, List};
+    ghost use Rattle.std.specs.Prelude.{List};
     ghost use Rattle.cip_collections.specs.declared.groups.Group.{Group as AnyGroup};
-    ghost use Rattle.cip_collections.specs.Grouping.{kinds_of};
+    ghost use Rattle.cip_collections.specs.Grouping.{AreNamed};
 
     ghost Value = { List AnyGroup };
 
     ghost view = { λ groups. groups.items.items };
 
     // A group is found by its name in a table, at its place.
-    ghost invariant = { λ groups. groups.names ≡ kinds_of groups.items.items };
+    ghost invariant = { λ groups. AreNamed groups.places groups.items.items };
 }
 
 impl Groups {
@@ -81,7 +81,7 @@ impl Groups {
         ensures { result ≡ [] }
     {
         Groups {
-            names: Names::new(alloc),
+            places: HashMap::new(alloc),
             items: Vec::new(alloc),
         }
     }
@@ -102,45 +102,59 @@ impl Groups {
     ) -> Result<(), AllocError>
         ensures { OnOk result (self.new ≡ with_line kind line atoms.items self.old) }
     {
-        put_line(&mut self.names, &mut self.items, kind, line, atoms)
+        put_line(&mut self.places, &mut self.items, kind, line, atoms)
     }
 }
 
 fn put_line(
-    names: &mut Names,
+    places: &mut HashMap<GroupKind, usize>,
     items: &mut Vec<Group>,
     kind: GroupKind,
     line: u32,
     atoms: Vec<u32>,
 ) -> Result<(), AllocError>
-    requires { names.old ≡ kinds_of items.old.items }
-    ensures names { names.new ≡ kinds_of items.new.items }
+    requires { AreNamed places.old items.old.items }
+    ensures named { AreNamed places.new items.new.items }
     ensures items { OnOk result (items.new.items ≡ with_line kind line atoms.items items.old.items) }
 {
-    match names.place(kind) {
+    match place_in(places, kind) {
         Some(place) => items[place].atoms.extend(&atoms),
         None => {
             let atoms = Vertices::from_vec(atoms);
-            push_group(names, items, Group { kind, line, atoms })
+            push_group(places, items, Group { kind, line, atoms })
         }
     }
 }
 
+fn place_in(places: &HashMap<GroupKind, usize>, kind: GroupKind) -> Option<usize>
+    ensures { result ≡ get same_kind places.now kind }
+{
+    places.get(&kind).copied()
+}
+
 // A group goes again where no memory is found for its name, so that each group has one.
-fn push_group(names: &mut Names, items: &mut Vec<Group>, group: Group) -> Result<(), AllocError>
-    requires named { names.old ≡ kinds_of items.old.items }
-    requires absent { list_any (same_kind group.kind) names.old ≡ false }
-    ensures names { names.new ≡ kinds_of items.new.items }
+fn push_group(
+    places: &mut HashMap<GroupKind, usize>,
+    items: &mut Vec<Group>,
+    group: Group,
+) -> Result<(), AllocError>
+    requires named { AreNamed places.old items.old.items }
+    requires absent { position (same_kind group.kind) (kinds_of items.old.items) ≡ None }
+    ensures named { AreNamed places.new items.new.items }
     ensures items { OnOk result (items.new.items ≡ items.old.items ++ group ∷ []) }
 {
-    let before = items.len();
+    let place = items.len();
     let kind = group.kind;
-    items.push(group)?;
-    let named = names.push(kind);
-    if named.is_err() {
-        items.truncate(before);
+    let Ok(()) = items.push(group) else {
+        return Err(AllocError);
+    };
+    match places.insert(kind, place) {
+        Ok(_) => Ok(()),
+        Err(_) => {
+            items.truncate(place);
+            Err(AllocError)
+        }
     }
-    named
 }
 
 /// The groups of a record, or why it has none.

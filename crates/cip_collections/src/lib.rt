@@ -6,7 +6,6 @@ mod collections;
 mod faults;
 mod groups;
 mod kinds;
-mod names;
 mod outcomes;
 mod places;
 mod telling;

@@ -73,24 +73,37 @@ fn count_lines<D: Digraphs, L: Ledger>(
     ensures lines { IfOk result (λ lines. lines.items ≡ all_lines labeller.old centres.now groups.now) }
     ensures kept { labeller.new ≡ labeller.old }
 {
-    match units.copy(alloc) {
-        Ok(mut turned) => {
-            let mut told = Told {
-                lines: Vec::new(alloc),
-                steps: Steps::<L>::open(blank),
-            };
-            let joined = join_lines(alloc, labeller, centres, &mut turned, groups, &mut told);
-            drop(turned);
-            match joined {
-                Ok(()) => Ok(told.lines),
-                Err(error) => Err(error),
-            }
-        }
+    let mut told = Told {
+        lines: Vec::new(alloc),
+        steps: Steps::<L>::open(blank),
+    };
+    match copy_lines(alloc, labeller, centres, units, groups, &mut told) {
+        Ok(()) => Ok(told.lines),
         Err(error) => Err(error),
     }
 }
 
-// The same behind no lines, with units that are turned for each group, and back.
+// The same behind no lines, with a copy of the units.
+fn copy_lines<D: Digraphs, L: Ledger>(
+    alloc: Global,
+    labeller: &mut Labeller<D>,
+    centres: &Centres<'_>,
+    units: &Units,
+    groups: &[Group],
+    told: &mut Told<L>,
+) -> Result<(), AllocError>
+    requires same { units.now ≡ centres.now.units }
+    requires none { told.old.lines.items ≡ [] }
+    ensures lines { OnOk result (told.new.lines.items ≡ all_lines labeller.old centres.now groups.now) }
+    ensures kept { labeller.new ≡ labeller.old }
+{
+    match units.copy(alloc) {
+        Ok(mut turned) => join_lines(alloc, labeller, centres, &mut turned, groups, told),
+        Err(error) => Err(error),
+    }
+}
+
+// The same with units that are turned for each group, and back.
 fn join_lines<D: Digraphs, L: Ledger>(
     alloc: Global,
     labeller: &mut Labeller<D>,

@@ -1,20 +1,20 @@
 // Where the centres of a record stand among its units.
 ghost use Rattle.std.specs.Prelude.{◌≡◌, ◌<◌, ◌^◌, ℕ, IfOk, IfSome, OnOk, length, nat_eq, position};
-ghost use Rattle.indexmap.specs.IndexMap.{get};
+ghost use Rattle.std.specs.HashMap.{get};
 ghost use Rattle.cip_collections.specs.Outcomes.{is_centre_at};
 ghost use Rattle.cip_collections.specs.Places.{ArePlaces, or_here};
 
 use cip_label::Setting;
 use cip_mol::{Site, Unit};
-use indexmap::IndexMap;
 use std::alloc::{AllocError, Global};
+use std::collections::HashMap;
 use std::marker::Model;
 
 /// A setting in which the centre at an atom is found in a table. Contracts see the setting.
 #[derive(Drop)]
 pub struct Centres<'a> {
     setting: &'a Setting<'a>,
-    places: IndexMap<u32, u32>,
+    places: HashMap<u32, u32>,
 }
 
 impl<'a> Model for Centres<'a> {
@@ -56,11 +56,11 @@ impl<'a> Centres<'a> {
     }
 }
 
-fn places_of(alloc: Global, units: &[Unit]) -> Result<IndexMap<u32, u32>, AllocError>
+fn places_of(alloc: Global, units: &[Unit]) -> Result<HashMap<u32, u32>, AllocError>
     requires few { length units.now < 2 ^ 32 }
     ensures { IfOk result (λ places. ArePlaces places units.now) }
 {
-    let mut places = IndexMap::new(alloc);
+    let mut places = HashMap::new(alloc);
     for (place, unit) in units.iter().enumerate() {
         let Ok(()) = note_unit(&mut places, unit, place as u32) else {
             return Err(AllocError);
@@ -70,7 +70,7 @@ fn places_of(alloc: Global, units: &[Unit]) -> Result<IndexMap<u32, u32>, AllocE
 }
 
 // The first place of an atom is kept.
-fn note_unit(places: &mut IndexMap<u32, u32>, unit: &Unit, place: u32) -> Result<(), AllocError>
+fn note_unit(places: &mut HashMap<u32, u32>, unit: &Unit, place: u32) -> Result<(), AllocError>
     ensures { OnOk result ((atom : ℕ) → get nat_eq places.new atom
         ≡ or_here (get nat_eq places.old atom) (is_centre_at atom unit.now) place) }
 {

@@ -84,13 +84,10 @@ fn tell_contents<D: Digraphs>(
         }
     } else {
         match cip_v2000::read_lines(alloc, lines) {
-            Ok(molecule) => {
-                drop(molecule);
-                Ok(GroupText {
-                    text: Bytes::from_vec(Vec::new(alloc)),
-                    flagged: false,
-                })
-            }
+            Ok(_molecule) => Ok(GroupText {
+                text: Bytes::from_vec(Vec::new(alloc)),
+                flagged: false,
+            }),
             Err(refusal) => tell_refusal(alloc, refusal),
         }
     }
@@ -136,16 +133,8 @@ fn tell_table<D: Digraphs>(
     let groups = groups_of(alloc, &table);
     let molecule = molecule_of(table);
     match groups {
-        Ok(groups) => {
-            let told = tell_groups(alloc, labeller, molecule, &groups, rules);
-            // given back by a call of its own, here and below: that is quicker to prove than an end that owns it
-            drop(groups);
-            told
-        }
-        Err(refusal) => {
-            drop(molecule);
-            tell_fault(alloc, refusal)
-        }
+        Ok(groups) => tell_groups(alloc, labeller, molecule, &groups, rules),
+        Err(refusal) => tell_fault(alloc, refusal),
     }
 }
 
@@ -181,14 +170,24 @@ fn tell_groups<D: Digraphs>(
     ensures kept { labeller.new ≡ labeller.old }
 {
     match Drawn::of(alloc, molecule) {
-        Ok(drawn) => {
-            let lines = drawn_lines(alloc, labeller, &drawn, groups, rules);
-            drop(drawn);
-            match lines {
-                Ok(lines) => of_lines(alloc, &lines),
-                Err(error) => Err(error),
-            }
-        }
+        Ok(drawn) => tell_drawn(alloc, labeller, &drawn, groups, rules),
+        Err(error) => Err(error),
+    }
+}
+
+// What is drawn stays with the caller, so that no end of this function gives it back.
+fn tell_drawn<D: Digraphs>(
+    alloc: Global,
+    labeller: &mut Labeller<D>,
+    drawn: &Drawn,
+    groups: &Groups,
+    rules: Rules,
+) -> Result<GroupText, AllocError>
+    ensures told { IfOk result (λ told. told ≡ of_groups rules labeller.old drawn.now (Ok groups.now)) }
+    ensures kept { labeller.new ≡ labeller.old }
+{
+    match drawn_lines(alloc, labeller, drawn, groups, rules) {
+        Ok(lines) => of_lines(alloc, &lines),
         Err(error) => Err(error),
     }
 }

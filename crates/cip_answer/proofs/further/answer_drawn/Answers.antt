@@ -3,10 +3,10 @@ use Rattle.std.proofs.lemmas.Grind.{common_steps}
 use Rattle.cip_answer.specs.FurtherAnswers.{further_of_molecule}
 use Rattle.cip_answer.proofs.further.answer_drawn.Goals as goal
 
-pub returns-clause-answer : goal.returns-clause-answer
+pub returns-in-Ok-clause-answer : goal.returns-in-Ok-clause-answer
 unfolding further_of_molecule
-returns-clause-answer g c = grind (arith, common_steps)
+returns-in-Ok-clause-answer g c = grind (arith, common_steps)
 
-pub answer_further-answer-requires-clause-fit : goal.answer_further-answer-requires-clause-fit
+pub answer_further-requires-clause-fit : goal.answer_further-requires-clause-fit
 unfolding further_of_molecule
-answer_further-answer-requires-clause-fit g c = grind (arith, common_steps)
+answer_further-requires-clause-fit g c = grind (arith, common_steps)

@@ -3,4 +3,4 @@ use Rattle.cip_collections.proofs.telling.tell_table.Goals as goal
 
 pub returns-in-Ok-clause-told : goal.returns-in-Ok-clause-told
 unfolding groups_of
-returns-in-Ok-clause-told g c = rw (← c.molecule_of-molecule.ensures, c.in-Ok.ensures) c.tell_groups-told.ensures.told
+returns-in-Ok-clause-told g c = rw (← c.molecule_of-molecule.ensures, c.in-Ok.ensures) c.tell_groups.ensures.told

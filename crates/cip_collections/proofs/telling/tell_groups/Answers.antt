@@ -1,0 +1,4 @@
+use Rattle.cip_collections.proofs.telling.tell_groups.Goals as goal
+
+pub returns-in-Ok-clause-told : goal.returns-in-Ok-clause-told
+returns-in-Ok-clause-told g c = rw (← c.in-Ok.ensures) c.tell_drawn.ensures.told
