@@ -37,16 +37,13 @@ pub fn label_within<D: Digraphs>(
     match Drawn::read(alloc, lines.contents()) {
         Ok(Ok(drawn)) => {
             let answer = answer_drawn(alloc, labeller, &drawn, rules);
-            give_back(drawn);
+            drawn.give_back();
             answer
         }
         Ok(Err(fault)) => Ok(Answer::Refused(fault)),
         Err(fault) => Err(fault),
     }
 }
-
-/// Gives back what is drawn. Written out in a function that labels, each of its columns takes longer to prove.
-pub fn give_back(_drawn: Drawn) {}
 
 // What is drawn stays with the caller, so that no end of this function gives it back.
 fn answer_drawn<D: Digraphs>(

@@ -11,7 +11,6 @@ ghost use Rattle.cip_answer.specs.FurtherAnswers.{
   further_of_molecule,
 };
 
-use crate::answering::give_back;
 use cip_axis::{FurtherSite, FurtherUnit, further, label_further, like};
 use cip_label::{Digraphs, Labeller, Setting};
 use cip_molfile::Drawn;
@@ -36,7 +35,7 @@ pub fn further_of_lines<D: Digraphs>(
     match Drawn::read(alloc, lines) {
         Ok(Ok(drawn)) => {
             let answer = answer_drawn(alloc, labeller, &drawn, rules);
-            give_back(drawn);
+            drawn.give_back();
             answer
         }
         Ok(Err(fault)) => Ok(Answer::Refused(fault)),

@@ -131,12 +131,9 @@ fn mark_ligand<D: Digraphs>(
         return Err(AllocError);
     };
     let answer = mark_drawn(alloc, labeller, &drawn, neighbour, request);
-    give_back(drawn);
+    drawn.give_back();
     answer
 }
-
-/// Gives back what is drawn. Written out in a function that labels, each of its columns takes longer to prove.
-pub fn give_back(_drawn: Drawn) {}
 
 // What is drawn stays with the caller, so that no end of this function gives it back.
 fn mark_drawn<D: Digraphs>(

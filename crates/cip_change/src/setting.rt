@@ -6,7 +6,7 @@ ghost use Rattle.cip_change.specs.SetLetters.{mark_asked};
 ghost use Rattle.cip_change.specs.Changed.{changed_record};
 ghost use Rattle.cip_change.specs.SetAnswers.{refusal_of, set_drawn, set_marked, set_without_items, IsFew};
 
-use crate::asking::{give_back, mark_asked};
+use crate::asking::mark_asked;
 use crate::changes::changed_record;
 use crate::letter::{CentreRefusal, Marked, Request};
 use crate::marking::with_mark;
@@ -65,7 +65,7 @@ fn set_lines<D: Digraphs>(
     match Drawn::read(alloc, lines.contents()) {
         Ok(Ok(drawn)) => {
             let answer = answer_drawn(alloc, labeller, lines, &drawn, asked);
-            give_back(drawn);
+            drawn.give_back();
             answer
         }
         Ok(Err(fault)) => Ok(SetAnswer::Refused(SetRefusal::Grammar(fault))),

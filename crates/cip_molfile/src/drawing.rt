@@ -66,6 +66,9 @@ fn found_in(alloc: Global, molecule: &Molecule) -> Result<Found, AllocError>
 }
 
 impl Drawn {
+    /// Gives all of it back. Written out in a function of another crate, each of its columns takes longer to prove.
+    pub fn give_back(self) {}
+
     /// What is drawn of a molecule.
     pub fn of(alloc: Global, molecule: Molecule) -> Result<Drawn, AllocError>
         ensures { IfOk result (λ drawn. drawn ≡ molecule) }

@@ -46,8 +46,7 @@ fn undefined_of_lines<D: Digraphs>(
     match Drawn::read(alloc, lines)? {
         Ok(drawn) => {
             let answer = undefined_of_drawn(alloc, labeller, &drawn, rules);
-            // given back by a call of its own, which is quicker to prove than an end that owns it
-            drop(drawn);
+            drawn.give_back();
             answer
         }
         Err(fault) => Ok(UndefinedAnswer::Refused(fault)),
