@@ -59,12 +59,8 @@ fn turns_at<N: Nodes, V: Viewer>(
     ensures turns { IfOk result (λ found.
         AreRootTurns inner.now node found.by_constitution ligands.now found.turns) }
 {
-    let Ok(numbers) = ligands_at(alloc, inner.whole().nodes(), node, ligands) else {
-        return Err(AllocError);
-    };
-    let found = viewer.look(alloc, inner, node, numbers.as_slice());
-    drop(numbers);
-    found
+    let numbers = ligands_at(inner.whole().nodes(), node, ligands);
+    viewer.look(alloc, inner, node, numbers.as_slice())
 }
 
 // The node of a unit's other end, where the rest of the unit follows below a node.

@@ -1,5 +1,5 @@
 // The ligands of a root, and the other end of a unit, by number.
-ghost use Rattle.std.specs.Prelude.{◌≡◌, ◌<◌, ◌-◌, length, map, IfOk, IfSome};
+ghost use Rattle.std.specs.Prelude.{◌≡◌, ◌<◌, ◌-◌, length, map, IfSome};
 ghost use Rattle.cip_rank.specs.Tree.{IsTree, children_of};
 ghost use Rattle.cip_digraph.specs.rules.Auxiliary.{stands_for};
 ghost use Rattle.cip_digraph.specs.digraph.NodeList.{parents_of};
@@ -7,9 +7,7 @@ ghost use Rattle.cip_aux.specs.Neighbours.{first_where, parent_of, is_real_of, l
 ghost use Rattle.cip_aux.specs.Neighbours.{real_child, shape_at};
 
 use cip_digraph::{NodeKind, Nodes};
-use cip_mol::{Ligand, Ligands};
-use smallvec::SmallVec;
-use std::alloc::{AllocError, Global};
+use cip_mol::{AtMostFour, Ligand, Ligands};
 
 // A real node or a closure of this vertex.
 fn is_ligand<N: Nodes>(nodes: &N, node: u32, vertex: u32) -> bool
@@ -88,26 +86,16 @@ fn ligand<N: Nodes>(nodes: &N, node: u32, ligand: Ligand) -> Option<u32>
     }
 }
 
-/// So many ligands stand without taking memory.
-const MOST_LIGANDS: usize = 4;
-
 /// The ligands of a root as nodes next to it; none for a lone pair.
-pub fn ligands_at<N: Nodes>(
-    alloc: Global,
-    nodes: &N,
-    node: u32,
-    ligands: &Ligands,
-) -> Result<SmallVec<Option<u32>, MOST_LIGANDS>, AllocError>
+pub fn ligands_at<N: Nodes>(nodes: &N, node: u32, ligands: &Ligands) -> AtMostFour<Option<u32>>
     requires within { node < length (N.nodes nodes.now) }
     requires tree { IsTree (parents_of (N.nodes nodes.now)) }
-    ensures { IfOk result (λ numbers. numbers.items
-        ≡ map (ligand_number (shape_at (N.nodes nodes.now)) (parents_of (N.nodes nodes.now)) node) ligands.now) }
+    ensures { result
+        ≡ map (ligand_number (shape_at (N.nodes nodes.now)) (parents_of (N.nodes nodes.now)) node) ligands.now }
 {
-    let mut numbers = SmallVec::new(alloc);
+    let mut numbers = AtMostFour::new();
     for place in ligands.as_slice() {
-        let Ok(()) = numbers.push(ligand(nodes, node, *place)) else {
-            return Err(AllocError);
-        };
+        numbers.push(ligand(nodes, node, *place));
     }
-    Ok(numbers)
+    numbers
 }

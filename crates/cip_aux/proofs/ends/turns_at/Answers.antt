@@ -9,12 +9,12 @@ use Rattle.cip_aux.proofs.NodeMarks.{ok_by}
 use Rattle.cip_aux.proofs.ReadyNodes.{numbers_of, ready_neighbours, ready_turns}
 use Rattle.cip_aux.proofs.ends.turns_at.Goals as goal
 
-pub look-found-requires-clause-ligands : goal.look-found-requires-clause-ligands
-look-found-requires-clause-ligands g c =
+pub look-requires-clause-ligands : goal.look-requires-clause-ligands
+look-requires-clause-ligands g c =
     let inner = c.args.inner.now in
     let told = c.nodes.ensures.told ∙ ap (λ (s : Sight). s.told) c.whole.ensures in
     let numbers : c.as_slice.result.now ≡ numbers_of inner c.args.node c.requires.ready c.args.ligands.now =
-    c.as_slice.ensures ∙ c.in-Ok.ensures
+    c.as_slice.ensures.value ∙ c.ligands_at-numbers.ensures
     ∙ ap (λ all. map (ligand_number (shape_at all) (parents_of all) c.args.node) c.args.ligands.now) told in
     subst (All (λ number. IfSome number (Contains (neighbours_of (parents_of inner.sight.told) c.args.node))))
     (sym numbers) (ready_neighbours inner c.args.node c.requires.ready c.args.ligands.now)
@@ -25,22 +25,22 @@ returns-clause-turns g c =
     let node = c.args.node in
     let told = c.nodes.ensures.told ∙ ap (λ (s : Sight). s.told) c.whole.ensures in
     let numbers : c.as_slice.result.now ≡ numbers_of inner node c.requires.ready c.args.ligands.now =
-    c.as_slice.ensures ∙ c.in-Ok.ensures
+    c.as_slice.ensures.value ∙ c.ligands_at-numbers.ensures
     ∙ ap (λ all. map (ligand_number (shape_at all) (parents_of all) node) c.args.ligands.now) told in
     ok_by (AreSeenTurns inner node (numbers_of inner node c.requires.ready c.args.ligands.now))
-    (λ (found : FoundTurns). AreRootTurns inner node found.by_constitution c.args.ligands.now found.turns) c.look-found.result
+    (λ (found : FoundTurns). AreRootTurns inner node found.by_constitution c.args.ligands.now found.turns) c.look.result
     (ready_turns inner node c.requires.ready c.args.ligands.now)
-    (subst (λ (ligands : List (Option ℕ)). IfOk c.look-found.result (AreSeenTurns inner node ligands)) numbers
-    c.look-found.ensures.turns)
+    (subst (λ (ligands : List (Option ℕ)). IfOk c.look.result (AreSeenTurns inner node ligands)) numbers
+    c.look.ensures.turns)
 
-pub look-found-requires-clause-ready : goal.look-found-requires-clause-ready
-look-found-requires-clause-ready g c = c.requires.ready
+pub look-requires-clause-ready : goal.look-requires-clause-ready
+look-requires-clause-ready g c = c.requires.ready
 
-pub look-found-requires-clause-stands : goal.look-found-requires-clause-stands
-look-found-requires-clause-stands g c = c.requires.stands
+pub look-requires-clause-stands : goal.look-requires-clause-stands
+look-requires-clause-stands g c = c.requires.stands
 
 pub returns-clause-stands : goal.returns-clause-stands
-returns-clause-stands g c = c.look-found.ensures.stands
+returns-clause-stands g c = c.look.ensures.stands
 
 pub returns-clause-room : goal.returns-clause-room
-returns-clause-room g c = c.look-found.ensures.room
+returns-clause-room g c = c.look.ensures.room

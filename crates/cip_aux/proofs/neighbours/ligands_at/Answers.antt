@@ -13,3 +13,6 @@ ligand-requires-clause-tree g c = c.requires.tree
 
 pub ligand-requires-clause-within : goal.ligand-requires-clause-within
 ligand-requires-clause-within g c = c.requires.within
+
+pub push-requires : goal.push-requires
+push-requires g c = grind (arith, common_steps)

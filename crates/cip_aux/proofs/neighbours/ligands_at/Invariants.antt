@@ -5,5 +5,5 @@ use Rattle.cip_aux.proofs.neighbours.ligands_at.Given as goal
 
 abbrev pub invariant-loop-place : goal.invariant-loop-place
 invariant-loop-place g l =
-    l.numbers.items ≡ map (ligand_number (shape_at (g.N.Nodes.nodes l.nodes)) (parents_of (g.N.Nodes.nodes l.nodes))
+    l.numbers ≡ map (ligand_number (shape_at (g.N.Nodes.nodes l.nodes)) (parents_of (g.N.Nodes.nodes l.nodes))
     l.node) (take l.place-index l.ligands)
