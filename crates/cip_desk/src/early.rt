@@ -11,7 +11,6 @@ use crate::shown::{Shown, show_all};
 use cip_digraph::{Asked, are_decided};
 use cip_label::Setting;
 use cip_mol::Ligands;
-use cip_rank::both_of;
 use std::alloc::{AllocError, Global};
 use std::marker::Model;
 
@@ -52,10 +51,10 @@ impl Early {
     pub fn reserve(alloc: Global) -> Result<Early, AllocError>
         ensures { IfOk result (λ early. early ≡ []) }
     {
-        let Ok((shown, noted)) = both_of(
-            Vec::with_capacity(alloc, MOST_LIGANDS),
-            Vec::with_capacity(alloc, MOST_PAIRS),
-        ) else {
+        let Ok(noted) = Vec::with_capacity(alloc, MOST_PAIRS) else {
+            return Err(AllocError);
+        };
+        let Ok(shown) = Vec::with_capacity(alloc, MOST_LIGANDS) else {
             return Err(AllocError);
         };
         Ok(Early { shown, noted })
