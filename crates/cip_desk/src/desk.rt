@@ -80,7 +80,7 @@ impl Digraphs for Desk {
             bound: self.bound,
         };
         self.last_is_kept = false;
-        match rank_early(alloc, &told, &mut self.early, &mut self.branches) {
+        match rank_early(&told, &mut self.early, &mut self.branches) {
             Ok(true) => Ok(Ranking::Known),
             Ok(false) => {
                 let ranking = rank_late(alloc, &told, &mut self.bench, &mut self.branches, steps);
