@@ -1,15 +1,15 @@
 -- A branch shown behind others.
-use Rattle.std.proofs.Common.{◌≡◌, ◌≤◌, ◌+◌, ◌-◌, ◌++◌, ◌∷◌, ◌∙◌, [], ℕ, List, length, take, drop, ap, arith, Result, Ok, Err, OnOk, is_ok, refl, if◌then◌else◌}
-use Rattle.std.proofs.lemmas.List.{drop-append-le, drop_all, length-drop, take-append-le, take_all}
+use Rattle.std.proofs.Common.{◌≡◌, ◌≤◌, ◌+◌, ◌-◌, ◌++◌, ◌∷◌, ◌∙◌, [], ℕ, List, length, min, take, drop, ap, arith, Result, Ok, Err, OnOk, is_ok, refl, if◌then◌else◌}
+use Rattle.std.proofs.lemmas.List.{drop-append-le, drop_min, length-drop, take-append-le, take_all, take_min}
 use Rattle.cip_desk.specs.Branches.{Branch}
 use Rattle.cip_desk.specs.Rows.{count_below, shown_of}
 use Rattle.cip_desk.specs.declared.shown.Top.{Top}
 
-pub all_taken : (n : ℕ) (keys : List ℕ) → length keys ≤ n → take n keys ≡ keys
-all_taken n keys le = take_all n keys le
+pub as_many_taken : (n : ℕ) (keys : List ℕ) → take (min n (length keys)) keys ≡ take n keys
+as_many_taken n keys = take_min n keys
 
-pub none_left : (n : ℕ) (keys : List ℕ) → length keys ≤ n → drop n keys ≡ []
-none_left n keys le = drop_all n keys le
+pub as_many_left : (n : ℕ) (keys : List ℕ) → drop (min n (length keys)) keys ≡ drop n keys
+as_many_left n keys = drop_min n keys
 
 pub count_behind : (tops : List Top) (top : Top) → count_below (tops ++ top ∷ []) ≡ count_below tops + top.below
 count_behind [] top = omega (arith)

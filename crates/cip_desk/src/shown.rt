@@ -74,7 +74,7 @@ impl<'a> Row<'a> {
     }
 
     /// The first branch, and those behind it.
-    #[tactic(auto, using(crate::proofs::ShownRows::all_taken, crate::proofs::ShownRows::none_left))]
+    #[tactic(auto, using(crate::proofs::ShownRows::as_many_taken, crate::proofs::ShownRows::as_many_left))]
     pub fn split_first(&self) -> Option<(Shown<'a>, Row<'a>)>
         ensures some { IfSome result (λ parts. self.now ≡ parts.0 ∷ parts.1) }
         ensures none { IsNone result → self.now ≡ [] }
@@ -82,11 +82,7 @@ impl<'a> Row<'a> {
         let [top, behind @ ..] = self.tops else {
             return None;
         };
-        let (below, later) = if top.below <= self.keys.len() {
-            self.keys.split_at(top.below)
-        } else {
-            self.keys.split_at(self.keys.len())
-        };
+        let (below, later) = self.keys.split_at(top.below.min(self.keys.len()));
         let shown = Shown {
             vertex: top.vertex,
             key: top.key,
