@@ -63,22 +63,24 @@ impl Arena {
         ensures { IfOk result (λ arena. arena ≡ record { bound = bound; root = 0; sphere = 0; first = 0; nodes = [] }) }
     {
         let room = bound as usize;
-        let columns = both_of(
+        let Ok((nodes, present)) = both_of(
             Vec::with_capacity(alloc, room),
             Vec::with_capacity(alloc, room),
-        );
-        match both_of(Table::reserve(alloc, bound), columns) {
-            Ok((table, (nodes, present))) => Ok(Arena {
-                bound,
-                root: 0,
-                sphere: 0,
-                first: 0,
-                table,
-                nodes,
-                present,
-            }),
-            Err(error) => Err(error),
-        }
+        ) else {
+            return Err(AllocError);
+        };
+        let Ok(table) = Table::reserve(alloc, bound) else {
+            return Err(AllocError);
+        };
+        Ok(Arena {
+            bound,
+            root: 0,
+            sphere: 0,
+            first: 0,
+            table,
+            nodes,
+            present,
+        })
     }
 
     /// Lets go of all nodes but a new root.

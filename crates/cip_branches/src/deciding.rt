@@ -12,7 +12,7 @@ ghost use Rattle.cip_branches.specs.Walking.{kids_left};
 use crate::around::Around;
 use crate::spheres::Spheres;
 use crate::walking::is_set;
-use cip_rank::{Keyed, both_of};
+use cip_rank::{Keyed, both, both_of};
 use cip_rows::Column;
 use std::alloc::{AllocError, Global};
 use std::cmp::Ordering;
@@ -54,8 +54,11 @@ impl Branches {
         requires { room + 1 < 2 ^ 32 }
         ensures { IfOk result (λ branches. branches ≡ no_branches room) }
     {
-        let flags = both_of(Column::reserve(alloc, room), Column::reserve(alloc, room));
-        let Ok(((wanted, opens), spheres)) = both_of(flags, Spheres::reserve(alloc, room)) else {
+        let Ok(flags) = both_of(Column::reserve(alloc, room), Column::reserve(alloc, room)) else {
+            return Err(AllocError);
+        };
+        // what is taken last is never given back
+        let Ok(((wanted, opens), spheres)) = both(flags, Spheres::reserve(alloc, room)) else {
             return Err(AllocError);
         };
         Ok(Branches {

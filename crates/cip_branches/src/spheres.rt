@@ -1,7 +1,7 @@
 // All columns of branches.
 ghost use Rattle.std.specs.Prelude.{◌≡◌, ◌<◌, ◌≤◌, ◌+◌, ◌^◌, [], IfOk, length, slice_index};
 
-use cip_rank::both_of;
+use cip_rank::{both, both_of};
 use cip_rows::{Column, Family, Order};
 use std::alloc::{AllocError, Global};
 use std::marker::Model;
@@ -48,15 +48,21 @@ impl Spheres {
           before = [];
         }) }
     {
-        let places = both_of(Family::reserve(alloc, room), Order::reserve(alloc, room));
+        let places = both_of(
+            Family::reserve(alloc, room),
+            Column::reserve(alloc, room + 1),
+        );
         // the columns that a pass needs
         let pass = both_of(Column::reserve(alloc, room), Column::reserve(alloc, room));
-        let columns = both_of(
-            Column::reserve(alloc, room + 1),
-            both_of(pass, Column::reserve(alloc, room)),
-        );
-        let Ok(((family, order), (starts, ((before, flags), sets)))) = both_of(places, columns)
-        else {
+        let columns = both_of(pass, Column::reserve(alloc, room));
+        let Ok(small) = both_of(places, columns) else {
+            return Err(AllocError);
+        };
+        // what is taken last is never given back
+        let Ok((((family, starts), ((before, flags), sets)), order)) = both(
+            small,
+            Order::reserve(alloc, room),
+        ) else {
             return Err(AllocError);
         };
         Ok(Spheres {

@@ -19,7 +19,7 @@ use cip_arena::Arena;
 use cip_branches::{Branches, SavedRanks};
 use cip_digraph::Asked;
 use cip_mol::Ligands;
-use cip_rank::both_of;
+use cip_rank::{both, both_of};
 use cip_rows::Column;
 use std::alloc::{AllocError, Global};
 use std::marker::Model;
@@ -72,13 +72,19 @@ impl Work {
             Vec::with_capacity(alloc, MOST_PAIRS),
             Vec::with_capacity(alloc, MOST_PAIRS),
         );
-        let followed = both_of(
-            Branches::reserve(alloc, places),
-            Column::reserve(alloc, bound),
-        );
         let nodes = both_of(Vec::with_capacity(alloc, bound as usize), asked);
-        let places = both_of(followed, SavedRanks::reserve(alloc, places));
-        let Ok(((under, (pairs, noted)), ((branches, tops), saved))) = both_of(nodes, places) else {
+        let kept = both_of(
+            Column::reserve(alloc, bound),
+            SavedRanks::reserve(alloc, places),
+        );
+        let Ok(small) = both_of(nodes, kept) else {
+            return Err(AllocError);
+        };
+        // what is taken last is never given back
+        let Ok((((under, (pairs, noted)), (tops, saved)), branches)) = both(
+            small,
+            Branches::reserve(alloc, places),
+        ) else {
             return Err(AllocError);
         };
         Ok(Work {

@@ -17,5 +17,6 @@ pub mod RootMarks
 pub mod RootNodes
 pub mod SameSites
 pub mod SettledRoots
+mod ShownRows
 mod ToldBranches
 pub mod WholeStanding

@@ -3,5 +3,6 @@ pub mod Counting
 pub mod Desks
 pub mod Keeping
 pub mod Rooting
+pub mod Rows
 pub mod Standing
 pub mod ToldEarly

@@ -8,7 +8,7 @@ use crate::told_early::rank_early;
 use cip_digraph::Decision;
 use cip_label::{Digraphs, Labeller, Ranking, Setting};
 use cip_mol::Ligands;
-use cip_rank::{Steps, both, both_of};
+use cip_rank::Steps;
 use std::alloc::{AllocError, Global};
 use std::marker::Model;
 use std::sync::ledger::Ledger;
@@ -46,10 +46,13 @@ impl Digraphs for Desk {
     ghost standing = { λ desk. standing_of desk.standing };
 
     fn reserve(alloc: Global, nodes: u32) -> Result<Desk, AllocError> {
-        let Ok(telling) = both_of(Branches::reserve(alloc), Early::reserve(alloc)) else {
+        let Ok(early) = Early::reserve(alloc) else {
             return Err(AllocError);
         };
-        let Ok(((branches, early), bench)) = both(telling, Bench::reserve(alloc, nodes)) else {
+        let Ok(branches) = Branches::reserve(alloc) else {
+            return Err(AllocError);
+        };
+        let Ok(bench) = Bench::reserve(alloc, nodes) else {
             return Err(AllocError);
         };
         Ok(Desk {
@@ -77,7 +80,7 @@ impl Digraphs for Desk {
             bound: self.bound,
         };
         self.last_is_kept = false;
-        match rank_early(alloc, &told, &mut self.early, &mut self.branches) {
+        match rank_early(&told, &mut self.early, &mut self.branches) {
             Ok(true) => Ok(Ranking::Known),
             Ok(false) => {
                 let ranking = rank_late(alloc, &told, &mut self.bench, &mut self.branches, steps);

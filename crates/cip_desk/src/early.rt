@@ -7,18 +7,15 @@ ghost use Rattle.cip_desk.specs.ToldEarly.{is_told_early, noted_early};
 use crate::counting::are_few;
 use crate::noting::note_each;
 use crate::root::Root;
-use crate::shown::{Shown, show_all};
+use crate::shown::{AllShown, show_all};
 use cip_digraph::{Asked, are_decided};
 use cip_label::Setting;
 use cip_mol::Ligands;
-use cip_rank::both_of;
 use std::alloc::{AllocError, Global};
 use std::marker::Model;
 
 /// At most four ligands make so many pairs.
 const MOST_PAIRS: usize = 6;
-
-const MOST_LIGANDS: usize = 4;
 
 /// A root with its ligands, and how many nodes may be looked at.
 #[derive(Clone, Copy)]
@@ -34,7 +31,7 @@ pub struct RootedLigands<'a, 's> {
 /// What two spheres decide between the ligands of a root, in memory used for one root after the other.
 #[derive(Drop)]
 pub struct Early {
-    shown: Vec<Shown>,
+    shown: AllShown,
     noted: Vec<Asked>,
 }
 
@@ -52,10 +49,10 @@ impl Early {
     pub fn reserve(alloc: Global) -> Result<Early, AllocError>
         ensures { IfOk result (λ early. early ≡ []) }
     {
-        let Ok((shown, noted)) = both_of(
-            Vec::with_capacity(alloc, MOST_LIGANDS),
-            Vec::with_capacity(alloc, MOST_PAIRS),
-        ) else {
+        let Ok(noted) = Vec::with_capacity(alloc, MOST_PAIRS) else {
+            return Err(AllocError);
+        };
+        let Ok(shown) = AllShown::reserve(alloc) else {
             return Err(AllocError);
         };
         Ok(Early { shown, noted })
@@ -63,11 +60,7 @@ impl Early {
 
     /// Whether two spheres of at most `bound` nodes tell each two ligands apart; then it's noted what is decided
     /// between each two.
-    pub fn tell(
-        &mut self,
-        alloc: Global,
-        rooted: &RootedLigands<'_, '_>,
-    ) -> Result<bool, AllocError>
+    pub fn tell(&mut self, rooted: &RootedLigands<'_, '_>) -> Result<bool, AllocError>
         requires fit { IsFit rooted.now.setting.now.graph rooted.now.root rooted.now.ligands.now }
         ensures told { IfOk result (λ told. told ≡ is_told_early rooted.now.setting.now rooted.now.root
             rooted.now.ligands.now rooted.now.bound) }
@@ -81,10 +74,10 @@ impl Early {
         };
         if are_few(&root, rooted.bound) {
             let ligands = rooted.ligands.as_slice();
-            let Ok(()) = show_all(alloc, &root, ligands, &mut self.shown) else {
+            let Ok(()) = show_all(&root, ligands, &mut self.shown) else {
                 return Err(AllocError);
             };
-            let Ok(()) = note_each(&self.shown, &mut self.noted) else {
+            let Ok(()) = note_each(self.shown.row(), &mut self.noted) else {
                 return Err(AllocError);
             };
             Ok(are_decided(&self.noted))

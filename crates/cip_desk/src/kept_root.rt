@@ -5,7 +5,7 @@ ghost use Rattle.cip_desk.specs.Keeping.{kept_of};
 use crate::early::RootedLigands;
 use cip_digraph::{Graph, Positions};
 use cip_mol::{Ligand, Ligands, copy_ligands};
-use cip_rank::{Rules, both_of};
+use cip_rank::Rules;
 use std::alloc::{AllocError, Global};
 
 /// A root with its ligands, in which graph it stands, and by which wording it was ranked.
@@ -24,10 +24,10 @@ impl KeptRoot {
         ensures { IfOk result (λ kept. kept ≡ kept_of told.now.setting.now told.now.root told.now.ligands.now) }
     {
         let setting = told.setting;
-        let Ok((graph, positions)) = both_of(
-            setting.graph().copy(alloc),
-            setting.positions().copy(alloc),
-        ) else {
+        let Ok(positions) = setting.positions().copy(alloc) else {
+            return Err(AllocError);
+        };
+        let Ok(graph) = setting.graph().copy(alloc) else {
             return Err(AllocError);
         };
         Ok(KeptRoot {

@@ -6,7 +6,6 @@ use crate::early::RootedLigands;
 use crate::kept_root::KeptRoot;
 use cip_label::Ranking;
 use std::alloc::{AllocError, Global};
-use std::mem;
 
 /// How far what was found of a root rests on the senses of units.
 #[derive(Clone, Copy)]
@@ -52,8 +51,7 @@ impl Memo {
         let Ok(kept) = KeptRoot::of(alloc, told) else {
             return Err(AllocError);
         };
-        // what was kept before is let go by a call: written out here, column by column, it costs more to prove
-        drop(mem::replace(&mut self.root, Some(kept)));
+        self.root = Some(kept);
         self.found = Some(found);
         Ok(())
     }

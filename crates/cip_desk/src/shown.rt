@@ -1,69 +1,172 @@
 // What two spheres show of the branches at a root's ligands.
-ghost use Rattle.std.specs.Prelude.{◌≡◌, ◌≤◌, ◌-◌, IfOk, OnOk};
+ghost use Rattle.std.specs.Prelude.{◌≡◌, ◌≤◌, ◌-◌, ◌++◌, ◌∷◌, [], length, IfOk, IfSome, IsNone, OnOk};
 ghost use Rattle.cip_digraph.specs.Asking.{decided, differing};
 ghost use Rattle.cip_mol.specs.declared.outcome.Rule.TheVariants.{R1a};
 ghost use Rattle.cip_desk.specs.Branches.{branch_at, branches_of, told_between};
+ghost use Rattle.cip_desk.specs.Rows.{count_below, shown_of};
 
-use crate::keys::{MOST_INLINE, put_below};
+use crate::keys::put_below;
 use crate::root::Root;
 use cip_arena::z_of;
 use cip_digraph::Decision;
 use cip_mol::{Ligand, Rule};
+use cip_rank::both_of;
 use cip_rank::sets::compare_sets;
-use smallvec::SmallVec;
 use std::alloc::{AllocError, Global};
 use std::cmp::Ordering;
 use std::marker::Model;
 
-/// The branch at a neighbour of a root: the atomic keys of its node, and of the nodes below that, highest first.
-#[derive(Drop)]
-pub struct Shown {
-    pub vertex: u32,
+/// At most four ligands are shown, and so many keys stand below most of them.
+const MOST_LIGANDS: usize = 4;
+
+const MOST_BELOW: usize = 8;
+
+/// The node at a neighbour of a root: its vertex and atomic key, and how many nodes are below it.
+#[derive(Clone, Copy)]
+pub struct Top {
+    vertex: u32,
     key: u32,
-    below: SmallVec<u32, MOST_INLINE>,
+    below: usize,
 }
 
-impl Model for Shown {
+/// The branch at a neighbour of a root: the atomic keys of its node, and of the nodes below that, highest first.
+#[derive(Drop)]
+pub struct Shown<'a> {
+    pub vertex: u32,
+    key: u32,
+    below: &'a [u32],
+}
+
+impl<'a> Model for Shown<'a> {
     ghost use Rattle.cip_desk.specs.Branches.{Branch};
 
     ghost Value = { Branch };
 
-    ghost view = { λ shown. record { vertex = shown.vertex; key = shown.key; below = shown.below.items } };
+    ghost view = { λ shown. record { vertex = shown.vertex; key = shown.key; below = shown.below.now } };
 }
 
-#[tactic(auto, using(crate::proofs::EdgeKeys::below_sorted))]
-fn show(alloc: Global, root: &Root<'_>, vertex: u32) -> Result<Shown, AllocError>
-    ensures { IfOk result (λ shown. shown ≡ branch_at root.now.graph.now root.now.positions.now root.now.at vertex) }
+/// Branches in a row: their nodes, and the keys below all of these.
+#[derive(Drop)]
+pub struct Row<'a> {
+    tops: &'a [Top],
+    keys: &'a [u32],
+}
+
+impl<'a> Model for Row<'a> {
+    ghost use Rattle.std.specs.Prelude.{List};
+    ghost use Rattle.cip_desk.specs.Branches.{Branch};
+    ghost use Rattle.cip_desk.specs.Rows.{shown_of};
+
+    ghost Value = { List Branch };
+
+    ghost view = { λ row. shown_of row.tops.now row.keys.now };
+}
+
+impl<'a> Row<'a> {
+    /// The same branches once more.
+    pub fn copy(&self) -> Row<'a>
+        ensures { result ≡ self.now }
+    {
+        Row {
+            tops: self.tops,
+            keys: self.keys,
+        }
+    }
+
+    /// The first branch, and those behind it.
+    #[tactic(auto, using(crate::proofs::ShownRows::as_many_taken, crate::proofs::ShownRows::as_many_left))]
+    pub fn split_first(&self) -> Option<(Shown<'a>, Row<'a>)>
+        ensures some { IfSome result (λ parts. self.now ≡ parts.0 ∷ parts.1) }
+        ensures none { IsNone result → self.now ≡ [] }
+    {
+        let [top, behind @ ..] = self.tops else {
+            return None;
+        };
+        let (below, later) = self.keys.split_at(top.below.min(self.keys.len()));
+        let shown = Shown {
+            vertex: top.vertex,
+            key: top.key,
+            below,
+        };
+        Some((
+            shown,
+            Row {
+                tops: behind,
+                keys: later,
+            },
+        ))
+    }
+}
+
+/// The branches of a root that are shown, in memory used for one root after the other.
+#[derive(Drop)]
+pub struct AllShown {
+    pub tops: Vec<Top>,
+    pub keys: Vec<u32>,
+    // the keys below one of them, while they are put in order
+    below: Vec<u32>,
+}
+
+impl AllShown {
+    /// None, with room for four ligands.
+    pub fn reserve(alloc: Global) -> Result<AllShown, AllocError> {
+        let all = both_of(
+            Vec::with_capacity(alloc, MOST_LIGANDS),
+            Vec::with_capacity(alloc, MOST_LIGANDS * MOST_BELOW),
+        );
+        let Ok(((tops, keys), below)) = both_of(all, Vec::with_capacity(alloc, MOST_BELOW)) else {
+            return Err(AllocError);
+        };
+        Ok(AllShown { tops, keys, below })
+    }
+
+    /// The branches in a row.
+    pub fn row(&self) -> Row<'_>
+        ensures { result ≡ shown_of self.now.tops.items self.now.keys.items }
+    {
+        Row {
+            tops: self.tops.as_slice(),
+            keys: self.keys.as_slice(),
+        }
+    }
+}
+
+#[tactic(auto, using(crate::proofs::EdgeKeys::below_sorted, crate::proofs::ShownRows::count_behind))]
+fn show(root: &Root<'_>, vertex: u32, shown: &mut AllShown) -> Result<(), AllocError>
+    requires all { length shown.old.keys.items ≡ count_below shown.old.tops.items }
+    ensures all { OnOk result (length shown.new.keys.items ≡ count_below shown.new.tops.items) }
+    ensures shown { OnOk result (shown_of shown.new.tops.items shown.new.keys.items
+        ≡ shown_of shown.old.tops.items shown.old.keys.items
+        ++ branch_at root.now.graph.now root.now.positions.now root.now.at vertex ∷ []) }
 {
-    let mut below = SmallVec::new(alloc);
-    let Ok(()) = put_below(root, vertex, &mut below) else {
+    shown.below.clear();
+    let Ok(()) = put_below(root, vertex, &mut shown.below) else {
         return Err(AllocError);
     };
-    Ok(Shown {
+    let Ok(()) = shown.tops.push(Top {
         vertex,
         key: 6 * z_of(root.graph, vertex) as u32,
-        below,
+        below: shown.below.len(),
     })
+    else {
+        return Err(AllocError);
+    };
+    shown.keys.extend_from_slice(shown.below.as_slice())
 }
 
 /// Shows the branches at ligands; a lone pair has none.
-pub fn show_all(
-    alloc: Global,
-    root: &Root<'_>,
-    ligands: &[Ligand],
-    shown: &mut Vec<Shown>,
-) -> Result<(), AllocError>
-    ensures { OnOk result (shown.new.items
+pub fn show_all(root: &Root<'_>, ligands: &[Ligand], shown: &mut AllShown) -> Result<(), AllocError>
+    ensures { OnOk result (shown_of shown.new.tops.items shown.new.keys.items
         ≡ branches_of root.now.graph.now root.now.positions.now root.now.at ligands.now) }
 {
-    shown.clear();
+    shown.tops.clear();
+    shown.keys.clear();
     let mut rest = ligands;
     while let [ligand, others @ ..] = rest {
         if let Ligand::Vertex(vertex) = ligand {
-            let Ok(branch) = show(alloc, root, *vertex) else {
+            let Ok(()) = show(root, *vertex, shown) else {
                 return Err(AllocError);
             };
-            shown.push(branch)?;
         }
         rest = others;
     }
@@ -86,16 +189,13 @@ fn decide(side: Ordering, sphere: u32) -> Option<Decision>
 }
 
 /// What the nodes of two branches decide, and where these tie the sets below them. A set that ends first is lower.
-pub fn tell(one: &Shown, other: &Shown) -> Option<Decision>
+pub fn tell(one: &Shown<'_>, other: &Shown<'_>) -> Option<Decision>
     ensures { result ≡ told_between one.now other.now }
 {
     let side = one.key.cmp(&other.key);
     if side.is_ne() {
         decide(side, 1)
     } else {
-        decide(
-            compare_sets(one.below.as_slice(), other.below.as_slice()),
-            2,
-        )
+        decide(compare_sets(one.below, other.below), 2)
     }
 }

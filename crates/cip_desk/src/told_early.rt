@@ -8,11 +8,10 @@ ghost use Rattle.cip_desk.specs.Standing.{standing_of};
 
 use crate::branches::Branches;
 use crate::early::{Early, RootedLigands};
-use std::alloc::{AllocError, Global};
+use std::alloc::AllocError;
 
 /// Ranks the ligands of a root where two spheres tell them apart, and answers whether they do.
 pub fn rank_early(
-    alloc: Global,
     rooted: &RootedLigands<'_, '_>,
     early: &mut Early,
     branches: &mut Branches,
@@ -23,7 +22,7 @@ pub fn rank_early(
     ensures ranked { result ≡ Ok true → RankedAs rooted.now.setting.now rooted.now.bound rooted.now.root
         rooted.now.ligands.now (standing_of branches.new) Known }
 {
-    let told = early.tell(alloc, rooted);
+    let told = early.tell(rooted);
     if let Ok(true) = told {
         let Ok(()) = branches.take_named(early.noted()) else {
             return Err(AllocError);

@@ -129,17 +129,14 @@ fn find_marks(
         units: &units,
         flags: flags.as_slice(),
     };
-    let found = auxiliaries(
+    auxiliaries(
         alloc,
         &whole,
         &mut tables.sights,
         &wanted,
         &mut tables.turns,
         &mut tables.marks,
-    );
-    drop(units);
-    drop(flags);
-    found
+    )
 }
 
 /// Ranks the ligands of a root by all rules, where constitution leaves two of them.

@@ -26,7 +26,7 @@ use crate::values::{compare_values, like_value};
 use cip_branches::{Branches, SavedRanks};
 use cip_digraph::{Asked, Decision, are_decided};
 use cip_mol::Rule;
-use cip_rank::{Keyed, both_of};
+use cip_rank::Keyed;
 use cip_rows::Column;
 use std::alloc::{AllocError, Global};
 use std::cmp::Ordering;
@@ -63,15 +63,16 @@ impl Readings {
         requires { bound < 2 ^ 31 }
         ensures { IfOk result (λ readings. readings.bound ≡ bound) }
     {
-        let ranks = both_of(
-            Branches::reserve(alloc, bound + bound),
-            SavedRanks::reserve(alloc, bound + bound),
-        );
-        let columns = both_of(
-            Column::reserve(alloc, bound),
-            Column::reserve(alloc, bound + bound),
-        );
-        let Ok(((twins, saved), (sides, values))) = both_of(ranks, columns) else {
+        let Ok(sides) = Column::reserve(alloc, bound) else {
+            return Err(AllocError);
+        };
+        let Ok(values) = Column::reserve(alloc, bound + bound) else {
+            return Err(AllocError);
+        };
+        let Ok(saved) = SavedRanks::reserve(alloc, bound + bound) else {
+            return Err(AllocError);
+        };
+        let Ok(twins) = Branches::reserve(alloc, bound + bound) else {
             return Err(AllocError);
         };
         Ok(Readings {

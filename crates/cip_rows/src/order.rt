@@ -5,7 +5,6 @@ ghost use Rattle.cip_rows.specs.Parting.{PartsRows, EndsClass, is_shared};
 
 use crate::classes::part_rows;
 use crate::column::Column;
-use cip_rank::both_of;
 use cip_rank::sorting::NodeOrder;
 use std::alloc::{AllocError, Global};
 use std::marker::Model;
@@ -38,15 +37,20 @@ impl Order {
     pub fn reserve(alloc: Global, room: u32) -> Result<Order, AllocError>
         ensures { IfOk result (λ order. order ≡ record { room = room; rows = []; numbers = [] }) }
     {
-        let places = both_of(Column::reserve(alloc, room), Column::reserve(alloc, room));
-        match both_of(places, Column::reserve(alloc, room)) {
-            Ok(((rows, numbers), offsets)) => Ok(Order {
-                rows,
-                numbers,
-                offsets,
-            }),
-            Err(error) => Err(error),
-        }
+        let Ok(rows) = Column::reserve(alloc, room) else {
+            return Err(AllocError);
+        };
+        let Ok(numbers) = Column::reserve(alloc, room) else {
+            return Err(AllocError);
+        };
+        let Ok(offsets) = Column::reserve(alloc, room) else {
+            return Err(AllocError);
+        };
+        Ok(Order {
+            rows,
+            numbers,
+            offsets,
+        })
     }
 
     /// Lets go of all rows and numbers, and of no memory.

@@ -2,11 +2,11 @@ use Rattle.std.proofs.Common.{arith}
 use Rattle.std.proofs.lemmas.Grind.{common_steps}
 use Rattle.cip_desk.proofs.noting.note_with_each.Goals as goal
 
-pub loop-rest-preserved : goal.loop-rest-preserved
-loop-rest-preserved c = grind (arith, common_steps)
+pub loop-other-preserved : goal.loop-other-preserved
+loop-other-preserved c = grind (arith, common_steps)
 
 pub returns : goal.returns
 returns c = grind (arith, common_steps)
 
-pub loop-rest-preserved-in-Ok : goal.loop-rest-preserved-in-Ok
-loop-rest-preserved-in-Ok c = grind (arith, common_steps)
+pub loop-other-preserved-in-Ok : goal.loop-other-preserved-in-Ok
+loop-other-preserved-in-Ok c = grind (arith, common_steps)

@@ -1,11 +1,15 @@
 use Rattle.std.proofs.Common.{◌≡◌, ◌++◌, flat_map, length}
 use Rattle.cip_desk.specs.Branches.{branch_if, branches_of}
+use Rattle.cip_desk.specs.Rows.{count_below, shown_of}
 use Rattle.cip_desk.proofs.shown.show_all.Given as goal
 
 abbrev pub invariant-loop-rest : goal.invariant-loop-rest
-invariant-loop-rest l =
-    l.shown.items ++ flat_map (branch_if l.root.graph.now l.root.positions.now l.root.at) l.rest
-    ≡ branches_of l.root.graph.now l.root.positions.now l.root.at l.ligands
+invariant-loop-rest l = record {
+  shown : shown_of l.shown.tops.items l.shown.keys.items
+      ++ flat_map (branch_if l.root.graph.now l.root.positions.now l.root.at) l.rest
+      ≡ branches_of l.root.graph.now l.root.positions.now l.root.at l.ligands;
+  all : length l.shown.keys.items ≡ count_below l.shown.tops.items;
+}
 
 abbrev pub decreases-loop-rest : goal.decreases-loop-rest
 decreases-loop-rest l = length l.rest

@@ -22,7 +22,7 @@ returns-clause-marks c =
     let arena = c.args.rooted.now.arena.now in
     let work = c.args.work.now in
     let flags = c.flag_below.new.flags in
-    let marks = c.auxiliaries-found.new.marks.marks in
+    let marks = c.auxiliaries.new.marks.marks in
     let count : c.in-Ok.flags.len ≡ length flags = search rules in
     let wanted : c.as_slice-2.result.now ≡ flags = c.as_slice-2.ensures.value
     ∙ ap (λ n. take n (flags ++ drop (length flags) c.in-Ok.flags.items)) count
@@ -37,7 +37,7 @@ returns-clause-marks c =
     (ap (λ (fs : List Bool). flag_at fs node) c.flag_wanted.ensures.flagged
     ∙ wanted_set now c.as_mut_slice-flagged.result.now
     (subst (λ n. AreKeyed n now.layers.kin) many c.requires.constituted.keyed) c.requires.constituted.followed t place p) in
-    on_ok c.auxiliaries-found.result c.auxiliaries-found.ensures.marks
+    on_ok c.auxiliaries.result c.auxiliaries.ensures.marks
     (λ are. have_marks setting arena c.requires.rooted.holds work.pairs work.branched work.noted
     c.requires.constituted flags marks flagged
     (subst (λ (fs : List Bool). AreMarked (sight_of (whole_at setting arena)) setting.units fs 0 marks) wanted
@@ -49,8 +49,8 @@ returns-clause-marks c =
 pub flag_below-requires : goal.flag_below-requires
 flag_below-requires c = grind (arith, common_steps)
 
-pub auxiliaries-found-requires-clause-kept : goal.auxiliaries-found-requires-clause-kept
-auxiliaries-found-requires-clause-kept c =
+pub auxiliaries-requires-clause-kept : goal.auxiliaries-requires-clause-kept
+auxiliaries-requires-clause-kept c =
     let setting = c.args.rooted.now.setting.now in
     let arena = c.args.rooted.now.arena.now in
     let all = c.in-Ok-new.ensures ∙ c.as_slice.ensures ∙ c.units.ensures.value in
@@ -59,8 +59,8 @@ auxiliaries-found-requires-clause-kept c =
     (ap sight_of (sym c.whole_of-whole.ensures)) (sym (ap sites_in all ∙ c.units.ensures.proper.sites))
     c.requires.turns.0
 
-pub auxiliaries-found-requires-clause-stands : goal.auxiliaries-found-requires-clause-stands
-auxiliaries-found-requires-clause-stands c =
+pub auxiliaries-requires-clause-stands : goal.auxiliaries-requires-clause-stands
+auxiliaries-requires-clause-stands c =
     let sights = c.args.tables.now.sights in
     subst (λ (sight : Sight). AreOpen sights.bound sight sights.looks) (ap sight_of (sym c.whole_of-whole.ensures))
     c.requires.turns.1
@@ -70,17 +70,17 @@ returns-clause-turns c =
     let setting = c.args.rooted.now.setting.now in
     let arena = c.args.rooted.now.arena.now in
     let all = c.in-Ok-new.ensures ∙ c.as_slice.ensures ∙ c.units.ensures.value in
-    let looks = c.auxiliaries-found.new.viewer.looks in (
+    let looks = c.auxiliaries.new.viewer.looks in (
       same_kept (sight_of c.whole_of-whole.result) (sight_of (whole_at setting arena)) (sites_in c.in-Ok-new.units)
-          (sites_of setting.graph setting.positions) c.auxiliaries-found.new.kept.items
+          (sites_of setting.graph setting.positions) c.auxiliaries.new.kept.items
           (ap sight_of c.whole_of-whole.ensures) (ap sites_in all ∙ c.units.ensures.proper.sites)
-          c.auxiliaries-found.ensures.kept,
-      subst (λ (sight : Sight). AreOpen c.auxiliaries-found.new.viewer.bound sight looks)
-          (ap sight_of c.whole_of-whole.ensures) c.auxiliaries-found.ensures.stands,
+          c.auxiliaries.ensures.kept,
+      subst (λ (sight : Sight). AreOpen c.auxiliaries.new.viewer.bound sight looks)
+          (ap sight_of c.whole_of-whole.ensures) c.auxiliaries.ensures.stands,
     )
 
-pub auxiliaries-found-requires-clause-wanted : goal.auxiliaries-found-requires-clause-wanted
-auxiliaries-found-requires-clause-wanted c =
+pub auxiliaries-requires-clause-wanted : goal.auxiliaries-requires-clause-wanted
+auxiliaries-requires-clause-wanted c =
     let flags = c.flag_below.new.flags in
     let count : c.in-Ok.flags.len ≡ length flags = search rules in
     let wanted : c.as_slice-2.result.now ≡ flags = c.as_slice-2.ensures.value

@@ -12,7 +12,7 @@ use Rattle.cip_desk.proofs.early.Early.tell.Goals as goal
 pub returns-in-Ok-note_each-clause-noted : goal.returns-in-Ok-note_each-clause-noted
 returns-in-Ok-note_each-clause-noted c told =
     let rooted = c.args.rooted.now in
-    c.in-Ok-note_each.ensures ∙ ap answers_of (c.deref.ensures.value ∙ c.in-Ok.ensures)
+    c.in-Ok-note_each.ensures ∙ ap answers_of (c.row.ensures ∙ c.in-Ok.ensures)
     ∙ (λ k. answers_of (branches_of (c.graph.ensures.value k) (c.positions.ensures k) rooted.root
     (c.as_slice-ligands.ensures.value k)))
     ∙ answers_are rooted.setting.now rooted.root rooted.ligands.now
@@ -21,7 +21,7 @@ pub returns-in-Ok-note_each-clause-told : goal.returns-in-Ok-note_each-clause-to
 returns-in-Ok-note_each-clause-told c =
     let rooted = c.args.rooted.now in
     let setting = rooted.setting.now in
-    let noted = c.in-Ok-note_each.ensures ∙ ap answers_of (c.deref.ensures.value ∙ c.in-Ok.ensures)
+    let noted = c.in-Ok-note_each.ensures ∙ ap answers_of (c.row.ensures ∙ c.in-Ok.ensures)
     ∙ (λ k. answers_of (branches_of (c.graph.ensures.value k) (c.positions.ensures k) rooted.root
     (c.as_slice-ligands.ensures.value k)))
     ∙ answers_are setting rooted.root rooted.ligands.now in
@@ -29,7 +29,7 @@ returns-in-Ok-note_each-clause-told c =
     let few : nat_le (length (digraph setting.graph setting.positions rooted.root 2)) rooted.bound ≡ true =
     sym (λ k. nat_le (length (digraph (c.graph.ensures.value k) (c.positions.ensures k) rooted.root 2)) rooted.bound)
     ∙ sym c.are_few.ensures ∙ within in
-    c.are_decided.ensures ∙ ap (list_all is_decided) (c.deref-then-are_few.ensures.value ∙ noted)
+    c.are_decided.ensures ∙ ap (list_all is_decided) (c.deref.ensures.value ∙ noted)
     ∙ decided_is setting rooted.root rooted.proper.sound rooted.ligands.now c.requires.fit
     ∙ sym (ap (λ b. b && differ_within setting.rules setting.graph setting.positions setting.units
     (end_at rooted.root rooted.ligands.now) 2) few)
