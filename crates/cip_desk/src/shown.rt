@@ -1,5 +1,5 @@
 // What two spheres show of the branches at a root's ligands.
-ghost use Rattle.std.specs.Prelude.{◌≡◌, ◌≤◌, ◌-◌, ◌++◌, ◌∷◌, [], length, IfOk, IfSome, IsNone, OnOk};
+ghost use Rattle.std.specs.Prelude.{◌≡◌, ◌≤◌, ◌-◌, ◌++◌, ◌∷◌, [], length, IfSome, IsNone, OnOk};
 ghost use Rattle.cip_digraph.specs.Asking.{decided, differing};
 ghost use Rattle.cip_mol.specs.declared.outcome.Rule.TheVariants.{R1a};
 ghost use Rattle.cip_desk.specs.Branches.{branch_at, branches_of, told_between};
