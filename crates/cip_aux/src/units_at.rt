@@ -3,17 +3,13 @@ ghost use Rattle.std.specs.Prelude.{◌≡◌, ◌<◌, ◌==◌, ◌++◌, ◌�
 ghost use Rattle.cip_aux.specs.UnitsAt.{ArePlaces, AreRows, AreAdded, ends_at, ends_at_site, row, unit_at, with_last};
 
 use cip_mol::{Geometry, Site, Unit};
-use smallvec::SmallVec;
 use std::alloc::{AllocError, Global};
 use std::marker::Model;
-
-/// How many places a row holds in the table itself.
-const MOST_INLINE: usize = 2;
 
 // The places of units by vertex. Contracts see the list of the rows.
 #[derive(Drop)]
 struct Rows {
-    rows: Vec<SmallVec<usize, MOST_INLINE>>,
+    rows: Vec<Vec<usize>>,
 }
 
 impl Model for Rows {
@@ -44,7 +40,7 @@ impl Rows {
     fn push_empty(&mut self) -> Result<(), AllocError>
         ensures { OnOk result (self.new ≡ self.old ++ [] ∷ []) }
     {
-        let row = SmallVec::new(*self.rows.allocator());
+        let row = Vec::new(*self.rows.allocator());
         self.rows.push(row)?;
         Ok(())
     }
