@@ -5,7 +5,6 @@ ghost use Rattle.cip_inside.specs.Asking.{asked_between, known, asked_of, asked_
 use crate::near::Near;
 use cip_digraph::{Asked, Decision, MOST_PAIRS};
 use cip_mol::Rule;
-use smallvec::SmallVec;
 use std::alloc::{AllocError, Global};
 use std::cmp::Ordering;
 
@@ -48,7 +47,7 @@ fn ask_row(
     near: &Near,
     one: Option<u32>,
     others: &[Option<u32>],
-    pairs: &mut SmallVec<Asked, MOST_PAIRS>,
+    pairs: &mut Vec<Asked>,
 ) -> Result<(), AllocError>
     ensures { OnOk result (pairs.new.items ≡ pairs.old.items ++ map (asked_of near.now.tops one) others.now) }
 {
@@ -65,10 +64,12 @@ pub fn ask_all(
     alloc: Global,
     near: &Near,
     ligands: &[Option<u32>],
-) -> Result<SmallVec<Asked, MOST_PAIRS>, AllocError>
+) -> Result<Vec<Asked>, AllocError>
     ensures { IfOk result (λ pairs. pairs.items ≡ asked_pairs near.now.tops ligands.now) }
 {
-    let mut pairs = SmallVec::new(alloc);
+    let Ok(mut pairs) = Vec::with_capacity(alloc, MOST_PAIRS) else {
+        return Err(AllocError);
+    };
     let mut rest = ligands;
     while let [one, others @ ..] = rest {
         let Ok(()) = ask_row(near, *one, others, &mut pairs) else {

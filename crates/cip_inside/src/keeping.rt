@@ -14,15 +14,14 @@ ghost use Rattle.cip_inside.specs.Near.{ArePlaced, AreTops, asked_tops};
 ghost use Rattle.cip_inside.specs.OpenLooks.{Look as AnyLook, AreOpen, Asks, IsOpen, look_of};
 
 use crate::asking::ask_all;
-use crate::narrowing::{MOST_LIGANDS, Tops, move_all, open_tops};
+use crate::narrowing::{move_all, open_tops};
 use crate::near::Near;
 use crate::open_looks::{OpenLook, OpenLooks};
 use crate::sights::configure;
 use cip_aux::{FoundTurns, Inner, Whole};
 use cip_branches::SavedRanks;
-use cip_digraph::{Asked, MOST_PAIRS, Nodes};
+use cip_digraph::{Asked, Nodes};
 use cip_rank::{both, both_of};
-use smallvec::SmallVec;
 use std::alloc::{AllocError, Global};
 
 /// A node and those of its ligands that are looked at.
@@ -50,7 +49,7 @@ fn configured<N: Nodes>(
     ensures same { AreSame near.old.now near.new.now }
     ensures bound { near.new.bound ≡ near.old.bound }
 {
-    let Ok(mut turned) = SmallVec::<Asked, MOST_PAIRS>::from_slice(alloc, pairs) else {
+    let Ok(mut turned) = Vec::from_slice(alloc, pairs) else {
         return Err(AllocError);
     };
     let others = turned.as_mut_slice();
@@ -74,8 +73,7 @@ pub fn go_on<N: Nodes>(
     ensures open { IsOpen near.old.bound inner.now.sight (look_of look.new) }
     ensures near { near.new.bound ≡ near.old.bound }
 {
-    let Ok(mut pairs) = SmallVec::<Asked, MOST_PAIRS>::from_slice(alloc, look.pairs.as_slice())
-    else {
+    let Ok(mut pairs) = Vec::from_slice(alloc, &look.pairs) else {
         return Err(AllocError);
     };
     let node = look.node;
@@ -97,7 +95,7 @@ fn narrowed<N: Nodes>(
     whole: &Whole<'_, N>,
     asked: &Look<'_>,
     pairs: &mut [Asked],
-) -> Result<Tops, AllocError>
+) -> Result<Vec<Option<u32>>, AllocError>
     requires room { length whole.now.told ≤ near.old.bound }
     requires node { asked.now.node < length whole.now.told }
     requires real { IsReal (sight_of whole.now).nodes asked.now.node }
@@ -110,7 +108,7 @@ fn narrowed<N: Nodes>(
     ensures bound { near.new.bound ≡ near.old.bound }
 {
     if near.is_sparse() {
-        let Ok(before) = SmallVec::<u32, MOST_LIGANDS>::from_slice(alloc, near.tops()) else {
+        let Ok(before) = Vec::from_slice(alloc, near.tops()) else {
             return Err(AllocError);
         };
         let earlier = before.as_slice();
@@ -123,7 +121,7 @@ fn narrowed<N: Nodes>(
         near.constitution(whole, asked.node, pairs);
         Ok(open)
     } else {
-        Tops::from_slice(alloc, asked.ligands)
+        Vec::from_slice(alloc, asked.ligands)
     }
 }
 
@@ -132,7 +130,7 @@ fn taken(
     alloc: Global,
     near: &mut Near,
     asked: &Look<'_>,
-    tops: Tops,
+    tops: Vec<Option<u32>>,
     pairs: &[Asked],
     kept: &mut OpenLooks,
 ) -> Result<OpenLook, AllocError>
@@ -148,14 +146,8 @@ fn taken(
     ensures bound { near.new.bound ≡ near.old.bound }
     ensures kept { kept.new ≡ kept.old }
 {
-    let looked = both(
-        tops,
-        SmallVec::<Option<u32>, MOST_LIGANDS>::from_slice(alloc, asked.ligands),
-    );
-    let looked = both_of(
-        looked,
-        SmallVec::<Asked, MOST_PAIRS>::from_slice(alloc, pairs),
-    );
+    let looked = both(tops, Vec::from_slice(alloc, asked.ligands));
+    let looked = both_of(looked, Vec::from_slice(alloc, pairs));
     let places = both_of(
         SavedRanks::reserve(alloc, near.len()),
         kept.blank(alloc, near.room()),

@@ -6,14 +6,7 @@ ghost use Rattle.cip_inside.specs.Narrowing.{is_open_top, is_top_of, moved, open
 use crate::asking::ask;
 use crate::near::Near;
 use cip_digraph::Asked;
-use smallvec::SmallVec;
 use std::alloc::{AllocError, Global};
-
-/// An end of a unit has at most so many ligands.
-pub const MOST_LIGANDS: usize = 4;
-
-/// Nodes at the tops of branches.
-pub type Tops = SmallVec<Option<u32>, MOST_LIGANDS>;
 
 // The node at the top of a branch.
 fn top_at(tops: &[u32], branch: u32) -> u32
@@ -44,10 +37,14 @@ fn is_open_top(tops: &[u32], pairs: &[Asked], top: u32) -> bool
 
 /// The tops of the branches in open pairs.
 #[tactic(auto, using(crate::proofs::Narrowed::more_open))]
-pub fn open_tops(alloc: Global, tops: &[u32], pairs: &[Asked]) -> Result<Tops, AllocError>
+pub fn open_tops(
+    alloc: Global,
+    tops: &[u32],
+    pairs: &[Asked],
+) -> Result<Vec<Option<u32>>, AllocError>
     ensures { IfOk result (λ found. found.items ≡ open_tops tops.now pairs.now) }
 {
-    let mut found = SmallVec::new(alloc);
+    let mut found = Vec::new(alloc);
     for top in tops {
         if is_open_top(tops, pairs, *top) {
             let Ok(()) = found.push(Some(*top)) else {

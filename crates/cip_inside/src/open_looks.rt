@@ -6,12 +6,10 @@ ghost use Rattle.cip_aux.specs.Marking.{AreSeenTurns};
 ghost use Rattle.cip_inside.specs.OpenLooks.{Look as AnyLook, AreOpen, Asks, look_of};
 
 use crate::keeping::go_on;
-use crate::narrowing::{MOST_LIGANDS, Tops};
 use crate::near::Near;
 use cip_aux::{FoundTurns, Inner};
 use cip_branches::{Branches, SavedRanks};
-use cip_digraph::{Asked, MOST_PAIRS, Nodes};
-use smallvec::SmallVec;
+use cip_digraph::{Asked, Nodes};
 use std::alloc::{AllocError, Global};
 use std::marker::Model;
 
@@ -22,11 +20,11 @@ const MOST_LOOKS: usize = 64;
 #[derive(Drop)]
 pub struct OpenLook {
     pub node: u32,
-    pub ligands: SmallVec<Option<u32>, MOST_LIGANDS>,
+    pub ligands: Vec<Option<u32>>,
     // those whose branches are kept
-    pub tops: Tops,
+    pub tops: Vec<Option<u32>>,
     // what constitution decides between each two of them
-    pub pairs: SmallVec<Asked, MOST_PAIRS>,
+    pub pairs: Vec<Asked>,
     pub branches: Branches,
     // the ranks of the branches behind Rule 2
     pub ranks: SavedRanks,

@@ -14,7 +14,6 @@ mod standing;
 
 pub use digraphs::{Digraphs, Ranking};
 pub use labeller::Labeller;
-pub use putting::put_at;
 pub use roots::Ranked;
 pub use setting::Setting;
 pub use standing::reversed;

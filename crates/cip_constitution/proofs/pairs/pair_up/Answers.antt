@@ -21,3 +21,6 @@ loop-rest-preserved c = grind (arith, common_steps)
 
 pub returns-clause-pairs : goal.returns-clause-pairs
 returns-clause-pairs c = grind (arith, common_steps)
+
+pub loop-rest-preserved-in-Vertex : goal.loop-rest-preserved-in-Vertex
+loop-rest-preserved-in-Vertex c = grind (arith, common_steps)

@@ -14,7 +14,7 @@ returns-clause-turns g c = λ ligands left.
 
 pub configure-requires-clause-len : goal.configure-requires-clause-len
 configure-requires-clause-len g c =
-    ap (λ (pairs : List Asked). length pairs) (c.as_mut_slice-others.ensures.value ∙ c.in-Ok.ensures.ok)
+    ap (λ (pairs : List Asked). length pairs) (c.as_mut_slice-others.ensures.value ∙ c.in-Ok.ensures.items)
 
 pub configure-requires-clause-placed : goal.configure-requires-clause-placed
 configure-requires-clause-placed g c = c.requires.placed

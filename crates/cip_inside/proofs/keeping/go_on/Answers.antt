@@ -18,7 +18,7 @@ configured-found-requires-clause-placed g c =
     (c.begin.ensures
     ∙ ap (λ (ls : List (Option ℕ)). record c.args.near.now {
       tops = asked_tops (parents_of (sight_of c.whole.result.now).told) ls c.args.look.now.node;
-    }) c.as_slice-2.ensures) c.swap.ensures.own c.restore.ensures) c.whole.ensures c.args.look.now.pairs.items
+    }) c.as_slice.ensures.value) c.swap.ensures.own c.restore.ensures) c.whole.ensures c.args.look.now.pairs.items
     refl).constituted.placed
 
 pub returns-clause-turns : goal.returns-clause-turns
@@ -30,8 +30,8 @@ returns-clause-turns g c =
     (c.begin.ensures
     ∙ ap (λ (ls : List (Option ℕ)). record c.args.near.now {
       tops = asked_tops (parents_of (sight_of c.whole.result.now).told) ls c.args.look.now.node;
-    }) c.as_slice-2.ensures) c.swap.ensures.own c.restore.ensures) c.whole.ensures _
-    (c.as_mut_slice.ensures.value ∙ c.in-Ok.ensures.ok ∙ c.as_slice.ensures))
+    }) c.as_slice.ensures.value) c.swap.ensures.own c.restore.ensures) c.whole.ensures _
+    (c.as_mut_slice.ensures.value ∙ c.in-Ok.ensures.items ∙ c.deref.ensures.value))
 
 pub returns-clause-open : goal.returns-clause-open
 returns-clause-open g c =
@@ -42,7 +42,7 @@ returns-clause-open g c =
     (c.begin.ensures
     ∙ ap (λ (ls : List (Option ℕ)). record c.args.near.now {
       tops = asked_tops (parents_of (sight_of c.whole.result.now).told) ls c.args.look.now.node;
-    }) c.as_slice-2.ensures) c.swap.ensures.own c.restore.ensures))
+    }) c.as_slice.ensures.value) c.swap.ensures.own c.restore.ensures))
     (subst (AreSame c.restore.new.self.now) (sym c.swap-2.ensures.other) c.configured-found.ensures.same)
     (c.swap-2.ensures.room ∙ ap (λ (n : Nearing). n.bound) c.swap-2.ensures.own ∙ c.configured-found.ensures.bound
     ∙ ap (λ (n : Nearing). n.bound) (stood_again c.args.near.now c.begin.new.self c.swap.new.self c.restore.new.self
@@ -50,7 +50,7 @@ returns-clause-open g c =
     (c.begin.ensures
     ∙ ap (λ (ls : List (Option ℕ)). record c.args.near.now {
       tops = asked_tops (parents_of (sight_of c.whole.result.now).told) ls c.args.look.now.node;
-    }) c.as_slice-2.ensures) c.swap.ensures.own c.restore.ensures))
+    }) c.as_slice.ensures.value) c.swap.ensures.own c.restore.ensures))
     refl
 
 pub begin-requires-clause-room : goal.begin-requires-clause-room
@@ -64,7 +64,7 @@ configured-found-requires-clause-room g c =
     (c.begin.ensures
     ∙ ap (λ (ls : List (Option ℕ)). record c.args.near.now {
       tops = asked_tops (parents_of (sight_of c.whole.result.now).told) ls c.args.look.now.node;
-    }) c.as_slice-2.ensures) c.swap.ensures.own c.restore.ensures)))
+    }) c.as_slice.ensures.value) c.swap.ensures.own c.restore.ensures)))
     c.requires.bound
 
 pub configured-found-requires-clause-ready : goal.configured-found-requires-clause-ready
@@ -80,7 +80,7 @@ configured-found-requires-clause-tops g c =
     (c.begin.ensures
     ∙ ap (λ (ls : List (Option ℕ)). record c.args.near.now {
       tops = asked_tops (parents_of (sight_of c.whole.result.now).told) ls c.args.look.now.node;
-    }) c.as_slice-2.ensures) c.swap.ensures.own c.restore.ensures)
+    }) c.as_slice.ensures.value) c.swap.ensures.own c.restore.ensures)
     ∙ ap (λ (s : Sight). looked_at s (look_of look)) c.whole.ensures))
     (asked_tops_are parents look.tops.items look.node)
 
@@ -95,7 +95,7 @@ returns-clause-near g c =
     (c.begin.ensures
     ∙ ap (λ (ls : List (Option ℕ)). record c.args.near.now {
       tops = asked_tops (parents_of (sight_of c.whole.result.now).told) ls c.args.look.now.node;
-    }) c.as_slice-2.ensures) c.swap.ensures.own c.restore.ensures)
+    }) c.as_slice.ensures.value) c.swap.ensures.own c.restore.ensures)
 
 pub begin-requires-clause-node : goal.begin-requires-clause-node
 begin-requires-clause-node g c = grind (arith, common_steps)

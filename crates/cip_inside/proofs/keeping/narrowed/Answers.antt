@@ -15,10 +15,10 @@ constitution-requires-clause-within g c =
     let asked = c.args.asked.now in
     let near = c.args.near.now in
     narrowed_within sight asked.node near.tops asked.ligands.now c.requires.tops near.now c.args.pairs.now
-    asked.ligands.now c.requires.left c.as_slice-earlier.result.now c.begin.new.self.tops c.move_all.new.pairs (c.as_slice-earlier.ensures ∙ c.in-Ok.ensures.ok ∙ c.tops.ensures)
+    asked.ligands.now c.requires.left c.as_slice-earlier.result.now c.begin.new.self.tops c.move_all.new.pairs (c.as_slice-earlier.ensures.value ∙ c.in-Ok.ensures.items ∙ c.tops.ensures)
     (ap (λ (n : Nearing). n.tops) c.begin.ensures
     ∙ ap (λ (ls : List (Option ℕ)). asked_tops (parents_of sight.told) ls asked.node)
-    (c.as_slice.ensures ∙ c.in-Ok-open_tops.ensures ∙ ap (λ (tops : List ℕ). open_tops tops c.args.pairs.now) (c.as_slice-earlier.ensures ∙ c.in-Ok.ensures.ok ∙ c.tops.ensures)))
+    (c.as_slice.ensures.value ∙ c.in-Ok-open_tops.ensures ∙ ap (λ (tops : List ℕ). open_tops tops c.args.pairs.now) (c.as_slice-earlier.ensures.value ∙ c.in-Ok.ensures.items ∙ c.tops.ensures)))
     c.move_all.ensures
 
 pub returns-in-Ok-open_tops-clause-left : goal.returns-in-Ok-open_tops-clause-left
@@ -27,10 +27,10 @@ returns-in-Ok-open_tops-clause-left g c =
     let asked = c.args.asked.now in
     let near = c.args.near.now in
     narrowed_open sight asked.node near.tops asked.ligands.now c.requires.tops near.now c.args.pairs.now
-    asked.ligands.now c.requires.left c.as_slice-earlier.result.now c.begin.new.self.tops c.move_all.new.pairs (c.as_slice-earlier.ensures ∙ c.in-Ok.ensures.ok ∙ c.tops.ensures)
+    asked.ligands.now c.requires.left c.as_slice-earlier.result.now c.begin.new.self.tops c.move_all.new.pairs (c.as_slice-earlier.ensures.value ∙ c.in-Ok.ensures.items ∙ c.tops.ensures)
     (ap (λ (n : Nearing). n.tops) c.begin.ensures
     ∙ ap (λ (ls : List (Option ℕ)). asked_tops (parents_of sight.told) ls asked.node)
-    (c.as_slice.ensures ∙ c.in-Ok-open_tops.ensures ∙ ap (λ (tops : List ℕ). open_tops tops c.args.pairs.now) (c.as_slice-earlier.ensures ∙ c.in-Ok.ensures.ok ∙ c.tops.ensures)))
+    (c.as_slice.ensures.value ∙ c.in-Ok-open_tops.ensures ∙ ap (λ (tops : List ℕ). open_tops tops c.args.pairs.now) (c.as_slice-earlier.ensures.value ∙ c.in-Ok.ensures.items ∙ c.tops.ensures)))
     c.move_all.ensures c.constitution.new.self.tops c.constitution.new.self.now c.constitution.new.asked
     c.constitution.ensures.tops c.constitution.ensures.constituted
 
@@ -59,7 +59,7 @@ pub returns-in-Ok-open_tops-clause-tops : goal.returns-in-Ok-open_tops-clause-to
 returns-in-Ok-open_tops-clause-tops g c =
     let parents = parents_of c.args.whole.now.told in
     c.constitution.ensures.tops ∙ ap (λ (near : Nearing). near.tops) c.begin.ensures
-    ∙ ap (λ (tops : List (Option ℕ)). asked_tops parents tops c.args.asked.now.node) c.as_slice.ensures
+    ∙ ap (λ (tops : List (Option ℕ)). asked_tops parents tops c.args.asked.now.node) c.as_slice.ensures.value
 
 pub returns-else-is_sparse-clause-tops : goal.returns-else-is_sparse-clause-tops
 returns-else-is_sparse-clause-tops g c = grind (arith, common_steps)

@@ -6,4 +6,4 @@ use Rattle.cip_inside.proofs.open_looks.OpenLook.asks.Goals as goal
 pub returns-then-self-node : goal.returns-then-self-node
 returns-then-self-node c is =
     let same = slice_eq-Decides same_ligand c.as_slice.result.now c.args.ligands.now c.eq.result c.eq.ensures in
-    (search rules, sym c.as_slice.ensures ∙ same.0 is)
+    (search rules, sym c.as_slice.ensures.value ∙ same.0 is)
