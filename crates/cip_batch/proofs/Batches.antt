@@ -1,5 +1,5 @@
 -- Records that are gathered in batches and answered batch by batch.
-use Rattle.std.proofs.Common.{◌≡◌, ◌<◌, ◌+◌, arith, ℕ, zero, suc, List, [], ◌∷◌, ◌++◌, length, map, take, drop, Option, Result, Ok, Err, refl, Bool, ◌||◌, true, false, Some, None, sym, ◌∙◌, ap, add-zero, append_assoc, append-nil, length-append, subst, get_or}
+use Rattle.std.proofs.Common.{◌≡◌, ◌≤◌, ◌<◌, ◌+◌, ◌-◌, ◌^◌, arith, ℕ, zero, suc, List, [], ◌∷◌, ◌++◌, length, map, take, drop, Option, Result, Ok, Err, refl, Bool, ◌||◌, true, false, Some, None, sym, ◌∙◌, ap, add-zero, append_assoc, append-nil, length-append, subst, get_or}
 use Rattle.std.proofs.Math.Seq.{take-length}
 use Rattle.std.proofs.lemmas.List.{length-map, length-take-le, map-append, take_more, take-append-drop}
 use Rattle.std.specs.Result.{OnOk}
@@ -129,6 +129,42 @@ pub stopped_both : {N : Type 0} (manner : Manner N) (number first : ℕ) (record
 stopped_both manner number first records batch rest verdict stop old middle new before answers =
     answers_both manner number first records (batch ++ rest) verdict (Err stop) old middle new before
     (answers_longer manner first batch rest stop middle new answers)
+
+-- the record that comes out of the framer goes behind those of the batch
+pub next_taken : {N : Type 0} (manner : Manner N) (number first : ℕ) (records batch waiting rest : List (List ℕ))
+    (bytes : List ℕ) (verdict : Verdict N) (old new : Option (List ℕ)) → waiting ≡ bytes ∷ rest
+    → Advances manner number records first (batch ++ waiting) verdict old new
+    → Advances manner number records first ((batch ++ bytes ∷ []) ++ rest) verdict old new
+next_taken manner number first records batch waiting rest bytes verdict old new more came =
+    subst (λ xs. Advances manner number records first xs verdict old new)
+    (ap (λ xs. batch ++ xs) more ∙ sym (append_assoc batch (bytes ∷ []) rest)) came
+
+-- none waits in the framer any more
+pub all_taken : {N : Type 0} (manner : Manner N) (number first : ℕ) (records batch waiting : List (List ℕ))
+    (verdict : Verdict N) (old new : Option (List ℕ)) → waiting ≡ []
+    → Advances manner number records first (batch ++ waiting) verdict old new
+    → Advances manner number records first batch verdict old new
+all_taken manner number first records batch waiting verdict old new none came =
+    subst (λ xs. Advances manner number records first xs verdict old new)
+    (ap (λ xs. batch ++ xs) none ∙ append-nil batch) came
+
+-- a batch with one more record
+pub one_more_room : (first : ℕ) (records : List (List ℕ)) (bytes : List ℕ) → first + length records < 2 ^ 64 - 1
+    → first + length (records ++ bytes ∷ []) < 2 ^ 64
+one_more_room first records bytes room = omega (arith, length-append records (bytes ∷ []), room)
+
+pub fewer_wait : (waiting rest : List (List ℕ)) (bytes : List ℕ) → waiting ≡ bytes ∷ rest
+    → length rest < length waiting
+fewer_wait waiting rest bytes more = omega (arith, ap length more)
+
+-- a record that waits has room in the batch
+pub room_for_one : (first : ℕ) (records waiting rest : List (List ℕ)) (bytes : List ℕ) → waiting ≡ bytes ∷ rest
+    → first + length (records ++ waiting) < 2 ^ 64 → first + length records < 2 ^ 64 - 1
+room_for_one first records waiting rest bytes more room =
+    omega (arith, ap length more, length-append records waiting, room)
+
+pub short_by : (long limit most : ℕ) → long ≤ limit → limit ≡ most → most < 2 ^ 31 → long ≤ 2 ^ 31
+short_by long limit most short same few = omega arith
 
 -- the number of a record that comes next stays what it is
 pub same_next : {N : Type 0} (manner : Manner N) (number first : ℕ) (records waiting : List (List ℕ))

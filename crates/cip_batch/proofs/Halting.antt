@@ -1,5 +1,6 @@
 -- A run over a source, from its turns.
-use Rattle.std.proofs.Common.{◌≡◌, ◌<◌, ◌+◌, ◌-◌, ◌^◌, ◌++◌, [], ℕ, List, length, Option, Some, None, Result, Ok, Err, IfSome, subst, sym, ◌∙◌, ap, append-nil, length-append, arith}
+use Rattle.std.proofs.Common.{◌≡◌, ◌<◌, ◌+◌, ◌-◌, ◌^◌, ◌++◌, [], ℕ, List, length, Option, Some, None, Result, Ok, Err, IfSome, refl, subst, sym, ◌∙◌, ap, append-nil, length-append, arith}
+use Rattle.std.specs.Prelude.{IsErrOf}
 use Rattle.cip_frame.specs.Framing.{Framing}
 use Rattle.cip_frame.specs.Records.{cut_of}
 use Rattle.cip_batch.specs.declared.limits.Limits.{Limits}
@@ -27,6 +28,37 @@ unread : {N : Type 0} (manner : Manner N) (limits : Limits) (left old new : Opti
     → IfSome left (EndsAs manner limits (Err stops.ReadFault) old new)
 unread manner limits None old new = tt
 unread manner limits (Some bytes) old new = tt
+
+abbrev failed_by : {N : Type 0} → Stop → Result (Verdict N) Stop
+failed_by stop = Err stop
+
+-- a limit is no read fault
+limit_no_read_fault : {N : Type 0} (manner : Manner N) (verdict : Verdict N) (answered : Result (Verdict N) Stop)
+    (first : ℕ) (records : List (List ℕ)) (old new : Option (List ℕ)) → Answers manner first records answered old new
+    → joined_result verdict (ended_by stops.Limit answered) ≡ failed_by stops.ReadFault → ⊥
+limit_no_read_fault manner verdict (Ok behind) first records old new answers is = cc
+limit_no_read_fault manner verdict (Err stop) first records old new answers is =
+    never_read_fault manner first records stop old new answers is
+
+end_no_read_fault : {N : Type 0} (manner : Manner N) (verdict : Verdict N) (result : Result (Verdict N) Stop)
+    (first : ℕ) (records : List (List ℕ)) (rest : List ℕ) (old new : Option (List ℕ))
+    → AnswersTail manner first records rest result old new
+    → joined_result verdict result ≡ failed_by stops.ReadFault → ⊥
+end_no_read_fault manner verdict (Ok behind) first records rest old new answers is = cc
+end_no_read_fault manner verdict (Err stop) first records rest old new answers is =
+    no_read_fault manner first records rest stop old new answers is
+
+-- only a fault of the source ends a run as one
+pub halted_by_fault : {N : Type 0} (manner : Manner N) (halt : Halt) (verdict : Verdict N)
+    (result : Result (Verdict N) Stop) (first : ℕ) (records : List (List ℕ)) (framer : Framing)
+    (old new : Option (List ℕ)) → AnswersHalted manner halt first records framer result old new
+    → IsErrOf (joined_result verdict result) stops.ReadFault → halt ≡ Fault
+halted_by_fault manner End verdict result first records framer old new answers is =
+    absurd (end_no_read_fault manner verdict result first records framer.open_bytes old new answers is)
+halted_by_fault manner Fault verdict result first records framer old new answers is = refl
+halted_by_fault manner Limit verdict result first records framer old new answers is =
+    absurd (limit_no_read_fault manner verdict answers.answered first (records ++ framer.waiting) old new answers.grew
+    (rw answers.ended at is))
 
 module _ {N : Type 0} (manner : Manner N) (limits : Limits) (room : ℕ) (verdict : Verdict N) where
   -- records stopped it
@@ -146,6 +178,12 @@ module _ {N : Type 0} (manner : Manner N) (limits : Limits) (room : ℕ) (verdic
           room_met manner limits verdict left rest old half first (batch ++ now.waiting)
               (limit_met manner limits room verdict left middle rest old half framer now first batch before came limit) few,
         )
+
+    -- at the end of the source the framer has no fault
+    pub sound_halted : (halt : Halt) → Halts halt room middle rest framer now → halt ≡ End → now.fault ≡ None
+    sound_halted End came is = ap (λ (f : Framing). f.fault) came.still.framer ∙ before.holds.fault
+    sound_halted Fault still is = absurd (cc)
+    sound_halted Limit came is = absurd (cc)
 
     -- nothing more was read, and the records that are gathered were answered
     pub halted : (halt : Halt) (result : Result (Verdict N) Stop) (new : Option (List ℕ))

@@ -1,17 +1,20 @@
 -- What a run over a stream keeps from turn to turn.
-use Rattle.std.proofs.Common.{◌≡◌, ◌≤◌, ◌<◌, ◌+◌, ◌-◌, ◌^◌, ℕ, List, [], ◌++◌, length, Option, Some, None, refl, sym, ◌∙◌, ap, arith, append-nil, length-append, subst}
+use Rattle.std.proofs.Common.{◌≡◌, ◌≤◌, ◌<◌, ◌+◌, ◌-◌, ◌^◌, ℕ, List, [], ◌++◌, length, Option, Some, None, Ok, refl, sym, ◌∙◌, ap, arith, append-nil, length-append, subst}
 use Rattle.std.specs.Io.KnownBytes.{Consumes, Keeps}
 use Rattle.cip_frame.specs.Records.{cut_of}
 use Rattle.cip_frame.specs.Framing.{Framing, Holds}
 use Rattle.cip_batch.specs.declared.limits.Limits.{Limits}
+use Rattle.cip_batch.specs.declared.reading.Turn.{Turn}
+use Rattle.cip_batch.specs.declared.reading.Turn.TheVariants.{Piece}
 use Rattle.cip_batch.specs.declared.verdict.Verdict.{Verdict}
 use Rattle.cip_batch.specs.Manner.{Manner}
 use Rattle.cip_batch.specs.Verdicts.{clear, joined}
 use Rattle.cip_batch.specs.Batches.{Advances}
-use Rattle.cip_batch.specs.Reading.{Feeds}
+use Rattle.cip_batch.specs.Reading.{Brings, Feeds}
 use Rattle.cip_batch.proofs.Batches.{none_yet, gathers, advances_both, same_next}
 use Rattle.cip_batch.proofs.Bounds.{consumes_both}
 use Rattle.cip_batch.proofs.Counting.{few_closed}
+use Rattle.cip_batch.proofs.Turning.{piece_came}
 
 -- At the head of a turn: what was taken was fed, its closed records were answered but for those that are gathered, and
 -- the framer holds none.
@@ -36,10 +39,10 @@ keeps_is None rest same = tt
 keeps_is (Some bytes) None same = absurd same
 keeps_is (Some bytes) (Some others) same = sym same
 
-pub begun : {N : Type 0} (manner : Manner N) (limits : Limits) (left old : Option (List ℕ)) (framer : Framing)
+begun_so : {N : Type 0} (manner : Manner N) (limits : Limits) (left old : Option (List ℕ)) (framer : Framing)
     → Holds [] [] framer → framer.waiting ≡ [] → framer.limit ≡ limits.record
     → Progress manner limits limits.input clear left left old old framer 1 []
-begun manner limits left old framer holds empty limit = record {
+begun_so manner limits left old framer holds empty limit = record {
   fed = [];
   taken = consumes_none left;
   holds = holds;
@@ -48,6 +51,13 @@ begun manner limits left old framer holds empty limit = record {
   limit = limit;
   came = none_yet manner 1 [] old;
 }
+
+pub begun : {N : Type 0} (manner : Manner N) (limits : Limits) (verdict : Verdict N) (left old : Option (List ℕ))
+    (framer : Framing) (first : ℕ) (batch : List (List ℕ)) → verdict ≡ clear → first ≡ 1 → batch ≡ []
+    → Holds [] [] framer → framer.waiting ≡ [] → framer.limit ≡ limits.record
+    → Progress manner limits limits.input verdict left left old old framer first batch
+begun manner limits verdict left old framer first batch none one no_batch holds empty limit =
+    rw (none, one, no_batch) (begun_so manner limits left old framer holds empty limit)
 
 -- the numbers of the records that are gathered
 
@@ -71,7 +81,7 @@ pub record Fed {N : Type 0} (manner : Manner N) (limits : Limits) (room : ℕ) (
   pub limit : framer.limit ≡ limits.record
   pub came : Advances manner 1 (cut_of fed).whole first gathered verdict old new
 
-pub fed_piece : {N : Type 0} (manner : Manner N) (limits : Limits) (room count : ℕ) (verdict : Verdict N)
+fed_piece : {N : Type 0} (manner : Manner N) (limits : Limits) (room count : ℕ) (verdict : Verdict N)
     (left middle rest old new : Option (List ℕ)) (framer now : Framing) (first : ℕ) (batch : List (List ℕ))
     → Progress manner limits room verdict left middle old new framer first batch
     → Feeds count room middle rest framer now → now.limit ≡ framer.limit
@@ -93,10 +103,19 @@ fed_piece manner limits room count verdict left middle rest old new framer now f
           (gathers manner 1 first (cut_of before.fed).whole batch now.waiting verdict old new before.came);
     }
 
+pub fed_turn : {N : Type 0} (manner : Manner N) (limits : Limits) (room count : ℕ) (verdict : Verdict N)
+    (left middle rest old new : Option (List ℕ)) (framer now : Framing) (first : ℕ) (batch : List (List ℕ))
+    (turn : Turn) → turn ≡ Piece count → Progress manner limits room verdict left middle old new framer first batch
+    → Brings room (Ok turn) middle rest framer now → now.limit ≡ framer.limit
+    → Fed manner limits (room - count) verdict left rest old new now first (batch ++ now.waiting)
+fed_turn manner limits room count verdict left middle rest old new framer now first batch turn is before came limit =
+    fed_piece manner limits room count verdict left middle rest old new framer now first batch before
+    (piece_came room count turn middle rest framer now is came) limit
+
 pub room_fed : {N : Type 0} (manner : Manner N) (limits : Limits) (room : ℕ) (verdict : Verdict N)
     (left rest old new : Option (List ℕ)) (framer : Framing) (first : ℕ) (gathered : List (List ℕ))
     → Fed manner limits room verdict left rest old new framer first gathered → limits.input < 2 ^ 63
-    → first + length gathered ≤ 2 ^ 63
+    → first + length gathered < 2 ^ 64
 room_fed manner limits room verdict left rest old new framer first gathered fed few =
     let next = same_next manner 1 first (cut_of fed.fed).whole gathered verdict old new fed.came in
     omega (arith, next, few_closed fed.fed, fed.count, few)

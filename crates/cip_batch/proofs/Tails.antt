@@ -1,5 +1,5 @@
 -- What follows the last closed record, answered with the last batch.
-use Rattle.std.proofs.Common.{◌≡◌, ◌<◌, ◌==◌, ◌^◌, ◌++◌, ℕ, List, [], ◌∷◌, Bool, true, false, not, length, if◌then◌else◌, Option, Result, Ok, Err, refl, sym, ap, ◌∙◌, arith, append-nil, subst}
+use Rattle.std.proofs.Common.{◌≡◌, ◌≤◌, ◌<◌, ◌-◌, ◌==◌, ◌^◌, ◌++◌, ℕ, List, [], ◌∷◌, Bool, true, false, not, length, if◌then◌else◌, Option, Result, Ok, Err, refl, sym, ap, ◌∙◌, arith, append-nil, subst}
 use Rattle.std.specs.Io.KnownBytes.{Appends}
 use Rattle.cip_io.specs.Growth.{AppendsPrefix}
 use Rattle.cip_frame.specs.declared.record.Record.{Record}
@@ -60,6 +60,12 @@ pub below : (limit : ℕ) (tail : Tail) → limit < 2 ^ 31 → is_within limit t
 below limit Nothing small within = refl
 below limit (Blank bytes) small within = grind (arith, small, within)
 below limit (Last last) small within = grind (arith, small, within)
+
+pub short_last : (last : Record) → is_within (2 ^ 31) (Last last) ≡ true → length last.bytes ≤ 2 ^ 31
+short_last last within = grind (arith, within)
+
+pub less_room : (next : ℕ) → next < 2 ^ 64 - 1 → next < 2 ^ 64
+less_room next room = omega arith
 
 -- a last record
 

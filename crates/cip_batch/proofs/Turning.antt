@@ -1,14 +1,16 @@
 -- What a turn of reading brings.
-use Rattle.std.proofs.Common.{◌≡◌, ◌≤◌, ◌<◌, ◌+◌, ◌-◌, ◌++◌, ℕ, List, Option, Result, Ok, length, take, drop, min, get_or, sym, ◌∙◌, ap, arith, subst}
+use Rattle.std.proofs.Common.{◌≡◌, ◌≤◌, ◌<◌, ◌+◌, ◌-◌, ◌++◌, ℕ, List, [], Option, Result, Ok, Err, length, take, drop, min, get_or, sym, ◌∙◌, ap, arith, subst}
 use Rattle.std.proofs.lemmas.List.{take-append-drop, length-append, length-drop, length-take, take_more, take-take, take-append-le}
 use Rattle.std.proofs.lemmas.Grind.{common_steps}
 use Rattle.std.specs.Io.KnownBytes.{Consumes}
 use Rattle.cip_frame.specs.Framing.{Framing, Holds, Passed}
-use Rattle.cip_batch.specs.declared.reading.Halt.TheVariants.{Fault, Limit}
+use Rattle.cip_batch.specs.declared.reading.Halt.{Halt}
+use Rattle.cip_batch.specs.declared.reading.Halt.TheVariants.{End, Fault, Limit}
 use Rattle.cip_batch.specs.declared.reading.Turn.{Turn}
 use Rattle.cip_batch.specs.declared.reading.Turn.TheVariants.{Piece, Last}
 use Rattle.cip_batch.specs.declared.stop.Stop.{Stop}
-use Rattle.cip_batch.specs.Reading.{Feeds, Overfeeds, Overflows, TakesAtMost}
+use Rattle.cip_batch.specs.declared.stop.Stop.TheVariants as stops
+use Rattle.cip_batch.specs.Reading.{Brings, Feeds, Halts, Overfeeds, Overflows, TakesAtMost}
 
 -- the framer takes these bytes
 abbrev pub IsFed : List ℕ → Framing → Framing → Type 0
@@ -30,6 +32,15 @@ took count room piece left rest few taken = record {
   few = omega (arith, length-take count piece, few);
   taken = taken;
 }
+
+-- nothing came
+pub took_none : (most : ℕ) (left rest : Option (List ℕ)) → Consumes left rest [] → TakesAtMost most left rest
+took_none most left rest none = record { bytes = []; few = omega arith; taken = none }
+
+-- the framer wants memory
+pub wants_memory : (room : ℕ) (stop : Stop) (left rest : Option (List ℕ)) (old new : Framing) → stop ≡ stops.Memory
+    → Brings room (Err stop) left rest old new
+wants_memory room stop left rest old new is = subst (λ s. Brings room (Err s) left rest old new) (sym is) tt
 
 pub less_room : (room count : ℕ) → 0 < count → count ≤ room → room - count < room
 less_room room count some few = omega arith
@@ -91,6 +102,16 @@ overflows count room piece left rest old new more few within taken fed =
       fed = subst (λ n. IsFed (take n piece) old new) all fed;
     }
 
+-- what a turn brought, by its kind
+
+pub piece_came : (room count : ℕ) (turn : Turn) (left rest : Option (List ℕ)) (old new : Framing) → turn ≡ Piece count
+    → Brings room (Ok turn) left rest old new → Feeds count room left rest old new
+piece_came room count turn left rest old new is came = subst (λ t. Brings room (Ok t) left rest old new) is came
+
+pub last_came : (room : ℕ) (halt : Halt) (turn : Turn) (left rest : Option (List ℕ)) (old new : Framing)
+    → turn ≡ Last halt → Brings room (Ok turn) left rest old new → Halts halt room left rest old new
+last_came room halt turn left rest old new is came = subst (λ t. Brings room (Ok t) left rest old new) is came
+
 -- a list whose front was written to is as long still
 pub as_many : {X : Type 0} (n : ℕ) (given items : List X) → n ≡ length items
     → length (take n (given ++ drop (length given) items)) ≡ length items
@@ -104,6 +125,12 @@ as_many n given items all =
 
 pub piece_no_fault : {P : Type 0} (count : ℕ) → ◌≡◌ {A = Result Turn Stop} (Ok (Piece count)) (Ok (Last Fault)) → P
 piece_no_fault count is = cc
+
+pub end_no_fault : {P : Type 0} → ◌≡◌ {A = Result Turn Stop} (Ok (Last End)) (Ok (Last Fault)) → P
+end_no_fault is = cc
+
+pub failed_no_fault : {P : Type 0} (stop : Stop) → ◌≡◌ {A = Result Turn Stop} (Err stop) (Ok (Last Fault)) → P
+failed_no_fault stop is = cc
 
 pub limit_no_fault : {P : Type 0} → ◌≡◌ {A = Result Turn Stop} (Ok (Last Limit)) (Ok (Last Fault)) → P
 limit_no_fault is = cc

@@ -1,4 +1,4 @@
-use Rattle.std.proofs.Common.{◌++◌, arith, subst}
+use Rattle.std.proofs.Common.{◌<◌, ◌^◌, ◌++◌, subst}
 use Rattle.cip_batch.specs.declared.stop.Stop.TheVariants as stops
 use Rattle.cip_batch.specs.Batches.{Answers}
 use Rattle.cip_batch.proofs.Batches.{answers_both, same_next}
@@ -13,14 +13,12 @@ returns-in-Err g c = record {
 }
 
 pub answer_batch-requires-clause-room : goal.answer_batch-requires-clause-room
-answer_batch-requires-clause-room g c =
+answer_batch-requires-clause-room g c κs within =
     let batch = c.args.batch.now in
     let middle = c.answer_waiting.new.batch in
-    let next = same_next (g.T.Teller.manner batch.teller) batch.first middle.first
+    subst (λ n. n < 2 ^ 64) (same_next (g.T.Teller.manner batch.teller) batch.first middle.first
     (batch.records ++ c.args.framer.now.waiting) middle.records c.in-Ok.verdict _ _
-    c.in-Ok.ensures.answered in
-    let room = c.requires.room in
-    omega (arith, next, room)
+    c.in-Ok.ensures.answered) c.requires.room
 
 pub returns-in-Ok : goal.returns-in-Ok
 returns-in-Ok g c =

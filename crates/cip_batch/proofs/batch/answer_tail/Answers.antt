@@ -1,22 +1,45 @@
-use Rattle.std.proofs.Common.{◌+◌, ◌++◌, ◌<◌, ◌^◌, ◌∷◌, [], ◌∙◌, arith, length, length-append, subst, sym}
+use Rattle.std.proofs.Common.{◌+◌, ◌++◌, ◌<◌, ◌^◌, ◌≡◌, ◌∙◌, ap, length, subst, sym, true}
+use Rattle.cip_frame.specs.declared.record.Tail.TheVariants.{Blank}
+use Rattle.cip_frame.specs.Framing.{is_within}
 use Rattle.cip_frame.specs.Records.{last_of}
 use Rattle.cip_batch.specs.Batches.{Answers, Gathered}
-use Rattle.cip_batch.proofs.Batches.{no_memory}
+use Rattle.cip_batch.proofs.Batches.{no_memory, one_more_room}
 use Rattle.cip_batch.proofs.Faults.{memory_no_fault, stays}
-use Rattle.cip_batch.proofs.Tails.{last_answered, none_behind}
+use Rattle.cip_batch.proofs.Tails.{last_answered, less_room, none_behind, short_last}
 use Rattle.cip_batch.proofs.batch.answer_tail.Goals as goal
 
-pub returns-in-Nothing-clause-answered : goal.returns-in-Nothing-clause-answered
-returns-in-Nothing-clause-answered g c =
+pub returns-in-Nothing : goal.returns-in-Nothing
+returns-in-Nothing g c =
     let batch = c.args.batch.now in
-    λ rest is. none_behind (g.T.Teller.manner batch.teller) batch.first batch.records rest c.answer_batch.result _ _
-    (sym c.in-Nothing.is ∙ is) c.answer_batch.ensures.answered
+    record {
+      answered = λ rest is. none_behind (g.T.Teller.manner batch.teller) batch.first batch.records rest
+          c.answer_batch.result _ _ (sym c.in-Nothing.is ∙ is) c.answer_batch.ensures.answered;
+      fault = c.answer_batch.ensures.fault;
+      later = c.answer_batch.ensures.later;
+    }
+
+pub returns-in-Blank : goal.returns-in-Blank
+returns-in-Blank g c = record {
+  answered = λ rest is. c.answer_with_blank.ensures.answered rest (ap Blank c.as_slice.ensures ∙ sym c.in-Blank.is ∙ is);
+  fault = c.answer_with_blank.ensures.fault;
+  later = c.answer_with_blank.ensures.later;
+}
+
+pub push-requires-clause-short : goal.push-requires-clause-short
+push-requires-clause-short g c κs within =
+    short_last c.in-Last.last (subst (λ tail. is_within (2 ^ 31) tail ≡ true) c.in-Last.is c.requires.small)
+
+pub answer_batch-requires-clause-room : goal.answer_batch-requires-clause-room
+answer_batch-requires-clause-room g c κs within = less_room _ c.requires.room
+
+pub answer_with_blank-requires-clause-room : goal.answer_with_blank-requires-clause-room
+answer_with_blank-requires-clause-room g c κs within = less_room _ c.requires.room
 
 pub answer_batch-requires-in-Last-clause-room : goal.answer_batch-requires-in-Last-clause-room
 answer_batch-requires-in-Last-clause-room g c κs within =
     let batch = c.args.batch.now in
     subst (λ (b : Gathered _). b.first + length b.records < 2 ^ 64) (sym c.in-Ok.ensures.pushed)
-    (omega (arith, length-append batch.records (c.in-Last.last.bytes ∷ []), c.requires.room))
+    (one_more_room batch.first batch.records c.in-Last.last.bytes c.requires.room)
 
 pub returns-in_default : goal.returns-in_default
 returns-in_default g c =

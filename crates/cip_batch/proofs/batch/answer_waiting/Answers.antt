@@ -1,8 +1,7 @@
-use Rattle.std.proofs.Common.{◌≡◌, ◌<◌, ◌^◌, ◌++◌, ◌∷◌, [], Err, append_assoc, arith, length, refl, subst, sym, ap, ◌∙◌}
-use Rattle.std.proofs.lemmas.Grind.{common_steps}
+use Rattle.std.proofs.Common.{◌≡◌, ◌<◌, ◌^◌, ◌++◌, ◌∷◌, [], Err, refl, subst, sym, ap, ◌∙◌}
 use Rattle.cip_frame.specs.Framing.{Framing}
 use Rattle.cip_batch.specs.Batches.{Advances, Answers}
-use Rattle.cip_batch.proofs.Batches.{advances_both, none_yet, same_next, stopped_both}
+use Rattle.cip_batch.proofs.Batches.{advances_both, all_taken, fewer_wait, next_taken, none_yet, room_for_one, same_next, short_by, stopped_both}
 use Rattle.cip_batch.proofs.Faults.{later_twice, rose_later, stays, told_no_fault}
 use Rattle.cip_batch.proofs.batch.answer_waiting.Goals as goal
 
@@ -26,10 +25,9 @@ returns-in-Err g c =
     let now = c.loop-next.batch in
     let bytes = c.in-Some.next.bytes in
     let rest = c.next.new.self.waiting in
-    let taken = ap (λ (framer : Framing). now.records ++ framer.waiting) c.in-Some.ensures.some.1
-    ∙ sym (append_assoc now.records (bytes ∷ []) rest) in
-    let before = subst (λ waiting. Advances manner batch.first records now.first waiting c.loop-next.verdict
-    (g.K.Sink.taken c.args.sink.now) (g.K.Sink.taken c.loop-next.sink)) taken c.loop-next.invariant.so_far in
+    let before = next_taken manner batch.first now.first records now.records c.loop-next.framer.waiting rest bytes
+    c.loop-next.verdict _ _ (ap (λ (framer : Framing). framer.waiting) c.in-Some.ensures.some.1)
+    c.loop-next.invariant.so_far in
     let answers = subst (λ t. Answers (g.T.Teller.manner t) now.first (now.records ++ bytes ∷ [])
     (Err c.in-Err.stop) (g.K.Sink.taken c.loop-next.sink) (g.K.Sink.taken c.take_record.new.sink))
     c.loop-next.invariant.teller c.in-Err.ensures.answered in
@@ -51,10 +49,9 @@ loop-next-preserved g c =
     let next = c.take_record.new.batch in
     let bytes = c.in-Some.next.bytes in
     let rest = c.next.new.self.waiting in
-    let taken = ap (λ (framer : Framing). now.records ++ framer.waiting) c.in-Some.ensures.some.1
-    ∙ sym (append_assoc now.records (bytes ∷ []) rest) in
-    let before = subst (λ waiting. Advances manner batch.first records now.first waiting c.loop-next.verdict
-    (g.K.Sink.taken c.args.sink.now) (g.K.Sink.taken c.loop-next.sink)) taken c.loop-next.invariant.so_far in
+    let before = next_taken manner batch.first now.first records now.records c.loop-next.framer.waiting rest bytes
+    c.loop-next.verdict _ _ (ap (λ (framer : Framing). framer.waiting) c.in-Some.ensures.some.1)
+    c.loop-next.invariant.so_far in
     let behind = subst (λ t. Advances (g.T.Teller.manner t) now.first (now.records ++ bytes ∷ []) next.first
     next.records c.in-Ok.answered (g.K.Sink.taken c.loop-next.sink) (g.K.Sink.taken c.take_record.new.sink))
     c.loop-next.invariant.teller c.in-Ok.ensures.answered in
@@ -73,8 +70,8 @@ loop-next-preserved g c =
 
 pub loop-next-smaller : goal.loop-next-smaller
 loop-next-smaller g c =
-    let taken = ap (λ (framer : Framing). length framer.waiting) c.in-Some.ensures.some.1 in
-    omega (arith, taken)
+    fewer_wait c.loop-next.framer.waiting c.next.new.self.waiting c.in-Some.next.bytes
+    (ap (λ (framer : Framing). framer.waiting) c.in-Some.ensures.some.1)
 
 pub returns-clause-teller : goal.returns-clause-teller
 returns-clause-teller g c = c.loop-next.invariant.teller
@@ -86,4 +83,24 @@ pub returns-clause-later : goal.returns-clause-later
 returns-clause-later g c = c.loop-next.invariant.later
 
 pub take_record-requires-clause-room : goal.take_record-requires-clause-room
-take_record-requires-clause-room g c = grind (arith, common_steps)
+take_record-requires-clause-room g c κs within =
+    room_for_one c.loop-next.batch.first c.loop-next.batch.records c.loop-next.framer.waiting
+    c.next.new.self.waiting c.in-Some.next.bytes (ap (λ (framer : Framing). framer.waiting) c.in-Some.ensures.some.1)
+    c.loop-next.invariant.room
+
+pub take_record-requires-clause-short : goal.take_record-requires-clause-short
+take_record-requires-clause-short g c κs within =
+    short_by _ _ _ c.in-Some.ensures.small (ap (λ (framer : Framing). framer.limit) c.loop-next.invariant.rest)
+    c.requires.limit
+
+pub returns-clause-emptied : goal.returns-clause-emptied
+returns-clause-emptied g c =
+    c.next.ensures.unchanged c.in_default.is ∙ c.loop-next.invariant.rest
+    ∙ ap (λ waiting. record c.args.framer.now { waiting = waiting }) (c.next.ensures.none.0 c.in_default.is)
+
+pub returns-clause-answered : goal.returns-clause-answered
+returns-clause-answered g c =
+    let batch = c.args.batch.now in
+    all_taken (g.T.Teller.manner batch.teller) batch.first c.loop-next.batch.first
+    (batch.records ++ c.args.framer.now.waiting) c.loop-next.batch.records c.loop-next.framer.waiting
+    c.loop-next.verdict _ _ (c.next.ensures.none.0 c.in_default.is) c.loop-next.invariant.so_far

@@ -1,7 +1,7 @@
-use Rattle.std.proofs.Common.{◌+◌, ◌++◌, ◌<◌, ◌^◌, ◌∷◌, [], ◌∙◌, arith, length, length-append, sym, subst}
+use Rattle.std.proofs.Common.{◌+◌, ◌++◌, ◌<◌, ◌^◌, ◌∷◌, [], ◌∙◌, length, sym, subst}
 use Rattle.cip_batch.specs.Batches.{Advances, Gathered}
 use Rattle.cip_batch.specs.Verdicts.{clear}
-use Rattle.cip_batch.proofs.Batches.{batch_answered, no_memory, none_yet}
+use Rattle.cip_batch.proofs.Batches.{batch_answered, no_memory, none_yet, one_more_room}
 use Rattle.cip_batch.proofs.Faults.{memory_no_fault, stays, told_no_fault}
 use Rattle.cip_batch.proofs.batch.take_record.Goals as goal
 
@@ -9,7 +9,7 @@ pub answer_batch-requires-clause-room : goal.answer_batch-requires-clause-room
 answer_batch-requires-clause-room g c κs within =
     let batch = c.args.batch.now in
     subst (λ (b : Gathered _). b.first + length b.records < 2 ^ 64) (sym c.in-Ok.ensures.pushed)
-    (omega (arith, length-append batch.records (c.args.bytes ∷ []), c.requires.room))
+    (one_more_room batch.first batch.records c.args.bytes c.requires.room)
 
 pub returns-in_default : goal.returns-in_default
 returns-in_default g c =

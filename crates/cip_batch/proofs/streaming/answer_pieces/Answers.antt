@@ -1,15 +1,13 @@
-use Rattle.std.proofs.Common.{rules, ◌<◌, ◌^◌, ◌++◌, ◌∙◌, arith, subst, sym, Ok, Err}
+use Rattle.std.proofs.Common.{◌<◌, ◌^◌, ◌++◌, ◌∙◌, ap, refl, subst, sym, Ok, Err}
 use Rattle.cip_batch.specs.declared.stop.Stop.TheVariants as stops
-use Rattle.cip_batch.specs.declared.reading.Turn.TheVariants.{Piece, Last}
+use Rattle.cip_batch.specs.declared.reading.Turn.TheVariants.{Last}
 use Rattle.cip_batch.specs.Batches.{Answers}
 use Rattle.cip_batch.specs.Halting.{AnswersHalted}
-use Rattle.cip_batch.specs.Reading.{Brings}
-use Rattle.cip_batch.specs.Verdicts.{clear}
 use Rattle.cip_batch.proofs.Ending.{bounded}
-use Rattle.cip_batch.proofs.Faults.{answered_no_read_fault, brought_no_fault, brought_no_read_fault, joined_fault, later_twice, rose_later}
-use Rattle.cip_batch.proofs.Halting.{failed, halted, room_halted, stopped}
-use Rattle.cip_batch.proofs.Progressing.{Progress, begun, fed_piece, room_fed, turned}
-use Rattle.cip_batch.proofs.Turning.{as_many, less_room}
+use Rattle.cip_batch.proofs.Faults.{answered_no_read_fault, brought_no_fault, brought_no_read_fault, joined_fault, later_twice, rose_later, stays}
+use Rattle.cip_batch.proofs.Halting.{failed, halted, halted_by_fault, room_halted, sound_halted, stopped}
+use Rattle.cip_batch.proofs.Progressing.{begun, fed_turn, room_fed, turned}
+use Rattle.cip_batch.proofs.Turning.{as_many, last_came, less_room, piece_came}
 use Rattle.cip_batch.proofs.streaming.answer_pieces.Goals as goal
 
 -- at the first turn
@@ -17,20 +15,15 @@ use Rattle.cip_batch.proofs.streaming.answer_pieces.Goals as goal
 pub loop-count-init : goal.loop-count-init
 loop-count-init g c =
     let fresh = c.requires.fresh in
-    let inflow = c.args.inflow.now in
+    let batch = c.args.batch.now in
     record {
-      progress = rw c.clear-verdict.ensures
-          (subst (λ n. Progress (g.T.Teller.manner c.args.batch.now.teller) c.args.limits
-          c.args.limits.input clear (g.S.Source.left c.args.source.now) (g.S.Source.left c.args.source.now)
-          (g.K.Sink.taken c.args.sink.now) (g.K.Sink.taken c.args.sink.now) inflow.framer n c.args.batch.now.records)
-          (sym c.requires.first) (subst (λ bs. Progress (g.T.Teller.manner c.args.batch.now.teller) c.args.limits
-          c.args.limits.input clear (g.S.Source.left c.args.source.now) (g.S.Source.left c.args.source.now)
-          (g.K.Sink.taken c.args.sink.now) (g.K.Sink.taken c.args.sink.now) inflow.framer 1 bs) (sym c.requires.none)
-          (begun _ c.args.limits _ _ inflow.framer fresh.holds fresh.empty fresh.within)));
-      teller = search rules;
-      source_later = search rules;
-      sink_later = search rules;
-      piece = search rules;
+      progress = begun (g.T.Teller.manner batch.teller) c.args.limits c.clear-verdict.result
+          (g.S.Source.left c.args.source.now) (g.K.Sink.taken c.args.sink.now) c.args.inflow.now.framer batch.first
+          batch.records c.clear-verdict.ensures c.requires.first c.requires.none fresh.holds fresh.empty fresh.within;
+      teller = refl;
+      source_later = stays (g.S.Source.faults c.args.source.now);
+      sink_later = stays (g.K.Sink.faults c.args.sink.now);
+      piece = c.requires.piece;
     }
 
 -- a turn that failed
@@ -51,16 +44,12 @@ returns-in-Err-clause-sink_fault g c =
 -- a piece
 
 pub answer_waiting-requires-clause-room : goal.answer_waiting-requires-clause-room
-answer_waiting-requires-clause-room g c =
-    let came : Brings c.loop-count.room (Ok (Piece c.in-Ok-Piece.count)) (g.S.Source.left c.loop-count.source)
-    (g.S.Source.left c.feed_next.new.source) c.loop-count.inflow.framer c.feed_next.new.framer =
-    subst (λ turn. Brings c.loop-count.room (Ok turn) (g.S.Source.left c.loop-count.source)
-    (g.S.Source.left c.feed_next.new.source) c.loop-count.inflow.framer c.feed_next.new.framer) c.in-Ok-Piece.field-0-is
-    c.in-Ok-Piece.ensures.brought in
-    let fed = fed_piece _ c.args.limits c.loop-count.room c.in-Ok-Piece.count c.loop-count.verdict _ _ _ _ _
+answer_waiting-requires-clause-room g c κs within =
+    let fed = fed_turn _ c.args.limits c.loop-count.room c.in-Ok-Piece.count c.loop-count.verdict _ _ _ _ _
     c.loop-count.inflow.framer c.feed_next.new.framer c.loop-count.batch.first c.loop-count.batch.records
-    c.loop-count.invariant.progress came c.feed_next.ensures.limit in
-    omega (arith, room_fed _ c.args.limits _ _ _ _ _ _ _ _ _ fed c.requires.input)
+    c.in-Ok-Piece.field-0 c.in-Ok-Piece.field-0-is c.loop-count.invariant.progress c.in-Ok-Piece.ensures.brought
+    c.feed_next.ensures.limit in
+    room_fed _ c.args.limits _ _ _ _ _ _ _ _ _ fed c.requires.input
 
 pub answer_waiting-requires-clause-limit : goal.answer_waiting-requires-clause-limit
 answer_waiting-requires-clause-limit g c κs within =
@@ -69,14 +58,10 @@ answer_waiting-requires-clause-limit g c κs within =
 
 pub returns-in-Err-answer_waiting-clause-answered : goal.returns-in-Err-answer_waiting-clause-answered
 returns-in-Err-answer_waiting-clause-answered g c =
-    let came : Brings c.loop-count.room (Ok (Piece c.in-Ok-Piece.count)) (g.S.Source.left c.loop-count.source)
-    (g.S.Source.left c.feed_next.new.source) c.loop-count.inflow.framer c.feed_next.new.framer =
-    subst (λ turn. Brings c.loop-count.room (Ok turn) (g.S.Source.left c.loop-count.source)
-    (g.S.Source.left c.feed_next.new.source) c.loop-count.inflow.framer c.feed_next.new.framer) c.in-Ok-Piece.field-0-is
-    c.in-Ok-Piece.ensures.brought in
-    let fed = fed_piece _ c.args.limits c.loop-count.room c.in-Ok-Piece.count c.loop-count.verdict _ _ _ _ _
+    let fed = fed_turn _ c.args.limits c.loop-count.room c.in-Ok-Piece.count c.loop-count.verdict _ _ _ _ _
     c.loop-count.inflow.framer c.feed_next.new.framer c.loop-count.batch.first c.loop-count.batch.records
-    c.loop-count.invariant.progress came c.feed_next.ensures.limit in
+    c.in-Ok-Piece.field-0 c.in-Ok-Piece.field-0-is c.loop-count.invariant.progress c.in-Ok-Piece.ensures.brought
+    c.feed_next.ensures.limit in
     stopped _ c.args.limits _ c.loop-count.verdict c.in-Err-answer_waiting.stop _ _ _ _ _
     c.feed_next.new.framer _ _ fed
     (subst (λ t. Answers (g.T.Teller.manner t)
@@ -99,14 +84,10 @@ returns-in-Err-answer_waiting-clause-sink_fault g c =
 
 pub loop-count-preserved : goal.loop-count-preserved
 loop-count-preserved g c =
-    let came : Brings c.loop-count.room (Ok (Piece c.in-Ok-Piece.count)) (g.S.Source.left c.loop-count.source)
-    (g.S.Source.left c.feed_next.new.source) c.loop-count.inflow.framer c.feed_next.new.framer =
-    subst (λ turn. Brings c.loop-count.room (Ok turn) (g.S.Source.left c.loop-count.source)
-    (g.S.Source.left c.feed_next.new.source) c.loop-count.inflow.framer c.feed_next.new.framer) c.in-Ok-Piece.field-0-is
-    c.in-Ok-Piece.ensures.brought in
-    let fed = fed_piece _ c.args.limits c.loop-count.room c.in-Ok-Piece.count c.loop-count.verdict _ _ _ _ _
+    let fed = fed_turn _ c.args.limits c.loop-count.room c.in-Ok-Piece.count c.loop-count.verdict _ _ _ _ _
     c.loop-count.inflow.framer c.feed_next.new.framer c.loop-count.batch.first c.loop-count.batch.records
-    c.loop-count.invariant.progress came c.feed_next.ensures.limit in
+    c.in-Ok-Piece.field-0 c.in-Ok-Piece.field-0-is c.loop-count.invariant.progress c.in-Ok-Piece.ensures.brought
+    c.feed_next.ensures.limit in
     record {
       progress = rw c.and-verdict.ensures (turned _ c.args.limits _ c.loop-count.verdict
           c.in-Ok.answered _ _ _ _ _ c.feed_next.new.framer _ _ _ _ _ fed
@@ -118,7 +99,7 @@ loop-count-preserved g c =
           c.in-Ok.ensures.later;
       piece = subst (λ n. 0 < n)
           (sym (as_many c.loop-count.inflow.piece.len c.feed_next.new.piece c.loop-count.inflow.piece.items
-          (omega (arith, c.loop-count.inflow.piece.ok)))) c.loop-count.invariant.piece;
+          c.loop-count.inflow.piece.ok.0)) c.loop-count.invariant.piece;
     }
 
 -- nothing more
@@ -130,26 +111,35 @@ answer_halted-requires-clause-limit g c κs within =
 
 pub answer_halted-requires-clause-room : goal.answer_halted-requires-clause-room
 answer_halted-requires-clause-room g c κs within =
-    let came : Brings c.loop-count.room (Ok (Last c.in-Ok-Last.halt)) (g.S.Source.left c.loop-count.source)
-    (g.S.Source.left c.feed_next.new.source) c.loop-count.inflow.framer c.feed_next.new.framer =
-    subst (λ turn. Brings c.loop-count.room (Ok turn) (g.S.Source.left c.loop-count.source)
-    (g.S.Source.left c.feed_next.new.source) c.loop-count.inflow.framer c.feed_next.new.framer) c.in-Ok-Last.field-0-is
+    let came = last_came c.loop-count.room c.in-Ok-Last.halt c.in-Ok-Last.field-0 _ _ _ _ c.in-Ok-Last.field-0-is
     c.in-Ok-Last.ensures.brought in
     room_halted _ _ _ _ _ _ _ _ _ _ _ _ _ c.loop-count.invariant.progress c.feed_next.ensures.bounded
     c.in-Ok-Last.halt came c.feed_next.ensures.limit c.requires.input
 
 pub returns-in-Ok-Last-clause-answered : goal.returns-in-Ok-Last-clause-answered
 returns-in-Ok-Last-clause-answered g c =
-    let came : Brings c.loop-count.room (Ok (Last c.in-Ok-Last.halt)) (g.S.Source.left c.loop-count.source)
-    (g.S.Source.left c.feed_next.new.source) c.loop-count.inflow.framer c.feed_next.new.framer =
-    subst (λ turn. Brings c.loop-count.room (Ok turn) (g.S.Source.left c.loop-count.source)
-    (g.S.Source.left c.feed_next.new.source) c.loop-count.inflow.framer c.feed_next.new.framer) c.in-Ok-Last.field-0-is
+    let came = last_came c.loop-count.room c.in-Ok-Last.halt c.in-Ok-Last.field-0 _ _ _ _ c.in-Ok-Last.field-0-is
     c.in-Ok-Last.ensures.brought in
     rw c.then.ensures (halted _ _ _ _ _ _ _ _ _ _ _ _ _ c.loop-count.invariant.progress c.feed_next.ensures.bounded
     c.in-Ok-Last.halt c.answer_halted.result _ came c.feed_next.ensures.limit
     (subst (λ t. AnswersHalted (g.T.Teller.manner t) c.in-Ok-Last.halt c.loop-count.batch.first c.loop-count.batch.records
     c.feed_next.new.framer c.answer_halted.result (g.K.Sink.taken c.loop-count.sink)
     (g.K.Sink.taken c.answer_halted.new.sink)) c.loop-count.invariant.teller c.answer_halted.ensures.answered))
+
+pub answer_halted-requires-clause-sound : goal.answer_halted-requires-clause-sound
+answer_halted-requires-clause-sound g c κs within =
+    let came = last_came c.loop-count.room c.in-Ok-Last.halt c.in-Ok-Last.field-0 _ _ _ _ c.in-Ok-Last.field-0-is
+    c.in-Ok-Last.ensures.brought in
+    sound_halted _ _ _ _ _ _ _ _ _ _ _ _ _ c.loop-count.invariant.progress c.feed_next.ensures.bounded
+    c.in-Ok-Last.halt came
+
+pub returns-in-Ok-Last-clause-source_fault : goal.returns-in-Ok-Last-clause-source_fault
+returns-in-Ok-Last-clause-source_fault g c =
+    rw c.then.ensures (λ is. rose_later _ _ _ c.loop-count.invariant.source_later (c.feed_next.ensures.fault
+    (c.in-Ok-Last.is ∙ ap Ok (c.in-Ok-Last.field-0-is ∙ ap Last (halted_by_fault
+    (g.T.Teller.manner c.loop-count.batch.teller) c.in-Ok-Last.halt c.loop-count.verdict c.answer_halted.result
+    c.loop-count.batch.first c.loop-count.batch.records c.feed_next.new.framer _ _ c.answer_halted.ensures.answered
+    is)))))
 
 pub returns-in-Ok-Last-clause-sink_fault : goal.returns-in-Ok-Last-clause-sink_fault
 returns-in-Ok-Last-clause-sink_fault g c =
@@ -160,18 +150,12 @@ returns-in-Ok-Last-clause-sink_fault g c =
 
 pub overflow_sub-room : goal.overflow_sub-room
 overflow_sub-room g c =
-    let came : Brings c.loop-count.room (Ok (Piece c.in-Ok-Piece.count)) (g.S.Source.left c.loop-count.source)
-    (g.S.Source.left c.feed_next.new.source) c.loop-count.inflow.framer c.feed_next.new.framer =
-    subst (λ turn. Brings c.loop-count.room (Ok turn) (g.S.Source.left c.loop-count.source)
-    (g.S.Source.left c.feed_next.new.source) c.loop-count.inflow.framer c.feed_next.new.framer) c.in-Ok-Piece.field-0-is
+    let came = piece_came c.loop-count.room c.in-Ok-Piece.count c.in-Ok-Piece.field-0 _ _ _ _ c.in-Ok-Piece.field-0-is
     c.in-Ok-Piece.ensures.brought in
     came.few
 
 pub loop-count-smaller : goal.loop-count-smaller
 loop-count-smaller g c =
-    let came : Brings c.loop-count.room (Ok (Piece c.in-Ok-Piece.count)) (g.S.Source.left c.loop-count.source)
-    (g.S.Source.left c.feed_next.new.source) c.loop-count.inflow.framer c.feed_next.new.framer =
-    subst (λ turn. Brings c.loop-count.room (Ok turn) (g.S.Source.left c.loop-count.source)
-    (g.S.Source.left c.feed_next.new.source) c.loop-count.inflow.framer c.feed_next.new.framer) c.in-Ok-Piece.field-0-is
+    let came = piece_came c.loop-count.room c.in-Ok-Piece.count c.in-Ok-Piece.field-0 _ _ _ _ c.in-Ok-Piece.field-0-is
     c.in-Ok-Piece.ensures.brought in
     less_room c.loop-count.room c.in-Ok-Piece.count came.some came.few

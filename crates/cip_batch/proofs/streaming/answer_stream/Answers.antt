@@ -1,5 +1,6 @@
-use Rattle.std.proofs.Common.{◌+◌, subst}
+use Rattle.std.proofs.Common.{◌+◌, ap, subst}
 use Rattle.std.proofs.lemmas.Bool.{false≢true}
+use Rattle.cip_frame.specs.Framing.{Framing}
 use Rattle.cip_batch.specs.Batches.{Gathered}
 use Rattle.cip_batch.specs.Halting.{AnswersSource}
 use Rattle.cip_batch.proofs.Bounds.{takes_none}
@@ -27,6 +28,22 @@ returns-in_default-reserve g c = record {
   bounded = takes_none (c.args.limits.input + 1) (g.S.Source.left c.args.source.now);
   source_fault = memory_no_read_fault;
   sink_fault = memory_no_fault;
+}
+
+pub answer_pieces-requires-clause-first : goal.answer_pieces-requires-clause-first
+answer_pieces-requires-clause-first g c κs within = ap (λ (b : Gathered _). b.first) c.new-batch.ensures
+
+pub answer_pieces-requires-clause-none : goal.answer_pieces-requires-clause-none
+answer_pieces-requires-clause-none g c κs within = ap (λ (b : Gathered _). b.records) c.new-batch.ensures
+
+pub answer_pieces-requires-clause-piece : goal.answer_pieces-requires-clause-piece
+answer_pieces-requires-clause-piece g c κs within = c.in-Ok.ensures
+
+pub answer_pieces-requires-clause-fresh : goal.answer_pieces-requires-clause-fresh
+answer_pieces-requires-clause-fresh g c κs within = record {
+  holds = c.new.ensures.holds;
+  empty = ap (λ (f : Framing). f.waiting) c.new.ensures.empty;
+  within = ap (λ (f : Framing). f.limit) c.new.ensures.empty;
 }
 
 pub returns : goal.returns

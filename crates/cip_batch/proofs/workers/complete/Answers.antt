@@ -1,6 +1,5 @@
 use Rattle.std.proofs.Common.{◌++◌, ◌∷◌, [], ◌∙◌, ap, arith}
-use Rattle.std.proofs.lemmas.Grind.{common_steps}
-use Rattle.cip_batch.proofs.InOrder.{one_more}
+use Rattle.cip_batch.proofs.InOrder.{all_in_order, one_more}
 use Rattle.cip_batch.proofs.workers.complete.Goals as goal
 
 pub loop-place-preserved : goal.loop-place-preserved
@@ -15,4 +14,12 @@ loop-place-preserved g c = record {
 }
 
 pub returns : goal.returns
-returns g c = grind (arith, common_steps)
+returns g c =
+    all_in_order g.J.Job.answer c.args.jobs.now c.loop-place.answers.items c.loop-place.place (omega arith)
+    c.loop-place.invariant.answers
+
+pub answer_at-requires-clause-found : goal.answer_at-requires-clause-found
+answer_at-requires-clause-found g c κs within = c.loop-place.invariant.found
+
+pub answer_at-requires-clause-place : goal.answer_at-requires-clause-place
+answer_at-requires-clause-place g c κs within = c.loop-place-test.true

@@ -9,3 +9,9 @@ complete-requires-after_bounds g c = grind (arith, common_steps)
 pub returns-in-Ok-clause-workers : goal.returns-in-Ok-clause-workers
 returns-in-Ok-clause-workers g c =
     length-set c.work_together.new.workers 0 _ ∙ c.work_together.ensures.workers
+
+pub returns-in-Ok-clause-answers : goal.returns-in-Ok-clause-answers
+returns-in-Ok-clause-answers g c = c.complete.ensures
+
+pub returns-in-Err : goal.returns-in-Err
+returns-in-Err g c = record { answers = tt; workers = c.work_together.ensures.workers }

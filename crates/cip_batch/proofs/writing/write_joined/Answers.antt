@@ -1,7 +1,7 @@
 use Rattle.std.proofs.Common.{rules, ◌≡◌, ◌<◌, ◌+◌, [], length, get_or, subst, ◌∙◌}
 use Rattle.cip_batch.specs.Batches.{telling}
 use Rattle.cip_batch.proofs.Batches.{IsJoined, all_told, all_written, none_joined, one_joined, stopped_at, stopped_behind, told_here}
-use Rattle.cip_batch.proofs.Faults.{stays}
+use Rattle.cip_batch.proofs.Faults.{later_twice, rose_later, stays}
 use Rattle.cip_batch.proofs.writing.write_joined.Goals as goal
 
 pub returns-in-Err-clause-stopped : goal.returns-in-Err-clause-stopped
@@ -35,7 +35,7 @@ loop-one-preserved g c = record {
       (one_joined manner number records found k c.one-item.result c.loop-one.verdict
       c.loop-one.joined c.push_text.new.joined _ _ _ all within here
       (c.loop-one.invariant.so_far manner number records all) c.in-Ok.ensures.taken);
-  later = search rules;
+  later = later_twice _ _ _ c.loop-one.invariant.later c.push_text.ensures.cause.later;
 }
 
 pub returns-in-Err-flush-clause-stopped : goal.returns-in-Err-flush-clause-stopped
@@ -68,3 +68,21 @@ returns-in-Ok-flush-clause-written g c =
     (subst (λ k. IsJoined manner number records k c.loop-one.verdict c.loop-one.joined
     (g.K.Sink.taken c.args.sink.now) (g.K.Sink.taken c.loop-one.sink)) done
     (c.loop-one.invariant.so_far manner number records all)) c.in-Ok-flush.ensures.whole
+
+pub returns-in-Err-clause-cause : goal.returns-in-Err-clause-cause
+returns-in-Err-clause-cause g c = record {
+  later = later_twice _ _ _ c.loop-one.invariant.later c.push_text.ensures.cause.later;
+  failed = rose_later _ _ _ c.loop-one.invariant.later c.in-Err.ensures.cause.failed;
+}
+
+pub returns-in-Err-flush-clause-cause : goal.returns-in-Err-flush-clause-cause
+returns-in-Err-flush-clause-cause g c = record {
+  later = later_twice _ _ _ c.loop-one.invariant.later c.flush.ensures.cause.later;
+  failed = rose_later _ _ _ c.loop-one.invariant.later c.in-Err-flush.ensures.cause.failed;
+}
+
+pub returns-in-Ok-flush-clause-cause : goal.returns-in-Ok-flush-clause-cause
+returns-in-Ok-flush-clause-cause g c = record {
+  later = later_twice _ _ _ c.loop-one.invariant.later c.flush.ensures.cause.later;
+  failed = tt;
+}
