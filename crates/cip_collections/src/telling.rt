@@ -170,7 +170,11 @@ fn tell_groups<D: Digraphs>(
     ensures kept { labeller.new ≡ labeller.old }
 {
     match Drawn::of(alloc, molecule) {
-        Ok(drawn) => tell_drawn(alloc, labeller, &drawn, groups, rules),
+        Ok(drawn) => {
+            let told = tell_drawn(alloc, labeller, &drawn, groups, rules);
+            drawn.give_back();
+            told
+        }
         Err(error) => Err(error),
     }
 }

@@ -13,3 +13,6 @@ returns-then-found c = grind (arith, common_steps)
 
 pub returns-else-found : goal.returns-else-found
 returns-else-found c = grind (arith, common_steps)
+
+pub returns-in-Err : goal.returns-in-Err
+returns-in-Err c = grind (arith, common_steps)

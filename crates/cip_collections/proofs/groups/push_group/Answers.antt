@@ -1,4 +1,5 @@
 use Rattle.std.proofs.Common.{◌≡◌, ◌∙◌, arith, length, ap, sym, cond, Bool, List, Some}
+use Rattle.std.proofs.lemmas.Grind.{common_steps}
 use Rattle.std.specs.HashMap.{get}
 use Rattle.std.specs.List.{position}
 use Rattle.cip_collections.specs.declared.groups.Group.{Group}
@@ -21,3 +22,6 @@ returns-in-Ok-insert-clause-named c = λ name.
     ∙ name_more name kind (kinds_of groups) c.requires.absent
     ∙ ap (position (same_kind name)) (kinds_grow groups c.args.group)
     ∙ ap (λ (all : List Group). position (same_kind name) (kinds_of all)) (sym c.in-Ok.ensures.items)
+
+pub returns-in-Err-clause-named : goal.returns-in-Err-clause-named
+returns-in-Err-clause-named c = grind (arith, common_steps)

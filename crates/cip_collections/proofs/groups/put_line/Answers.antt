@@ -1,4 +1,5 @@
-use Rattle.std.proofs.Common.{◌∷◌, ◌++◌, [], ◌∙◌, ap, sym, List, ℕ}
+use Rattle.std.proofs.Common.{◌∷◌, ◌++◌, [], ◌∙◌, ap, sym, List, ℕ, arith}
+use Rattle.std.proofs.lemmas.Grind.{common_steps}
 use Rattle.std.specs.List.{position}
 use Rattle.std.proofs.lemmas.Result.{on_ok_weaker}
 use Rattle.cip_collections.specs.Names.{same_kind}
@@ -31,3 +32,6 @@ returns-in-None-clause-items c =
     ∙ line_new c.args.kind c.args.line c.args.atoms.items c.args.items.now.items
     (c.in-None.ensures ∙ c.requires c.args.kind))
     c.push_group.ensures.items
+
+pub index_mut-requires : goal.index_mut-requires
+index_mut-requires c = grind (arith, common_steps)

@@ -1,4 +1,4 @@
-use Rattle.std.proofs.Common.{◌∙◌, ap, false, refl, sym, true}
+use Rattle.std.proofs.Common.{◌∙◌, ap, arith, false, refl, sym, true}
 use Rattle.std.specs.Str.{bytes_eq}
 use Rattle.std.proofs.lemmas.List.{take_rest}
 use Rattle.cip_collections.specs.Names.{racemic_by, relative_by}
@@ -50,3 +50,17 @@ returns-else-starts_with-2 c =
     (ap (bytes_eq c.args.word.now) (sym c.as_slice.ensures) ∙ sym c.eq.ensures ∙ c.if-eq.false)
     (sym c.starts_with.ensures.value ∙ c.if-starts_with.false)
     (sym c.starts_with-else-starts_with.ensures.value ∙ c.if-starts_with-2.false)
+
+pub slice_bounds-number_of-count : goal.slice_bounds-number_of-count
+slice_bounds-number_of-count c = omega (arith, c.starts_with.ensures.bound c.if-starts_with.true)
+
+pub slice_bounds-number_of-start : goal.slice_bounds-number_of-start
+slice_bounds-number_of-start c = omega (arith, c.starts_with.ensures.bound c.if-starts_with.true)
+
+pub slice_bounds-number_of-count-then-starts_with-2 : goal.slice_bounds-number_of-count-then-starts_with-2
+slice_bounds-number_of-count-then-starts_with-2 c =
+    omega (arith, c.starts_with-else-starts_with.ensures.bound c.if-starts_with-2.true)
+
+pub slice_bounds-number_of-start-then-starts_with-2 : goal.slice_bounds-number_of-start-then-starts_with-2
+slice_bounds-number_of-start-then-starts_with-2 c =
+    omega (arith, c.starts_with-else-starts_with.ensures.bound c.if-starts_with-2.true)

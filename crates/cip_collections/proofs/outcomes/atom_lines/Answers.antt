@@ -39,3 +39,15 @@ returns g c = record {
       c.loop-atom-test.false));
   kept = c.loop-atom.invariant.kept;
 }
+
+pub returns-in_default-push-clause-kept : goal.returns-in_default-push-clause-kept
+returns-in_default-push-clause-kept g c = c.in-Ok.ensures.kept ∙ c.loop-atom.invariant.kept
+
+pub returns-in_default-push-clause-lines : goal.returns-in_default-push-clause-lines
+returns-in_default-push-clause-lines g c = tt
+
+pub returns-in_default-clause-kept : goal.returns-in_default-clause-kept
+returns-in_default-clause-kept g c = c.in_default.ensures.kept ∙ c.loop-atom.invariant.kept
+
+pub returns-in_default-clause-lines : goal.returns-in_default-clause-lines
+returns-in_default-clause-lines g c = tt

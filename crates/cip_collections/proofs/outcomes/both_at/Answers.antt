@@ -32,3 +32,18 @@ returns-in-Ok-label-clause-both g c =
     (λ unit at. c.in-Ok-label.ensures.outcome unit at
     ∙ ap (λ (bound : ℕ). outcome_in c.args.turned.now bound unit) c.in-Ok.ensures.kept) in
     (λ i. both_by (drawn i) (turned i))
+
+pub returns-in-Ok-label-clause-kept : goal.returns-in-Ok-label-clause-kept
+returns-in-Ok-label-clause-kept g c = c.in-Ok-label.ensures.kept ∙ c.in-Ok.ensures.kept
+
+pub returns-in-Err-clause-kept : goal.returns-in-Err-clause-kept
+returns-in-Err-clause-kept g c = c.in-Err.ensures.kept ∙ c.in-Ok.ensures.kept
+
+pub returns-in-Err-clause-both : goal.returns-in-Err-clause-both
+returns-in-Err-clause-both g c = tt
+
+pub returns-in_default-clause-kept : goal.returns-in_default-clause-kept
+returns-in_default-clause-kept g c = c.in_default.ensures.kept
+
+pub returns-in_default-clause-both : goal.returns-in_default-clause-both
+returns-in_default-clause-both g c = tt

@@ -14,3 +14,9 @@ returns-else-is_empty-clause-back g c =
 
 pub returns-then-is_empty-clause-lines : goal.returns-then-is_empty-clause-lines
 returns-then-is_empty-clause-lines g c = grind (arith, common_steps)
+
+pub returns-else-is_empty-clause-lines : goal.returns-else-is_empty-clause-lines
+returns-else-is_empty-clause-lines g c = c.turned_lines-put.ensures.lines
+
+pub returns-else-is_empty-clause-kept : goal.returns-else-is_empty-clause-kept
+returns-else-is_empty-clause-kept g c = c.turned_lines-put.ensures.kept

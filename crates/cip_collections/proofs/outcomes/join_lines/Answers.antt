@@ -27,3 +27,9 @@ returns g c = record {
       (take_all c.loop-group.group-index c.args.groups.now c.loop-group-test.false);
   kept = c.loop-group.invariant.kept;
 }
+
+pub returns-in_default-clause-kept : goal.returns-in_default-clause-kept
+returns-in_default-clause-kept g c = c.in_default.ensures.kept ∙ c.loop-group.invariant.kept
+
+pub returns-in_default-clause-lines : goal.returns-in_default-clause-lines
+returns-in_default-clause-lines g c = tt

@@ -1,4 +1,5 @@
 use Rattle.std.proofs.Common.{◌∙◌, ap, sym, take, arith}
+use Rattle.std.proofs.lemmas.Grind.{common_steps}
 use Rattle.std.specs.List.{position}
 use Rattle.cip_mol.specs.declared.site.Unit as units
 use Rattle.cip_collections.specs.Outcomes.{is_centre_at}
@@ -15,3 +16,6 @@ loop-place-preserved c = λ atom.
     ∙ ap (λ (one : units.Unit). or_here (position (is_centre_at atom) (take place c.args.units.now))
     (is_centre_at atom one) place) c.index-units-place.is
     ∙ sym (place_more (is_centre_at atom) c.args.units.now place unit (omega arith))
+
+pub returns : goal.returns
+returns c = grind (arith, common_steps)
