@@ -1,16 +1,21 @@
 -- Answers to made records, counted batch by batch.
-use Rattle.std.proofs.Common.{◌≡◌, ◌+◌, ℕ, suc, List, [], ◌∷◌, ◌++◌, Bool, arith, ◌||◌, sym, ap, ◌∙◌, append_assoc, append-nil, fold, map}
+use Rattle.std.proofs.Common.{◌≡◌, ◌+◌, ℕ, suc, List, [], ◌∷◌, ◌++◌, Bool, arith, ◌||◌, Option, Result, Ok, Err, IfOk, sym, ap, ◌∙◌, subst, append_assoc, append-nil, fold, map}
 use Rattle.std.proofs.Math.Bool.{or-false}
 use Rattle.std.proofs.lemmas.List.{map-append}
 use Rattle.std.proofs.lemmas.List.Folds.{list_any-append}
 use Rattle.std.proofs.lemmas.List.Sums.{fold-append}
+use Rattle.std.specs.Io.KnownBytes.{Appends}
+use Rattle.cip_io.specs.Growth.{AppendsPrefix}
+use Rattle.cip_batch.specs.declared.stop.Stop.{Stop}
+use Rattle.cip_batch.specs.declared.stop.Stop.TheVariants as stops
 use Rattle.cip_print.specs.declared.answer.Answer.{Answer}
 use Rattle.cip_print.specs.Tallies as tallies
-use Rattle.cip_print.specs.Tallies.{Counts}
+use Rattle.cip_print.specs.Tallies.{Counts, summary_line}
 use Rattle.cip_answer.specs.Answers.{is_flagged}
 use Rattle.cip_commands.specs.declared.series.Numbered.{Numbered}
 use Rattle.cip_commands.specs.declared.series.Trial.{Trial}
-use Rattle.cip_commands.specs.Trying.{Counted, answer_of, answers_to, counted, made_answer, some_flagged, with_one}
+use Rattle.cip_commands.specs.Making.{Writes}
+use Rattle.cip_commands.specs.Trying.{Counted, Sums, answer_of, answers_to, counted, made_answer, some_flagged, with_one}
 
 abbrev pair : Counts → Bool → Counted
 pair counts flagged = record { counts = counts; flagged = flagged }
@@ -65,3 +70,17 @@ job_more front trial before jobs now job pushed of is so_far =
     ∙ ap (λ answer. answers_to trial.series trial.labelling before ++ answer ∷ [])
     (job_answer trial (before + 1) job of is)
     ∙ next_answer trial before
+
+-- the summary of what was counted is that of the answers
+pub summed : (answers : List Answer) (count : Counted) (result : Result Bool Stop) (old new : Option (List ℕ))
+    → count ≡ counted answers → Writes (summary_line count.counts) result old new
+    → IfOk result (λ flagged. flagged ≡ count.flagged) → Sums answers result old new
+summed answers count (Ok flagged) old new whole written same = record {
+  holds = sym (same ∙ ap (λ (c : Counted). c.flagged) whole);
+  written = subst (λ (c : Counted). Appends old new (summary_line c.counts)) whole written;
+}
+summed answers count (Err stops.WriteFault) old new whole written same =
+    subst (λ (c : Counted). AppendsPrefix old new (summary_line c.counts)) whole written
+summed answers count (Err stops.Memory) old new whole written same = written
+summed answers count (Err stops.ReadFault) old new whole written same = elim written [ ]
+summed answers count (Err stops.Limit) old new whole written same = elim written [ ]

@@ -3,7 +3,7 @@ use Rattle.std.proofs.Common.{◌≡◌, ◌<◌, ◌+◌, ◌-◌, ℕ, zero, s
 use Rattle.std.specs.Io.KnownBytes.{Appends}
 use Rattle.cip_io.specs.Growth.{AppendsPrefix}
 use Rattle.cip_make.specs.Made.{made}
-use Rattle.cip_io.proofs.Growth.{prefix_behind, prefix_longer}
+use Rattle.cip_io.proofs.Growth.{appends_both, prefix_behind, prefix_longer}
 use Rattle.cip_commands.specs.Making.{made_text}
 
 -- the first records are a front of more of them
@@ -35,3 +35,11 @@ broken_off start before records old middle new within written writes =
     subst (AppendsPrefix old new) (sym more.joined)
     (prefix_longer old new (made_text start (suc before)) more.rest
     (prefix_behind old middle new (made_text start before) (made start (before + 1)) written writes))
+
+-- where the next record is written too, the sink took one record more
+pub one_more : (start before : ℕ) (old middle new : Option (List ℕ)) → Appends old middle (made_text start before)
+    → Appends middle new (made start (before + 1)) → Appends old new (made_text start (before + 1))
+one_more start before old middle new written writes =
+    let next : suc before ≡ before + 1 = omega arith in
+    subst (λ count. Appends old new (made_text start count)) next
+    (appends_both old middle new (made_text start before) (made start (before + 1)) written writes)

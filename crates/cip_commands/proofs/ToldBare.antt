@@ -8,9 +8,10 @@ use Rattle.cip_change.specs.declared.mirror_answers.MirrorAnswer.{MirrorAnswer}
 use Rattle.cip_change.specs.declared.mirror_answers.MirrorAnswer.TheVariants as mirrored
 use Rattle.cip_mol.specs.declared.centre_letter.CentreLetter.{CentreLetter}
 use Rattle.cip_change.proofs.SetReads.{set_reads}
-use Rattle.cip_change.specs.SetAnswers.{GivesMark, set_answer}
+use Rattle.cip_change.specs.SetAnswers.{GivesMark, set_answer, set_without_items}
 use Rattle.cip_change.specs.declared.set_answers.SetAnswer.{SetAnswer}
 use Rattle.cip_change.specs.declared.set_answers.SetAnswer.TheVariants as sets
+use Rattle.cip_rank.specs.declared.rules.Rules.{Rules}
 use Rattle.cip_batch.specs.Batches.{Telling, telling}
 use Rattle.cip_words.specs.Ranges.{Labelling}
 use Rattle.cip_words.specs.declared.settings.Task.{Task}
@@ -81,3 +82,11 @@ module _ (labelling : Labelling) where
       → told_bare labelling task number bytes ≡ telling (manner_of task labelling) number bytes
   told_itself task number bytes none =
       ap (told_bare labelling task number) (sym (itself bytes none)) ∙ bare_is_told task number bytes
+
+  -- what was found by the same rules and bound is the answer
+  pub set_by : (rules : Rules) (nodes atom : ℕ) (letter : CentreLetter) (bytes : List ℕ) (found answer : SetAnswer)
+      → found ≡ answer → found ≡ set_without_items rules nodes atom letter bytes → rules ≡ labelling.rules
+      → nodes ≡ labelling.nodes → answer ≡ set_without_items labelling.rules labelling.nodes atom letter bytes
+  set_by rules nodes atom letter bytes found answer is gives same fit =
+      sym is ∙ gives ∙ ap (λ rules. set_without_items rules nodes atom letter bytes) same
+      ∙ ap (λ nodes. set_without_items labelling.rules nodes atom letter bytes) fit

@@ -1,6 +1,8 @@
 // Made records that are labelled.
 ghost use Rattle.std.specs.Prelude.{◌≡◌, ◌≤◌, ◌<◌, ◌+◌, ◌^◌, ◌++◌, IfOk, IsErrOf, fold, length, map};
 ghost use Rattle.cip_io.specs.Faults.{Rose};
+ghost use Rattle.cip_print.specs.Tallies.{summary_line};
+ghost use Rattle.cip_commands.specs.Making.{Writes};
 ghost use Rattle.cip_commands.specs.Trying.{answer_of, answers_to, counted, with_one, Sums};
 
 use crate::desk::Desk;
@@ -57,16 +59,19 @@ pub fn write_summary<D: Digraphs + Drop + Send + Sync, R: Threads + Sync, G: Gat
         (K.taken sink.old) (K.taken sink.new) }
     ensures fault { IsErrOf result Stop.WriteFault → Rose (K.faults sink.old) (K.faults sink.new) }
 {
-    let Ok(mut clerks) = new_clerks::<D>(crew.alloc, trial.labelling.nodes, crew.workers) else {
-        return Err(Stop::Memory);
-    };
-    let counted = count_batches(crew, trial, &mut clerks);
-    // given back by a call of its own, which is quicker to prove than an end that owns them
-    drop(clerks);
-    let Ok(count) = counted else {
-        return Err(Stop::Memory);
-    };
-    let Ok(line) = count.tally.line(crew.alloc) else {
+    match count_records::<D, R, G>(crew, trial) {
+        Ok(count) => write_count(crew.alloc, &count, sink),
+        Err(_) => Err(Stop::Memory),
+    }
+}
+
+// Writes the summary of what was counted. Says whether a record is flagged.
+fn write_count<K: Sink>(alloc: Global, count: &Count, sink: &mut K) -> Result<bool, Stop>
+    ensures written { Writes (summary_line count.now.counts) result (K.taken sink.old) (K.taken sink.new) }
+    ensures flagged { IfOk result (λ flagged. flagged ≡ count.now.flagged) }
+    ensures fault { IsErrOf result Stop.WriteFault → Rose (K.faults sink.old) (K.faults sink.new) }
+{
+    let Ok(line) = count.tally.line(alloc) else {
         return Err(Stop::Memory);
     };
     match push_all(sink, &line) {
@@ -111,7 +116,24 @@ impl Count {
     }
 }
 
-// Counts the outcomes of all records.
+// Counts the outcomes of all records, by workers that are made for it and given back.
+fn count_records<D: Digraphs + Drop + Send + Sync, R: Threads + Sync, G: Gate + Sync>(
+    crew: &Crew<'_, R, G>,
+    trial: &Trial,
+) -> Result<Count, AllocError>
+    ensures { IfOk result (λ count. count
+        ≡ counted (answers_to trial.now.series trial.now.labelling trial.now.series.records)) }
+{
+    let Ok(mut clerks) = new_clerks::<D>(crew.alloc, trial.labelling.nodes, crew.workers) else {
+        return Err(AllocError);
+    };
+    let counted = count_batches(crew, trial, &mut clerks);
+    // given back by a call of its own, which is quicker to prove than an end that owns them
+    drop(clerks);
+    counted
+}
+
+// Counts the outcomes of all records with these workers.
 fn count_batches<D: Digraphs + Drop + Send + Sync, R: Threads + Sync, G: Gate + Sync>(
     crew: &Crew<'_, R, G>,
     trial: &Trial,

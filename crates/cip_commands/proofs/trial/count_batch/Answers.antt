@@ -36,3 +36,18 @@ returns-in-Ok-answers-clause-records g c =
     let many : length c.deref-in-Ok-answers.result.now ≡ length jobs =
     ap length here ∙ ap length found ∙ length-map jobs answer_of in
     omega (arith, c.add_all.ensures.records, c.requires.records, many, c.len-more.ensures)
+
+pub overflow_cast-more : goal.overflow_cast-more
+overflow_cast-more g c = omega (arith, c.len-more.ensures, c.in-Ok.ensures.few)
+
+pub returns-in-Ok-answers-clause-some : goal.returns-in-Ok-answers-clause-some
+returns-in-Ok-answers-clause-some g c = omega (arith, c.len-more.ensures, c.in-Ok.ensures.some)
+
+pub returns-in-Ok-answers-clause-within : goal.returns-in-Ok-answers-clause-within
+returns-in-Ok-answers-clause-within g c = omega (arith, c.len-more.ensures, c.in-Ok.ensures.within)
+
+pub returns-in-Ok-answers-clause-clerks : goal.returns-in-Ok-answers-clause-clerks
+returns-in-Ok-answers-clause-clerks g c = c.map_batch-answers.ensures.workers
+
+pub returns-in-Err-clause-clerks : goal.returns-in-Err-clause-clerks
+returns-in-Err-clause-clerks g c = c.map_batch-answers.ensures.workers
