@@ -60,7 +60,8 @@ impl<'a, R: Threads + Sync, G: Gate + Sync, T: Teller + Sync> Desks<'a, R, G, T>
     }
 }
 
-// Adds workers, each with a desk of its own, until there are so many. They stay with the caller, so that want of memory gives none back here.
+// Adds workers, each with a desk of its own, until there are so many. They stay with the caller, so that want of memory
+// gives none back here.
 fn add_workers<T: Teller>(
     alloc: Global,
     teller: &T,

@@ -28,14 +28,13 @@ stood bound sight look is =
     ∙ stands_back is.begin look.branched look.ranks.room is.left.constituted.placed.followed is.same
 
 -- the branches of a look that stand so again leave the same pairs open
-pub stands_open : (bound : ℕ) (sight other : Sight) (look : Look) (is : IsOpen bound sight look) (near : Nearing)
-    (room : ℕ) → near ≡ record { bound = room; tops = looked_at other look; now = restored look.ranks look.branched }
-    → other ≡ sight → (pairs : List Asked) → pairs ≡ look.pairs
+pub stands_open : (bound : ℕ) (sight : Sight) (look : Look) (is : IsOpen bound sight look) (near : Nearing)
+    → near ≡ record { bound = bound; tops = looked_at sight look; now = restored look.ranks look.branched }
+    → (pairs : List Asked) → pairs ≡ look.pairs
     → LeavesOpen sight look.node near.tops near.now pairs look.ligands
-stands_open bound sight other look is near room e same pairs are =
+stands_open bound sight look is near e pairs are =
     left_again sight look.node (looked_at sight look) near.tops is.begin near.now look.pairs pairs look.ligands is.left
-    (ap (λ (n : Nearing). n.tops) e ∙ ap (λ (s : Sight). looked_at s look) same)
-    (ap (λ (n : Nearing). n.now) e ∙ stood bound sight look is) are
+    (ap (λ (n : Nearing). n.tops) e) (ap (λ (n : Nearing). n.now) e ∙ stood bound sight look is) are
 
 -- branches that were begun and swapped stand as their ranks were set aside
 pub stood_again : (old begun swapped again : Nearing) (tops : List ℕ) (branches : Branched) (ranks : Saved)

@@ -5,13 +5,13 @@ ghost use Rattle.cip_aux.specs.Inner.{Ready};
 ghost use Rattle.cip_aux.specs.Marking.{AreSeenTurns};
 ghost use Rattle.cip_aux.specs.Neighbours.{neighbours_of};
 ghost use Rattle.cip_aux.specs.Sights.{IsReal, sight_of};
-ghost use Rattle.cip_branches.specs.Saving.{saved_of};
+ghost use Rattle.cip_branches.specs.Saving.{restored, saved_of};
 ghost use Rattle.cip_digraph.specs.digraph.NodeList.{parents_of};
 ghost use Rattle.cip_ligands.specs.Taking.{AreSame};
 ghost use Rattle.cip_inside.specs.Asking.{asked_pairs};
 ghost use Rattle.cip_inside.specs.Narrowing.{LeavesOpen, open_tops};
 ghost use Rattle.cip_inside.specs.Near.{ArePlaced, AreTops, asked_tops};
-ghost use Rattle.cip_inside.specs.OpenLooks.{Look as AnyLook, AreOpen, Asks, IsOpen, look_of};
+ghost use Rattle.cip_inside.specs.OpenLooks.{Look as AnyLook, AreOpen, Asks, IsOpen, look_of, looked_at};
 
 use crate::asking::ask_all;
 use crate::narrowing::{move_all, open_tops};
@@ -59,6 +59,24 @@ fn configured<N: Nodes>(
     Ok(found)
 }
 
+// Lets the branches of an open look stand again as constitution left them. Others stand in the look meanwhile.
+fn stand_again<N: Nodes>(near: &mut Near, inner: &Inner<'_, N>, look: &mut OpenLook)
+    requires bound { length inner.now.sight.told ≤ near.old.bound }
+    requires ready { Ready inner.now look.old.node }
+    requires open { IsOpen near.old.bound inner.now.sight (look_of look.old) }
+    ensures near { near.new ≡ record {
+      bound = near.old.bound;
+      tops = looked_at inner.now.sight (look_of look.old);
+      now = restored look.old.ranks look.old.branches;
+    } }
+    ensures look { look.new ≡ record look.old { branches = near.old.now } }
+    ensures room { look.new.branches.layers.kin.room ≡ near.new.bound }
+{
+    near.begin(inner.whole(), look.node, look.tops.as_slice());
+    near.swap(&mut look.branches);
+    near.restore(&look.ranks);
+}
+
 /// Goes on with an open look from where constitution left its branches, by the descriptors that count.
 pub fn go_on<N: Nodes>(
     alloc: Global,
@@ -77,10 +95,7 @@ pub fn go_on<N: Nodes>(
         return Err(AllocError);
     };
     let node = look.node;
-    // its branches stand again as constitution left them
-    near.begin(inner.whole(), node, look.tops.as_slice());
-    near.swap(&mut look.branches);
-    near.restore(&look.ranks);
+    stand_again(near, inner, look);
     let found = configured(alloc, near, inner, node, pairs.as_mut_slice());
     drop(pairs);
     near.swap(&mut look.branches);
@@ -197,7 +212,36 @@ fn keep<N: Nodes>(
     kept.push(look)
 }
 
-// Looks by branches that were begun. A look that constitution leaves open is kept where there is room, and goes on.
+// Looks further where constitution leaves a pair open. If there is room, the look is kept and goes on.
+fn look_further<N: Nodes>(
+    alloc: Global,
+    near: &mut Near,
+    inner: &Inner<'_, N>,
+    asked: &Look<'_>,
+    pairs: &mut [Asked],
+    kept: &mut OpenLooks,
+) -> Result<FoundTurns, AllocError>
+    requires ready { Ready inner.now asked.now.node }
+    requires tops { near.old.tops ≡ asked_tops (parents_of inner.now.sight.told) asked.now.ligands.now asked.now.node }
+    requires left { LeavesOpen inner.now.sight asked.now.node near.old.tops near.old.now pairs.old
+        asked.now.ligands.now }
+    requires open { AreOpen near.old.bound inner.now.sight kept.old }
+    ensures turns { IfOk result (AreSeenTurns inner.now asked.now.node asked.now.ligands.now) }
+    ensures open { AreOpen near.old.bound inner.now.sight kept.new }
+    ensures near { near.new.bound ≡ near.old.bound }
+{
+    if kept.has_room(near.len()) {
+        let place = kept.len();
+        let Ok(()) = keep(alloc, near, inner.whole(), asked, pairs, kept) else {
+            return Err(AllocError);
+        };
+        kept.go_on(alloc, near, inner, place)
+    } else {
+        configured(alloc, near, inner, asked.node, pairs)
+    }
+}
+
+// Looks by branches that were begun.
 fn look_at<N: Nodes>(
     alloc: Global,
     near: &mut Near,
@@ -216,19 +260,12 @@ fn look_at<N: Nodes>(
     ensures open { AreOpen near.old.bound inner.now.sight kept.new }
     ensures near { near.new.bound ≡ near.old.bound }
 {
-    let whole = inner.whole();
     if near.is_empty() {
         Ok(FoundTurns::of(pairs, pairs, true))
-    } else if near.constitution(whole, asked.node, pairs) {
+    } else if near.constitution(inner.whole(), asked.node, pairs) {
         Ok(FoundTurns::of(pairs, pairs, true))
-    } else if kept.has_room(near.len()) {
-        let place = kept.len();
-        let Ok(()) = keep(alloc, near, whole, asked, pairs, kept) else {
-            return Err(AllocError);
-        };
-        kept.go_on(alloc, near, inner, place)
     } else {
-        configured(alloc, near, inner, asked.node, pairs)
+        look_further(alloc, near, inner, asked, pairs, kept)
     }
 }
 
