@@ -2,13 +2,13 @@
 #![tactic(auto)]
 
 use cip_io::{StdSink, StdSource, push_all};
-use cip_run::{Ending, run};
+use cip_run::{ExitReason, run};
 use std::io::ErrorKind;
 use std::process::ExitCode;
 use std::rt::Env;
 use std::{env, io};
 
-// The words behind the program's name.
+// The words after the program's name.
 fn words<R: Env + AllocGlobal>(rt: &R) -> io::Result<Vec<String>> {
     let mut words = Vec::new(rt.alloc());
     for word in env::args(rt)?.skip(1) {
@@ -24,8 +24,8 @@ fn main(rt: HostRuntime) -> ExitCode {
     let words = match words(&rt) {
         Ok(words) => words,
         Err(error) if error.kind() == ErrorKind::OutOfMemory => {
-            let _ = push_all(&mut diag, Ending::OutOfMemory.line());
-            return ExitCode::from(Ending::OutOfMemory.status());
+            let _ = push_all(&mut diag, ExitReason::OutOfMemory.line());
+            return ExitCode::from(ExitReason::OutOfMemory.status());
         }
         // Words that aren't text are refused, as an empty list of words is.
         Err(_) => Vec::new(rt.alloc()),

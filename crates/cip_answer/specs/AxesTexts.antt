@@ -1,4 +1,4 @@
--- What is told of the further units of a record: a line for each, with what is found of it. Own.
+-- What is written for the further units of a record: a line for each, with what is found of it. Own.
 use Rattle.std.specs.Prelude.{ℕ, List, Bool}
 use Rattle.cip_item.specs.Parts.{without_label_items}
 use Rattle.cip_print.specs.Explaining.{explained}

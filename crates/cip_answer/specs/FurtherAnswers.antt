@@ -5,7 +5,7 @@ use Rattle.cip_text.specs.Bodies.{body_contents}
 use Rattle.cip_rank.specs.declared.rules.Rules.{Rules}
 use Rattle.cip_mol.specs.Drawing.{Drawing}
 use Rattle.cip_mol.specs.declared.refusal.ReadFault.{ReadFault}
-use Rattle.cip_label.specs.Settings.{Setting, setting_in}
+use Rattle.cip_label.specs.Settings.{LabelContext, setting_in}
 use Rattle.cip_axis.specs.Further.{further_in}
 use Rattle.cip_axis.specs.FurtherOutcomes.{further_outcome}
 use Rattle.cip_axis.specs.Likeness.{like}
@@ -15,8 +15,8 @@ use Rattle.cip_axis.specs.declared.site.FurtherUnit.{FurtherUnit}
 use Rattle.cip_print.specs.declared.answer.Answer.{Answer}
 use Rattle.cip_print.specs.declared.answer.Answer.TheVariants.{Labelled, Refused}
 use Rattle.cip_print.specs.declared.answer.UnitAnswer.{UnitAnswer}
-use Rattle.cip_print.specs.declared.naming.UnitName.{UnitName}
-use Rattle.cip_print.specs.declared.naming.UnitName.TheVariants as names
+use Rattle.cip_print.specs.declared.unit_name.UnitName.{UnitName}
+use Rattle.cip_print.specs.declared.unit_name.UnitName.TheVariants as names
 use Rattle.cip_molfile.specs.Molecules.{read_molecule}
 
 abbrev pub further_name : FurtherSite → UnitName
@@ -24,7 +24,7 @@ further_name (Cumulene a b bonds first second) = names.Cumulene a b
 further_name (Biaryl a b first second) = names.Biaryl a b
 
 -- a further unit with its outcome; `nodes` bounds each of its digraphs
-abbrev pub further_answer : Setting → ℕ → FurtherUnit → UnitAnswer
+abbrev pub further_answer : LabelContext → ℕ → FurtherUnit → UnitAnswer
 further_answer setting nodes unit = record {
   name = further_name unit.site;
   site = like unit.site;

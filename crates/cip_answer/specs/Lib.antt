@@ -1,6 +1,6 @@
 pub mod Answers
 pub mod AxesTexts
 pub mod FurtherAnswers
-pub mod Images
+pub mod SymmetryLabels
 pub mod Laws
 pub mod Worked

@@ -13,7 +13,7 @@ use Rattle.cip_mol.specs.declared.site.Site.TheVariants.{Centre}
 use Rattle.cip_item.specs.Putting.{heading}
 use Rattle.cip_print.specs.declared.answer.Answer.{Answer}
 use Rattle.cip_print.specs.declared.answer.Answer.TheVariants.{Labelled, Refused}
-use Rattle.cip_print.specs.declared.naming.UnitName.TheVariants as names
+use Rattle.cip_print.specs.declared.unit_name.UnitName.TheVariants as names
 use Rattle.cip_print.specs.Values.{settings_line}
 use Rattle.cip_rank.specs.declared.rules.Rules.TheVariants.{Wording2018}
 use Rattle.cip_answer.specs.Answers.{answer_by}

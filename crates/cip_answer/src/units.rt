@@ -2,20 +2,20 @@
 ghost use Rattle.std.specs.Prelude.{◌≡◌, ◌<◌, ◌-◌, ◌^◌, IfOk, length};
 ghost use Rattle.cip_digraph.specs.rings.Positions.{positions_of};
 ghost use Rattle.cip_answer.specs.Answers.{unit_answers};
-ghost use Rattle.cip_answer.specs.Images.{AreFound};
+ghost use Rattle.cip_answer.specs.SymmetryLabels.{AreFound};
 
-use crate::images::{Images, outcome_of};
-use cip_label::{Digraphs, Labeller, Setting};
+use crate::symmetric_units::{SymmetryLabels, label_or_reuse};
+use cip_label::{LabelContext, Labeller, RootRanker};
 use cip_print::{UnitAnswer, UnitAnswers, name_of};
 use cip_rank::Steps;
 use std::alloc::{AllocError, Global};
 use std::sync::ledger::{Blank, Ledger};
 
 /// The units of a setting, each with its outcome, with a counter of steps.
-pub fn label_units<D: Digraphs, L: Ledger>(
+pub fn label_units<D: RootRanker, L: Ledger>(
     alloc: Global,
     labeller: &mut Labeller<D>,
-    setting: &Setting<'_>,
+    setting: &LabelContext<'_>,
     blank: Blank,
 ) -> Result<UnitAnswers, AllocError>
     requires name { blank.name ≡ L.name }
@@ -30,16 +30,17 @@ pub fn label_units<D: Digraphs, L: Ledger>(
     ensures kept { labeller.new ≡ labeller.old }
 {
     let mut steps = Steps::<L>::open(blank);
-    let mut images = Images::none(alloc);
+    let mut images = SymmetryLabels::none(alloc);
     label_each(alloc, labeller, setting, &mut images, &mut steps)
 }
 
-// Counter and images stay with the caller, so that no unit gives them back.
-fn label_each<D: Digraphs, L: Ledger>(
+// Labels one unit after another.
+// proof: the caller keeps counter and images, so no unit drops them
+fn label_each<D: RootRanker, L: Ledger>(
     alloc: Global,
     labeller: &mut Labeller<D>,
-    setting: &Setting<'_>,
-    images: &mut Images,
+    setting: &LabelContext<'_>,
+    images: &mut SymmetryLabels,
     steps: &mut Steps<L>,
 ) -> Result<UnitAnswers, AllocError>
     requires drawn { setting.now.positions ≡ positions_of setting.now.graph }
@@ -54,7 +55,8 @@ fn label_each<D: Digraphs, L: Ledger>(
     let mut answers = UnitAnswers::new(alloc);
     let units = setting.units().as_slice();
     for (place, unit) in units.iter().enumerate() {
-        let Ok(outcome) = outcome_of(alloc, labeller, setting, place as u32, images, steps) else {
+        let Ok(outcome) = label_or_reuse(alloc, labeller, setting, place as u32, images, steps)
+        else {
             return Err(AllocError);
         };
         let answer = UnitAnswer {

@@ -1,6 +1,6 @@
 -- A digraph that grows sphere by sphere, and the columns that hold it. Own.
 use Rattle.std.specs.Prelude.{◌≡◌, ◌<◌, ◌≤◌, ◌+◌, ◌^◌, ℕ, suc, List, length, vec_capacity}
-use Rattle.cip_digraph.specs.declared.nodes.Told.{Told}
+use Rattle.cip_digraph.specs.declared.nodes.NodeData.{NodeData}
 use Rattle.cip_digraph.specs.digraph.Digraph.{sphere}
 use Rattle.cip_digraph.specs.graph.Graph.{Graph}
 use Rattle.cip_digraph.specs.digraph.NodeList.{told_at, parents_of}
@@ -16,7 +16,7 @@ pub record Growth : Type 0 where
   pub root : ℕ
   pub sphere : ℕ
   pub first : ℕ
-  pub nodes : List Told
+  pub nodes : List NodeData
 
 abbrev pub growth_of : Inside → Growth
 growth_of columns = record {
@@ -34,7 +34,7 @@ pub record HoldGrowth (columns : Inside) : Type 0 where
   pub fits : length columns.nodes.items ≤ columns.bound
   pub room : columns.bound ≤ vec_capacity columns.nodes
   pub earlier : IsEarlier columns.nodes.items
-  pub near : (node : ℕ) → node < length columns.nodes.items → (told_at columns.nodes.items node).as_printed ≤ node
+  pub nearer : (node : ℕ) → node < length columns.nodes.items → (told_at columns.nodes.items node).as_printed ≤ node
   pub first : columns.first ≤ length columns.nodes.items
   pub sphere : columns.sphere ≤ length columns.nodes.items
   pub flags_room : columns.bound ≤ vec_capacity columns.present

@@ -10,12 +10,14 @@ ghost use Rattle.cip_arena.specs.Making.{with_neighbour, with_edge, with_childre
 ghost use Rattle.cip_arena.specs.Making.{edge_size as size_of_edge, node_size as size_of_node, size_upto};
 ghost use Rattle.cip_arena.specs.Growth.{Holds, GrownAs};
 
-use crate::finding::{find_above, is_above, vertex_above};
-use crate::presence::{clear_flags, mark_vertex};
-use crate::sizes::{copies, node_size, real_vertex, sphere_size};
-use crate::telling::{RealNode, mass_of, tell_closure, tell_duplicate, tell_real, z_of};
-use cip_digraph::{Edge, Graph, NodeKind, Nodes, Positions, Told};
-use cip_rank::{Rules, Steps, Table, both_of};
+use crate::ancestors::{find_ancestor, is_above, vertex_above};
+use crate::node_data::{
+    RealNode, closure_node_data, duplicate_node_data, mass_of, real_node_data, z_of,
+};
+use crate::sphere_sizes::{duplicate_count, node_size, real_vertex, sphere_size};
+use crate::vertex_flags::{clear_flags, mark_vertex};
+use cip_digraph::{Edge, Graph, NodeData, NodeKind, Nodes, Positions};
+use cip_rank::{Rules, Steps, Table, zip_results};
 use std::alloc::{AllocError, Global};
 use std::marker::Model;
 use std::sync::ledger::Ledger;
@@ -29,7 +31,7 @@ pub struct Arena {
     // the first node of the last sphere
     first: u32,
     table: Table,
-    nodes: Vec<Told>,
+    nodes: Vec<NodeData>,
     // of each vertex, whether it may have a node
     present: Vec<bool>,
 }
@@ -63,7 +65,7 @@ impl Arena {
         ensures { IfOk result (λ arena. arena ≡ record { bound = bound; root = 0; sphere = 0; first = 0; nodes = [] }) }
     {
         let room = bound as usize;
-        let Ok((nodes, present)) = both_of(
+        let Ok((nodes, present)) = zip_results(
             Vec::with_capacity(alloc, room),
             Vec::with_capacity(alloc, room),
         ) else {
@@ -83,8 +85,8 @@ impl Arena {
         })
     }
 
-    /// Lets go of all nodes but a new root.
-    #[tactic(auto, using(crate::proofs::Marked::first_marked))]
+    /// Drops all nodes but a new root.
+    #[tactic(auto, using(crate::proofs::lemmas::Marked::first_marked))]
     pub fn start(&mut self, graph: &Graph, root: u32)
         requires { 0 < self.old.bound }
         ensures holds { (positions : List (List ℕ)) → Holds graph.now positions self.new }
@@ -92,7 +94,7 @@ impl Arena {
         ensures sphere { self.new.sphere ≡ 0 }
         ensures bound { self.new.bound ≡ self.old.bound }
     {
-        let node = Told {
+        let node = NodeData {
             parent: 0,
             kind: NodeKind::Real,
             vertex: root,
@@ -170,6 +172,7 @@ impl Arena {
         node_size(graph, &self.nodes, node)
     }
 
+    // Adds the children of the nodes from `first` to `past`.
     fn make_sphere<L: Ledger>(
         &mut self,
         graph: &Graph,
@@ -196,6 +199,7 @@ impl Arena {
         }
     }
 
+    // Adds the children of a node; a duplicate has none.
     fn make_children<L: Ledger>(
         &mut self,
         graph: &Graph,
@@ -227,6 +231,8 @@ impl Arena {
         }
     }
 
+    // Adds the nodes that an edge of a real node gives: its other end or a ring closure, and duplicates of a multiple
+    // bond.
     fn make_edge<L: Ledger>(
         &mut self,
         graph: &Graph,
@@ -251,13 +257,15 @@ impl Arena {
         ensures cost { steps.new + length self.old.nodes ≡ steps.old + length self.new.nodes }
     {
         let stands = self.make_neighbour(graph, from, edge.other_end(from.vertex), steps);
-        // Few edges give duplicates, and telling of one costs more than this test.
+        // Few edges give duplicates, and finding one costs more than this test.
         if edge.counted {
-            let told = tell_duplicate(graph, positions, &self.nodes, from, edge, stands);
-            self.add_copies(told, copies(edge), steps);
+            let node_data = duplicate_node_data(graph, positions, &self.nodes, from, edge, stands);
+            self.add_copies(node_data, duplicate_count(edge), steps);
         }
     }
 
+    // Adds the node of a neighbour, a real one or a ring closure, and returns which node stands for the neighbour
+    // there.
     fn make_neighbour<L: Ledger>(
         &mut self,
         graph: &Graph,
@@ -282,24 +290,25 @@ impl Arena {
         // Nearly all neighbours on the way up are the parent: it is known without a climb.
         if from.comes_from(other) {
             self.nodes[node as usize].parent
-        } else if let Some(at) = find_above(&self.nodes, &self.present, node, other) {
+        } else if let Some(at) = find_ancestor(&self.nodes, &self.present, node, other) {
             if !is_above(&self.nodes, node, other) {
-                let told = tell_closure(graph, &self.nodes, node, other, at);
-                let _ = self.add(told, steps);
+                let node_data = closure_node_data(graph, &self.nodes, node, other, at);
+                let _ = self.add(node_data, steps);
             }
             at
         } else {
-            let told = tell_real(graph, &self.nodes, node, other);
-            self.add(told, steps)
+            let node_data = real_node_data(graph, &self.nodes, node, other);
+            self.add(node_data, steps)
         }
     }
 
-    #[tactic(auto, using(crate::proofs::Added::copies_more))]
-    fn add_copies<L: Ledger>(&mut self, node: Told, count: u8, steps: &mut Steps<L>)
+    // Adds copies of a node.
+    #[tactic(auto, using(crate::proofs::lemmas::Added::copies_more))]
+    fn add_copies<L: Ledger>(&mut self, node: NodeData, count: u8, steps: &mut Steps<L>)
         requires room { length self.old.nodes + count ≤ self.old.bound }
         requires below { node.parent < length self.old.nodes }
         requires in_order { last_parent (parents_of self.old.nodes) ≤ node.parent }
-        requires near { node.as_printed ≤ length self.old.nodes }
+        requires nearer { node.as_printed ≤ length self.old.nodes }
         ensures added { self.new ≡ record self.old { nodes = self.old.nodes ++ replicate count node } }
         ensures last { last_parent (parents_of self.new.nodes) ≤ node.parent }
         ensures cost { steps.new ≡ steps.old + count }
@@ -309,11 +318,12 @@ impl Arena {
         }
     }
 
-    fn add<L: Ledger>(&mut self, node: Told, steps: &mut Steps<L>) -> u32
+    // Adds a node, with one step, and returns its number.
+    fn add<L: Ledger>(&mut self, node: NodeData, steps: &mut Steps<L>) -> u32
         requires room { length self.old.nodes < self.old.bound }
         requires below { node.parent < length self.old.nodes }
         requires in_order { last_parent (parents_of self.old.nodes) ≤ node.parent }
-        requires near { node.as_printed ≤ length self.old.nodes }
+        requires nearer { node.as_printed ≤ length self.old.nodes }
         ensures added { self.new ≡ record self.old { nodes = self.old.nodes ++ node ∷ [] } }
         ensures last { last_parent (parents_of self.new.nodes) ≡ node.parent }
         ensures number { result ≡ length self.old.nodes }
@@ -339,11 +349,11 @@ impl Nodes for Arena {
     }
 
     fn vertex(&self, node: u32) -> Option<u32> {
-        let told = &self.nodes[node as usize];
-        match told.kind {
-            NodeKind::Real => Some(told.vertex),
-            NodeKind::Closure => Some(told.vertex),
-            NodeKind::Multiple => Some(told.vertex),
+        let node_data = &self.nodes[node as usize];
+        match node_data.kind {
+            NodeKind::Real => Some(node_data.vertex),
+            NodeKind::Closure => Some(node_data.vertex),
+            NodeKind::Multiple => Some(node_data.vertex),
             NodeKind::Delocalised => None,
         }
     }

@@ -1,4 +1,4 @@
--- Where the ends of a unit stand. Own.
+-- Where the ends of a unit are. Own.
 use Rattle.std.specs.Prelude.{◌≡◌, ◌≢◌, ℕ, true, List, None, Some}
 use Rattle.std.specs.declared.option.Option.{Option}
 use Rattle.cip_mol.specs.declared.ends.Ends.{Ends}
@@ -26,13 +26,13 @@ EndsJoin graph (Axis a middle b first second) = Joins graph a (Some middle) b ×
 abbrev pub AreJoined : Graph → Ends → Type 0
 AreJoined graph (One end) = Unit {0}
 AreJoined graph (Two shape two) =
-    Joins graph two.near.at two.between two.far.at × Joins graph two.far.at two.between two.near.at
+    Joins graph two.nearer.at two.between two.far.at × Joins graph two.far.at two.between two.nearer.at
 
 abbrev pub next_child : (ℕ → Node) → List ℕ → ℕ → Option ℕ → Option ℕ
 next_child nodes parents vertex None = None
 next_child nodes parents vertex (Some node) = real_child nodes parents node vertex
 
--- where the other end stands below a node
+-- where the other end is below a node
 abbrev pub far_number : (ℕ → Node) → List ℕ → ℕ → Option ℕ → ℕ → Option ℕ
 far_number nodes parents node None far = real_child nodes parents node far
 far_number nodes parents node (Some middle) far = next_child nodes parents far (real_child nodes parents node middle)

@@ -1,11 +1,11 @@
-pub mod Inner
+pub mod InnerContext
 pub mod Joining
-pub mod KeptTurns
+pub mod ParityCache
 pub mod Marking
 pub mod Neighbours
-pub mod Sights
+pub mod Views
 pub mod Turning
-pub mod UnitsAt
+pub mod UnitIndex
 pub mod Below
 pub mod Sources
-pub mod Whole
+pub mod WholeDigraph

@@ -10,32 +10,32 @@ use Rattle.cip_digraph.specs.digraph.Telling.{node_at}
 use Rattle.cip_digraph.specs.rules.Auxiliary.{root_at, roots_at, unit_letter, first_letter, auxiliary}
 use Rattle.cip_digraph.specs.units.Ends.{End}
 use Rattle.cip_aux.specs.Below.{is_below}
-use Rattle.cip_digraph.specs.declared.turns.Turns.{Turns}
+use Rattle.cip_digraph.specs.declared.parity.Parity.{Parity}
 use Rattle.cip_digraph.specs.Sides.{pair_sides}
 use Rattle.cip_digraph.specs.TurnsOf.{root_turns, roots_turns, turns_of}
-use Rattle.cip_aux.specs.Inner.{Inner, AgreesInside, Counts, mark_at}
+use Rattle.cip_aux.specs.InnerContext.{InnerContext, AgreesInside, Counts, mark_at}
 use Rattle.cip_aux.specs.Joining.{EndsJoin}
-use Rattle.cip_aux.specs.Sights.{Sight, path_at, seen_sides}
-use Rattle.cip_aux.specs.declared.viewer.FoundTurns.{FoundTurns}
+use Rattle.cip_aux.specs.Views.{DigraphView, path_at, seen_sides}
+use Rattle.cip_aux.specs.declared.ligand_ranker.FoundParity.{FoundParity}
 
-module _ (inner : Inner) (node : ℕ) where
+module _ (inner : InnerContext) (node : ℕ) where
   -- the turns of these ligands at the node, whichever descriptors agree with those inside; by constitution whichever
   -- there are
-  pub record AreRootTurns (by_constitution : Bool) (ligands : List Ligand) (turns : Option Turns) : Type 0 where
-    pub each : (mark : List ℕ → Option Descriptor) → Counts by_constitution inner mark → turns
+  pub record AreRootTurns (by_constitution : Bool) (ligands : List Ligand) (parities : Option Parity) : Type 0 where
+    pub each : (mark : List ℕ → Option Descriptor) → Counts by_constitution inner mark → parities
         ≡ root_turns
         (root_at inner.sight.rules inner.sight.graph inner.sight.positions mark (path_at inner.sight.nodes node)
         ligands)
 
-  -- the same of ligands by number: how each two of them stand, with R and with S first in the last rule
-  pub record AreSeenTurns (ligands : List (Option ℕ)) (found : FoundTurns) : Type 0 where
-    pub each : (mark : List ℕ → Option Descriptor) → Counts found.by_constitution inner mark → found.turns
+  -- the same of ligands by number: how each two of them compare, with R and with S first in the last rule
+  pub record AreSeenTurns (ligands : List (Option ℕ)) (found : FoundParity) : Type 0 where
+    pub each : (mark : List ℕ → Option Descriptor) → Counts found.by_constitution inner mark → found.parities
         ≡ turns_of (pair_sides (seen_sides inner.sight node mark true) ligands)
         (pair_sides (seen_sides inner.sight node mark false) ligands)
 
-  pub record AreEndTurns (by_constitution : Bool) (between : List ℕ) (ends : List End) (turns : Option Turns) : Type
+  pub record AreEndTurns (by_constitution : Bool) (between : List ℕ) (ends : List End) (parities : Option Parity) : Type
       0 where
-    pub each : (mark : List ℕ → Option Descriptor) → Counts by_constitution inner mark → turns
+    pub each : (mark : List ℕ → Option Descriptor) → Counts by_constitution inner mark → parities
         ≡ roots_turns
         (roots_at inner.sight.rules inner.sight.graph inner.sight.positions mark (path_at inner.sight.nodes node)
         between ends)
@@ -50,32 +50,32 @@ module _ (inner : Inner) (node : ℕ) where
         → path_at inner.sight.nodes node ≡ vertex ∷ up
         → letter ≡ first_letter inner.sight.rules inner.sight.graph inner.sight.positions all vertex up mark
 
-abbrev pub UnitsJoin : Sight → List units.Unit → Type 0
+abbrev pub UnitsJoin : DigraphView → List units.Unit → Type 0
 UnitsJoin sight all = All (λ unit. EndsJoin sight.graph unit.site) all
 
--- what stands on a node: nothing on duplicates
-abbrev pub node_mark : Sight → List units.Unit → Node → Option Descriptor
+-- what is on a node: nothing on duplicates
+abbrev pub node_mark : DigraphView → List units.Unit → Node → Option Descriptor
 node_mark sight all node =
     cond (is_real node.kind) (auxiliary sight.rules sight.graph sight.positions all node.path) None
 
 -- the nodes strictly below one of them have their descriptors
-pub record AreInner (inner : Inner) (all : List units.Unit) : Type 0 where
+pub record AreInner (inner : InnerContext) (all : List units.Unit) : Type 0 where
   pub len : length inner.marks ≡ length inner.sight.nodes
   pub each : (number : ℕ) → number < length inner.sight.nodes
-      → is_below (parents_of inner.sight.told) inner.from number ≡ true
+      → is_below (parents_of inner.sight.node_data) inner.from number ≡ true
       → mark_at inner.marks number ≡ node_mark inner.sight all (node_at inner.sight.nodes number)
 
 abbrev pub flag_at : List Bool → ℕ → Bool
 flag_at flags number = slice_index_or flags number false
 
--- below each node that is wanted all nodes are
-pub record AreWanted (parents : List ℕ) (wanted : List Bool) : Type 0 where
+-- below each node that is requested all nodes are
+pub record AreWanted (parents : List ℕ) (requested : List Bool) : Type 0 where
   pub below : (number : ℕ) → 0 < number → number < length parents
-      → flag_at wanted (slice_index parents number) ≡ true → flag_at wanted number ≡ true
+      → flag_at requested (slice_index parents number) ≡ true → flag_at requested number ≡ true
 
--- The nodes that are wanted, from a number on, have their descriptors, and the others of these none.
-pub record AreMarked (sight : Sight) (all : List units.Unit) (wanted : List Bool) (from : ℕ)
+-- The nodes that are requested, from a number on, have their descriptors, and the others of these none.
+pub record AreMarked (sight : DigraphView) (all : List units.Unit) (requested : List Bool) (from : ℕ)
     (marks : List (Option Descriptor)) : Type 0 where
   pub len : length marks ≡ length sight.nodes
   pub each : (number : ℕ) → from ≤ number → number < length sight.nodes → mark_at marks number
-      ≡ cond (flag_at wanted number) (node_mark sight all (node_at sight.nodes number)) None
+      ≡ cond (flag_at requested number) (node_mark sight all (node_at sight.nodes number)) None

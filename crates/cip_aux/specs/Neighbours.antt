@@ -6,7 +6,7 @@ use Rattle.cip_mol.specs.declared.site.Ligand.TheVariants.{Vertex, LonePair}
 use Rattle.cip_rank.specs.Tree.{children_of}
 use Rattle.cip_digraph.specs.rules.Auxiliary.{stands_for}
 use Rattle.cip_digraph.specs.digraph.Digraph.{Node, is_real}
-use Rattle.cip_digraph.specs.declared.nodes.Told.{Told}
+use Rattle.cip_digraph.specs.declared.nodes.NodeData.{NodeData}
 use Rattle.cip_digraph.specs.digraph.NodeList.{told_at}
 use Rattle.cip_digraph.specs.digraph.Telling.{node_at}
 
@@ -21,9 +21,9 @@ abbrev pub first_where : (ℕ → Bool) → List ℕ → Option ℕ
 first_where test [] = None
 first_where test (n ∷ ns) = cond (test n) (Some n) (first_where test ns)
 
--- a node as far as it is told of
-abbrev pub node_told : Told → Node
-node_told told = record { kind = told.kind; path = []; vertex = told.vertex }
+-- a node as far as it is known
+abbrev pub node_told : NodeData → Node
+node_told node_data = record { kind = node_data.kind; path = []; vertex = node_data.vertex }
 
 abbrev pub is_real_of : ℕ → Node → Bool
 is_real_of vertex node = is_real node.kind && (node.vertex == vertex)
@@ -39,7 +39,7 @@ module _ (nodes : ℕ → Node) (parents : List ℕ) where
   abbrev pub real_child : ℕ → ℕ → Option ℕ
   real_child node vertex = first_where (λ number. is_real_of vertex (nodes number)) (children_of parents node)
 
-abbrev pub shape_at : List Told → ℕ → Node
+abbrev pub shape_at : List NodeData → ℕ → Node
 shape_at all number = node_told (told_at all number)
 
 -- a node as a ligand, and none for a lone pair
@@ -48,5 +48,5 @@ ligand_at nodes None = []
 ligand_at nodes (Some number) = node_at nodes number ∷ []
 
 -- the vertex of a real node
-abbrev pub atom_told : Told → Option ℕ
-atom_told told = cond (is_real told.kind) (Some told.vertex) None
+abbrev pub atom_told : NodeData → Option ℕ
+atom_told node_data = cond (is_real node_data.kind) (Some node_data.vertex) None

@@ -5,7 +5,7 @@ use Rattle.cip_rank.specs.declared.rules.Rules.{Rules}
 use Rattle.cip_rank.specs.declared.rules.Rules.TheVariants.{Wording2013, Wording2018}
 use Rattle.cip_digraph.specs.declared.nodes.NodeKind.{NodeKind}
 use Rattle.cip_digraph.specs.declared.nodes.NodeKind.TheVariants.{Real, Closure, Multiple, Delocalised}
-use Rattle.cip_digraph.specs.declared.nodes.Told.{Told}
+use Rattle.cip_digraph.specs.declared.nodes.NodeData.{NodeData}
 use Rattle.cip_digraph.specs.digraph.NodeList.{told_at, parents_of}
 
 -- of a node itself, its counterpart and the one that carries it, that whose sphere is the distance key
@@ -16,10 +16,10 @@ node_by node counterpart carrier wording Closure = counterpart
 node_by node counterpart carrier wording Real = node
 node_by node counterpart carrier wording Delocalised = carrier
 
-abbrev pub carrier_of : List Told → ℕ → ℕ
+abbrev pub carrier_of : List NodeData → ℕ → ℕ
 carrier_of all node = cond (node == 0) 0 (slice_index (parents_of all) node)
 
-abbrev pub distance_node : Rules → List Told → ℕ → ℕ
+abbrev pub distance_node : Rules → List NodeData → ℕ → ℕ
 distance_node rules all node =
-    let told = told_at all node in
-    node_by node (unwrap_or told.counterpart 0) (carrier_of all node) rules told.kind
+    let node_data = told_at all node in
+    node_by node (unwrap_or node_data.counterpart 0) (carrier_of all node) rules node_data.kind

@@ -4,16 +4,16 @@ use Rattle.std.specs.declared.cmp.Ordering.{Ordering}
 use Rattle.std.specs.declared.option.Option.{Option}
 use Rattle.cip_digraph.specs.Sides.{found_side}
 use Rattle.cip_digraph.specs.TurnsOf.{turns_of}
-use Rattle.cip_digraph.specs.declared.asked.Asked.{Asked}
-use Rattle.cip_aux.specs.declared.viewer.FoundTurns.{FoundTurns}
+use Rattle.cip_digraph.specs.declared.branch_pair.BranchPair.{BranchPair}
+use Rattle.cip_aux.specs.declared.ligand_ranker.FoundParity.{FoundParity}
 
 -- which of two precedes
-abbrev pub side_at : Asked → Option Ordering
-side_at asked = found_side asked.decision
+abbrev pub side_at : BranchPair → Option Ordering
+side_at requested = found_side requested.decision
 
 -- the turns by what is decided with R and with S first in the last rule
-abbrev pub found_by : Bool → List Asked → List Asked → FoundTurns
+abbrev pub found_by : Bool → List BranchPair → List BranchPair → FoundParity
 found_by by_constitution pairs turned = record {
-  turns = turns_of (map side_at pairs) (map side_at turned);
+  parities = turns_of (map side_at pairs) (map side_at turned);
   by_constitution = by_constitution;
 }

@@ -1,22 +1,27 @@
-//! Descriptors inside a digraph, from the outermost nodes inwards, by what looks at it.
+//! The auxiliary descriptors of a whole digraph.
+//!
+//! `auxiliaries` finds them from the last node to the first. At each node where a unit ends it requests the parity of
+//! the node's ligands from a `LigandRanker`, which the caller supplies. `ParityCache` caches the parities that Rules 1a
+//! to 2 decide, since they hold for any senses. `UnitIndex` finds the units that end at a vertex, and `flag_subtrees`
+//! extends flags to all nodes below. Uses the definitions of `cip_digraph`.
 #![tactic(auto)]
 
-mod ends;
-mod filling;
-mod flagging;
-mod inner;
-mod kept_turns;
-mod letters;
-mod neighbours;
-mod turning;
-mod units_at;
-mod viewer;
-mod whole;
+mod auxiliary_descriptors;
+mod context;
+mod ligand_nodes;
+mod ligand_ranker;
+mod node_descriptor;
+mod parity;
+mod parity_cache;
+mod subtree_flags;
+mod unit_ends;
+mod unit_index;
+mod whole_digraph;
 
-pub use filling::{Wanted, auxiliaries};
-pub use flagging::flag_below;
-pub use inner::Inner;
-pub use kept_turns::{KeptTurn, KeptTurns};
-pub use units_at::UnitsAt;
-pub use viewer::{FoundTurns, Viewer};
-pub use whole::Whole;
+pub use auxiliary_descriptors::{AuxiliaryRequest, auxiliaries};
+pub use context::InnerContext;
+pub use ligand_ranker::{FoundParity, LigandRanker};
+pub use parity_cache::{CachedParity, ParityCache};
+pub use subtree_flags::flag_subtrees;
+pub use unit_index::UnitIndex;
+pub use whole_digraph::WholeDigraph;

@@ -6,14 +6,14 @@ use Rattle.cip_digraph.specs.declared.graph.Edge.{Edge}
 use Rattle.cip_digraph.specs.graph.Graph.{Graph, vertex_at, edges_at, neighbours, other_end}
 use Rattle.cip_digraph.specs.rings.Positions.{is_delocalised}
 use Rattle.cip_digraph.specs.units.DoubleBonds.{has_end_bonds, outer_neighbours}
-use Rattle.cip_mancude.specs.SharedRings.{share_ring}
+use Rattle.cip_mancude.specs.SharedRings.{share_alternating_ring}
 use Rattle.cip_ring.specs.AnyRings.{is_in_ring}
 
--- a neighbour of a neighbour of an end that stands beside the axis: no hydrogen, not the end, and in no alternating
+-- a neighbour of a neighbour of an end that is beside the axis: no hydrogen, not the end, and in no alternating
 -- ring with the neighbour
 abbrev pub stands_beside : Graph → ℕ → ℕ → ℕ → Bool
 stands_beside graph end neighbour other =
-    not ((vertex_at graph other).z == 1) && not (other == end) && not (share_ring graph neighbour other)
+    not ((vertex_at graph other).z == 1) && not (other == end) && not (share_alternating_ring graph neighbour other)
 
 -- with three bonds, one of them to such an atom
 abbrev pub is_hindered : Graph → ℕ → ℕ → Bool

@@ -11,12 +11,12 @@ use Rattle.cip_axis.specs.Further.{further_of}
 use Rattle.cip_axis.specs.Likeness.{like}
 use Rattle.cip_axis.specs.declared.site.FurtherUnit.{FurtherUnit}
 use Rattle.cip_label.specs.Fitting.{IsFitSite}
-use Rattle.cip_label.specs.Settings.{Setting, outcome_in, setting_in}
+use Rattle.cip_label.specs.Settings.{LabelContext, outcome_in, setting_in}
 
 abbrev pub as_unit : FurtherUnit → units.Unit
 as_unit unit = record { site = like unit.site; geometry = unit.geometry }
 
-abbrev pub further_outcome : Setting → ℕ → FurtherUnit → Outcome
+abbrev pub further_outcome : LabelContext → ℕ → FurtherUnit → Outcome
 further_outcome setting bound unit = outcome_in setting bound (as_unit unit)
 
 abbrev pub further_outcome_in : Rules → ℕ → Drawing → FurtherUnit → Outcome

@@ -7,21 +7,21 @@ ghost use Rattle.cip_axis.specs.Further.{biaryl_site, biaryl_unit, biaryls_of};
 ghost use Rattle.cip_axis.specs.Likeness.{like};
 ghost use Rattle.cip_axis.specs.Listing.{IsGraphOf, are_three_hindered, can_be_biaryl, one_biaryl};
 
+use crate::axis_context::AxisContext;
 use crate::hindrance::hindered_count;
 use crate::site::{FurtherSite, FurtherUnit};
-use crate::source::Source;
 use crate::units::FurtherUnits;
 use cip_digraph::{Edge, Graph, Positions};
 use cip_mol::Molecule;
 use cip_orient::orient_ends;
 use cip_ring::{VertexSet, is_in_ring, is_in_small_ring};
-use cip_unit::{end_ligands, has_end_bonds, outer_count};
+use cip_unit::{end_ligands, has_end_bonds, outer_ligand_count};
 use std::alloc::{AllocError, Global};
 
 /// Adds the biaryl axes of a first end, by the second one. The set serves the search for rings.
 pub fn push_biaryls(
     alloc: Global,
-    source: &Source<'_>,
+    source: &AxisContext<'_>,
     a: u32,
     reached: &mut VertexSet,
     units: &mut FurtherUnits,
@@ -43,7 +43,7 @@ pub fn push_biaryls(
 // Adds the unit of a bond, where it is one.
 fn push_biaryl(
     alloc: Global,
-    source: &Source<'_>,
+    source: &AxisContext<'_>,
     a: u32,
     edge: &Edge,
     reached: &mut VertexSet,
@@ -57,7 +57,7 @@ fn push_biaryl(
 {
     match is_biaryl(alloc, source.graph, source.positions, a, edge, reached) {
         Ok(true) => {
-            let unit = biaryl_unit(source.molecule, source.graph, a, edge.other_end(a));
+            let unit = biaryl_unit(alloc, source.molecule, source.graph, a, edge.other_end(a));
             units.push(unit)
         }
         Ok(false) => Ok(()),
@@ -65,7 +65,7 @@ fn push_biaryl(
     }
 }
 
-fn biaryl_unit(molecule: &Molecule, graph: &Graph, a: u32, b: u32) -> FurtherUnit
+fn biaryl_unit(alloc: Global, molecule: &Molecule, graph: &Graph, a: u32, b: u32) -> FurtherUnit
     requires shown { IsSite (length molecule.now.atoms) (like (biaryl_site graph.now a b)) }
     requires first { length (edges_at graph.now a) ≤ 3 }
     requires second { length (edges_at graph.now b) ≤ 3 }
@@ -75,8 +75,8 @@ fn biaryl_unit(molecule: &Molecule, graph: &Graph, a: u32, b: u32) -> FurtherUni
     let site = FurtherSite::Biaryl {
         a,
         b,
-        first: end_ligands(graph, &unit, a),
-        second: end_ligands(graph, &unit, b),
+        first: end_ligands(alloc, graph, &unit, a),
+        second: end_ligands(alloc, graph, &unit, b),
     };
     let geometry = orient_ends(molecule, &site.ends());
     FurtherUnit { site, geometry }
@@ -133,7 +133,7 @@ fn is_biaryl_end(graph: &Graph, positions: &Positions, unit: &[u32], atom: u32) 
     positions.of(atom).len() >= 2
         && graph.edges_at(atom).len() == 3
         && has_end_bonds(graph, unit, atom)
-        && outer_count(graph, unit, atom) == 2
+        && outer_ligand_count(graph, unit, atom) == 2
 }
 
 fn are_three_hindered(alloc: Global, graph: &Graph, a: u32, b: u32) -> bool

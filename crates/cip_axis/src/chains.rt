@@ -1,9 +1,9 @@
 // Chains of double bonds, followed from one of their atoms.
 ghost use Rattle.std.specs.Prelude.{◌≡◌, ◌==◌, ◌&&◌, IfOk, length, not};
 ghost use Rattle.cip_digraph.specs.graph.Graph.{other_end};
-ghost use Rattle.cip_axis.specs.Cumulenes.{chain_over, leads_on, next_atom, onward};
+ghost use Rattle.cip_axis.specs.Cumulenes.{chain_over, continues_chain, next_atom, onward};
 
-use crate::counting::one_if;
+use crate::count_three::one_if;
 use cip_digraph::{Edge, Graph};
 use cip_unit::is_allene_middle;
 use std::alloc::{AllocError, Global};
@@ -23,7 +23,7 @@ pub fn chain_over(alloc: Global, graph: &Graph, a: u32, next: u32) -> Result<Vec
         let Ok(()) = chain.push(at) else {
             return Err(AllocError);
         };
-        if leads_on(graph, before, at) {
+        if continues_chain(graph, before, at) {
             let on = next_atom(graph, before, at);
             before = at;
             at = on;
@@ -35,8 +35,8 @@ pub fn chain_over(alloc: Global, graph: &Graph, a: u32, next: u32) -> Result<Vec
 }
 
 /// Whether one double bond leads on from an atom that a chain comes to.
-pub fn leads_on(graph: &Graph, before: u32, at: u32) -> bool
-    ensures { result ≡ leads_on graph.now before at }
+pub fn continues_chain(graph: &Graph, before: u32, at: u32) -> bool
+    ensures { result ≡ continues_chain graph.now before at }
 {
     is_allene_middle(graph, at) && onward_count(graph, before, at) == 1
 }

@@ -8,9 +8,9 @@ ghost use Rattle.cip_axis.specs.Further.{cumulene_geometry, cumulene_site, cumul
 ghost use Rattle.cip_axis.specs.Likeness.{like};
 ghost use Rattle.cip_axis.specs.Listing.{IsGraphOf, can_be_cumulene, first_in_ring, one_cumulene};
 
-use crate::chains::{chain_over, leads_on};
+use crate::axis_context::AxisContext;
+use crate::chains::{chain_over, continues_chain};
 use crate::site::{FurtherSite, FurtherUnit};
-use crate::source::Source;
 use crate::units::FurtherUnits;
 use cip_digraph::Graph;
 use cip_mol::{Cause, Geometry, Molecule};
@@ -22,7 +22,7 @@ use std::alloc::{AllocError, Global};
 /// Adds the cumulenes of a first end, along each of its double bonds. The set serves the search for rings.
 pub fn push_cumulenes(
     alloc: Global,
-    source: &Source<'_>,
+    source: &AxisContext<'_>,
     a: u32,
     reached: &mut VertexSet,
     units: &mut FurtherUnits,
@@ -49,7 +49,7 @@ pub fn push_cumulenes(
 // Adds the unit of the chain over a neighbour, where it is one.
 fn push_over(
     alloc: Global,
-    source: &Source<'_>,
+    source: &AxisContext<'_>,
     a: u32,
     next: u32,
     reached: &mut VertexSet,
@@ -63,8 +63,8 @@ fn push_over(
         ++ one_cumulene source.now.molecule.now source.now.graph.now (chain_over source.now.graph.now a next)) }
 {
     // Most double bonds lead no further: for these no chain is made.
-    if leads_on(source.graph, a, next) {
-        // Reading the vertices tells that there are few.
+    if continues_chain(source.graph, a, next) {
+        // Reading the vertices says that there are few.
         let _count = source.graph.vertices().len();
         let Ok(chain) = chain_over(alloc, source.graph, a, next) else {
             return Err(AllocError);
@@ -73,7 +73,7 @@ fn push_over(
             return Err(AllocError);
         };
         if is_unit {
-            let unit = cumulene_unit(source.molecule, source.graph, &chain);
+            let unit = cumulene_unit(alloc, source.molecule, source.graph, &chain);
             units.push(unit)
         } else {
             Ok(())
@@ -111,7 +111,7 @@ fn can_be_cumulene(graph: &Graph, chain: &[u32]) -> bool
     }
 }
 
-fn cumulene_unit(molecule: &Molecule, graph: &Graph, chain: &[u32]) -> FurtherUnit
+fn cumulene_unit(alloc: Global, molecule: &Molecule, graph: &Graph, chain: &[u32]) -> FurtherUnit
     requires some { 1 ≤ length chain.now }
     requires shown { IsSite (length molecule.now.atoms) (like (cumulene_site graph.now chain.now)) }
     requires within { All (λ atom. atom < length molecule.now.atoms) chain.now }
@@ -126,8 +126,8 @@ fn cumulene_unit(molecule: &Molecule, graph: &Graph, chain: &[u32]) -> FurtherUn
         a,
         b,
         bonds: (chain.len() - 1) as u32,
-        first: end_ligands(graph, chain, a),
-        second: end_ligands(graph, chain, b),
+        first: end_ligands(alloc, graph, chain, a),
+        second: end_ligands(alloc, graph, chain, b),
     };
     let geometry = cumulene_geometry(molecule, chain, &site);
     FurtherUnit { site, geometry }

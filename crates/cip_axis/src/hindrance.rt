@@ -4,9 +4,9 @@ ghost use Rattle.cip_digraph.specs.graph.Graph.{edges_at};
 ghost use Rattle.cip_axis.specs.Biaryls.{hindered_at, stands_beside};
 ghost use Rattle.cip_axis.specs.Listing.{beside_along, is_hindered_outside};
 
-use crate::counting::one_if;
+use crate::count_three::one_if;
 use cip_digraph::Graph;
-use cip_mancude::share_ring;
+use cip_mancude::share_alternating_ring;
 use cip_unit::vertex_at;
 use std::alloc::Global;
 
@@ -44,5 +44,7 @@ fn beside_along(alloc: Global, graph: &Graph, end: u32, neighbour: u32) -> bool
 fn stands_beside(alloc: Global, graph: &Graph, end: u32, neighbour: u32, other: u32) -> bool
     ensures { result ≡ stands_beside graph.now end neighbour other }
 {
-    vertex_at(graph, other).z != 1 && other != end && !share_ring(alloc, graph, neighbour, other)
+    vertex_at(graph, other).z != 1
+        && other != end
+        && !share_alternating_ring(alloc, graph, neighbour, other)
 }

@@ -7,11 +7,11 @@ use Rattle.cip_io.specs.Growth.{AppendsPrefix}
 use Rattle.cip_frame.specs.Records.{cut_of}
 use Rattle.cip_frame.specs.Framing.{IsFrontOf}
 use Rattle.cip_batch.specs.declared.limits.Limits.{Limits}
-use Rattle.cip_batch.specs.declared.stop.Stop.{Stop}
-use Rattle.cip_batch.specs.declared.stop.Stop.TheVariants as stops
+use Rattle.cip_batch.specs.declared.error.StreamError.{StreamError}
+use Rattle.cip_batch.specs.declared.error.StreamError.TheVariants as stops
 use Rattle.cip_batch.specs.Limits.{limit_place, answered}
-use Rattle.cip_batch.specs.declared.verdict.Verdict.{Verdict}
-use Rattle.cip_batch.specs.Manner.{Manner}
+use Rattle.cip_batch.specs.declared.status.StreamStatus.{StreamStatus}
+use Rattle.cip_batch.specs.ExpectedOutput.{ExpectedOutput}
 use Rattle.cip_batch.specs.Due.{verdict_of, texts_from, texts_of, due}
 
 -- P holds, and the sink grew by this text
@@ -21,41 +21,41 @@ pub record Grew (P : Type 0) (text : List ℕ) (old new : Option (List ℕ)) : T
 
 -- the sink grew by the texts of the first of these records, which are numbered from this number on, and by no part of
 -- another
-pub record GrewFrom {N : Type 0} (manner : Manner N) (number : ℕ) (records : List (List ℕ))
+pub record GrewFrom {N : Type 0} (expected : ExpectedOutput N) (number : ℕ) (records : List (List ℕ))
     (old new : Option (List ℕ)) : Type 0 where
   pub before : List (List ℕ)
   pub front : IsFrontOf before records
-  pub written : Appends old new (texts_from manner number before)
+  pub written : Appends old new (texts_from expected number before)
 
 -- the same for the records of a stream
-abbrev pub GrewTo : {N : Type 0} → Manner N → List (List ℕ) → Option (List ℕ) → Option (List ℕ) → Type 0
-GrewTo manner records old new = GrewFrom manner 1 records old new
+abbrev pub GrewTo : {N : Type 0} → ExpectedOutput N → List (List ℕ) → Option (List ℕ) → Option (List ℕ) → Type 0
+GrewTo expected records old new = GrewFrom expected 1 records old new
 
 -- no limit is passed, and the records add this to the end of the run
-pub record IsWhole {N : Type 0} (manner : Manner N) (limits : Limits) (verdict : Verdict N)
+pub record IsWhole {N : Type 0} (expected : ExpectedOutput N) (limits : Limits) (verdict : StreamStatus N)
     (bytes : List ℕ) : Type 0 where
   pub unlimited : limit_place limits bytes ≡ None
-  pub told : verdict_of manner (answered limits bytes) ≡ verdict
+  pub output : verdict_of expected (answered limits bytes) ≡ verdict
 
 -- a limit is passed
 abbrev pub IsLimited : Limits → List ℕ → Type 0
 IsLimited limits bytes = is_some (limit_place limits bytes) ≡ true
 
 -- a stream of these bytes was answered, with this result
-abbrev pub EndsAs : {N : Type 0} → Manner N → Limits → Result (Verdict N) Stop → Option (List ℕ) → Option (List ℕ)
+abbrev pub EndsAs : {N : Type 0} → ExpectedOutput N → Limits → Result (StreamStatus N) StreamError → Option (List ℕ) → Option (List ℕ)
     → List ℕ → Type 0
-EndsAs manner limits (Ok verdict) old new bytes =
-    Grew (IsWhole manner limits verdict bytes) (due manner limits bytes) old new
-EndsAs manner limits (Err stops.Limit) old new bytes =
-    Grew (IsLimited limits bytes) (due manner limits bytes) old new
-EndsAs manner limits (Err stops.WriteFault) old new bytes = AppendsPrefix old new (due manner limits bytes)
-EndsAs manner limits (Err stops.Memory) old new bytes = GrewTo manner (answered limits bytes) old new
-EndsAs manner limits (Err stops.ReadFault) old new bytes = ⊤
+EndsAs expected limits (Ok verdict) old new bytes =
+    Grew (IsWhole expected limits verdict bytes) (due expected limits bytes) old new
+EndsAs expected limits (Err stops.Limit) old new bytes =
+    Grew (IsLimited limits bytes) (due expected limits bytes) old new
+EndsAs expected limits (Err stops.WriteFault) old new bytes = AppendsPrefix old new (due expected limits bytes)
+EndsAs expected limits (Err stops.Memory) old new bytes = GrewTo expected (answered limits bytes) old new
+EndsAs expected limits (Err stops.ReadFault) old new bytes = ⊤
 
 -- no limit is passed by what was taken, and the sink grew by the texts of the records that are closed in it
-pub record AnswersTaken {N : Type 0} (manner : Manner N) (limits : Limits)
+pub record AnswersTaken {N : Type 0} (expected : ExpectedOutput N) (limits : Limits)
     (left rest old new : Option (List ℕ)) : Type 0 where
   pub taken : List ℕ
   pub consumed : Consumes left rest taken
   pub unlimited : limit_place limits taken ≡ None
-  pub written : Appends old new (texts_of manner (cut_of taken).whole)
+  pub written : Appends old new (texts_of expected (cut_of taken).whole)

@@ -10,7 +10,7 @@ passes limits bytes number =
     nat_lt limits.input number
     || nat_lt limits.record (length (cut_of (take (number - 1) bytes)).rest + 1)
 
--- the first such number among so many from this one on
+-- the first such number among n from this one on
 abbrev pub first_passing : Limits → List ℕ → ℕ → ℕ → Option ℕ
 first_passing limits bytes number zero = None
 first_passing limits bytes number (suc more) =

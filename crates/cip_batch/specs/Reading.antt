@@ -3,26 +3,26 @@ use Rattle.std.specs.Prelude.{◌≡◌, ◌≤◌, ◌<◌, ◌⊎◌, ◌++◌
 use Rattle.std.specs.declared.option.Option.{Option}
 use Rattle.std.specs.Io.KnownBytes.{Consumes, IsAtEnd}
 use Rattle.cip_frame.specs.Framing.{Framing, Holds, Passed}
-use Rattle.cip_batch.specs.declared.reading.Turn.{Turn}
-use Rattle.cip_batch.specs.declared.reading.Turn.TheVariants.{Piece, Last}
-use Rattle.cip_batch.specs.declared.reading.Halt.{Halt}
-use Rattle.cip_batch.specs.declared.reading.Halt.TheVariants.{End, Fault, Limit}
-use Rattle.cip_batch.specs.declared.stop.Stop.{Stop}
-use Rattle.cip_batch.specs.declared.stop.Stop.TheVariants as stops
+use Rattle.cip_batch.specs.declared.input.ReadStep.{ReadStep}
+use Rattle.cip_batch.specs.declared.input.ReadStep.TheVariants.{Piece, Last}
+use Rattle.cip_batch.specs.declared.input.InputEnd.{InputEnd}
+use Rattle.cip_batch.specs.declared.input.InputEnd.TheVariants.{End, Fault, Limit}
+use Rattle.cip_batch.specs.declared.error.StreamError.{StreamError}
+use Rattle.cip_batch.specs.declared.error.StreamError.TheVariants as stops
 
--- a framer that was fed nothing, by which a record may have so many bytes
+-- a framer that was fed nothing, by which a record may have n bytes
 pub record IsFresh (limit : ℕ) (framer : Framing) : Type 0 where
   pub holds : Holds [] [] framer
   pub empty : framer.waiting ≡ []
   pub within : framer.limit ≡ limit
 
--- some bytes, at most so many, were taken from the front of what the source had left
+-- some bytes, at most n, were taken from the front of what the source had left
 pub record TakesAtMost (most : ℕ) (left rest : Option (List ℕ)) : Type 0 where
   pub bytes : List ℕ
   pub few : length bytes ≤ most
   pub taken : Consumes left rest bytes
 
--- so many bytes, at most as many as there is room for, went from the source to the framer
+-- n bytes, at most as many as there is room for, went from the source to the framer
 pub record Feeds (count room : ℕ) (left rest : Option (List ℕ)) (old new : Framing) : Type 0 where
   pub bytes : List ℕ
   pub counted : length bytes ≡ count
@@ -56,14 +56,14 @@ pub record Ends (left rest : Option (List ℕ)) (old new : Framing) : Type 0 whe
   pub still : StandsStill left rest old new
   pub end : IsAtEnd rest
 
--- how nothing more came, where there was room for so many bytes
-abbrev pub Halts : Halt → ℕ → Option (List ℕ) → Option (List ℕ) → Framing → Framing → Type 0
+-- how nothing more came, where there was room for n bytes
+abbrev pub Halts : InputEnd → ℕ → Option (List ℕ) → Option (List ℕ) → Framing → Framing → Type 0
 Halts End room left rest old new = Ends left rest old new
 Halts Fault room left rest old new = StandsStill left rest old new
 Halts Limit room left rest old new = Overfeeds room left rest old new ⊎ Overflows room left rest old new
 
--- what a turn brought, where there is room for so many bytes more
-abbrev pub Brings : ℕ → Result Turn Stop → Option (List ℕ) → Option (List ℕ) → Framing → Framing → Type 0
+-- what a turn brought, where there is room for n bytes more
+abbrev pub Brings : ℕ → Result ReadStep StreamError → Option (List ℕ) → Option (List ℕ) → Framing → Framing → Type 0
 Brings room (Ok (Piece count)) left rest old new = Feeds count room left rest old new
 Brings room (Ok (Last halt)) left rest old new = Halts halt room left rest old new
 Brings room (Err stops.ReadFault) left rest old new = ⊥

@@ -8,7 +8,7 @@ pub trait Job {
     type Out: Send + Drop;
 
     /// What a worker keeps from job to job, as memory that was reserved. It changes no answer.
-    type Desk: Send + Drop;
+    type State: Send + Drop;
 
     /// What the work answers.
     ghost answer: { Self → Self.Out };
@@ -16,7 +16,7 @@ pub trait Job {
     /// How much work it is, more or less. Workers share a batch by it; it changes no answer.
     fn weight(&self) -> u64;
 
-    /// Does the work at a desk, whatever was done there before. Only want of memory refuses it.
-    fn work(&self, desk: &mut Self::Desk) -> Result<Self::Out, AllocError>
+    /// Does the work with a worker's state, whatever was done with it before. Only want of memory refuses it.
+    fn work(&self, state: &mut Self::State) -> Result<Self::Out, AllocError>
         ensures { IfOk result (λ out. out ≡ answer self.now) };
 }

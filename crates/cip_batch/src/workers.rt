@@ -11,18 +11,18 @@ use std::{mem, thread};
 // Into how many parts a worker's share is cut, one of which stands for the start of a thread.
 const START_PARTS: u64 = 4;
 
-/// One who works: the desk, which stays from batch to batch, and the answers to the jobs of the batch at hand.
+/// One who works: the state, which stays from batch to batch, and the answers to the jobs of the batch at hand.
 #[derive(Drop)]
 pub struct Worker<D, X> {
-    desk: D,
+    state: D,
     answers: Result<Vec<Entry<X>>, AllocError>,
 }
 
 impl<D, X> Worker<D, X> {
     /// A worker without answers. It takes no memory.
-    pub fn new(alloc: Global, desk: D) -> Worker<D, X> {
+    pub fn new(alloc: Global, state: D) -> Worker<D, X> {
         Worker {
-            desk,
+            state,
             answers: Ok(Vec::new(alloc)),
         }
     }
@@ -44,7 +44,7 @@ pub fn map_batch<R: Threads + Sync, J: Job + Sync, G: Gate + Sync>(
     rt: &R,
     alloc: Global,
     jobs: &[J],
-    workers: &mut [Worker<J::Desk, J::Out>],
+    workers: &mut [Worker<J::State, J::Out>],
     gate: &G,
 ) -> Result<Vec<J::Out>, AllocError>
     requires some { 0 < length workers.old }
@@ -54,7 +54,7 @@ pub fn map_batch<R: Threads + Sync, J: Job + Sync, G: Gate + Sync>(
     ensures workers { length workers.new ≡ length workers.old }
 {
     match work_together(rt, alloc, jobs, workers, gate) {
-        Ok(mut found) => complete(alloc, jobs, &mut found, &mut workers[0].desk, gate),
+        Ok(mut found) => complete(alloc, jobs, &mut found, &mut workers[0].state, gate),
         Err(error) => Err(error),
     }
 }
@@ -65,7 +65,7 @@ fn work_together<R: Threads + Sync, J: Job + Sync, G: Gate + Sync>(
     rt: &R,
     alloc: Global,
     jobs: &[J],
-    workers: &mut [Worker<J::Desk, J::Out>],
+    workers: &mut [Worker<J::State, J::Out>],
     gate: &G,
 ) -> Result<Vec<Option<Entry<J::Out>>>, AllocError>
     requires { 0 < length workers.old }
@@ -80,7 +80,7 @@ fn work_together<R: Threads + Sync, J: Job + Sync, G: Gate + Sync>(
             return Err(AllocError);
         };
         work_as_dealt(rt, alloc, jobs, &owners, workers, gate);
-        // given back by a call of its own, which is quicker to prove than an end that owns it
+        // proof: dropped by a call, which is quicker to prove than an exit that owns it
         drop(owners);
         by_places(alloc, jobs, workers)
     }
@@ -92,7 +92,7 @@ fn work_as_dealt<R: Threads + Sync, J: Job + Sync, G: Gate + Sync>(
     alloc: Global,
     jobs: &[J],
     owners: &[usize],
-    workers: &mut [Worker<J::Desk, J::Out>],
+    workers: &mut [Worker<J::State, J::Out>],
     gate: &G,
 )
     requires some { 0 < length workers.old }
@@ -105,11 +105,11 @@ fn work_as_dealt<R: Threads + Sync, J: Job + Sync, G: Gate + Sync>(
         rt,
         workers,
         count,
-        &|worker: usize, taker: &mut Worker<J::Desk, J::Out>|
+        &|worker: usize, taker: &mut Worker<J::State, J::Out>|
             requires { length owners.now ≡ length jobs.now }
             ensures { IfOk taker.exit.now.answers (λ v. AreAnswers J.answer jobs.entry.now v.items) }
         {
-            taker.answers = take_jobs(alloc, &mut taker.desk, jobs, owners, worker, gate);
+            taker.answers = take_jobs(alloc, &mut taker.state, jobs, owners, worker, gate);
         },
     );
 }
@@ -158,7 +158,7 @@ fn first_loads(alloc: Global, whole: u64, workers: usize) -> Result<Vec<u64>, Al
     Ok(loads)
 }
 
-// Where the least of some loads stands, the first of those that are alike.
+// The place of the least of some loads, the first of those that are equal.
 fn least_place(loads: &[u64]) -> usize
     requires { 0 < length loads.now }
     ensures within { result < length loads.now }
@@ -176,7 +176,7 @@ fn least_place(loads: &[u64]) -> usize
 // Answers the jobs of one worker.
 fn take_jobs<J: Job, G: Gate>(
     alloc: Global,
-    desk: &mut J::Desk,
+    state: &mut J::State,
     jobs: &[J],
     owners: &[usize],
     worker: usize,
@@ -188,7 +188,7 @@ fn take_jobs<J: Job, G: Gate>(
     let mut entries = Vec::new(alloc);
     for (place, owner) in owners.iter().enumerate() {
         if *owner == worker {
-            let Ok(answer) = work_at(jobs, place, desk, gate) else {
+            let Ok(answer) = work_at(jobs, place, state, gate) else {
                 return Err(AllocError);
             };
             entries.push(Entry { place, answer })?;
@@ -201,7 +201,7 @@ fn take_jobs<J: Job, G: Gate>(
 fn by_places<J: Job>(
     alloc: Global,
     jobs: &[J],
-    workers: &mut [Worker<J::Desk, J::Out>],
+    workers: &mut [Worker<J::State, J::Out>],
 ) -> Result<Vec<Option<Entry<J::Out>>>, AllocError>
     requires { All (λ w. IfOk w.answers (λ v. AreAnswers J.answer jobs.now v.items)) workers.old }
     ensures found { IfOk result (λ v. ArePlaced J.answer jobs.now v.items) }
@@ -220,7 +220,7 @@ fn by_places<J: Job>(
 fn put_each<J: Job>(
     alloc: Global,
     jobs: &[J],
-    workers: &mut [Worker<J::Desk, J::Out>],
+    workers: &mut [Worker<J::State, J::Out>],
     found: &mut [Option<Entry<J::Out>>],
 ) -> Result<(), AllocError>
     requires workers { All (λ w. IfOk w.answers (λ v. AreAnswers J.answer jobs.now v.items)) workers.old }
@@ -275,12 +275,12 @@ fn put<J: Job>(jobs: &[J], entry: Entry<J::Out>, found: &mut [Option<Entry<J::Ou
 }
 
 // All answers in order.
-#[tactic(auto, using(crate::proofs::InOrder::one_more))]
+#[tactic(auto, using(crate::proofs::lemmas::InOrder::one_more))]
 fn complete<J: Job, G: Gate>(
     alloc: Global,
     jobs: &[J],
     found: &mut [Option<Entry<J::Out>>],
-    desk: &mut J::Desk,
+    state: &mut J::State,
     gate: &G,
 ) -> Result<Vec<J::Out>, AllocError>
     requires { ArePlaced J.answer jobs.now found.old }
@@ -290,7 +290,7 @@ fn complete<J: Job, G: Gate>(
         return Err(AllocError);
     };
     for place in 0..jobs.len() {
-        let Ok(answer) = answer_at(jobs, place, found, desk, gate) else {
+        let Ok(answer) = answer_at(jobs, place, found, state, gate) else {
             return Err(AllocError);
         };
         answers.push_reserved(answer);
@@ -303,7 +303,7 @@ fn answer_at<J: Job, G: Gate>(
     jobs: &[J],
     place: usize,
     found: &mut [Option<Entry<J::Out>>],
-    desk: &mut J::Desk,
+    state: &mut J::State,
     gate: &G,
 ) -> Result<J::Out, AllocError>
     requires place { place < length jobs.now }
@@ -317,19 +317,19 @@ fn answer_at<J: Job, G: Gate>(
     {
         return Ok(entry.answer);
     }
-    work_at(jobs, place, desk, gate)
+    work_at(jobs, place, state, gate)
 }
 
 // Works on the job at a place, which enters the gate first.
 fn work_at<J: Job, G: Gate>(
     jobs: &[J],
     place: usize,
-    desk: &mut J::Desk,
+    state: &mut J::State,
     gate: &G,
 ) -> Result<J::Out, AllocError>
     requires { place < length jobs.now }
     ensures { IfOk result (λ x. (d : J) → x ≡ J.answer (slice_index_or jobs.now place d)) }
 {
     gate.enter(place as u64);
-    jobs[place].work(desk)
+    jobs[place].work(state)
 }

@@ -1,9 +1,9 @@
 pub mod Among
-pub mod Around
+pub mod ViewedTree
 pub mod Closing
 pub mod Deciding
 pub mod Following
-pub mod Layers
+pub mod SphereColumns
 pub mod Passing
 pub mod Refining
 pub mod Rising

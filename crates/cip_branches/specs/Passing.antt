@@ -1,11 +1,11 @@
--- A rule taken one sphere further, over numbers that stand. Own.
+-- A rule taken one sphere further, over the present numbers. Own.
 use Rattle.std.specs.Prelude.{◌≡◌, ◌≢◌, ◌≤◌, ℕ, ℤ, suc, List, slice_index}
 use Rattle.std.specs.List.{AllByRecursion}
 use Rattle.std.specs.Ordering.{int_cmp, then_cmp, on}
 use Rattle.cip_rank.specs.Ranking.{by_number}
-use Rattle.cip_rows.specs.Kids.{kid_set}
+use Rattle.cip_partition.specs.Kids.{kid_set}
 use Rattle.cip_branches.specs.Refining.{Refines}
-use Rattle.cip_rows.specs.Rows.{IsRow, OrdersPlaces}
+use Rattle.cip_partition.specs.Rows.{IsRow, OrdersPlaces}
 
 -- Numbers order each sphere up to `far` by the sets of children as well, where no child is new. A new place has a
 -- number that no row has.
@@ -19,7 +19,7 @@ pub record AreSteadyButNew (kids : ℕ → List ℕ) (At : ℕ → ℕ → Type 
 pub record AreNotedBut (rows : List ℕ) (from to : ℕ) (before numbers : List ℕ) : Type 0 where
   pub each : (place : ℕ) → (IsRow rows from to place → ⊥) → slice_index before place ≡ slice_index numbers place
 
--- The sphere behind `far` is split by keys, and the spheres further in are refined by it. The others stand.
+-- The sphere after `far` is split by keys, and the spheres further in are refined by it. The others are unchanged.
 pub record Passes (kids : ℕ → List ℕ) (At : ℕ → ℕ → Type 0) (far : ℕ) (key : ℕ → ℤ) (before now : List ℕ) : Type 0
   where
     pub start : List ℕ

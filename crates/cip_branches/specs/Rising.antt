@@ -11,6 +11,6 @@ Rises (n ∷ ns) = AllByRecursion (λ m. n < m) ns × Rises ns
 pub record IsAscending (parents : List ℕ) : Type 0 where
   pub each : (a b : ℕ) → a ≤ b → b < length parents → slice_index parents a ≤ slice_index parents b
 
--- the children that are told of the nodes at so many places, from a place on
+-- the children that are given for the nodes at n places, from a place on
 abbrev pub kids_list : (ℕ → List ℕ) → List ℕ → ℕ → ℕ → List ℕ
 kids_list kids_at nodes place more = flat_map (λ p. kids_at (slice_index nodes p)) (range_with_len place more)

@@ -1,26 +1,26 @@
 -- Spheres of rows, refined one after another from the outside inwards. Own.
 use Rattle.std.specs.Prelude.{◌≡◌, ◌≢◌, ◌<◌, ◌≤◌, ℕ, suc, true, List, length, slice_index}
 use Rattle.std.specs.List.{AllByRecursion}
-use Rattle.cip_rows.specs.Kids.{kid_set}
-use Rattle.cip_rows.specs.Parting.{is_shared}
+use Rattle.cip_partition.specs.Kids.{kid_set}
+use Rattle.cip_partition.specs.Parting.{is_class_start}
 use Rattle.cip_branches.specs.Refining.{Refines}
-use Rattle.cip_rows.specs.Rows.{IsRow, AreClassed}
+use Rattle.cip_partition.specs.Rows.{IsRow, AreClassed}
 
 abbrev pub in_sphere : List ℕ → List ℕ → ℕ → ℕ → Type 0
 in_sphere rows starts t place = IsRow rows (slice_index starts t) (slice_index starts (suc t)) place
 
--- The spheres up to the last one stand in rows, each behind the one before, in classes. Children stand in the next
+-- The spheres up to the last one are in rows, each after the one before, in classes. Children are in the next
 -- sphere and know their parents.
-pub record AreSpheres (kids : ℕ → List ℕ) (ups rows starts : List ℕ) (last : ℕ) (numbers : List ℕ) : Type 0 where
+pub record AreSpheres (kids : ℕ → List ℕ) (place_parents rows starts : List ℕ) (last : ℕ) (numbers : List ℕ) : Type 0 where
   pub rise : (t : ℕ) → t ≤ last → slice_index starts t ≤ slice_index starts (suc t)
   pub ends : (t row : ℕ) → slice_index starts t ≤ row → row < slice_index starts (suc t) → t ≤ last
   pub within : (t : ℕ) → t ≤ last → slice_index starts (suc t) ≤ length rows
   pub classed : (t : ℕ) → t ≤ last → AreClassed rows numbers (slice_index starts t) (slice_index starts (suc t))
   pub once : (t u place : ℕ) → in_sphere rows starts t place → in_sphere rows starts u place → t ≡ u
-  pub told : (t place : ℕ) → t < last → in_sphere rows starts t place
-      → AllByRecursion (λ kid. in_sphere rows starts (suc t) kid × (slice_index ups kid ≡ place)) (kids place)
-  pub up : (t place : ℕ) → t < last → in_sphere rows starts (suc t) place
-      → in_sphere rows starts t (slice_index ups place)
+  pub node_data : (t place : ℕ) → t < last → in_sphere rows starts t place
+      → AllByRecursion (λ kid. in_sphere rows starts (suc t) kid × (slice_index place_parents kid ≡ place)) (kids place)
+  pub parent_place : (t place : ℕ) → t < last → in_sphere rows starts (suc t) place
+      → in_sphere rows starts t (slice_index place_parents place)
 
 -- Places that tied before have the same sets of before. In the sphere next to the new one only where the children
 -- have their numbers of before.
@@ -49,27 +49,27 @@ pub record StandBut (rows starts : List ℕ) (t far : ℕ) (before now : List �
       → slice_index now place ≡ slice_index before place
 
 -- A sphere has to be looked at: a place of a class of two and more has a child with another number than before.
-pub record IsStirred (ups rows starts : List ℕ) (before start now : List ℕ) (t : ℕ) : Type 0 where
+pub record IsStirred (place_parents rows starts : List ℕ) (before start now : List ℕ) (t : ℕ) : Type 0 where
   pub kid : ℕ
   pub at : in_sphere rows starts (suc t) kid
   pub differs : slice_index now kid ≢ slice_index before kid
-  pub shared : is_shared rows start (slice_index start (slice_index ups kid)) (slice_index starts (suc t)) ≡ true
+  pub shared : is_class_start rows start (slice_index start (slice_index place_parents kid)) (slice_index starts (suc t)) ≡ true
 
 -- all spheres from t to `far` have to be looked at
-pub record AreStirred (ups rows starts : List ℕ) (t far : ℕ) (before start now : List ℕ) : Type 0 where
-  pub each : (u : ℕ) → t ≤ u → u ≤ far → IsStirred ups rows starts before start now u
+pub record AreStirred (place_parents rows starts : List ℕ) (t far : ℕ) (before start now : List ℕ) : Type 0 where
+  pub each : (u : ℕ) → t ≤ u → u ≤ far → IsStirred place_parents rows starts before start now u
 
 -- of the spheres up to `far`, all from t on have to be looked at, and the one before t does not
-pub record IsInnermost (ups rows starts : List ℕ) (t far : ℕ) (before start now : List ℕ) : Type 0 where
+pub record IsInnermost (place_parents rows starts : List ℕ) (t far : ℕ) (before start now : List ℕ) : Type 0 where
   pub high : t ≤ suc far
-  pub stirred : AreStirred ups rows starts t far before start now
-  pub stands : (u : ℕ) → t ≡ suc u → IsStirred ups rows starts before start now u → ⊥
+  pub dirty : AreStirred place_parents rows starts t far before start now
+  pub stands : (u : ℕ) → t ≡ suc u → IsStirred place_parents rows starts before start now u → ⊥
 
--- the spheres from t on are refined, and the rows of all before stand
-pub record Turns (kids : ℕ → List ℕ) (ups rows starts : List ℕ) (far last : ℕ) (start : List ℕ) (t : ℕ)
+-- the spheres from t on are refined, and the rows of all before are unchanged
+pub record Refinement (kids : ℕ → List ℕ) (place_parents rows starts : List ℕ) (far last : ℕ) (start : List ℕ) (t : ℕ)
     (new_rows numbers : List ℕ) : Type 0 where
   pub refines : Refines kids (in_sphere rows starts) far t start numbers
   pub places : SamePlaces rows new_rows starts
-  pub spheres : AreSpheres kids ups new_rows starts last numbers
+  pub spheres : AreSpheres kids place_parents new_rows starts last numbers
   pub stand : StandBut rows starts t far start numbers
   pub still : (row : ℕ) → row < slice_index starts t → slice_index new_rows row ≡ slice_index rows row

@@ -5,15 +5,15 @@ use Rattle.std.specs.List.{AllByRecursion}
 use Rattle.std.specs.Ordering.{on}
 use Rattle.std.specs.declared.cmp.Ordering.{Ordering}
 use Rattle.cip_rank.specs.Comparison.{comparison}
-use Rattle.cip_rows.specs.Rows.{OrdersPlaces}
+use Rattle.cip_partition.specs.Rows.{OrdersPlaces}
 
--- Which places are kept in each sphere, which node each is, and the places of its children, told in each sphere
--- before the last one. Children of a kept place are kept, in whichever order they stand.
+-- Which places are kept in each sphere, which node each is, and the places of its children, given in each sphere before
+-- the last one. Children of a kept place are kept, in whichever order they are.
 pub record IsView {N : Type 0} (children : N → List N) (node : ℕ → N) (kids : ℕ → List ℕ) (At : ℕ → ℕ → Type 0)
     (last : ℕ) : Type 0 where
   pub within : (t place : ℕ) → At t place → t ≤ last
   pub next : (t place : ℕ) → t < last → At t place → AllByRecursion (At (suc t)) (kids place)
-  pub told : (t place : ℕ) → t < last → At t place → IsPermutation (map node (kids place)) (children (node place))
+  pub node_data : (t place : ℕ) → t < last → At t place → IsPermutation (map node (kids place)) (children (node place))
 
 module _ {N : Type 0} (children : N → List N) (earlier : N → N → Ordering) (key : N → ℤ) (node : ℕ → N)
     (At : ℕ → ℕ → Type 0) where

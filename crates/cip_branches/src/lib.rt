@@ -1,23 +1,29 @@
-//! Branches ranked sphere by sphere, by a rule after another, over the same places.
+//! Compares the branches of a node by one rule after another.
+//!
+//! `Branches` follows branches sphere by sphere: `begin` takes the first sphere, `follow` the next one. A new sphere is
+//! split by the keys of a rule, and the spheres inside it are refined, outermost first, in classes with a changed child
+//! alone. A branch that differs from all others isn't followed further. `next_rule` and `extend_rule` apply a later
+//! rule to the same places, and `Checkpoint` saves and restores ranks. `Spheres` has the same calls without the
+//! branches' flags, and `ViewedTree` is a tree seen from an inner node. Uses the partition of `cip_partition`.
 #![tactic(auto)]
 
-mod around;
-mod by_rule;
-mod closing;
-mod counting;
-mod deciding;
-mod following;
-mod passing;
-mod ruling;
-mod saving;
+mod branches;
+mod checkpoint;
+mod copies;
+mod follow;
+mod generic;
+mod grow;
+mod next_rule;
+mod pass;
+mod place_count;
+mod refine;
 mod spheres;
-mod splitting;
-mod turning;
-mod twins;
-mod walking;
+mod split;
+mod unresolved;
+mod view;
 
-pub use around::Around;
-pub use by_rule::NodeKeys;
-pub use deciding::Branches;
-pub use saving::SavedRanks;
+pub use branches::Branches;
+pub use checkpoint::Checkpoint;
+pub use generic::NodeKeys;
 pub use spheres::Spheres;
+pub use view::ViewedTree;

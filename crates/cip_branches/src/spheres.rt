@@ -1,33 +1,33 @@
 // All columns of branches.
 ghost use Rattle.std.specs.Prelude.{◌≡◌, ◌<◌, ◌≤◌, ◌+◌, ◌^◌, [], IfOk, length, slice_index};
 
-use cip_rank::{both, both_of};
-use cip_rows::{Column, Family, Order};
+use cip_partition::{Partition, PlaceTree, ReservedVec};
+use cip_rank::{zip_ok, zip_results};
 use std::alloc::{AllocError, Global};
 use std::marker::Model;
 
 /// Places sphere by sphere, in memory that is taken at once.
 #[derive(Drop)]
 pub struct Spheres {
-    pub(crate) family: Family,
-    pub(crate) order: Order,
-    // the first row of each sphere, and the row behind the last one
-    pub(crate) starts: Column<u32>,
+    pub(crate) family: PlaceTree,
+    pub(crate) order: Partition,
+    // the first row of each sphere, and the row after the last one
+    pub(crate) starts: ReservedVec<u32>,
     // of each place its number before the pass that is under way
-    pub(crate) before: Column<u32>,
+    pub(crate) before: ReservedVec<u32>,
     // of each row whether the class that begins there is to be looked at: none between turns
-    pub(crate) flags: Column<bool>,
+    pub(crate) flags: ReservedVec<bool>,
     // at each place's children their numbers, the highest first
-    pub(crate) sets: Column<u32>,
+    pub(crate) sets: ReservedVec<u32>,
 }
 
 impl Model for Spheres {
-    ghost use Rattle.cip_branches.specs.Layers.{Layers, KeepLayers};
+    ghost use Rattle.cip_branches.specs.SphereColumns.{SphereColumns, KeepLayers};
 
-    ghost Value = { Layers };
+    ghost Value = { SphereColumns };
 
     ghost view = { λ spheres. record {
-      kin = spheres.family;
+      place_tree = spheres.family;
       ranked = spheres.order;
       starts = spheres.starts.items;
       before = spheres.before.items;
@@ -38,30 +38,33 @@ impl Model for Spheres {
 }
 
 impl Spheres {
-    /// Nothing, and room for so many places.
+    /// Nothing, and room for n places.
     pub fn reserve(alloc: Global, room: u32) -> Result<Spheres, AllocError>
         requires { room + 1 < 2 ^ 32 }
         ensures { IfOk result (λ spheres. spheres ≡ record {
-          kin = record { room = room; nodes = []; branches = []; ups = []; firsts = []; counts = [] };
+          place_tree = record { room = room; nodes = []; branches = []; place_parents = []; firsts = []; counts = [] };
           ranked = record { room = room; rows = []; numbers = [] };
           starts = [];
           before = [];
         }) }
     {
-        let places = both_of(
-            Family::reserve(alloc, room),
-            Column::reserve(alloc, room + 1),
+        let places = zip_results(
+            PlaceTree::reserve(alloc, room),
+            ReservedVec::reserve(alloc, room + 1),
         );
         // the columns that a pass needs
-        let pass = both_of(Column::reserve(alloc, room), Column::reserve(alloc, room));
-        let columns = both_of(pass, Column::reserve(alloc, room));
-        let Ok(small) = both_of(places, columns) else {
+        let pass = zip_results(
+            ReservedVec::reserve(alloc, room),
+            ReservedVec::reserve(alloc, room),
+        );
+        let columns = zip_results(pass, ReservedVec::reserve(alloc, room));
+        let Ok(small) = zip_results(places, columns) else {
             return Err(AllocError);
         };
-        // what is taken last is never given back
-        let Ok((((family, starts), ((before, flags), sets)), order)) = both(
+        // proof: what is reserved last is never dropped
+        let Ok((((family, starts), ((before, flags), sets)), order)) = zip_ok(
             small,
-            Order::reserve(alloc, room),
+            Partition::reserve(alloc, room),
         ) else {
             return Err(AllocError);
         };
@@ -75,11 +78,11 @@ impl Spheres {
         })
     }
 
-    /// The first row of a sphere, which for the one behind the last is the row behind all.
+    /// The first row of a sphere, which for the one after the last is the row after all.
     pub(crate) fn first_row(&self, sphere: u32) -> u32
         requires { sphere < length self.now.starts }
         ensures value { result ≡ slice_index self.now.starts sphere }
-        ensures fits { length self.now.ranked.rows ≤ self.now.kin.room }
+        ensures fits { length self.now.ranked.rows ≤ self.now.place_tree.room }
         ensures few { length self.now.starts < 2 ^ 32 }
     {
         self.starts.as_slice()[sphere as usize]

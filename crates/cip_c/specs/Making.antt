@@ -25,4 +25,4 @@ IsMade (Err cause) result = result ≡ cause
 abbrev pub made : ℤ → Result Settings ℤ → Option Settings
 made (pos n) (Ok settings) = Some settings
 made (pos n) (Err cause) = None
-made (negsuc n) wanted = None
+made (negsuc n) expected = None

@@ -1,4 +1,4 @@
--- What lies behind a pointer that C passes, and may be null. Own.
+-- What is at a pointer that C passes, and may be null. Own.
 use Rattle.std.specs.Prelude.{◌≡◌, ◌^◌, ℕ, ℤ, List}
 use base.Fml.{Fml, flt, fsep, ftrue}
 use base.Fraction.{full_share}
@@ -8,7 +8,7 @@ use denote.RattleType.{RattleType}
 use denote.RawPtr.{Ptr, block_ptr, lies_at, null_ptr, room_at}
 use Rattle.cip_c.specs.Answers.{NULL_POINTER}
 
--- what is passed to a call: the labeller that is held, the bytes of the record, and what stands where the text goes
+-- what is passed to a call: the labeller that is held, the bytes of the record, and what is at the place of the text
 pub record Passed (X : Type 0) : Type 0 where
   pub labeller : X
   pub bytes : List ℕ
@@ -19,7 +19,7 @@ abbrev pub given : (R : RattleType) → Ptr → R.Denot → Fml
 given R null_ptr x = ftrue
 given R (block_ptr b o) x = fsep (flt o (2 ^ 63)) (lies_at R full_share (block_ptr b o) x)
 
--- so many bytes
+-- n bytes
 abbrev pub given_bytes : ℕ → Ptr → List ℕ → Fml
 given_bytes n null_ptr xs = ftrue
 given_bytes n (block_ptr b o) xs =

@@ -9,8 +9,8 @@ use Rattle.cip_answer.specs.Answers.{answer_by}
 use Rattle.cip_undefined.specs.Answers.{undefined_by}
 use Rattle.cip_undefined.specs.Texts.{undefined_text}
 use Rattle.cip_c.specs.declared.settings.Settings.{Settings}
-use Rattle.cip_c.specs.declared.texts.Text.{Text}
-use Rattle.cip_c.specs.declared.texts.Text.TheVariants.{Annotated, Values, Explained, Undefined}
+use Rattle.cip_c.specs.declared.text_kinds.Text.{Text}
+use Rattle.cip_c.specs.declared.text_kinds.Text.TheVariants.{Annotated, Values, Explained, Undefined}
 
 -- the value lines of a record's item
 abbrev pub item_values : Settings → List ℕ → List (List ℕ)
@@ -32,7 +32,7 @@ values_text settings bytes = flat_map ended_line (item_values settings bytes)
 abbrev pub explained_text : ℕ → Settings → List ℕ → List ℕ
 explained_text number settings bytes = explained number (answer_by settings.rules settings.nodes bytes)
 
--- what is told of the undefined units of a record
+-- what is written for the undefined units of a record
 abbrev pub undefined_told : Settings → List ℕ → List ℕ
 undefined_told settings bytes = undefined_text (undefined_by settings.rules settings.nodes bytes)
 

@@ -14,12 +14,12 @@ abbrev pub IsTold : Result (List ℕ) ℤ → ℤ → Type 0
 IsTold (Ok text) result = (result ≡ pos (length text)) ⊎ (result ≡ NO_MEMORY)
 IsTold (Err cause) result = result ≡ cause
 
--- a text, or its front, over what stood there before
+-- a text, or its front, over what was there before
 abbrev pub over : List ℕ → List ℕ → List ℕ
 over text old = take (length old) text ++ drop (length text) old
 
--- what stands there behind the call that answers so
+-- what is there after the call that answers so
 abbrev pub written : ℤ → Result (List ℕ) ℤ → List ℕ → List ℕ
 written (pos n) (Ok text) old = over text old
 written (pos n) (Err cause) old = old
-written (negsuc n) wanted old = old
+written (negsuc n) expected old = old

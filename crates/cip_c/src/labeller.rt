@@ -6,13 +6,13 @@ ghost use Rattle.cip_answer.specs.Answers.{answer_without_items};
 ghost use Rattle.cip_c.specs.Texts.{annotated, ended_line, explained_text, text_of, undefined_told, values_text};
 
 use crate::settings::Settings;
-use crate::texts::Text;
-use cip_answer::label_within;
-use cip_desk::RecordLabeller;
+use crate::text_kinds::Text;
+use cip_answer::label_lines;
 use cip_item::{Texts, lines_with_item, without_label_items};
 use cip_print::{Answer, explain_text, item_values};
+use cip_ranker::RecordLabeller;
 use cip_text::RecordLines;
-use cip_undefined::{undefined_text, undefined_within};
+use cip_undefined::{undefined_in_lines, undefined_text};
 use std::alloc::{AllocError, Global};
 use std::marker::Model;
 
@@ -54,12 +54,12 @@ impl Labeller {
     }
 
     /// The text of a record that is asked for.
-    pub(crate) fn text(&mut self, asked: Text, bytes: &[u8]) -> Result<Vec<u8>, AllocError>
+    pub(crate) fn text(&mut self, requested: Text, bytes: &[u8]) -> Result<Vec<u8>, AllocError>
         requires few { length bytes.now ≤ LONGEST }
-        ensures text { IfOk result (λ text. text.items ≡ text_of asked self.old bytes.now) }
+        ensures text { IfOk result (λ text. text.items ≡ text_of requested self.old bytes.now) }
         ensures kept { self.new ≡ self.old }
     {
-        match asked {
+        match requested {
             Text::Annotated => self.annotated(bytes),
             Text::Values => self.values(bytes),
             Text::Explained(number) => self.explained(number, bytes),
@@ -103,7 +103,7 @@ impl Labeller {
         explain_text(self.alloc, &answer, number)
     }
 
-    // What is told of the undefined units of a record.
+    // What is written for the undefined units of a record.
     fn undefined_told(&mut self, bytes: &[u8]) -> Result<Vec<u8>, AllocError>
         requires few { length bytes.now ≤ LONGEST }
         ensures text { IfOk result (λ text. text.items ≡ undefined_told self.old bytes.now) }
@@ -111,7 +111,7 @@ impl Labeller {
     {
         let bare = without_label_items(self.alloc, bytes)?;
         let lines = RecordLines::new(self.alloc, &bare)?;
-        let answer = undefined_within(self.alloc, &mut self.memory, &lines, self.settings.rules)?;
+        let answer = undefined_in_lines(self.alloc, &mut self.memory, &lines, self.settings.rules)?;
         undefined_text(self.alloc, &answer)
     }
 
@@ -138,7 +138,7 @@ impl Labeller {
         ensures room { IfOk result HasRoom }
         ensures kept { self.new ≡ self.old }
     {
-        label_within(self.alloc, &mut self.memory, lines, self.settings.rules)
+        label_lines(self.alloc, &mut self.memory, lines, self.settings.rules)
     }
 }
 

@@ -2,7 +2,7 @@
 ghost use Rattle.std.specs.Prelude.{◌≡◌, ◌≤◌, IfOk};
 ghost use Rattle.cip_c.specs.Making.{settings_of};
 
-use crate::codes::{BOUND_OUTSIDE, WORDING_UNKNOWN};
+use crate::status_codes::{BOUND_OUTSIDE, WORDING_UNKNOWN};
 use cip_rank::Rules;
 
 /// The largest bound on the nodes of a digraph.

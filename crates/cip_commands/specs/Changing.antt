@@ -1,22 +1,22 @@
 -- What becomes of the records of a stream in which one is to have a letter, or all are to be reflected. Own.
 use Rattle.std.specs.Prelude.{◌==◌, ℕ, List, Some, None, if◌then◌else◌}
 use Rattle.std.specs.declared.option.Option.{Option}
-use Rattle.cip_change.specs.Answers.{mirror_answer}
-use Rattle.cip_change.specs.declared.mirror_answers.MirrorAnswer.{MirrorAnswer}
-use Rattle.cip_change.specs.declared.mirror_answers.MirrorAnswer.TheVariants as mirrors
+use Rattle.cip_edit.specs.Answers.{mirror_answer}
+use Rattle.cip_edit.specs.declared.mirror_answer.MirrorAnswer.{MirrorAnswer}
+use Rattle.cip_edit.specs.declared.mirror_answer.MirrorAnswer.TheVariants as mirrors
 use Rattle.cip_mol.specs.declared.centre_letter.CentreLetter.{CentreLetter}
 use Rattle.cip_rank.specs.declared.rules.Rules.{Rules}
-use Rattle.cip_change.specs.SetAnswers.{set_answer}
-use Rattle.cip_change.specs.declared.set_answers.SetAnswer.{SetAnswer}
-use Rattle.cip_change.specs.declared.set_answers.SetAnswer.TheVariants as sets
-use Rattle.cip_commands.specs.declared.ending.Missed.TheVariants.{NotSet, NotMirrored}
-use Rattle.cip_commands.specs.declared.ending.Note.{Note}
-use Rattle.cip_commands.specs.declared.ending.Note.TheVariants.{Changed, Missing}
+use Rattle.cip_edit.specs.SetAnswers.{set_answer}
+use Rattle.cip_edit.specs.declared.set_answer.SetAnswer.{SetAnswer}
+use Rattle.cip_edit.specs.declared.set_answer.SetAnswer.TheVariants as sets
+use Rattle.cip_commands.specs.declared.exit_reason.ChangeFailure.TheVariants.{NotSet, NotMirrored}
+use Rattle.cip_commands.specs.declared.exit_reason.ChangeNote.{ChangeNote}
+use Rattle.cip_commands.specs.declared.exit_reason.ChangeNote.TheVariants.{Changed, Missing}
 
 -- what becomes of a record, and a note on it
 pub record Change : Type 0 where
   pub bytes : List ℕ
-  pub note : Option Note
+  pub note : Option ChangeNote
 
 abbrev pub unchanged : List ℕ → Change
 unchanged bytes = record { bytes = bytes; note = None }

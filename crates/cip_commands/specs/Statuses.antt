@@ -9,8 +9,8 @@ use Rattle.cip_batch.specs.declared.limits.Limits.{Limits}
 use Rattle.cip_batch.specs.Due.{due, verdict_of}
 use Rattle.cip_batch.specs.Endings.{AnswersTaken, Grew, GrewTo, IsLimited}
 use Rattle.cip_batch.specs.Limits.{answered, limit_place}
-use Rattle.cip_batch.specs.Manner.{Manner}
-use Rattle.cip_batch.specs.declared.verdict.Verdict.{Verdict}
+use Rattle.cip_batch.specs.ExpectedOutput.{ExpectedOutput}
+use Rattle.cip_batch.specs.declared.status.StreamStatus.{StreamStatus}
 use Rattle.cip_words.specs.Help.{help}
 use Rattle.cip_words.specs.Settings.{action_of}
 use Rattle.cip_words.specs.declared.settings.Action.{Action}
@@ -19,15 +19,15 @@ use Rattle.cip_words.specs.declared.settings.Settings.{Settings}
 use Rattle.cip_words.specs.declared.settings.Task.{Task}
 use Rattle.cip_words.specs.declared.settings.Task.TheVariants as tasks
 use Rattle.cip_commands.specs.ExitStatuses.{DONE, FLAGGED, WORDS_REFUSED, READ_FAULT, WRITE_FAULT, OUT_OF_MEMORY, LIMIT, NOT_CHANGED}
-use Rattle.cip_commands.specs.declared.ending.Ending.{Ending}
-use Rattle.cip_commands.specs.declared.ending.Ending.TheVariants as endings
-use Rattle.cip_commands.specs.declared.ending.Note.{Note}
+use Rattle.cip_commands.specs.declared.exit_reason.ExitReason.{ExitReason}
+use Rattle.cip_commands.specs.declared.exit_reason.ExitReason.TheVariants as endings
+use Rattle.cip_commands.specs.declared.exit_reason.ChangeNote.{ChangeNote}
 use Rattle.cip_commands.specs.Endings.{ending_of, missed}
 use Rattle.cip_commands.specs.Making.{GrewByMade, made_text}
-use Rattle.cip_commands.specs.Telling.{manner_of}
+use Rattle.cip_commands.specs.Telling.{expected_output}
 use Rattle.cip_commands.specs.Trying.{answers_to, some_flagged, summary}
 
--- A source or a sink at one time: the bytes that it has left or took, where it tells them, and how many of its calls
+-- A source or a sink at one time: the bytes that it has left or took, where it knows them, and how many of its calls
 -- failed.
 pub record Stream : Type 0 where
   pub bytes : Option (List ℕ)
@@ -53,81 +53,81 @@ pub record BreaksOff (text : List ℕ) (old new : Stream) : Type 0 where
 -- commands that read
 
 -- no limit is passed by these bytes, and this holds of what their records add to the end of a run
-pub record AllAdd (manner : Manner Note) (limits : Limits) (P : Verdict Note → Type 0) (bytes : List ℕ) : Type 0 where
+pub record AllAdd (expected : ExpectedOutput ChangeNote) (limits : Limits) (P : StreamStatus ChangeNote → Type 0) (bytes : List ℕ) : Type 0 where
   pub unlimited : limit_place limits bytes ≡ None
-  pub holds : P (verdict_of manner (answered limits bytes))
+  pub holds : P (verdict_of expected (answered limits bytes))
 
 -- the whole source was taken, no limit is passed, and the sink grew by the text that is due; this holds of what the
 -- records add
-pub record IsDone (manner : Manner Note) (limits : Limits) (P : Verdict Note → Type 0)
+pub record IsDone (expected : ExpectedOutput ChangeNote) (limits : Limits) (P : StreamStatus ChangeNote → Type 0)
     (old new : Streams) : Type 0 where
   pub end : IsAtEnd new.source.bytes
   pub written : IfSome old.source.bytes
-      (λ bytes. Grew (AllAdd manner limits P bytes) (due manner limits bytes) old.sink.bytes new.sink.bytes)
+      (λ bytes. Grew (AllAdd expected limits P bytes) (due expected limits bytes) old.sink.bytes new.sink.bytes)
 
 -- this says whether a record is flagged
-abbrev pub Flags : Bool → Verdict Note → Type 0
+abbrev pub Flags : Bool → StreamStatus ChangeNote → Type 0
 Flags flagged verdict = verdict.flagged ≡ flagged
 
 -- the source failed, within the limits, and the sink grew by the texts of the records that were closed before
-pub record IsReadFault (manner : Manner Note) (limits : Limits) (old new : Streams) : Type 0 where
+pub record IsReadFault (expected : ExpectedOutput ChangeNote) (limits : Limits) (old new : Streams) : Type 0 where
   pub cause : Rose old.source.faults new.source.faults
-  pub written : AnswersTaken manner limits old.source.bytes new.source.bytes old.sink.bytes new.sink.bytes
+  pub written : AnswersTaken expected limits old.source.bytes new.source.bytes old.sink.bytes new.sink.bytes
 
 -- the sink failed, and took a front of the text that is due
-pub record IsWriteFault (manner : Manner Note) (limits : Limits) (old new : Streams) : Type 0 where
+pub record IsWriteFault (expected : ExpectedOutput ChangeNote) (limits : Limits) (old new : Streams) : Type 0 where
   pub cause : Rose old.sink.faults new.sink.faults
   pub written : IfSome old.source.bytes
-      (λ bytes. AppendsPrefix old.sink.bytes new.sink.bytes (due manner limits bytes))
+      (λ bytes. AppendsPrefix old.sink.bytes new.sink.bytes (due expected limits bytes))
 
 -- the sink grew by the texts of the first records, however many
-abbrev pub IsOutOfMemory : Manner Note → Limits → Streams → Streams → Type 0
-IsOutOfMemory manner limits old new =
-    IfSome old.source.bytes (λ bytes. GrewTo manner (answered limits bytes) old.sink.bytes new.sink.bytes)
+abbrev pub IsOutOfMemory : ExpectedOutput ChangeNote → Limits → Streams → Streams → Type 0
+IsOutOfMemory expected limits old new =
+    IfSome old.source.bytes (λ bytes. GrewTo expected (answered limits bytes) old.sink.bytes new.sink.bytes)
 
 -- a limit is passed, and the sink grew by the texts of the records before it
-abbrev pub IsOverLimit : Manner Note → Limits → Streams → Streams → Type 0
-IsOverLimit manner limits old new = IfSome old.source.bytes
-    (λ bytes. Grew (IsLimited limits bytes) (due manner limits bytes) old.sink.bytes new.sink.bytes)
+abbrev pub IsOverLimit : ExpectedOutput ChangeNote → Limits → Streams → Streams → Type 0
+IsOverLimit expected limits old new = IfSome old.source.bytes
+    (λ bytes. Grew (IsLimited limits bytes) (due expected limits bytes) old.sink.bytes new.sink.bytes)
 
 -- A line for each status, by what the words ask for.
 
--- `annotate`, `explain`, `groups` and `axes`: what is told of the records of the source
-pub record MeansOfReading (manner : Manner Note) (limits : Limits) (status : ℕ) (old new : Streams) : Type 0 where
+-- `annotate`, `explain`, `groups` and `axes`: what is written for the records of the source
+pub record MeansOfReading (expected : ExpectedOutput ChangeNote) (limits : Limits) (status : ℕ) (old new : Streams) : Type 0 where
   pub comes : Contains (DONE ∷ FLAGGED ∷ READ_FAULT ∷ WRITE_FAULT ∷ OUT_OF_MEMORY ∷ LIMIT ∷ []) status
-  pub done : status ≡ DONE → IsDone manner limits (Flags false) old new
-  pub flagged : status ≡ FLAGGED → IsDone manner limits (Flags true) old new
-  pub read_fault : status ≡ READ_FAULT → IsReadFault manner limits old new
-  pub write_fault : status ≡ WRITE_FAULT → IsWriteFault manner limits old new
-  pub out_of_memory : status ≡ OUT_OF_MEMORY → IsOutOfMemory manner limits old new
-  pub limit : status ≡ LIMIT → IsOverLimit manner limits old new
+  pub done : status ≡ DONE → IsDone expected limits (Flags false) old new
+  pub flagged : status ≡ FLAGGED → IsDone expected limits (Flags true) old new
+  pub read_fault : status ≡ READ_FAULT → IsReadFault expected limits old new
+  pub write_fault : status ≡ WRITE_FAULT → IsWriteFault expected limits old new
+  pub out_of_memory : status ≡ OUT_OF_MEMORY → IsOutOfMemory expected limits old new
+  pub limit : status ≡ LIMIT → IsOverLimit expected limits old new
 
 -- this is how a run ends that changes records
-abbrev pub EndsSo : Task → Ending → Verdict Note → Type 0
+abbrev pub EndsSo : Task → ExitReason → StreamStatus ChangeNote → Type 0
 EndsSo task ending verdict = ending_of task verdict ≡ ending
 
 -- `set` and `mirror`: the records of the source, changed; or not all that was to be changed was
-pub record MeansOfChanging (task : Task) (manner : Manner Note) (limits : Limits) (status : ℕ) (old new : Streams)
+pub record MeansOfChanging (task : Task) (expected : ExpectedOutput ChangeNote) (limits : Limits) (status : ℕ) (old new : Streams)
     : Type 0 where
   pub comes : Contains
       (DONE ∷ FLAGGED ∷ READ_FAULT ∷ WRITE_FAULT ∷ OUT_OF_MEMORY ∷ LIMIT ∷ NOT_CHANGED ∷ []) status
-  pub done : status ≡ DONE → IsDone manner limits (EndsSo task endings.Done) old new
-  pub flagged : status ≡ FLAGGED → IsDone manner limits (EndsSo task endings.Flagged) old new
+  pub done : status ≡ DONE → IsDone expected limits (EndsSo task endings.Done) old new
+  pub flagged : status ≡ FLAGGED → IsDone expected limits (EndsSo task endings.Flagged) old new
   pub not_changed : status ≡ NOT_CHANGED
-      → IsDone manner limits (λ verdict. IsSome (missed task verdict.note)) old new
-  pub read_fault : status ≡ READ_FAULT → IsReadFault manner limits old new
-  pub write_fault : status ≡ WRITE_FAULT → IsWriteFault manner limits old new
-  pub out_of_memory : status ≡ OUT_OF_MEMORY → IsOutOfMemory manner limits old new
-  pub limit : status ≡ LIMIT → IsOverLimit manner limits old new
+      → IsDone expected limits (λ verdict. IsSome (missed task verdict.note)) old new
+  pub read_fault : status ≡ READ_FAULT → IsReadFault expected limits old new
+  pub write_fault : status ≡ WRITE_FAULT → IsWriteFault expected limits old new
+  pub out_of_memory : status ≡ OUT_OF_MEMORY → IsOutOfMemory expected limits old new
+  pub limit : status ≡ LIMIT → IsOverLimit expected limits old new
 
 -- by the task
-abbrev pub MeansOf : Task → Manner Note → Limits → ℕ → Streams → Streams → Type 0
-MeansOf (tasks.Set named atom letter) manner limits status old new =
-    MeansOfChanging (tasks.Set named atom letter) manner limits status old new
-MeansOf tasks.Mirror manner limits status old new = MeansOfChanging tasks.Mirror manner limits status old new
-MeansOf task manner limits status old new = MeansOfReading manner limits status old new
+abbrev pub MeansOf : Task → ExpectedOutput ChangeNote → Limits → ℕ → Streams → Streams → Type 0
+MeansOf (tasks.Set named atom letter) expected limits status old new =
+    MeansOfChanging (tasks.Set named atom letter) expected limits status old new
+MeansOf tasks.Mirror expected limits status old new = MeansOfChanging tasks.Mirror expected limits status old new
+MeansOf task expected limits status old new = MeansOfReading expected limits status old new
 
--- `make`: the first so many records of a series
+-- `make`: the first n records of a series
 pub record MeansOfMaking (start records status : ℕ) (old new : Stream) : Type 0 where
   pub comes : Contains (DONE ∷ WRITE_FAULT ∷ OUT_OF_MEMORY ∷ []) status
   pub done : status ≡ DONE → Appends old.bytes new.bytes (made_text start records)
@@ -151,7 +151,7 @@ pub record MeansOfHelp (status : ℕ) (old new : Stream) : Type 0 where
 -- by what the command does
 abbrev pub MeansBy : Action → Limits → ℕ → Streams → Streams → Type 0
 MeansBy (does.Read task labelling) limits status old new =
-    MeansOf task (manner_of task labelling) limits status old new
+    MeansOf task (expected_output task labelling) limits status old new
 MeansBy (does.Make series) limits status old new = MeansOfMaking series.start series.records status old.sink new.sink
 MeansBy (does.Trial series labelling) limits status old new =
     MeansOfTrying (answers_to series labelling series.records) status old.sink new.sink

@@ -1,7 +1,7 @@
--- What is told of a record, by what is asked. Own.
+-- What is written for a record, by what is asked. Own.
 use Rattle.std.specs.Prelude.{ℕ, List, Bool, true, false, None}
 use Rattle.cip_answer.specs.AxesTexts.{are_axes_flagged, axes_of}
-use Rattle.cip_collections.specs.Texts as groups
+use Rattle.cip_stereogroups.specs.Texts as groups
 use Rattle.cip_item.specs.Parts.{without_label_items}
 use Rattle.cip_item.specs.Putting.{with_item}
 use Rattle.cip_mol.specs.declared.centre_letter.CentreLetter.{CentreLetter}
@@ -10,13 +10,13 @@ use Rattle.cip_print.specs.Explaining as telling
 use Rattle.cip_print.specs.Values.{values_of}
 use Rattle.cip_rank.specs.declared.rules.Rules.{Rules}
 use Rattle.cip_answer.specs.Answers.{answer_by, is_flagged}
-use Rattle.cip_batch.specs.Manner.{Manner}
-use Rattle.cip_batch.specs.declared.verdict.Verdict.{Verdict}
+use Rattle.cip_batch.specs.ExpectedOutput.{ExpectedOutput}
+use Rattle.cip_batch.specs.declared.status.StreamStatus.{StreamStatus}
 use Rattle.cip_words.specs.Ranges.{Labelling}
 use Rattle.cip_words.specs.declared.settings.Task.{Task}
 use Rattle.cip_words.specs.declared.settings.Task.TheVariants.{Annotate, Explain, Set, Mirror, Groups, Axes}
 use Rattle.cip_commands.specs.Changing.{Change, reflected, with_letter}
-use Rattle.cip_commands.specs.declared.ending.Note.{Note}
+use Rattle.cip_commands.specs.declared.exit_reason.ChangeNote.{ChangeNote}
 
 -- a record without its label items, with the item of its answer
 abbrev pub with_answer : Rules → ℕ → List ℕ → Answer → List ℕ
@@ -35,61 +35,61 @@ unfoldable pub is_flagged_record : Rules → ℕ → List ℕ → Bool
 is_flagged_record rules nodes bytes = is_flagged (answer_by rules nodes bytes)
 
 -- without a note
-abbrev pub plainly : Bool → Verdict Note
+abbrev pub plainly : Bool → StreamStatus ChangeNote
 plainly flagged = record { flagged = flagged; note = None }
 
 -- by the task
 
-abbrev pub annotating : Rules → ℕ → Manner Note
+abbrev pub annotating : Rules → ℕ → ExpectedOutput ChangeNote
 annotating rules nodes = record {
   text = λ number bytes. annotated rules nodes bytes;
   verdict = λ number bytes. plainly (is_flagged_record rules nodes bytes);
-  keeps_blank = true;
+  keeps_blank_tail = true;
 }
 
-abbrev pub explaining : Rules → ℕ → Manner Note
+abbrev pub explaining : Rules → ℕ → ExpectedOutput ChangeNote
 explaining rules nodes = record {
   text = λ number bytes. explained rules nodes number bytes;
   verdict = λ number bytes. plainly (is_flagged_record rules nodes bytes);
-  keeps_blank = false;
+  keeps_blank_tail = false;
 }
 
 -- each record is annotated once it is changed
-abbrev pub changing : Rules → ℕ → (ℕ → List ℕ → Change) → Manner Note
+abbrev pub changing : Rules → ℕ → (ℕ → List ℕ → Change) → ExpectedOutput ChangeNote
 changing rules nodes change = record {
   text = λ number bytes. annotated rules nodes (change number bytes).bytes;
   verdict = λ number bytes. record {
     flagged = is_flagged_record rules nodes (change number bytes).bytes;
     note = (change number bytes).note;
   };
-  keeps_blank = true;
+  keeps_blank_tail = true;
 }
 
-abbrev pub setting : Rules → ℕ → ℕ → ℕ → CentreLetter → Manner Note
+abbrev pub setting : Rules → ℕ → ℕ → ℕ → CentreLetter → ExpectedOutput ChangeNote
 setting rules nodes named atom letter = changing rules nodes (with_letter rules nodes named atom letter)
 
-abbrev pub mirroring : Rules → ℕ → Manner Note
+abbrev pub mirroring : Rules → ℕ → ExpectedOutput ChangeNote
 mirroring rules nodes = changing rules nodes (λ number bytes. reflected bytes)
 
-abbrev pub grouping : Rules → ℕ → Manner Note
+abbrev pub grouping : Rules → ℕ → ExpectedOutput ChangeNote
 grouping rules nodes = record {
   text = λ number bytes. (groups.told_of rules nodes number bytes).text;
   verdict = λ number bytes. plainly (groups.told_without_items rules nodes (without_label_items bytes)).flagged;
-  keeps_blank = false;
+  keeps_blank_tail = false;
 }
 
 -- by further units
-abbrev pub seeking : Rules → ℕ → Manner Note
+abbrev pub seeking : Rules → ℕ → ExpectedOutput ChangeNote
 seeking rules nodes = record {
   text = λ number bytes. axes_of rules nodes number bytes;
   verdict = λ number bytes. plainly (are_axes_flagged rules nodes bytes);
-  keeps_blank = false;
+  keeps_blank_tail = false;
 }
 
-abbrev pub manner_of : Task → Labelling → Manner Note
-manner_of Annotate labelling = annotating labelling.rules labelling.nodes
-manner_of Explain labelling = explaining labelling.rules labelling.nodes
-manner_of (Set named atom letter) labelling = setting labelling.rules labelling.nodes named atom letter
-manner_of Mirror labelling = mirroring labelling.rules labelling.nodes
-manner_of Groups labelling = grouping labelling.rules labelling.nodes
-manner_of Axes labelling = seeking labelling.rules labelling.nodes
+abbrev pub expected_output : Task → Labelling → ExpectedOutput ChangeNote
+expected_output Annotate labelling = annotating labelling.rules labelling.nodes
+expected_output Explain labelling = explaining labelling.rules labelling.nodes
+expected_output (Set named atom letter) labelling = setting labelling.rules labelling.nodes named atom letter
+expected_output Mirror labelling = mirroring labelling.rules labelling.nodes
+expected_output Groups labelling = grouping labelling.rules labelling.nodes
+expected_output Axes labelling = seeking labelling.rules labelling.nodes

@@ -10,20 +10,20 @@ use Rattle.cip_print.specs.Tallies as tallies
 use Rattle.cip_print.specs.Tallies.{Counts, tally, summary_line}
 use Rattle.cip_rank.specs.declared.rules.Rules.{Rules}
 use Rattle.cip_answer.specs.Answers.{answer_by, is_flagged}
-use Rattle.cip_batch.specs.declared.stop.Stop.{Stop}
-use Rattle.cip_batch.specs.declared.stop.Stop.TheVariants as stops
+use Rattle.cip_batch.specs.declared.error.StreamError.{StreamError}
+use Rattle.cip_batch.specs.declared.error.StreamError.TheVariants as stops
 use Rattle.cip_batch.specs.Endings.{Grew}
 use Rattle.cip_words.specs.Ranges.{Labelling, Series}
-use Rattle.cip_commands.specs.declared.series.Numbered.{Numbered}
+use Rattle.cip_commands.specs.declared.series.SeriesRecord.{SeriesRecord}
 
 -- the answer to the made record of a number
 unfoldable pub made_answer : Rules → ℕ → ℕ → ℕ → Answer
 made_answer rules nodes start number = answer_by rules nodes (made start number)
 
-abbrev pub answer_of : {D : Type 0} → Numbered D → Answer
+abbrev pub answer_of : {D : Type 0} → SeriesRecord D → Answer
 answer_of job = made_answer job.trial.labelling.rules job.trial.labelling.nodes job.trial.series.start job.number
 
--- the answers to the first so many records of a series
+-- the answers to the first n records of a series
 abbrev pub made_answers : Rules → ℕ → ℕ → ℕ → List Answer
 made_answers rules nodes start zero = []
 made_answers rules nodes start (suc before) =
@@ -56,7 +56,7 @@ with_one count answer = record {
 }
 
 -- the summary was written, with this result
-abbrev pub Sums : List Answer → Result Bool Stop → Option (List ℕ) → Option (List ℕ) → Type 0
+abbrev pub Sums : List Answer → Result Bool StreamError → Option (List ℕ) → Option (List ℕ) → Type 0
 Sums answers (Ok flagged) old new = Grew (some_flagged answers ≡ flagged) (summary answers) old new
 Sums answers (Err stops.WriteFault) old new = AppendsPrefix old new (summary answers)
 Sums answers (Err stops.Memory) old new = Appends old new []

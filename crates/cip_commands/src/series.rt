@@ -7,16 +7,16 @@ use std::marker::PhantomData;
 
 /// Made records, and by what they are labelled.
 #[derive(Clone, Copy)]
-pub struct Trial {
+pub struct LabelledSeries {
     pub series: Series,
     pub labelling: Labelling,
 }
 
-/// One of the records by its number, which is from 1 on. Whose digraphs it is labelled in is told by the type alone.
+/// One of the records by its number, which is from 1 on. Whose digraphs it is labelled in follows from the type alone.
 #[derive(Drop)]
-pub struct Numbered<D> {
+pub struct SeriesRecord<D> {
     pub alloc: Global,
-    pub trial: Trial,
+    pub trial: LabelledSeries,
     pub number: u32,
     pub digraphs: PhantomData<D>,
     ghost above: { 1 ≤ number },

@@ -5,12 +5,12 @@ ghost use Rattle.cip_print.specs.Tallies.{summary_line};
 ghost use Rattle.cip_commands.specs.Making.{Writes};
 ghost use Rattle.cip_commands.specs.Trying.{answer_of, answers_to, counted, with_one, Sums};
 
-use crate::desk::Desk;
-use crate::series::{Numbered, Trial};
+use crate::series::{LabelledSeries, SeriesRecord};
+use crate::worker_state::WorkerState;
 use cip_answer::is_flagged;
-use cip_batch::{Crew, Gate, Job, Stop, Worker, map_batch};
+use cip_batch::{Gate, Job, StreamError, Worker, WorkerPool, map_batch};
 use cip_io::{Sink, push_all};
-use cip_label::Digraphs;
+use cip_label::RootRanker;
 use cip_make::record;
 use cip_print::{Answer, Tally};
 use std::alloc::{AllocError, Global};
@@ -20,10 +20,10 @@ use std::thread::Threads;
 // How many records a batch has for each worker.
 const RECORDS: u32 = 8;
 
-impl<D: Digraphs + Drop + Send> Job for Numbered<D> {
+impl<D: RootRanker + Drop + Send> Job for SeriesRecord<D> {
     type Out = Answer;
 
-    type Desk = Desk<D>;
+    type State = WorkerState<D>;
 
     ghost answer = { λ job. answer_of job };
 
@@ -33,16 +33,16 @@ impl<D: Digraphs + Drop + Send> Job for Numbered<D> {
     }
 
     #[tactic(auto, unfolding(crate::specs::Trying::made_answer))]
-    fn work(&self, desk: &mut Desk<D>) -> Result<Answer, AllocError> {
-        // A desk of `new_clerks` fits already, and nothing is taken; but the contract allows any desk.
-        let Ok(()) = desk.fit(self.alloc, self.trial.labelling.nodes) else {
+    fn work(&self, state: &mut WorkerState<D>) -> Result<Answer, AllocError> {
+        // A state of `new_workers` fits already, and nothing is taken; but the contract allows any state.
+        let Ok(()) = state.resize(self.alloc, self.trial.labelling.nodes) else {
             return Err(AllocError);
         };
         let Ok(bytes) = record(self.alloc, self.trial.series.start, self.number) else {
             return Err(AllocError);
         };
-        let answer = desk.answer(self.alloc, &bytes, self.trial.labelling.rules);
-        // given back by a call of its own, which is quicker to prove than an end that owns them
+        let answer = state.answer(self.alloc, &bytes, self.trial.labelling.rules);
+        // proof: dropped by a call, which is quicker to prove than an exit that owns them
         drop(bytes);
         answer
     }
@@ -50,33 +50,34 @@ impl<D: Digraphs + Drop + Send> Job for Numbered<D> {
 
 /// Labels the records in batches of eight for each worker, and writes the summary of their outcomes. Says whether a
 /// record is refused or a unit over the bound.
-pub fn write_summary<D: Digraphs + Drop + Send + Sync, R: Threads + Sync, G: Gate + Sync, K: Sink>(
-    crew: &Crew<'_, R, G>,
-    trial: &Trial,
-    sink: &mut K,
-) -> Result<bool, Stop>
+pub fn write_summary<
+    D: RootRanker + Drop + Send + Sync,
+    R: Threads + Sync,
+    G: Gate + Sync,
+    K: Sink,
+>(pool: &WorkerPool<'_, R, G>, trial: &LabelledSeries, sink: &mut K) -> Result<bool, StreamError>
     ensures summed { Sums (answers_to trial.now.series trial.now.labelling trial.now.series.records) result
         (K.taken sink.old) (K.taken sink.new) }
-    ensures fault { IsErrOf result Stop.WriteFault → Rose (K.faults sink.old) (K.faults sink.new) }
+    ensures fault { IsErrOf result StreamError.WriteFault → Rose (K.faults sink.old) (K.faults sink.new) }
 {
-    match count_records::<D, R, G>(crew, trial) {
-        Ok(count) => write_count(crew.alloc, &count, sink),
-        Err(_) => Err(Stop::Memory),
+    match count_records::<D, R, G>(pool, trial) {
+        Ok(count) => write_count(pool.alloc, &count, sink),
+        Err(_) => Err(StreamError::Memory),
     }
 }
 
 // Writes the summary of what was counted. Says whether a record is flagged.
-fn write_count<K: Sink>(alloc: Global, count: &Count, sink: &mut K) -> Result<bool, Stop>
+fn write_count<K: Sink>(alloc: Global, count: &Count, sink: &mut K) -> Result<bool, StreamError>
     ensures written { Writes (summary_line count.now.counts) result (K.taken sink.old) (K.taken sink.new) }
     ensures flagged { IfOk result (λ flagged. flagged ≡ count.now.flagged) }
-    ensures fault { IsErrOf result Stop.WriteFault → Rose (K.faults sink.old) (K.faults sink.new) }
+    ensures fault { IsErrOf result StreamError.WriteFault → Rose (K.faults sink.old) (K.faults sink.new) }
 {
     let Ok(line) = count.tally.line(alloc) else {
-        return Err(Stop::Memory);
+        return Err(StreamError::Memory);
     };
     match push_all(sink, &line) {
         Ok(()) => Ok(count.flagged),
-        Err(_) => Err(Stop::WriteFault),
+        Err(_) => Err(StreamError::WriteFault),
     }
 }
 
@@ -117,29 +118,29 @@ impl Count {
 }
 
 // Counts the outcomes of all records, by workers that are made for it and given back.
-fn count_records<D: Digraphs + Drop + Send + Sync, R: Threads + Sync, G: Gate + Sync>(
-    crew: &Crew<'_, R, G>,
-    trial: &Trial,
+fn count_records<D: RootRanker + Drop + Send + Sync, R: Threads + Sync, G: Gate + Sync>(
+    pool: &WorkerPool<'_, R, G>,
+    trial: &LabelledSeries,
 ) -> Result<Count, AllocError>
     ensures { IfOk result (λ count. count
         ≡ counted (answers_to trial.now.series trial.now.labelling trial.now.series.records)) }
 {
-    let Ok(mut clerks) = new_clerks::<D>(crew.alloc, trial.labelling.nodes, crew.workers) else {
+    let Ok(mut clerks) = new_workers::<D>(pool.alloc, trial.labelling.nodes, pool.workers) else {
         return Err(AllocError);
     };
-    let counted = count_batches(crew, trial, &mut clerks);
-    // given back by a call of its own, which is quicker to prove than an end that owns them
+    let counted = count_batches(pool, trial, &mut clerks);
+    // proof: dropped by a call, which is quicker to prove than an exit that owns them
     drop(clerks);
     counted
 }
 
 // Counts the outcomes of all records with these workers.
-fn count_batches<D: Digraphs + Drop + Send + Sync, R: Threads + Sync, G: Gate + Sync>(
-    crew: &Crew<'_, R, G>,
-    trial: &Trial,
-    clerks: &mut [Worker<Desk<D>, Answer>],
+fn count_batches<D: RootRanker + Drop + Send + Sync, R: Threads + Sync, G: Gate + Sync>(
+    pool: &WorkerPool<'_, R, G>,
+    trial: &LabelledSeries,
+    clerks: &mut [Worker<WorkerState<D>, Answer>],
 ) -> Result<Count, AllocError>
-    requires { length clerks.old ≡ crew.now.workers }
+    requires { length clerks.old ≡ pool.now.workers }
     ensures { IfOk result (λ count. count
         ≡ counted (answers_to trial.now.series trial.now.labelling trial.now.series.records)) }
 {
@@ -149,7 +150,7 @@ fn count_batches<D: Digraphs + Drop + Send + Sync, R: Threads + Sync, G: Gate + 
     };
     let mut done = 0;
     while done < trial.series.records {
-        let Ok(more) = count_batch(crew, trial, done, clerks, &mut count) else {
+        let Ok(more) = count_batch(pool, trial, done, clerks, &mut count) else {
             return Err(AllocError);
         };
         done += more;
@@ -157,16 +158,16 @@ fn count_batches<D: Digraphs + Drop + Send + Sync, R: Threads + Sync, G: Gate + 
     Ok(count)
 }
 
-// Counts the outcomes of a batch behind the first so many records. Says how many records it has.
-fn count_batch<D: Digraphs + Drop + Send + Sync, R: Threads + Sync, G: Gate + Sync>(
-    crew: &Crew<'_, R, G>,
-    trial: &Trial,
+// Counts the outcomes of a batch after the first n records. Says how many records it has.
+fn count_batch<D: RootRanker + Drop + Send + Sync, R: Threads + Sync, G: Gate + Sync>(
+    pool: &WorkerPool<'_, R, G>,
+    trial: &LabelledSeries,
     done: u32,
-    clerks: &mut [Worker<Desk<D>, Answer>],
+    clerks: &mut [Worker<WorkerState<D>, Answer>],
     count: &mut Count,
 ) -> Result<u32, AllocError>
     requires within { done < trial.now.series.records }
-    requires clerks { length clerks.old ≡ crew.now.workers }
+    requires clerks { length clerks.old ≡ pool.now.workers }
     requires so_far { count.old ≡ counted (answers_to trial.now.series trial.now.labelling done) }
     requires records { count.old.counts.records ≡ done }
     ensures counted { IfOk result (λ more. count.new
@@ -176,12 +177,12 @@ fn count_batch<D: Digraphs + Drop + Send + Sync, R: Threads + Sync, G: Gate + Sy
     ensures within { IfOk result (λ more. done + more ≤ trial.now.series.records) }
     ensures clerks { length clerks.new ≡ length clerks.old }
 {
-    let Ok(jobs) = next_jobs(crew.alloc, trial, done, crew.workers) else {
+    let Ok(jobs) = next_jobs(pool.alloc, trial, done, pool.workers) else {
         return Err(AllocError);
     };
     let more = jobs.len() as u32;
-    let answers = map_batch(crew.rt, crew.alloc, &jobs, clerks, crew.gate);
-    // given back by a call of its own, which is quicker to prove than an end that owns them
+    let answers = map_batch(pool.rt, pool.alloc, &jobs, clerks, pool.gate);
+    // proof: dropped by a call, which is quicker to prove than an exit that owns them
     drop(jobs);
     match answers {
         Ok(answers) => {
@@ -192,12 +193,12 @@ fn count_batch<D: Digraphs + Drop + Send + Sync, R: Threads + Sync, G: Gate + Sy
     }
 }
 
-// So many workers, each with a desk of its own.
-fn new_clerks<D: Digraphs + Drop>(
+// n workers, each with a state of its own.
+fn new_workers<D: RootRanker + Drop>(
     alloc: Global,
     nodes: u32,
     workers: u8,
-) -> Result<Vec<Worker<Desk<D>, Answer>>, AllocError>
+) -> Result<Vec<Worker<WorkerState<D>, Answer>>, AllocError>
     requires some { 1 ≤ nodes }
     requires bounded { nodes ≤ 1000000 }
     ensures { IfOk result (λ clerks. length clerks.items ≡ workers) }
@@ -206,21 +207,21 @@ fn new_clerks<D: Digraphs + Drop>(
         return Err(AllocError);
     };
     while clerks.len() < workers as usize {
-        let Ok(desk) = Desk::reserve(alloc, nodes) else {
+        let Ok(state) = WorkerState::reserve(alloc, nodes) else {
             return Err(AllocError);
         };
-        clerks.push(Worker::new(alloc, desk))?;
+        clerks.push(Worker::new(alloc, state))?;
     }
     Ok(clerks)
 }
 
-// A batch of the records behind the first so many.
+// A batch of the records after the first n.
 fn next_jobs<D>(
     alloc: Global,
-    trial: &Trial,
+    trial: &LabelledSeries,
     done: u32,
     workers: u8,
-) -> Result<Vec<Numbered<D>>, AllocError>
+) -> Result<Vec<SeriesRecord<D>>, AllocError>
     requires within { done < trial.now.series.records }
     requires some { 1 ≤ workers }
     ensures jobs { IfOk result (λ jobs.
@@ -238,7 +239,7 @@ fn next_jobs<D>(
         return Err(AllocError);
     };
     for before in done..end {
-        let job = Numbered {
+        let job = SeriesRecord {
             alloc,
             trial: *trial,
             number: before + 1,

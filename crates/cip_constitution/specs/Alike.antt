@@ -3,10 +3,10 @@ use Rattle.std.specs.Prelude.{◌≡◌, ◌&&◌, ℕ, ℤ, pos, Bool, not, Lis
 use Rattle.std.specs.List.{list_any}
 use Rattle.cip_rank.specs.declared.rules.Rules.{Rules}
 use Rattle.cip_branches.specs.Deciding.{Branched}
-use Rattle.cip_ligands.specs.Taking.{TakesRule}
+use Rattle.cip_rules.specs.Taking.{TakesRule}
 use Rattle.cip_mol.specs.declared.outcome.Rule.{Rule}
 use Rattle.cip_mol.specs.declared.outcome.Rule.TheVariants.{R1b, R2}
-use Rattle.cip_digraph.specs.declared.nodes.Told.{Told}
+use Rattle.cip_digraph.specs.declared.nodes.NodeData.{NodeData}
 use Rattle.cip_digraph.specs.digraph.NodeList.{distance_told}
 use Rattle.cip_digraph.specs.rules.Keys.{lower_precedes}
 use Rattle.cip_mol.specs.declared.site.Ligand.{Ligand}
@@ -39,7 +39,7 @@ pub record TakesWhole (begin : Branched) (keys : List ℤ) (rule : Rule) (now : 
   pub reached : takes.far ≡ begin.last
 
 -- Rules 1b and 2 were
-pub record TakesBoth (begin : Branched) (rules : Rules) (all : List Told) (now : Branched) : Type 0 where
+pub record TakesBoth (begin : Branched) (rules : Rules) (all : List NodeData) (now : Branched) : Type 0 where
   pub mid : Branched
-  pub distances : TakesWhole begin (map (λ told. lower_precedes (distance_told rules told)) all) R1b mid
-  pub masses : TakesWhole mid (map (λ told. pos told.mass) all) R2 now
+  pub distances : TakesWhole begin (map (λ node_data. lower_precedes (distance_told rules node_data)) all) R1b mid
+  pub masses : TakesWhole mid (map (λ node_data. pos node_data.mass) all) R2 now

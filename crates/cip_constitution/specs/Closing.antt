@@ -14,7 +14,7 @@ is_under_on parents node zero at = at == node
 is_under_on parents node (suc more) at =
     (at == node) || (not (at == 0) && is_under_on parents node more (slice_index parents at))
 
--- a node is another one, or stands below it
+-- a node is another one, or is below it
 abbrev pub is_under : List ℕ → ℕ → ℕ → Bool
 is_under parents node at = is_under_on parents node at at
 

@@ -4,7 +4,7 @@ use Rattle.std.specs.Prelude.{◌≡◌, ◌≢◌, ◌<◌, ◌≤◌, ◌-◌,
 use Rattle.std.specs.List.{AllByRecursion}
 use Rattle.std.specs.declared.option.Option.{Option}
 use Rattle.cip_branches.specs.Deciding.{Branched}
-use Rattle.cip_rows.specs.Parting.{has_flag}
+use Rattle.cip_partition.specs.Parting.{has_flag}
 use Rattle.cip_rank.specs.declared.rules.Rules.{Rules}
 use Rattle.cip_mol.specs.declared.site.Ligand.{Ligand}
 use Rattle.cip_mol.specs.declared.site.Ligand.TheVariants.{LonePair, Vertex}
@@ -23,20 +23,20 @@ pub record GoesOn (graph : Graph) (positions : List (List ℕ)) (growth : Growth
     Type 0 where
   pub at : ℕ
   pub low : branched.first ≤ at
-  pub high : at < length branched.layers.kin.ups
-  pub below : slice_index branched.layers.kin.branches at ≡ branch
+  pub high : at < length branched.layers.place_tree.place_parents
+  pub below : slice_index branched.layers.place_tree.branches at ≡ branch
   pub some : is_empty (children graph positions (node_at (digraph graph positions growth.root growth.sphere)
-      (slice_index branched.layers.kin.nodes at))) ≡ false
+      (slice_index branched.layers.place_tree.nodes at))) ≡ false
 
--- no place of the last sphere stands in a branch
+-- no place of the last sphere is in a branch
 pub record EndedBefore (branched : Branched) (branch : ℕ) : Type 0 where
-  pub none : (place : ℕ) → branched.first ≤ place → place < length branched.layers.kin.ups
-      → slice_index branched.layers.kin.branches place ≢ branch
+  pub none : (place : ℕ) → branched.first ≤ place → place < length branched.layers.place_tree.place_parents
+      → slice_index branched.layers.place_tree.branches place ≢ branch
 
 -- a branch is followed still, and the last sphere is not the one in which it ends
 pub record EndsElsewhere (graph : Graph) (positions : List (List ℕ)) (growth : Growth) (branched : Branched)
     (branch : ℕ) : Type 0 where
-  pub wanted : has_flag branched.wanted branch ≡ true
+  pub unresolved : has_flag branched.unresolved branch ≡ true
   pub elsewhere : GoesOn graph positions growth branched branch ⊎ EndedBefore branched branch
 
 -- the same of the root's child of a number, of which a lone pair has none
@@ -48,7 +48,7 @@ abbrev pub LigandEndsElsewhere : Graph → List (List ℕ) → Growth → Branch
 LigandEndsElsewhere graph positions growth branched ligand =
     ElsewhereBy graph positions growth branched (ligand_number growth.nodes ligand)
 
--- two ligands have parted, or neither branch has its last nodes in the last sphere, or one of them isn't closed
+-- two ligands differ, or neither branch has its last nodes in the last sphere, or one of them isn't closed
 abbrev pub NotAnew : Rules → Graph → List (List ℕ) → List units.Unit → Growth → Branched → Ligand → Ligand → Type 0
 NotAnew rules graph positions all growth branched a b =
     (differ_told (numbers_of branched) growth.nodes a b ≡ true)

@@ -13,7 +13,7 @@ trying_of columns = record {
 
 -- all nodes but the root may have a place; and there is room for each two of four ligands
 pub record HaveRoom (columns : Inside) : Type 0 where
-  pub branches : columns.branches.layers.kin.room ≡ columns.bound - 1
+  pub branches : columns.branches.layers.place_tree.room ≡ columns.bound - 1
   pub tops : columns.tops.room ≡ columns.bound
   pub pairs : 6 ≤ vec_capacity columns.pairs
   pub few : length columns.pairs.items ≤ 6

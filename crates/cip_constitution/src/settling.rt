@@ -5,10 +5,10 @@ ghost use Rattle.cip_constitution.specs.FollowedOut.{AreFollowedOut};
 ghost use Rattle.cip_constitution.specs.Noting.{Notes};
 ghost use Rattle.cip_constitution.specs.Settling.{setting_of, SettledAs, cost_of};
 
-use crate::setting::Setting;
+use crate::context::RootContext;
 use crate::work::Work;
 use cip_arena::{Arena, Grown};
-use cip_digraph::{Graph, MarkedUnits, Positions};
+use cip_digraph::{FlaggedUnits, Graph, Positions};
 use cip_mol::Ligand;
 use cip_rank::{Rules, Steps};
 use std::sync::ledger::Ledger;
@@ -16,7 +16,7 @@ use std::sync::ledger::Ledger;
 /// How the ligands of a root were settled.
 #[derive(Clone, Copy, Debug, PartialEq, Eq)]
 pub enum Settled {
-    /// Every two differ by Rule 1a within the last sphere: it tells their order by all rules.
+    /// Every two differ by Rule 1a within the last sphere: it gives their order by all rules.
     Ordered,
     /// Two have ended, tie by Rules 1a, 1b and 2 and hold no atom of a unit: they tie by all rules.
     Tied,
@@ -33,7 +33,7 @@ pub fn settle<L: Ledger>(
     work: &mut Work,
     graph: &Graph,
     positions: &Positions,
-    units: &MarkedUnits<'_>,
+    units: &FlaggedUnits<'_>,
     ligands: &[Ligand],
     rules: Rules,
     steps: &mut Steps<L>,
@@ -57,12 +57,12 @@ pub fn settle<L: Ledger>(
     ensures noted { result ≡ Settled.Ordered → Notes graph.now positions.now arena.new.root arena.new.bound
         arena.new.sphere work.new.pairs work.new.noted }
     ensures pairs { work.new.pairs ≡ work.old.pairs }
-    // what the rules behind Rule 1a go on from
+    // what the rules after Rule 1a go on from
     ensures whole { result ≡ Settled.Whole → 0 < arena.new.sphere → AreFollowedOut graph.now positions.now arena.new
         work.new }
 {
     let _vertices = graph.vertices();
-    let setting = Setting {
+    let setting = RootContext {
         graph,
         positions,
         units,

@@ -3,28 +3,28 @@ ghost use Rattle.std.specs.Prelude.{◌≡◌, ◌<◌, ◌≤◌, ◌-◌, fals
 ghost use Rattle.std.specs.Prelude.{IfOk};
 ghost use Rattle.cip_branches.specs.Deciding.{no_branches};
 ghost use Rattle.cip_constitution.specs.Pairs.{pairs_of};
-ghost use Rattle.cip_constitution.specs.Settling.{Setting as AnySetting, differs, has_alike};
-ghost use Rattle.cip_constitution.specs.Trials.{told, IsGrown, FollowsTo, IsAhead, KeepsTo};
+ghost use Rattle.cip_constitution.specs.Settling.{RootContext as AnySetting, differs, has_alike};
+ghost use Rattle.cip_constitution.specs.Trials.{node_data, IsGrown, FollowsTo, IsAhead, KeepsTo};
 
-use crate::alike::alike_each;
-use crate::candidates::has_candidates;
-use crate::differing::part_each;
-use crate::ending::Trial;
+use crate::branch_ends::TieTest;
+use crate::constitutional_rules::apply_both;
+use crate::context::RootContext;
+use crate::distinct::all_distinct;
+use crate::early_tie::alike_each;
+use crate::early_tie_candidates::has_candidates;
 use crate::following::{begin_branches, follow_branches};
-use crate::noting::{begin_noting, note_sphere};
-use crate::pairs::{Pair, pair_up};
-use crate::setting::Setting;
-use crate::taking::take_both;
+use crate::pairs::{VertexPair, ligand_pairs};
+use crate::recording::{begin_noting, record_sphere};
 use cip_arena::Arena;
-use cip_branches::{Branches, SavedRanks};
-use cip_digraph::Asked;
+use cip_branches::{Branches, Checkpoint};
+use cip_digraph::BranchPair;
 use cip_mol::Ligands;
-use cip_rank::{both, both_of};
-use cip_rows::Column;
+use cip_partition::ReservedVec;
+use cip_rank::{zip_ok, zip_results};
 use std::alloc::{AllocError, Global};
 use std::marker::Model;
 
-/// So many pairs have four ligands.
+/// n pairs have four ligands.
 const MOST_PAIRS: usize = 6;
 
 /// The branches of settling, in memory that is taken at once.
@@ -34,13 +34,13 @@ pub struct Work {
     // the branches of the root's children, by Rule 1a
     pub(crate) branches: Branches,
     // the root's children
-    tops: Column<u32>,
+    tops: ReservedVec<u32>,
     // each two ligands of the root, and what is decided between their branches
-    pairs: Vec<Pair>,
-    pub(crate) noted: Vec<Asked>,
-    // how they stood by Rule 1a
-    saved: SavedRanks,
-    // of each node, whether it stands below a ligand's
+    pairs: Vec<VertexPair>,
+    pub(crate) noted: Vec<BranchPair>,
+    // how they were by Rule 1a
+    saved: Checkpoint,
+    // of each node, whether it is below a ligand's
     under: Vec<bool>,
 }
 
@@ -68,20 +68,20 @@ impl Work {
     {
         // all nodes but the root may have a place
         let places = bound.saturating_sub(1);
-        let asked = both_of(
+        let requested = zip_results(
             Vec::with_capacity(alloc, MOST_PAIRS),
             Vec::with_capacity(alloc, MOST_PAIRS),
         );
-        let nodes = both_of(Vec::with_capacity(alloc, bound as usize), asked);
-        let kept = both_of(
-            Column::reserve(alloc, bound),
-            SavedRanks::reserve(alloc, places),
+        let nodes = zip_results(Vec::with_capacity(alloc, bound as usize), requested);
+        let kept = zip_results(
+            ReservedVec::reserve(alloc, bound),
+            Checkpoint::reserve(alloc, places),
         );
-        let Ok(small) = both_of(nodes, kept) else {
+        let Ok(small) = zip_results(nodes, kept) else {
             return Err(AllocError);
         };
-        // what is taken last is never given back
-        let Ok((((under, (pairs, noted)), (tops, saved)), branches)) = both(
+        // proof: what is reserved last is never dropped
+        let Ok((((under, (pairs, noted)), (tops, saved)), branches)) = zip_ok(
             small,
             Branches::reserve(alloc, places),
         ) else {
@@ -99,28 +99,28 @@ impl Work {
     }
 
     /// Asks about each two of these ligands once. Nothing is noted of them before a digraph is followed.
-    pub fn ask(&mut self, ligands: &Ligands)
+    pub fn set_ligands(&mut self, ligands: &Ligands)
         ensures pairs { self.new.pairs ≡ pairs_of ligands.now }
         ensures bound { self.new.bound ≡ self.old.bound }
     {
-        pair_up(ligands.as_slice(), &mut self.pairs);
+        ligand_pairs(ligands.as_slice(), &mut self.pairs);
     }
 
     /// The pairs that were asked about last.
-    pub fn pairs(&self) -> &[Pair]
+    pub fn pairs(&self) -> &[VertexPair]
         ensures { result.now ≡ self.now.pairs }
     {
         self.pairs.as_slice()
     }
 
     /// The branches of each pair, and what is decided between them.
-    pub fn noted(&self) -> &[Asked]
+    pub fn noted(&self) -> &[BranchPair]
         ensures { result.now ≡ self.now.noted }
     {
         self.noted.as_slice()
     }
 
-    /// Follows a digraph that was grown by one sphere, and notes what its last sphere tells.
+    /// Follows a digraph that was grown by one sphere, and notes what its last sphere decides.
     pub(crate) fn follow(&mut self, arena: &Arena)
         requires ahead { (setting : AnySetting) × IsAhead setting arena.now self.old }
         requires room { arena.now.bound ≤ self.old.bound }
@@ -134,35 +134,35 @@ impl Work {
         if arena.sphere() == 1 {
             begin_branches(arena, &mut self.tops, branches);
             begin_noting(arena, self.pairs.as_slice(), noted);
-            note_sphere(arena, branches, noted);
+            record_sphere(arena, branches, noted);
         } else {
             follow_branches(arena, branches);
-            note_sphere(arena, branches, noted);
+            record_sphere(arena, branches, noted);
         }
     }
 
     /// Whether every two ligands differ by Rule 1a within the last sphere.
-    pub(crate) fn all_differ(&self, arena: &Arena, setting: &Setting<'_, '_>) -> bool
-        requires grown { IsGrown (told setting.now) arena.now }
-        requires followed { FollowsTo (told setting.now) arena.now arena.now.sphere self.now.branched }
-        ensures { result ≡ differs (told setting.now) arena.now.root arena.now.sphere }
+    pub(crate) fn all_differ(&self, arena: &Arena, setting: &RootContext<'_, '_>) -> bool
+        requires grown { IsGrown (node_data setting.now) arena.now }
+        requires followed { FollowsTo (node_data setting.now) arena.now arena.now.sphere self.now.branched }
+        ensures { result ≡ differs (node_data setting.now) arena.now.root arena.now.sphere }
     {
-        part_each(arena, &self.branches, setting.ligands)
+        all_distinct(arena, &self.branches, setting.ligands)
     }
 
     /// Whether two ligands have no node beyond the last sphere and are alike, where none were within the sphere before.
-    pub(crate) fn some_alike(&mut self, arena: &Arena, setting: &Setting<'_, '_>) -> bool
-        requires grown { IsGrown (told setting.now) arena.now }
+    pub(crate) fn some_alike(&mut self, arena: &Arena, setting: &RootContext<'_, '_>) -> bool
+        requires grown { IsGrown (node_data setting.now) arena.now }
         requires room { arena.now.bound ≤ self.old.bound }
-        requires followed { FollowsTo (told setting.now) arena.now arena.now.sphere self.old.branched }
+        requires followed { FollowsTo (node_data setting.now) arena.now arena.now.sphere self.old.branched }
         requires before { 1 < arena.now.sphere
-            → has_alike (told setting.now) arena.now.root (arena.now.sphere - 1) ≡ false }
-        ensures result { result ≡ has_alike (told setting.now) arena.now.root arena.now.sphere }
+            → has_alike (node_data setting.now) arena.now.root (arena.now.sphere - 1) ≡ false }
+        ensures result { result ≡ has_alike (node_data setting.now) arena.now.root arena.now.sphere }
         ensures kept { self.new ≡ self.old }
     {
-        // Rule 1a, whose numbers stand already, tells most ligands apart
+        // Rule 1a, whose numbers are known already, distinguishes most ligands
         let found = {
-            let trial = Trial {
+            let trial = TieTest {
                 arena: &*arena,
                 branches: &self.branches,
                 setting: *setting,
@@ -170,9 +170,9 @@ impl Work {
             has_candidates(&trial, &mut self.under)
         };
         if found {
-            take_both(&mut self.branches, &mut self.saved, arena, setting.rules);
+            apply_both(&mut self.branches, &mut self.saved, arena, setting.rules);
             let alike = {
-                let trial = Trial {
+                let trial = TieTest {
                     arena: &*arena,
                     branches: &self.branches,
                     setting: *setting,

@@ -7,14 +7,14 @@ use Rattle.cip_rank.specs.Ranking.{by_number}
 use Rattle.cip_mol.specs.declared.outcome.Rule.{Rule}
 use Rattle.cip_digraph.specs.rules.Decisions.{Difference}
 use Rattle.cip_digraph.specs.declared.decision.Decision.{Decision}
-use Rattle.cip_digraph.specs.declared.asked.Asked.{Asked}
+use Rattle.cip_digraph.specs.declared.branch_pair.BranchPair.{BranchPair}
 
-abbrev pub is_decided : Asked → Bool
-is_decided asked = elim asked.decision as (λ _. Bool) [ None ↦ false | Some found ↦ true ]
+abbrev pub is_decided : BranchPair → Bool
+is_decided pairs = elim pairs.decision as (λ _. Bool) [ None ↦ false | Some found ↦ true ]
 
--- it asks about two of so many places
-abbrev pub AreWithin : ℕ → Asked → Type 0
-AreWithin count asked = (asked.first < count) × (asked.second < count)
+-- it asks about two of n places
+abbrev pub AreWithin : ℕ → BranchPair → Type 0
+AreWithin count pairs = (pairs.first < count) × (pairs.second < count)
 
 -- what a rule decides by a difference
 abbrev pub decided : Rule → Option Difference → Option Decision
@@ -26,8 +26,8 @@ kept_or None later = later
 kept_or (Some found) later = Some found
 
 -- what was decided stays, and where nothing was, this is
-abbrev pub with_found : (ℕ → ℕ → Option Decision) → Asked → Asked
-with_found find asked = record asked { decision = kept_or asked.decision (find asked.first asked.second) }
+abbrev pub with_found : (ℕ → ℕ → Option Decision) → BranchPair → BranchPair
+with_found find pairs = record pairs { decision = kept_or pairs.decision (find pairs.first pairs.second) }
 
 -- a difference at one depth
 abbrev pub differing : ℕ → Ordering → Option Difference

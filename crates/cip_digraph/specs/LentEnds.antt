@@ -10,4 +10,4 @@ as_end end = end_at end.at end.ligands.now
 
 abbrev pub ends_in : Ends → List End
 ends_in (One end) = as_end end ∷ []
-ends_in (Two shape two) = as_end two.near ∷ as_end two.far ∷ []
+ends_in (Two shape two) = as_end two.nearer ∷ as_end two.far ∷ []

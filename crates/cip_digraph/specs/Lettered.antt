@@ -5,12 +5,12 @@ use Rattle.cip_mol.specs.declared.descriptor.Descriptor.{Descriptor}
 use Rattle.cip_mol.specs.declared.descriptor.Sense.{Sense}
 use Rattle.cip_mol.specs.declared.site.Site.{Site}
 use Rattle.cip_digraph.specs.units.Descriptors.{letter_by, turned_if}
-use Rattle.cip_digraph.specs.declared.turns.Turns.{Turns}
+use Rattle.cip_digraph.specs.declared.parity.Parity.{Parity}
 
-abbrev pub letter_in : Site → Sense → Turns → Descriptor
-letter_in site sense turns = letter_by site (turned_if turns.natural sense) (turned_if turns.turned sense)
+abbrev pub letter_in : Site → Sense → Parity → Descriptor
+letter_in site sense parities = letter_by site (turned_if parities.natural sense) (turned_if parities.turned sense)
 
 -- none where ligands tie
-abbrev pub turned_letter : Site → Sense → Option Turns → Option Descriptor
+abbrev pub turned_letter : Site → Sense → Option Parity → Option Descriptor
 turned_letter site sense None = None
-turned_letter site sense (Some turns) = Some (letter_in site sense turns)
+turned_letter site sense (Some parities) = Some (letter_in site sense parities)

@@ -4,7 +4,7 @@ use Rattle.std.specs.List.{fold}
 use Rattle.cip_mol.specs.declared.site.Unit as units
 use Rattle.cip_digraph.specs.rings.Alternating.{is_in}
 use Rattle.cip_digraph.specs.units.Ends.{atoms_of}
-use Rattle.cip_digraph.specs.declared.marking.MarkedUnits.TheInside.{Inside}
+use Rattle.cip_digraph.specs.declared.unit_flags.FlaggedUnits.TheInside.{Inside}
 
 -- the flag of a vertex is set, where the column reaches so far
 abbrev pub with_mark : ℕ → List Bool → List Bool
@@ -14,7 +14,7 @@ with_mark vertex flags = slice_set flags vertex true
 abbrev pub with_marks : List ℕ → List Bool → List Bool
 with_marks vertices flags = fold (λ before vertex. with_mark vertex before) flags vertices
 
--- each flag tells whether its vertex is an atom of a unit
+-- each flag says whether its vertex is an atom of a unit
 pub record Marks (all : List units.Unit) (flags : List Bool) : Type 0 where
   pub each : (vertex : ℕ) → vertex < length flags →
       slice_index_or flags vertex false ≡ is_in vertex (flat_map (λ unit. atoms_of unit.site) all)

@@ -36,7 +36,7 @@ impl Descriptors {
         }
     }
 
-    /// Lets go of all descriptors, and keeps the room.
+    /// Drops all descriptors, and keeps the room.
     pub fn clear(&mut self)
         ensures { self.new ≡ record self.old { marks = [] } }
     {

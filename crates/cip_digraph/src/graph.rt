@@ -149,12 +149,14 @@ impl Graph {
     }
 }
 
+// Whether the lists are equal.
 fn are_same_vertices(vertices: &[Vertex], others: &[Vertex]) -> bool
     ensures { result ≡ true → vertices.now ≡ others.now }
 {
     vertices == others
 }
 
+// Whether the lists are equal.
 fn are_same_edges(edges: &[Edge], others: &[Edge]) -> bool
     ensures { result ≡ true → edges.now ≡ others.now }
 {

@@ -1,6 +1,6 @@
 // A digraph as the list of its nodes.
 ghost use Rattle.std.specs.Prelude.{◌≡◌, ◌<◌, List, length};
-ghost use Rattle.cip_digraph.specs.declared.nodes.Told.{Told};
+ghost use Rattle.cip_digraph.specs.declared.nodes.NodeData.{NodeData};
 ghost use Rattle.cip_digraph.specs.digraph.NodeList.{told_at, parents_of, vertex_told, distance_told};
 
 use cip_rank::{Rules, Table};
@@ -15,9 +15,9 @@ pub enum NodeKind {
     Delocalised,
 }
 
-/// What is told of a node.
+/// What is known of a node.
 #[derive(Clone, Copy)]
-pub struct Told {
+pub struct NodeData {
     /// The number of its parent; 0 for the root.
     pub parent: u32,
     pub kind: NodeKind,
@@ -37,12 +37,13 @@ pub struct Told {
 /// root's 0.
 pub trait Nodes {
     /// The nodes, by number.
-    ghost nodes: { Self → List Told };
+    ghost nodes: { Self → List NodeData };
 
     /// Parents, spheres and children.
     fn table(&self) -> &Table
         ensures { result.now.parents ≡ parents_of (nodes self.now) };
 
+    /// What kind of node it is.
     fn kind(&self, node: u32) -> NodeKind
         requires { node < length (nodes self.now) }
         ensures { result ≡ (told_at (nodes self.now) node).kind };
@@ -57,14 +58,17 @@ pub trait Nodes {
         requires { node < length (nodes self.now) }
         ensures { result ≡ (told_at (nodes self.now) node).counterpart };
 
+    /// The key of Rule 1a: six times the atomic number, or the mean of a delocalised duplicate.
     fn atom_key(&self, node: u32) -> u32
         requires { node < length (nodes self.now) }
         ensures { result ≡ (told_at (nodes self.now) node).atomic };
 
+    /// The key of Rule 1b in this wording: a distance from the root.
     fn distance_key(&self, node: u32, rules: Rules) -> u32
         requires { node < length (nodes self.now) }
         ensures { result ≡ distance_told rules (told_at (nodes self.now) node) };
 
+    /// The key of Rule 2, in half mass units.
     fn mass_key(&self, node: u32) -> u32
         requires { node < length (nodes self.now) }
         ensures { result ≡ (told_at (nodes self.now) node).mass };

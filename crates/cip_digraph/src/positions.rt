@@ -1,4 +1,4 @@
-// Where the double bonds of alternating atoms can stand, by vertex.
+// Where the double bonds of alternating atoms can be, by vertex.
 ghost use Rattle.std.specs.Prelude.{◌≡◌, ◌<◌, ◌≤◌, [], true, IfOk, length, replicate, slice_set};
 ghost use Rattle.cip_digraph.specs.rings.PositionLists.{IsKept, IsPositionList, listed};
 ghost use Rattle.cip_digraph.specs.rings.Positions.{listed_positions};
@@ -9,7 +9,7 @@ use std::marker::Model;
 /// How many positions a vertex has at most.
 const MOST_POSITIONS: usize = 3;
 
-/// The positions of a vertex: the first so many of three numbers.
+/// The positions of a vertex: the first n of three numbers.
 #[derive(Clone, Copy, PartialEq, Eq)]
 pub struct PositionList {
     pub count: usize,
@@ -23,6 +23,7 @@ const NO_POSITIONS: PositionList = PositionList {
 };
 
 impl PositionList {
+    // The positions as a slice.
     fn as_slice(&self) -> &[u32]
         requires { IsKept self.now }
         ensures { result.now ≡ listed self.now }
@@ -49,7 +50,7 @@ impl Model for Positions {
 }
 
 impl Positions {
-    /// Of so many vertices, none of which has any.
+    /// Of n vertices, none of which has any.
     pub fn none(alloc: Global, vertices: usize) -> Result<Positions, AllocError>
         ensures { IfOk result (λ positions. positions ≡ replicate vertices []) }
     {
@@ -97,6 +98,7 @@ impl Positions {
     }
 }
 
+// A list of at most three positions.
 fn list_of(positions: &[u32]) -> PositionList
     requires { IsPositionList positions.now }
     ensures value { listed result ≡ positions.now }

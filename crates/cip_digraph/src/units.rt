@@ -84,6 +84,7 @@ impl Units {
     }
 }
 
+// Inverts the centres at these atoms, in place.
 fn invert_all(units: &mut [Unit], atoms: &[u32])
     ensures { units.new ≡ inverted atoms.now units.old }
 {
@@ -92,6 +93,7 @@ fn invert_all(units: &mut [Unit], atoms: &[u32])
     }
 }
 
+// Inverts a unit, if it is a centre at one of these atoms.
 fn invert_unit(unit: &mut Unit, atoms: &[u32])
     ensures { unit.new ≡ inverted_unit atoms.now unit.old }
 {
@@ -100,6 +102,7 @@ fn invert_unit(unit: &mut Unit, atoms: &[u32])
     }
 }
 
+// Whether a site is a centre at one of these atoms.
 fn is_centre_among(atoms: &[u32], site: &Site) -> bool
     ensures { result ≡ is_centre_among atoms.now site.now }
 {
@@ -109,6 +112,7 @@ fn is_centre_among(atoms: &[u32], site: &Site) -> bool
     }
 }
 
+// The geometry with the other sense; an unknown one stays.
 fn turned(geometry: Geometry) -> Geometry
     ensures { result ≡ turned_geometry geometry }
 {
@@ -118,6 +122,7 @@ fn turned(geometry: Geometry) -> Geometry
     }
 }
 
+// The other sense.
 fn opposite(sense: Sense) -> Sense
     ensures { result ≡ opposite sense }
 {

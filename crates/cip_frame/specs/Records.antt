@@ -2,12 +2,12 @@
 -- without its terminator line are own.
 use Rattle.std.specs.Prelude.{ℕ, List, [], ◌∷◌, ◌++◌, Bool, ◌==◌, ◌&&◌, fold, length, if◌then◌else◌}
 use Rattle.std.specs.List.{list_all}
-use Rattle.cip_text.specs.Lines.{line_feed, lines_of, contents_of, has_last, content_of}
+use Rattle.cip_text.specs.Lines.{line_feed, lines_of, contents_of, ends_with_byte, content_of}
 use Rattle.cip_text.specs.Kinds.{is_blank, is_terminator}
 use Rattle.cip_frame.specs.declared.record.Tail.{Tail}
 use Rattle.cip_frame.specs.declared.record.Tail.TheVariants.{Nothing, Blank, Last}
 
--- a stream that is cut behind some of its lines: the parts before the cuts, and the rest behind the last cut
+-- a stream that is cut after some of its lines: the parts before the cuts, and the rest after the last cut
 pub record Cut : Type 0 where
   pub whole : List (List ℕ)
   pub rest : List ℕ
@@ -25,9 +25,9 @@ with_front front cut = joined_to front cut.whole cut.rest
 
 -- a line that ends a record: a terminator line that has its LF
 abbrev pub is_closing : List ℕ → Bool
-is_closing line = has_last line_feed line && is_terminator (content_of line)
+is_closing line = ends_with_byte line_feed line && is_terminator (content_of line)
 
--- lines, cut behind each one that ends a record
+-- lines, cut after each one that ends a record
 abbrev pub cut_lines : List (List ℕ) → Cut
 cut_lines [] = record { whole = []; rest = [] }
 cut_lines (line ∷ lines) =

@@ -1,7 +1,7 @@
 -- What a piece of a stream, and one line of it, make of a framer. Own.
 use Rattle.std.specs.Prelude.{◌≡◌, ◌≤◌, ◌+◌, ◌++◌, ◌∷◌, [], ℕ, List, Bool, true, false, ◌==◌, ◌&&◌, not, length, if◌then◌else◌}
 use Rattle.std.specs.List.{list_any, take_while}
-use Rattle.cip_text.specs.Lines.{line_feed, has_last}
+use Rattle.cip_text.specs.Lines.{line_feed, ends_with_byte}
 use Rattle.cip_frame.specs.Records.{is_closing, open_line}
 use Rattle.cip_frame.specs.Framing.{Framing, fits, all_fit}
 use Rattle.cip_frame.specs.Following.{cut_behind}
@@ -12,7 +12,7 @@ is_line [] = false
 is_line (b ∷ []) = true
 is_line (b ∷ c ∷ cs) = not (b == line_feed) && is_line (c ∷ cs)
 
--- the line was put behind the open bytes, and where it closed the record that one waits
+-- the line was put after the open bytes, and where it closed the record that one waits
 pub record TakesLine (old : Framing) (line : List ℕ) (new : Framing) : Type 0 where
   pub within : length old.open_bytes + length line ≤ old.limit
   pub waiting : new.waiting ≡
@@ -23,7 +23,7 @@ pub record TakesLine (old : Framing) (line : List ℕ) (new : Framing) : Type 0 
   pub limit : new.limit ≡ old.limit
   pub fault : new.fault ≡ old.fault
 
--- the piece was taken: its records wait behind the others
+-- the piece was taken: its records wait after the others
 pub record TakesPiece (old : Framing) (piece : List ℕ) (new : Framing) : Type 0 where
   pub waiting : new.waiting ≡ old.waiting ++ (cut_behind old.open_bytes piece).whole
   pub open_bytes : new.open_bytes ≡ (cut_behind old.open_bytes piece).rest
@@ -36,9 +36,9 @@ pub record IsTooLong (old : Framing) (piece : List ℕ) (new : Framing) : Type 0
   pub waiting : new.waiting ≡ old.waiting ++ take_while (fits old.limit) (cut_behind old.open_bytes piece).whole
   pub passed : all_fit old.limit (cut_behind old.open_bytes piece) ≡ false
 
--- whole lines in which no dollar sign stands
+-- whole lines without a dollar sign
 pub record ArePlain (lines : List ℕ) : Type 0 where
-  pub ended : has_last line_feed lines ≡ true
+  pub ended : ends_with_byte line_feed lines ≡ true
   pub plain : list_any (λ b. b == 36) lines ≡ false
 
 -- what waits and what is still to come are together what was to come at first

@@ -4,10 +4,10 @@ ghost use Rattle.cip_text.specs.Bodies.{body_contents};
 ghost use Rattle.cip_text.specs.Slices.{texts};
 ghost use Rattle.cip_v3000.specs.Grammar.{molecule_of};
 ghost use Rattle.cip_v3000.specs.Tables.{seen_table};
-ghost use Rattle.cip_collections.specs.Collections.{groups_of, answer_by, IsAnswer};
+ghost use Rattle.cip_stereogroups.specs.Collections.{groups_of, answer_by, IsAnswer};
 
-use cip_collections::{GroupRefusal, GroupsAnswer, groups_of};
 use cip_mol::{Molecule, ReadRefusal};
+use cip_stereogroups::{GroupRefusal, GroupsAnswer, groups_of};
 use cip_text::body_contents;
 use cip_v3000::{Table, read_table};
 use std::alloc::{AllocError, Global};
@@ -26,7 +26,8 @@ pub fn read_groups(
     lines_answer(alloc, &lines)
 }
 
-// Of the lines of a record, which stay with the caller.
+// Of the lines of a record.
+// proof: the caller keeps the lines
 fn lines_answer(alloc: Global, lines: &[&[u8]]) -> Result<GroupsAnswer, AllocError>
     requires few { length lines.now < 2 ^ 32 - 1 }
     requires read { IsOk (molecule_of (texts lines.now)) }
@@ -35,7 +36,7 @@ fn lines_answer(alloc: Global, lines: &[&[u8]]) -> Result<GroupsAnswer, AllocErr
     match read_table(alloc, lines) {
         Ok(table) => {
             let answer = table_answer(alloc, &table);
-            // given back by a call of its own, which is quicker to prove than an end that owns it
+            // proof: dropped by a call, which is quicker to prove than an exit that owns it
             drop(table);
             answer
         }
@@ -45,7 +46,7 @@ fn lines_answer(alloc: Global, lines: &[&[u8]]) -> Result<GroupsAnswer, AllocErr
 }
 
 fn table_answer(alloc: Global, table: &Table<'_>) -> Result<GroupsAnswer, AllocError>
-    requires few { length table.now.indices ≤ 1000000000 }
+    requires few { length table.now.indices.items ≤ 1000000000 }
     ensures { IfOk result (λ answer. answer ≡ answer_by (groups_of (seen_table table.now))) }
 {
     match groups_of(alloc, table) {

@@ -3,7 +3,7 @@ ghost use Rattle.std.specs.Prelude.{◌≡◌, IfOk};
 ghost use Rattle.cip_digraph.specs.graph.DrawnGraph.{graph_of};
 
 use crate::edges::edges_of;
-use crate::surroundings::{hydrogen_count, surroundings_of};
+use crate::valence_state::{hydrogen_count, surroundings_of};
 use crate::vertices::vertices_of;
 use cip_digraph::Graph;
 use cip_mol::Molecule;

@@ -2,18 +2,18 @@
 ghost use Rattle.std.specs.Prelude.{◌≡◌, ◌<◌, ◌≤◌, ◌+◌, ◌^◌, ◌++◌, [], IfOk, length, map, replicate, vec_capacity, vec_len};
 ghost use Rattle.cip_digraph.specs.graph.DrawnGraph.{bond_edge, hydrogen_edges};
 ghost use Rattle.cip_hydro.specs.Carriers.{carriers_from};
-ghost use Rattle.cip_hydro.specs.Surroundings.{counted_by, surroundings_of};
+ghost use Rattle.cip_hydro.specs.ValenceState.{counted_by, surroundings_of};
 
-use crate::surroundings::Surroundings;
+use crate::valence_state::ValenceState;
 use cip_digraph::Edge;
 use cip_mol::{Bond, Molecule};
 use std::alloc::{AllocError, Global};
 
-/// The bonds of a molecule, and those of so many hydrogens, which these atoms carry.
+/// The bonds of a molecule, and those of n hydrogens, which these atoms carry.
 pub fn edges_of(
     alloc: Global,
     molecule: &Molecule,
-    surroundings: &[Surroundings],
+    surroundings: &[ValenceState],
     further: usize,
 ) -> Result<Vec<Edge>, AllocError>
     requires around { surroundings.now ≡ surroundings_of molecule.now }
@@ -33,7 +33,7 @@ pub fn edges_of(
 }
 
 // There is room for the bonds.
-fn push_bonds(edges: &mut Vec<Edge>, molecule: &Molecule, surroundings: &[Surroundings])
+fn push_bonds(edges: &mut Vec<Edge>, molecule: &Molecule, surroundings: &[ValenceState])
     requires around { surroundings.now ≡ surroundings_of molecule.now }
     requires none { edges.old.items ≡ [] }
     requires empty { vec_len edges.old ≡ 0 }
@@ -47,7 +47,7 @@ fn push_bonds(edges: &mut Vec<Edge>, molecule: &Molecule, surroundings: &[Surrou
     }
 }
 
-fn bond_edge(bond: &Bond, surroundings: &[Surroundings]) -> Edge
+fn bond_edge(bond: &Bond, surroundings: &[ValenceState]) -> Edge
     requires a { bond.now.a < length surroundings.now }
     requires b { bond.now.b < length surroundings.now }
     ensures { result
@@ -66,18 +66,18 @@ fn bond_edge(bond: &Bond, surroundings: &[Surroundings]) -> Edge
     }
 }
 
-fn is_counted(bond: &Bond, surroundings: &[Surroundings]) -> bool
+fn is_counted(bond: &Bond, surroundings: &[ValenceState]) -> bool
     requires a { bond.now.a < length surroundings.now }
     requires b { bond.now.b < length surroundings.now }
     ensures { result ≡ counted_by surroundings.now bond.now }
 {
-    let neglected = surroundings[bond.a as usize].neglects
-        || surroundings[bond.b as usize].neglects;
+    let neglected = surroundings[bond.a as usize].is_neglected
+        || surroundings[bond.b as usize].is_neglected;
     bond.order >= 2 && !neglected
 }
 
 // Adds the bonds of hydrogens, of which the first has this number. There is room for them.
-fn push_hydrogens(edges: &mut Vec<Edge>, first: u32, surroundings: &[Surroundings])
+fn push_hydrogens(edges: &mut Vec<Edge>, first: u32, surroundings: &[ValenceState])
     requires atoms { length surroundings.now < 2 ^ 32 }
     requires few { first + length (carriers_from 0 surroundings.now) < 2 ^ 32 }
     requires room { vec_len edges.old + length (carriers_from 0 surroundings.now) ≤ vec_capacity edges.old }
@@ -90,7 +90,7 @@ fn push_hydrogens(edges: &mut Vec<Edge>, first: u32, surroundings: &[Surrounding
     }
 }
 
-// Adds the bonds of so many hydrogens of an atom.
+// Adds the bonds of n hydrogens of an atom.
 fn push_carried(edges: &mut Vec<Edge>, first: u32, carrier: u32, times: u32)
     requires few { first + times < 2 ^ 32 }
     requires room { vec_len edges.old + times ≤ vec_capacity edges.old }

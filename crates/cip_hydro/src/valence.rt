@@ -64,7 +64,7 @@ pub fn has_lone_pair(atom: &Atom, orders: u32, hydrogens: u32) -> bool
     leaves_pair(u32::from(outer), atom.charge, used)
 }
 
-// Whether two of the outer electrons are left, less the charge, when so many are used.
+// Whether two of the outer electrons are left, less the charge, when n are used.
 fn leaves_pair(outer: u32, charge: i8, used: u32) -> bool
     requires outer { outer ≤ 8 }
     requires used { used ≤ 100000 }
@@ -80,7 +80,7 @@ fn leaves_pair(outer: u32, charge: i8, used: u32) -> bool
 
 /// Whether the multiple bonds of an element are neglected, by its number of bonds with those to hydrogens, and whether
 /// it has a lone pair.
-pub fn neglects(z: u8, edges: u32, lone: bool) -> bool
+pub fn is_neglected(z: u8, edges: u32, lone: bool) -> bool
     requires element { IsElement z }
     requires few { edges ≤ 98304 }
     ensures { result ≡ neglects z edges lone }

@@ -2,9 +2,9 @@
 ghost use Rattle.std.specs.Prelude.{◌≡◌, ◌<◌, ◌≤◌, ◌+◌, ◌^◌, ◌++◌, IfOk, length, map, replicate, vec_capacity, vec_len};
 ghost use Rattle.std.specs.List.{range_with_len};
 ghost use Rattle.cip_digraph.specs.graph.DrawnGraph.{atom_vertex, hydrogen};
-ghost use Rattle.cip_hydro.specs.Surroundings.{surroundings_of};
+ghost use Rattle.cip_hydro.specs.ValenceState.{surroundings_of};
 
-use crate::surroundings::Surroundings;
+use crate::valence_state::ValenceState;
 use cip_digraph::Vertex;
 use cip_mol::{Atom, Molecule};
 use std::alloc::{AllocError, Global};
@@ -17,11 +17,11 @@ const HYDROGEN: Vertex = Vertex {
     lone: false,
 };
 
-/// The atoms of a molecule, and so many hydrogens.
+/// The atoms of a molecule, and n hydrogens.
 pub fn vertices_of(
     alloc: Global,
     molecule: &Molecule,
-    surroundings: &[Surroundings],
+    surroundings: &[ValenceState],
     further: usize,
 ) -> Result<Vec<Vertex>, AllocError>
     requires around { surroundings.now ≡ surroundings_of molecule.now }
@@ -53,7 +53,7 @@ fn atom_vertex(atom: &Atom, lone: bool) -> Vertex
     }
 }
 
-// There is room for so many.
+// There is room for n.
 fn push_hydrogens(vertices: &mut Vec<Vertex>, count: usize)
     requires { vec_len vertices.old + count ≤ vec_capacity vertices.old }
     ensures { vertices.new.items ≡ vertices.old.items ++ replicate count hydrogen }

@@ -5,7 +5,7 @@ use Rattle.std.specs.Prelude.{ℕ, ◌+◌, ◌-◌, ◌^◌, ◌≤◌, min, Re
 abbrev pub one_more : ℕ → ℕ
 one_more count = min (count + 1) (2 ^ 64 - 1)
 
--- the count rose between the two, or stands at the end of 64 bits
+-- the count rose between the two, or is at the end of 64 bits
 abbrev pub Rose : ℕ → ℕ → Type 0
 Rose before now = one_more before ≤ now
 

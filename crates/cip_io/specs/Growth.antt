@@ -1,4 +1,4 @@
--- How the bytes that a sink took grow, where it tells them. Own.
+-- How the bytes that a sink took grow, where it knows them. Own.
 use Rattle.std.specs.Prelude.{◌≡◌, ◌++◌, ℕ, ◌≤◌, List, length, take}
 use Rattle.std.specs.declared.option.Option.{Option}
 use Rattle.std.specs.Io.KnownBytes.{Appends}

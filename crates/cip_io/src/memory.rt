@@ -101,7 +101,7 @@ impl Source for MemSource {
     }
 }
 
-// Copies the front of some bytes, at most so many of them, and says how many.
+// Copies the front of some bytes, at most n of them, and says how many.
 fn copy_front(bytes: &[u8], most: usize, into: &mut [u8]) -> usize
     ensures count { result ≡ min (min (length bytes.now) most) (length into.old) }
     ensures copied { take result into.new ≡ take result bytes.now }

@@ -12,7 +12,7 @@ pub struct Failed;
 
 /// Gives bytes, piece by piece.
 pub trait Source {
-    /// The bytes still to come; none where the source doesn't tell them.
+    /// The bytes still to come; none where the source doesn't know them.
     ghost left: { Self → Option (List ℕ) };
 
     /// How many calls failed so far. It never falls, and stays at `u64::MAX` once it is there.
@@ -27,7 +27,7 @@ pub trait Source {
 
 /// Takes bytes, piece by piece.
 pub trait Sink {
-    /// The bytes taken so far; none where the sink doesn't tell them.
+    /// The bytes taken so far; none where the sink doesn't know them.
     ghost taken: { Self → Option (List ℕ) };
 
     /// How many calls failed so far. It never falls, and stays at `u64::MAX` once it is there.

@@ -4,8 +4,8 @@ use Rattle.cip_text.specs.Kinds.{is_blank}
 use Rattle.cip_item.specs.Kinds.{is_heading, is_label_heading}
 use Rattle.cip_text.specs.Bodies.{body_contents}
 use Rattle.cip_item.specs.Parts.{part_of, next_part, first_part}
-use Rattle.cip_item.specs.declared.part.Part.{Part}
-use Rattle.cip_item.specs.declared.part.Part.TheVariants.{Molecule, Between, OtherItem, LabelItem}
+use Rattle.cip_item.specs.declared.sections.Part.{Part}
+use Rattle.cip_item.specs.declared.sections.Part.TheVariants.{Molecule, Between, OtherItem, LabelItem}
 use Rattle.cip_item.specs.declared.items.Item.{Item}
 
 -- whether a line begins an item, by what the lines before it left open
@@ -15,7 +15,7 @@ begins_item Between content = is_label_heading content || is_heading content
 begins_item OtherItem content = is_label_heading content
 begins_item LabelItem content = is_label_heading content
 
--- The number behind the last line of an item, of which the lines from this number on are left: it goes on through
+-- The number after the last line of an item, of which the lines from this number on are left: it goes on through
 -- its first blank line, up to the heading of a label item, or to the end.
 abbrev pub end_of_item : ℕ → List (List ℕ) → ℕ
 end_of_item number [] = number

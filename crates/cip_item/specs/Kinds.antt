@@ -3,7 +3,7 @@ use Rattle.std.specs.Prelude.{ℕ, List, [], ◌∷◌, Bool, false, ◌==◌, �
 use Rattle.std.specs.declared.option.Option.{Option}
 use Rattle.std.specs.List.{list_any}
 use Rattle.std.specs.Str.{bytes_eq}
-use Rattle.cip_text.specs.Lines.{begins_with}
+use Rattle.cip_text.specs.Lines.{starts_with_byte}
 
 abbrev pub is_opening : ℕ → Bool
 is_opening b = b == 60
@@ -12,9 +12,9 @@ abbrev pub closes_behind : List ℕ → Option ℕ → Bool
 closes_behind content None = false
 closes_behind content (Some place) = list_any (λ b. b == 62) (drop place content)
 
--- the heading of a data item: it begins with `>`, and holds `<` and behind it `>`
+-- the heading of a data item: it begins with `>`, and holds `<` and after it `>`
 abbrev pub is_heading : List ℕ → Bool
-is_heading content = begins_with 62 content && closes_behind content (position is_opening content)
+is_heading content = starts_with_byte 62 content && closes_behind content (position is_opening content)
 
 abbrev pub label_name : List ℕ
 label_name = codes "<CIP_LABELS>"
@@ -25,4 +25,4 @@ holds_label_name (b ∷ bs) = bytes_eq (take 12 (b ∷ bs)) label_name || holds_
 
 -- the heading of a label item: it begins with `>` and holds `<CIP_LABELS>`
 abbrev pub is_label_heading : List ℕ → Bool
-is_label_heading content = begins_with 62 content && holds_label_name content
+is_label_heading content = starts_with_byte 62 content && holds_label_name content

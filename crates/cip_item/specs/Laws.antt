@@ -2,7 +2,7 @@
 use Rattle.std.specs.Prelude.{◌≡◌, ◌++◌, ℕ, List, [], ◌∷◌, ◌+◌, Bool, true, false, ◌&&◌, not, ◌==◌, nat_le, nat_lt, if◌then◌else◌}
 use Rattle.std.specs.List.{concat, list_all, list_any, take_while}
 use Rattle.cip_text.specs.Kinds.{is_blank, is_molecule_end}
-use Rattle.cip_text.specs.Lines.{line_feed, carriage_return, has_last, lines_of}
+use Rattle.cip_text.specs.Lines.{line_feed, carriage_return, ends_with_byte, lines_of}
 use Rattle.cip_item.specs.Items.{items_of}
 use Rattle.cip_text.specs.Bodies.{body_lines}
 use Rattle.cip_item.specs.Parts.{without_label_items, has_label_item}
@@ -51,7 +51,7 @@ OthersStay = (bytes : List ℕ) → has_label_item bytes ≡ false → without_l
 -- where the record has no LF, all its bytes are that line
 abbrev pub LineEndsAreOfTheFirstLine : Type 0
 LineEndsAreOfTheFirstLine = (bytes : List ℕ) →
-    has_returns false bytes ≡ has_last carriage_return (take_while (λ b. not (b == line_feed)) bytes)
+    has_returns false bytes ≡ ends_with_byte carriage_return (take_while (λ b. not (b == line_feed)) bytes)
 
 -- the last of some lines isn't blank
 abbrev pub ends_filled : List (List ℕ) → Bool
@@ -59,18 +59,18 @@ ends_filled [] = false
 ends_filled (content ∷ []) = not (is_blank content)
 ends_filled (content ∷ next ∷ contents) = ends_filled (next ∷ contents)
 
--- the lines behind the first `M  END` line
+-- the lines after the first `M  END` line
 abbrev pub behind_molecule : List (List ℕ) → List (List ℕ)
 behind_molecule [] = []
 behind_molecule (content ∷ contents) = if is_molecule_end content then contents else behind_molecule contents
 
--- an item has an empty line before it where the last line behind the molecule isn't blank: there another item would
+-- an item has an empty line before it where the last line after the molecule isn't blank: there another item would
 -- go on
 abbrev pub GapsFollowOtherItems : Type 0
 GapsFollowOtherItems = (contents : List (List ℕ)) →
     needs_gap false false contents ≡ ends_filled (behind_molecule contents)
 
--- a record is its body with its closing behind it, and with an item it begins with its body
+-- a record is its body with its closing after it, and with an item it begins with its body
 pub record BodiesStay : Type 0 where
   pub parts : (bytes : List ℕ) → body bytes ++ closing bytes ≡ bytes
   pub front : (bytes : List ℕ) (values : List (List ℕ))

@@ -5,12 +5,12 @@ use Rattle.cip_text.specs.Lines.{lines_of, content_of}
 use Rattle.cip_text.specs.Bodies.{body_lines, body_contents, closing}
 use Rattle.cip_text.specs.Kinds.{is_blank, is_molecule_end}
 use Rattle.cip_item.specs.Kinds.{is_heading, is_label_heading}
-use Rattle.cip_item.specs.declared.part.Part.{Part}
-use Rattle.cip_item.specs.declared.part.Part.TheVariants.{Molecule, Between, OtherItem, LabelItem}
+use Rattle.cip_item.specs.declared.sections.Part.{Part}
+use Rattle.cip_item.specs.declared.sections.Part.TheVariants.{Molecule, Between, OtherItem, LabelItem}
 
 -- the part that a line belongs to, by what the lines before it left open
 
--- Items begin behind the first `M  END` line, or at once where there is none.
+-- Items begin after the first `M  END` line, or at once where there is none.
 abbrev pub first_part : List (List ℕ) → Part
 first_part contents = if list_any is_molecule_end contents then Molecule else Between
 

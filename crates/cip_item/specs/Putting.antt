@@ -2,14 +2,14 @@
 -- line ends that it needs, are own.
 use Rattle.std.specs.Prelude.{ℕ, List, [], ◌∷◌, ◌++◌, Bool, true, false, not, ◌==◌, ◌&&◌, codes, if◌then◌else◌}
 use Rattle.std.specs.List.{flat_map, list_any}
-use Rattle.cip_text.specs.Lines.{line_feed, carriage_return, has_last, lf, crlf}
+use Rattle.cip_text.specs.Lines.{line_feed, carriage_return, ends_with_byte, lf, crlf}
 use Rattle.cip_text.specs.Kinds.{is_blank, is_terminator}
 use Rattle.cip_text.specs.Kinds.{is_molecule_end}
 use Rattle.cip_text.specs.Bodies.{body_contents}
 use Rattle.cip_text.specs.Bodies.{body, closing}
 use Rattle.cip_item.specs.Kinds.{label_name}
 
--- the first LF stands right behind a CR; where there is none, the last byte is a CR
+-- the first LF is right after a CR; where there is none, the last byte is a CR
 abbrev pub has_returns : Bool → List ℕ → Bool
 has_returns behind_return [] = behind_return
 has_returns behind_return (b ∷ bs) = if b == line_feed then behind_return else has_returns (b == carriage_return) bs
@@ -22,8 +22,8 @@ line_end_for bytes = if has_returns false bytes then crlf else lf
 abbrev pub missing_end : List ℕ → List ℕ → List ℕ
 missing_end end [] = []
 missing_end end (b ∷ bs) =
-    if has_last line_feed (b ∷ bs) then []
-    else if has_last carriage_return (b ∷ bs) then crlf
+    if ends_with_byte line_feed (b ∷ bs) then []
+    else if ends_with_byte carriage_return (b ∷ bs) then crlf
     else end
 
 -- lines follow the first `M  END` line, and the last of them isn't blank

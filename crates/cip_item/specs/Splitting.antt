@@ -2,8 +2,8 @@
 use Rattle.std.specs.Prelude.{ℕ, List, [], ◌∷◌, ◌++◌, ◌+◌, Bool, true, false, not, ◌&&◌, length, if◌then◌else◌}
 use Rattle.cip_item.specs.Parts.{is_label_item}
 use Rattle.cip_item.specs.Items.{end_of_item, items_from}
-use Rattle.cip_item.specs.declared.part.Part.{Part}
-use Rattle.cip_item.specs.declared.part.Part.TheVariants.{Molecule, Between, OtherItem, LabelItem}
+use Rattle.cip_item.specs.declared.sections.Part.{Part}
+use Rattle.cip_item.specs.declared.sections.Part.TheVariants.{Molecule, Between, OtherItem, LabelItem}
 use Rattle.cip_item.specs.declared.items.Item.{Item}
 use Rattle.cip_item.specs.declared.items.Splitter.{Splitter}
 

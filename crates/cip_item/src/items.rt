@@ -1,14 +1,14 @@
-// Where the items of a record stand.
+// The places of a record's items.
 ghost use Rattle.std.specs.Prelude.{◌≡◌, ◌≤◌, ◌<◌, ◌+◌, ◌-◌, ◌^◌, ◌++◌, ◌∷◌, List, ℕ, length, IfOk, OnOk};
 ghost use Rattle.cip_text.specs.Slices.{texts};
 ghost use Rattle.cip_item.specs.Items.{items_among, items_of};
 ghost use Rattle.cip_item.specs.Splitting.{items_with, closed_before, begun};
 
-use crate::part::Part;
-use cip_text::{Listing, RecordLines};
+use crate::sections::Part;
+use cip_text::{List32, RecordLines};
 use std::alloc::{AllocError, Global};
 
-/// An item by the numbers of its first line and of the line behind its last one, counted from 0.
+/// An item by the numbers of its first line and of the line after its last one, counted from 0.
 #[derive(Clone, Copy)]
 pub struct Item {
     pub first: u32,
@@ -17,7 +17,7 @@ pub struct Item {
 }
 
 /// The items of a record, in order.
-pub type Items = Listing<Item>;
+pub type Items = List32<Item>;
 
 // The items that are closed, what the lines so far left open, where the open item began, and how many lines there were.
 #[derive(Drop)]
@@ -45,7 +45,7 @@ fn items_among(alloc: Global, contents: &[&[u8]]) -> Result<Items, AllocError>
     ensures { IfOk result (λ items. items ≡ items_among (texts contents.now)) }
 {
     let mut splitter = Splitter {
-        items: Listing::new(alloc),
+        items: List32::new(alloc),
         part: Part::before(contents),
         first: 0,
         number: 0,
@@ -56,7 +56,7 @@ fn items_among(alloc: Global, contents: &[&[u8]]) -> Result<Items, AllocError>
     }
 }
 
-// Takes the lines to come, behind which nothing is open.
+// Takes the lines to come, after which nothing is open.
 fn take_lines(splitter: &mut Splitter, contents: &[&[u8]]) -> Result<(), AllocError>
     requires room { splitter.old.number + length contents.now < 2 ^ 32 }
     requires begun { begun splitter.old ≤ splitter.old.number }

@@ -9,13 +9,13 @@ use Rattle.cip_digraph.specs.units.Descriptors.{reason_needed}
 use Rattle.cip_digraph.specs.units.Ends.{End}
 use Rattle.cip_digraph.specs.units.Ranked as digraphs
 use Rattle.cip_digraph.specs.units.Ranked.{Root, has_tie, later_reason, ranks, turned_ranks}
-use Rattle.cip_digraph.specs.declared.turns.Turns.{Turns}
+use Rattle.cip_digraph.specs.declared.parity.Parity.{Parity}
 use Rattle.cip_digraph.specs.Lettered.{letter_in}
 use Rattle.cip_digraph.specs.TurnsOf.{places_turns, together}
-use Rattle.cip_label.specs.declared.reasons.Reason.{Reason}
-use Rattle.cip_label.specs.declared.roots.Ranked.{Ranked}
-use Rattle.cip_label.specs.declared.roots.Ranked.TheVariants.{Ordered, Tie, Over}
-use Rattle.cip_label.specs.Settings.{Setting, root_in, cost_in}
+use Rattle.cip_label.specs.declared.reason.Reason.{Reason}
+use Rattle.cip_label.specs.declared.ranked_root.Ranked.{Ranked}
+use Rattle.cip_label.specs.declared.ranked_root.Ranked.TheVariants.{Ordered, Tie, Over}
+use Rattle.cip_label.specs.Settings.{LabelContext, root_in, cost_in}
 
 -- the code's reason as the definitions' one
 abbrev pub as_reason : Reason → digraphs.Reason
@@ -28,15 +28,15 @@ ranked_by root =
     elim (has_tie root) as (λ _. Ranked) [ true ↦ Tie | false ↦ ordered ]
 
 -- the bound goes before a tie
-abbrev pub ranked_root : Setting → ℕ → End → Ranked
+abbrev pub ranked_root : LabelContext → ℕ → End → Ranked
 ranked_root setting bound end =
     let within = ranked_by (root_in setting end) in
     elim (nat_lt bound (cost_in setting end)) as (λ _. Ranked) [ true ↦ Over | false ↦ within ]
 
-abbrev pub labelled : Site → Sense → Turns → digraphs.Reason → List ℕ → Outcome
-labelled site sense turns reason order =
+abbrev pub labelled : Site → Sense → Parity → digraphs.Reason → List ℕ → Outcome
+labelled site sense parities reason order =
     outcomes.Label (record {
-      letter = letter_in site sense turns;
+      letter = letter_in site sense parities;
       rule = reason.rule;
       sphere = reason.sphere;
       order = order;

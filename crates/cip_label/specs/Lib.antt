@@ -2,5 +2,5 @@ pub mod Fitting
 pub mod Labelling
 pub mod Pairwise
 pub mod Settings
-pub mod Standing
+pub mod BranchComparison
 pub mod Steps

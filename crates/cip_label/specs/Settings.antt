@@ -19,30 +19,30 @@ use Rattle.cip_digraph.specs.units.Ends.{End}
 use Rattle.cip_digraph.specs.units.Ranked.{Root}
 use Rattle.cip_digraph.specs.units.Units.{sites_of}
 
-pub record Setting : Type 0 where
+pub record LabelContext : Type 0 where
   pub rules : Rules
   pub graph : Graph
   pub positions : List (List ℕ)
   pub units : List units.Unit
 
-abbrev pub setting_of : Rules → Graph → List (List ℕ) → List units.Unit → Setting
+abbrev pub setting_of : Rules → Graph → List (List ℕ) → List units.Unit → LabelContext
 setting_of rules graph positions all =
     record { rules = rules; graph = graph; positions = positions; units = all }
 
 -- of a drawing
-abbrev pub setting_in : Rules → Drawing → Setting
+abbrev pub setting_in : Rules → Drawing → LabelContext
 setting_in rules drawing = setting_of rules (graph_of drawing) (positions_of (graph_of drawing)) (units_in drawing)
 
--- units stand at the sites of a graph
+-- units are at the sites of a graph
 abbrev pub StandAtSites : Graph → List (List ℕ) → List units.Unit → Type 0
 StandAtSites graph positions all = map (λ unit. unit.site) all ≡ sites_of graph positions
 
--- the graph is sound, and the units stand at its sites
-pub record IsProper (setting : Setting) : Type 0 where
+-- the graph is sound, and the units are at its sites
+pub record IsProper (setting : LabelContext) : Type 0 where
   pub sound : IsSound setting.graph
   pub sites : StandAtSites setting.graph setting.positions setting.units
 
-module _ (setting : Setting) where
+module _ (setting : LabelContext) where
   -- the whole digraph of a root with its descriptors
   abbrev pub seen_in : ℕ → Seen Node
   seen_in root = early.seen_at setting.rules setting.graph setting.positions setting.units root

@@ -1,19 +1,24 @@
-//! Labels of stereogenic units, from how the branches of their digraphs stand.
+//! The outcome of a unit: rank order, reason and descriptor.
+//!
+//! `Labeller::label` ranks the ligands at each end of a unit by a `RootRanker`, and returns the label with its rule,
+//! sphere and ligand order, or `Tie` or `Over`. `LabelContext` has what the units of a record share: graph, positions,
+//! units, and the wording of Rule 1b. `RootRanker` is the contract of `cip_ranker`, so this crate and those above it
+//! are proved over any ranker. Uses the definitions of `cip_digraph`, and smallvec.
 #![tactic(auto)]
 
-mod digraphs;
+mod context;
+mod decisions;
+mod insert;
 mod labeller;
-mod labels;
-mod pairwise;
-mod places;
-mod putting;
-mod reasons;
-mod roots;
-mod setting;
-mod standing;
+mod ligand_order;
+mod outcome;
+mod rank_order;
+mod ranked_root;
+mod reason;
+mod root_ranker;
 
-pub use digraphs::{Digraphs, Ranking};
+pub use context::LabelContext;
 pub use labeller::Labeller;
-pub use roots::Ranked;
-pub use setting::Setting;
-pub use standing::reversed;
+pub use ligand_order::reversed;
+pub use ranked_root::Ranked;
+pub use root_ranker::{Ranking, RootRanker};

@@ -1,4 +1,4 @@
--- Which atoms lie in alternating rings: those whose double bond can stand at several places. IUPAC 2013, P-92.1.4; own.
+-- Which atoms lie in alternating rings: those whose double bond can be at several places. IUPAC 2013, P-92.1.4; own.
 use Rattle.std.specs.Prelude.{◌≡◌, ◌↔◌, ◌<◌, ℕ, List, true, length}
 use Rattle.cip_digraph.specs.graph.Graph.{Graph}
 use Rattle.cip_digraph.specs.graph.SoundGraphs.{IsSound}

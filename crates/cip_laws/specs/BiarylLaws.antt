@@ -4,7 +4,7 @@ use Rattle.cip_digraph.specs.declared.graph.Edge.{Edge}
 use Rattle.cip_digraph.specs.graph.Graph.{Graph, edges_at, other_end}
 use Rattle.cip_digraph.specs.graph.SoundGraphs.{IsSound}
 use Rattle.cip_digraph.specs.rings.Positions.{is_delocalised, positions_of}
-use Rattle.cip_image.specs.Images.{Among}
+use Rattle.cip_symmetry.specs.Images.{Among}
 use Rattle.cip_unit.specs.Sites.{LeadsToAtoms}
 use Rattle.cip_axis.specs.Biaryls.{is_biaryl_end}
 use Rattle.cip_ring.specs.AnyRings.{is_in_ring}

@@ -5,21 +5,21 @@ use Rattle.cip_mol.specs.Drawing.{Drawing}
 use Rattle.cip_digraph.specs.graph.Graph.{Graph}
 use Rattle.cip_digraph.specs.graph.SoundGraphs.{IsSound}
 use Rattle.cip_digraph.specs.units.Allenes.{doubles, is_allene_middle, is_axis_end}
-use Rattle.cip_image.specs.Images.{Among}
+use Rattle.cip_symmetry.specs.Images.{Among}
 use Rattle.cip_axis.specs.Cumulenes.{any_bond, last_atom, chains, is_cumulene}
 use Rattle.cip_axis.specs.Further.{cumulene_unit, cumulenes_of}
 use Rattle.cip_axis.specs.declared.site.FurtherUnit.{FurtherUnit}
 use Rattle.cip_ring.specs.AnyRings.{is_in_ring}
 
 -- an inner atom of a chain, as the middle of an allene: its two bonds are double, one to the atom before it and the
--- other to the one behind it
+-- other to the one after it
 pub record IsInner (graph : Graph) (before at behind : ℕ) : Type 0 where
   pub middle : is_allene_middle graph at ≡ true
   pub back : Among before (doubles graph at)
   pub on : Among behind (doubles graph at)
   pub differ : before ≢ behind
 
--- of the atoms behind the first of a chain each is an inner one but the last
+-- of the atoms after the first of a chain each is an inner one but the last
 abbrev pub AreInner : Graph → ℕ → ℕ → List ℕ → Type 0
 AreInner graph before at [] = ⊤
 AreInner graph before at (behind ∷ more) = IsInner graph before at behind × AreInner graph at behind more

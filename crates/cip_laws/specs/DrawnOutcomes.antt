@@ -35,7 +35,7 @@ abbrev pub mark_in : Rules → Drawing → List ℕ → Option Descriptor
 mark_in rules drawing path =
     auxiliary rules (graph_of drawing) (positions_of (graph_of drawing)) (units_in drawing) path
 
--- the whole digraph of a vertex, with the descriptors that stand in it
+-- the whole digraph of a vertex, with the descriptors that are in it
 abbrev pub digraph_in : Rules → Drawing → ℕ → Seen Node
 digraph_in rules drawing root =
     seen_from rules (graph_of drawing) (positions_of (graph_of drawing)) (root ∷ []) (mark_in rules drawing)

@@ -5,7 +5,7 @@ use Rattle.cip_elem.specs.declared.masses.Masses.{Masses}
 use Rattle.cip_elem.specs.declared.masses.TheConstants.{MASSES}
 use Rattle.cip_elem.specs.declared.symbols.TheConstants.{SYMBOLS}
 
--- all symbols in order, a space behind each
+-- all symbols in order, a space after each
 abbrev symbols : List ℕ
 symbols = flat_map (λ symbol. symbol.now ++ codes " ") SYMBOLS
 

@@ -7,7 +7,7 @@ use Rattle.cip_mol.specs.Reflection.{reflected}
 use Rattle.cip_digraph.specs.graph.Renumbering.{IsRenumbering}
 use Rattle.cip_digraph.specs.rules.Exchange.{reflected_geometry}
 use Rattle.cip_laws.specs.DrawnOutcomes.{costs_in}
-use Rattle.cip_image.specs.Images.{Among, AreForward, AreCrossed, IsImageOutcome, CostsGo}
+use Rattle.cip_symmetry.specs.Images.{Among, AreForward, AreCrossed, IsImageOutcome, CostsGo}
 use Rattle.cip_laws.specs.RenumberingLaw.{on_vertices}
 use Rattle.cip_laws.specs.ReflectionLaw.{IsMirrorOutcome}
 use Rattle.cip_axis.specs.Further.{further_in}

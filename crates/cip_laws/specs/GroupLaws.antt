@@ -1,14 +1,14 @@
 -- What the groups of a record are, by its group lines. Own, after CTfile Formats, V3000.
 use Rattle.std.specs.Prelude.{◌≡◌, ℕ, List, [], ◌∷◌, ◌++◌, ◌&&◌, Bool, true, false, not, nat_eq, Ok, Err}
 use Rattle.std.specs.List.{list_any}
-use Rattle.cip_v3000.specs.JoinedLines.{JoinedLine}
+use Rattle.cip_v3000.specs.JoinedLines.{LogicalLine}
 use Rattle.cip_v3000.specs.Tables.{Table}
-use Rattle.cip_collections.specs.declared.faults.GroupCause.TheVariants.{Repeated}
-use Rattle.cip_collections.specs.declared.groups.Group.{Group}
-use Rattle.cip_collections.specs.declared.kinds.GroupKind.{GroupKind}
-use Rattle.cip_collections.specs.Collections.{groups_of}
-use Rattle.cip_collections.specs.Grouping.{kinds_of}
-use Rattle.cip_collections.specs.Names.{same_kind}
+use Rattle.cip_stereogroups.specs.declared.faults.GroupCause.TheVariants.{Repeated}
+use Rattle.cip_stereogroups.specs.declared.groups.Group.{Group}
+use Rattle.cip_stereogroups.specs.declared.kinds.GroupKind.{GroupKind}
+use Rattle.cip_stereogroups.specs.Collections.{groups_of}
+use Rattle.cip_stereogroups.specs.Grouping.{kinds_of}
+use Rattle.cip_stereogroups.specs.Names.{same_kind}
 use Rattle.cip_laws.specs.GroupLines.{collected, group_lines, lines_of, atoms_in, repeats}
 
 -- some group of this name is there
@@ -36,16 +36,16 @@ GroupsAreOfLines = (table : Table) (groups : List Group) → groups_of table ≡
     → AreOfLines (lines_of table) groups
 
 -- among the group lines up to the one of this number an atom is named twice, and among those before it none
-pub record RepeatsAt (indices before : List ℕ) (lines : List JoinedLine) (number : ℕ) : Type 0 where
-  pub front : List JoinedLine
-  pub line : JoinedLine
-  pub behind : List JoinedLine
+pub record RepeatsAt (indices before : List ℕ) (lines : List LogicalLine) (number : ℕ) : Type 0 where
+  pub front : List LogicalLine
+  pub line : LogicalLine
+  pub behind : List LogicalLine
   pub parts : lines ≡ front ++ line ∷ behind
   pub at : line.number ≡ number
   pub free : repeats before (atoms_in (group_lines indices front)) ≡ false
   pub named : repeats before (atoms_in (group_lines indices (front ++ line ∷ []))) ≡ true
 
--- an atom that is named twice is told at the first line up to which there is one
+-- an atom that is named twice is reported at the first line up to which there is one
 abbrev pub RepeatedIsNamedTwice : Type 0
 RepeatedIsNamedTwice = (table : Table) (number : ℕ) →
     groups_of table ≡ Err (record { line = number; cause = Repeated }) →

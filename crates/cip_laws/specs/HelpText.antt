@@ -2,7 +2,7 @@
 use Rattle.std.specs.Prelude.{◌≡◌, ℕ, List, [], ◌∷◌, ◌++◌, codes}
 use Rattle.cip_words.specs.Help.{help}
 
--- a line of the help text, and those behind it
+-- a line of the help text, and those after it
 abbrev line : List ℕ → List ℕ → List ℕ
 line text behind = text ++ 10 ∷ behind
 

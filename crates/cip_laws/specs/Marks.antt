@@ -10,10 +10,10 @@ use Rattle.cip_mol.specs.declared.site.Geometry.TheVariants.{Known}
 use Rattle.cip_digraph.specs.graph.DrawnGraph.{graph_of}
 use Rattle.cip_digraph.specs.units.Centres.{is_centre}
 use Rattle.cip_digraph.specs.units.Units.{centre_site}
-use Rattle.cip_change.specs.FoundCentres.{found_at, shown_at}
-use Rattle.cip_change.specs.MarkLaw.{with_bonds}
-use Rattle.cip_change.specs.Marking.{has_centre, with_mark}
-use Rattle.cip_change.specs.Remarked.{AreRemarked}
+use Rattle.cip_edit.specs.FoundCentres.{found_at, shown_at}
+use Rattle.cip_edit.specs.MarkLaw.{with_bonds}
+use Rattle.cip_edit.specs.Marking.{has_centre, with_mark}
+use Rattle.cip_edit.specs.Remarked.{AreRemarked}
 use Rattle.cip_label.specs.Settings.{setting_in}
 use Rattle.cip_undefined.specs.Laws.{AreAlikeButLetters}
 use Rattle.cip_undefined.specs.UndefinedUnits.{open_outcome}

@@ -1,7 +1,7 @@
 -- Records that two definitions read, and records that are written mirrored. Own, after IUPAC 2013, P-92.
 use Rattle.std.specs.Prelude.{◌≡◌, ℕ, List}
-use Rattle.cip_change.specs.Answers.{mirror_answer, GivesReflected}
-use Rattle.cip_change.specs.declared.mirror_answers.MirrorAnswer.TheVariants.{Written}
+use Rattle.cip_edit.specs.Answers.{mirror_answer, GivesReflected}
+use Rattle.cip_edit.specs.declared.mirror_answer.MirrorAnswer.TheVariants.{Written}
 use Rattle.cip_rank.specs.declared.rules.Rules.{Rules}
 use Rattle.cip_answer.specs.Answers.{answer_by}
 use Rattle.cip_laws.specs.Records.{AnswersMirror}

@@ -8,7 +8,7 @@ use Rattle.cip_mol.specs.Drawing.{Drawing}
 use Rattle.cip_mol.specs.Reflection.{reflected}
 use Rattle.cip_item.specs.Parts.{without_label_items}
 use Rattle.cip_digraph.specs.graph.Renumbering.{IsRenumbering}
-use Rattle.cip_image.specs.Images.{Among, IsImageSite, IsImageOutcome}
+use Rattle.cip_symmetry.specs.Images.{Among, IsImageSite, IsImageOutcome}
 use Rattle.cip_laws.specs.ReflectionLaw.{IsMirrorOutcome}
 use Rattle.cip_laws.specs.RenumberingLaw.{on_vertices}
 use Rattle.cip_print.specs.declared.answer.Answer.{Answer}

@@ -10,7 +10,7 @@ use Rattle.cip_digraph.specs.graph.Hydrogens.{hydrogens_of}
 use Rattle.cip_digraph.specs.graph.Renumbering.{IsRenumbering}
 use Rattle.cip_digraph.specs.units.Ends.{ends_of}
 use Rattle.cip_laws.specs.DrawnOutcomes.{units_in, outcome_in, costs_in}
-use Rattle.cip_image.specs.Images.{Among, IsImageSite, IsImageOutcome, CostsGo}
+use Rattle.cip_symmetry.specs.Images.{Among, IsImageSite, IsImageOutcome, CostsGo}
 
 -- a map of vertices, which leaves numbers that are none as they are
 abbrev pub on_vertices : Drawing → (ℕ → ℕ) → ℕ → ℕ

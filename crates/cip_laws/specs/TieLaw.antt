@@ -1,4 +1,4 @@
--- Ties on whole digraphs: what no rule tells apart is the same tree. IUPAC 2013, P-92.1; that a lone pair ties with
+-- Ties on whole digraphs: what no rule distinguishes is the same tree. IUPAC 2013, P-92.1; that a lone pair ties with
 -- nothing is P-93.2.
 use Rattle.std.specs.Prelude.{◌≡◌, ◌≢◌, ◌<◌, ◌↔◌, ℕ, Bool, [], ◌∷◌, length, None}
 use Rattle.std.specs.declared.option.Option.{Option}
@@ -12,7 +12,7 @@ use Rattle.cip_digraph.specs.graph.DrawnGraph.{graph_of}
 use Rattle.cip_digraph.specs.rules.Decisions.{order}
 use Rattle.cip_digraph.specs.units.Ranked.{ligand_order}
 use Rattle.cip_laws.specs.DrawnOutcomes.{digraph_in}
-use Rattle.cip_image.specs.Images.{Among}
+use Rattle.cip_symmetry.specs.Images.{Among}
 
 -- two ligands of a root tie, with the last rule as it is and turned, exactly where their branches are the same
 abbrev pub TiesAreSameTrees : Type 0

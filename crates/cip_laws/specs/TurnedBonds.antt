@@ -10,9 +10,9 @@ use Rattle.cip_mol.specs.declared.outcome.Outcome.{Outcome}
 use Rattle.cip_mol.specs.declared.site.Geometry.TheVariants.{Known}
 use Rattle.cip_digraph.specs.graph.DrawnGraph.{graph_of}
 use Rattle.cip_digraph.specs.units.Units.{centre_site}
-use Rattle.cip_image.specs.Images.{IsImageOutcome}
-use Rattle.cip_change.specs.FoundCentres.{found_at, shown_at}
-use Rattle.cip_change.specs.Marking.{has_centre, with_mark}
+use Rattle.cip_symmetry.specs.Images.{IsImageOutcome}
+use Rattle.cip_edit.specs.FoundCentres.{found_at, shown_at}
+use Rattle.cip_edit.specs.Marking.{has_centre, with_mark}
 use Rattle.cip_label.specs.Settings.{setting_in}
 use Rattle.cip_undefined.specs.Laws.{AreAlikeButLetters}
 use Rattle.cip_undefined.specs.UndefinedUnits.{open_outcome}

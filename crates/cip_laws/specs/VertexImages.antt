@@ -9,7 +9,7 @@ use Rattle.cip_mol.specs.RenumberedDrawing.{place_of, renumbered}
 use Rattle.cip_digraph.specs.graph.Hydrogens.{hydrogens_of}
 use Rattle.cip_digraph.specs.graph.Renumbering.{hydrogen_number, IsRenumbering}
 
--- A vertex that stands for an implicit hydrogen goes to one of the image of the atom that carries it. So many hydrogens
+-- A vertex that stands for an implicit hydrogen goes to one of the image of the atom that carries it. n hydrogens
 -- are left to be passed from these atoms on.
 abbrev pub hydrogen_image : Drawing → Drawing → List ℕ → List ℕ → ℕ → ℕ
 hydrogen_image drawing other places [] left = left

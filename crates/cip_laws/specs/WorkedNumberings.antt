@@ -18,7 +18,7 @@ use Rattle.cip_mol.specs.declared.site.Site.{Site}
 use Rattle.cip_digraph.specs.units.Ends.{ends_of}
 use Rattle.cip_laws.specs.DrawnMolecules.{bromochlorofluoromethane, but_2_ene, dichloropropadiene, glyceraldehyde, trihydroxyglutaric_acid, menthol}
 use Rattle.cip_laws.specs.DrawnOutcomes.{units_in, outcome_in}
-use Rattle.cip_image.specs.Images.{ligands_in_rank}
+use Rattle.cip_symmetry.specs.Images.{ligands_in_rank}
 
 -- a label with its ends and, for each of them, the atoms of its ligands, highest first: none for a hydrogen that isn't
 -- drawn

@@ -2,8 +2,8 @@
 ghost use Rattle.cip_answer.specs.Laws.{LinesBehindChangeNothing};
 ghost use Rattle.cip_answer.specs.Worked.{AreAnswered};
 
-/// Where a record isn't refused for a line that is missing, lines behind it don't change its answer.
-#[tactic(auto, using(crate::proofs::answered::LinesBehind::lines_behind))]
+/// Where a record isn't refused for a line that is missing, lines after it don't change its answer.
+#[tactic(auto, using(crate::proofs::lemmas::answered::LinesBehind::lines_behind))]
 pub fn lines_behind_change_nothing()
     ensures { LinesBehindChangeNothing }
 {}

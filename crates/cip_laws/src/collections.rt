@@ -1,6 +1,6 @@
 // Laws of both outcomes, and the definitions tried on worked records.
-ghost use Rattle.cip_collections.specs.Laws.{BothAreOfOneCentre, FirstCausesDecide, TurnedTwiceIsDrawn, WholeGroupsMirror};
-ghost use Rattle.cip_collections.specs.Worked.{AreFound};
+ghost use Rattle.cip_stereogroups.specs.Laws.{BothAreOfOneCentre, FirstCausesDecide, TurnedTwiceIsDrawn, WholeGroupsMirror};
+ghost use Rattle.cip_stereogroups.specs.Worked.{AreFound};
 
 /// The first line with a cause decides, whatever follows it.
 pub fn first_causes_decide()

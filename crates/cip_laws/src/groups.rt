@@ -7,7 +7,7 @@ pub fn groups_are_of_lines()
     ensures { GroupsAreOfLines }
 {}
 
-/// `Repeated` is told at the first group line up to which an atom is named twice.
+/// `Repeated` is reported at the first group line up to which an atom is named twice.
 pub fn repeated_is_named_twice()
     ensures { RepeatedIsNamedTwice }
 {}

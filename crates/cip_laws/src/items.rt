@@ -26,31 +26,31 @@ pub fn only_label_items_go()
 {}
 
 /// A record without its label items has none.
-#[tactic(auto, using(cip_item::proofs::NoLabels::no_label_item))]
+#[tactic(auto, using(cip_item::proofs::lemmas::NoLabels::no_label_item))]
 pub fn no_label_item_stays()
     ensures { NoLabelItemStays }
 {}
 
 /// A record that has no label item is the same without them.
-#[tactic(auto, using(cip_item::proofs::Walking::itself))]
+#[tactic(auto, using(cip_item::proofs::lemmas::Walking::itself))]
 pub fn others_stay()
     ensures { OthersStay }
 {}
 
 /// An item has the line ends of the record's first line.
-#[tactic(auto, using(crate::proofs::put_items::FirstEnds::of_first_line))]
+#[tactic(auto, using(crate::proofs::lemmas::put_items::FirstEnds::of_first_line))]
 pub fn line_ends_are_of_the_first_line()
     ensures { LineEndsAreOfTheFirstLine }
 {}
 
 /// An item has an empty line before it where another one would go on.
-#[tactic(auto, using(crate::proofs::put_items::FirstEnds::behind_items))]
+#[tactic(auto, using(crate::proofs::lemmas::put_items::FirstEnds::behind_items))]
 pub fn gaps_follow_other_items()
     ensures { GapsFollowOtherItems }
 {}
 
-/// A record is its body with its closing behind it, and with an item put in it begins with its body.
-#[tactic(auto, using(cip_item::proofs::Walking::bodies_stay))]
+/// A record is its body with its closing after it, and with an item put in it begins with its body.
+#[tactic(auto, using(cip_item::proofs::lemmas::Walking::bodies_stay))]
 pub fn bodies_stay()
     ensures { BodiesStay }
 {}

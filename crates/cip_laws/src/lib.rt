@@ -1,6 +1,9 @@
-//! What another numbering, a mirror and ties do to labels, and to the answers to records; what is read of records; what
-//! runs that are done leave behind; the tables that definitions and code share, written out once more; and what holds of
-//! the definitions of a single crate, in a module of its own. No part of the program stands on them.
+//! Laws of the definitions, and worked examples.
+//!
+//! Each law is a public function with an empty body whose contract is the statement. They say what renumbering, a
+//! mirror and ties do to labels and to records, what is read of groups and axes, and what a finished run has written.
+//! Worked examples compute. Each table that definitions take from the code is written out a second time. The laws of a
+//! single crate's definitions are in a module of their own. The program uses none of this.
 #![tactic(auto)]
 
 pub mod alternation;

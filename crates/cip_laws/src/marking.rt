@@ -1,14 +1,14 @@
 // What is read of a record in which a centre is to have a letter, and laws of marks.
 ghost use Rattle.cip_set.specs.SetLabels.{SetRecordsAreRead};
-ghost use Rattle.cip_change.specs.WorkedMarks.{AreAnswered};
-ghost use Rattle.cip_change.specs.MarkLaw.{CentresAreUnits, CentresStandAlone, EligibleMarksShowSenses, MarksGiveLetters, MarksKeepRanks, SensesTurnLetters};
+ghost use Rattle.cip_edit.specs.WorkedMarks.{AreAnswered};
+ghost use Rattle.cip_edit.specs.MarkLaw.{CentresAreUnits, CentresStandAlone, EligibleMarksShowSenses, MarksGiveLetters, MarksKeepRanks, SensesTurnLetters};
 
 /// What is written is read as the drawing with the mark, and the answer to it gives the centre the asked letter.
 pub fn set_records_are_read()
     ensures { SetRecordsAreRead }
 {}
 
-/// A centre stands at an atom exactly where its unit is one of the drawing's.
+/// A centre is at an atom exactly where its unit is one of the drawing's.
 pub fn centres_are_units()
     ensures { CentresAreUnits }
 {}

@@ -8,12 +8,12 @@ pub fn marks_keep_orders()
     ensures { MarksKeepOrders }
 {}
 
-/// So has one that is given a mark as by `mark_asked`, at a bond that is drawn from it.
+/// So has one that is given a mark as by `mark_for_letter`, at a bond that is drawn from it.
 pub fn given_marks_keep_orders()
     ensures { GivenMarksKeepOrders }
 {}
 
-/// A centre that is given a mark as by `mark_asked` has the rule, the sphere and the ligands in rank order that it had
+/// A centre that is given a mark as by `mark_for_letter` has the rule, the sphere and the ligands in rank order that it had
 /// as an open one, however the bond was drawn that is marked.
 pub fn given_marks_keep_ligands()
     ensures { GivenMarksKeepLigands }

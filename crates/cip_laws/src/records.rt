@@ -12,7 +12,7 @@ pub fn readings_are_sound()
 {}
 
 /// Stereo groups are sought in the molecule that the grammar of V3000 reads, and refused for the causes of that grammar.
-#[tactic(auto, using(cip_v3000::proofs::Tables::tables_are_drawn))]
+#[tactic(auto, using(cip_v3000::proofs::lemmas::Tables::tables_are_drawn))]
 pub fn tables_are_drawn()
     ensures { TablesAreDrawn }
 {}
@@ -30,14 +30,14 @@ pub fn records_mirror()
 {}
 
 /// What is written for a record that is to be mirrored is read as its mirror image.
-#[tactic(auto, using(cip_change::proofs::MirrorReads::mirror_reads))]
+#[tactic(auto, using(cip_edit::proofs::lemmas::MirrorReads::mirror_reads))]
 pub fn mirrored_records_are_read()
     ensures { MirroredRecordsAreRead }
 {}
 
 /// What is written for a record that is to be mirrored has the same units in the same order, with the exchanged
 /// descriptors.
-#[tactic(auto, using(crate::proofs::lines::MirroredRecords::mirrored_records_mirror))]
+#[tactic(auto, using(crate::proofs::lemmas::lines::MirroredRecords::mirrored_records_mirror))]
 pub fn mirrored_records_mirror()
     ensures { MirroredRecordsMirror }
 {}

@@ -1,7 +1,7 @@
 // Laws of rules that are taken over branches.
-ghost use Rattle.cip_ligands.specs.Laws.{Rule1aDecides, RulesGoOn, DecidedPairsAreOrdered};
+ghost use Rattle.cip_rules.specs.Laws.{Rule1aDecides, RulesGoOn, DecidedPairsAreOrdered};
 
-/// What is noted while Rule 1a is followed to the end is what it decides, and its numbers stand.
+/// What is noted while Rule 1a is followed to the end is what it decides, and its numbers are its order.
 pub fn rule_1a_decides()
     ensures { Rule1aDecides }
 {}

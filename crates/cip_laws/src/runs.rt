@@ -43,7 +43,7 @@ pub fn workers_change_nothing()
     ensures { WorkersChangeNothing }
 {}
 
-/// Three runs that are done with the same settings, over a stream and over the two parts that it is divided into behind
+/// Three runs that are done with the same settings, over a stream and over the two parts that it is divided into after
 /// a closed record: the first adds what the others add, and its status is the greater of theirs.
 pub fn parts_add_up()
     ensures { PartsAddUp }

@@ -1,4 +1,4 @@
-// Ligands that no rule tells apart.
+// Ligands that no rule distinguishes.
 ghost use Rattle.cip_laws.specs.TieLaw.{LonePairsTieWithNothing, TiesAreSameTrees};
 
 /// On a whole digraph two ligands tie by all rules exactly where their branches are the same tree, node by node with

@@ -1,6 +1,6 @@
 // What the grammar keeps.
 ghost use Rattle.std.specs.Prelude.{◌≡◌};
-ghost use Rattle.cip_reading.specs.Laws.{IsDecidedInOrder};
+ghost use Rattle.cip_ctfile.specs.Laws.{IsDecidedInOrder};
 ghost use Rattle.cip_v2000.specs.Grammar.{molecule_of};
 ghost use Rattle.cip_v2000.specs.LastStatements.{AtomsAreSettled};
 ghost use Rattle.cip_v2000.specs.Soundness.{ReadingsAreSound};
@@ -17,7 +17,7 @@ pub fn last_statements_hold()
 {}
 
 /// Bonds that are read have no fault.
-#[tactic(auto, using(crate::proofs::v2000_lines::Soundness::readings_are_sound))]
+#[tactic(auto, using(crate::proofs::lemmas::v2000_lines::Soundness::readings_are_sound))]
 pub fn readings_are_sound()
     ensures { ReadingsAreSound }
 {}

@@ -10,7 +10,7 @@ use Rattle.cip_make.specs.declared.chain.Stereo.TheVariants.{Plain}
 use Rattle.cip_make.specs.Chains.{branches}
 use Rattle.cip_make.specs.Lines.{counts_line, atom_line, bond_line}
 
--- where a chain atom stands from left to right, in ten-thousandths of an ångström
+-- where a chain atom is from left to right, in ten-thousandths of an ångström
 unfoldable pub across : ℕ → ℤ
 across atom = pos (8660 * atom)
 
@@ -29,12 +29,12 @@ abbrev pub chain_atoms : ℕ → List ℕ
 chain_atoms zero = []
 chain_atoms (suc before) = chain_atoms before ++ chain_atom (before + 1)
 
--- so many bonds of the chain, from its first atom on
+-- n bonds of the chain, from its first atom on
 abbrev pub chain_bonds : ℕ → List ℕ
 chain_bonds zero = []
 chain_bonds (suc before) = chain_bonds before ++ bond_line (before + 1) (before + 2) Plain
 
--- what stands on it
+-- what is on it
 
 abbrev pub branch_height : ℕ → ℤ
 branch_height at = if is_upper at then pos 15000 else negsuc 9999

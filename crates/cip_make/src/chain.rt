@@ -35,7 +35,7 @@ pub struct Branch {
     pub stereo: Stereo,
 }
 
-/// The substituents of a chain of so many atoms: the next words say of each inner atom what it carries.
+/// The substituents of a chain of n atoms: the next words say of each inner atom what it carries.
 pub fn branches(
     alloc: Global,
     generator: &mut Lcg64Xsh32,

@@ -4,10 +4,10 @@ ghost use Rattle.cip_text.specs.Writing.{coordinate, right};
 ghost use Rattle.cip_make.specs.Lines.{symbol, stereo_number, number_field, counts_line, atom_line, bond_line};
 
 use crate::chain::{Element, Stereo};
-use cip_text::{coordinate, push_right};
+use cip_text::{coordinate, push_right_aligned};
 use std::alloc::{AllocError, Global};
 
-/// Adds the counts line of a molecule with so many atoms and bonds.
+/// Adds the counts line of a molecule with n atoms and bonds.
 #[tactic(auto, unfolding(crate::specs::Lines::counts_line))]
 pub fn push_counts_line(
     alloc: Global,
@@ -86,7 +86,7 @@ fn push_number(alloc: Global, line: &mut Vec<u8>, number: u32) -> Result<(), All
     ensures { OnOk result (line.new.items ≡ line.old.items ++ number_field number) }
 {
     match format!(in alloc; "{number}") {
-        Ok(text) => push_right(line, 3, text.as_bytes()),
+        Ok(text) => push_right_aligned(line, 3, text.as_bytes()),
         Err(error) => Err(error),
     }
 }
@@ -96,7 +96,7 @@ fn push_coordinate(alloc: Global, line: &mut Vec<u8>, value: i64) -> Result<(), 
     ensures { OnOk result (line.new.items ≡ line.old.items ++ right 10 (coordinate value)) }
 {
     match coordinate(alloc, value) {
-        Ok(text) => push_right(line, 10, text.as_bytes()),
+        Ok(text) => push_right_aligned(line, 10, text.as_bytes()),
         Err(error) => Err(error),
     }
 }

@@ -9,7 +9,7 @@ use rand_pcg::rand_core::utils::NextWord;
 use std::alloc::{AllocError, Global};
 
 /// The made record of this number from 1, in the series that starts at a number. It is short.
-#[tactic(auto, using(crate::proofs::Lengths::made_short))]
+#[tactic(auto, using(crate::proofs::lemmas::Lengths::made_short))]
 pub fn record(alloc: Global, start: u32, number: u32) -> Result<Vec<u8>, AllocError>
     requires { (1 ≤ number) × (number ≤ 100000) }
     ensures made { IfOk result (λ text. text.items ≡ made start number) }
@@ -37,7 +37,8 @@ fn made(alloc: Global, start: u32, number: u32) -> Result<Vec<u8>, AllocError>
     }
 }
 
-// Adds what follows the name lines. Text and branches are lent: seven ends that give them back are long to prove.
+// Adds what follows the name lines.
+// proof: text and branches are lent; seven exits that drop them are long to prove
 fn push_table(
     alloc: Global,
     text: &mut Vec<u8>,
@@ -97,7 +98,7 @@ fn push_branch_atom(alloc: Global, text: &mut Vec<u8>, branch: Branch) -> Result
     push_atom_line(alloc, text, across(branch.at), height, branch.element)
 }
 
-// Where an atom of the chain stands from left to right.
+// Where an atom of the chain is from left to right.
 #[tactic(auto, unfolding(crate::specs::Made::across))]
 fn across(atom: u32) -> i64
     ensures { result ≡ across atom }

@@ -8,7 +8,7 @@ use Rattle.cip_digraph.specs.graph.SoundGraphs.{IsSound}
 use Rattle.cip_digraph.specs.rings.Alternating.{is_in, is_alternating, partner, singles, goes_on}
 use Rattle.cip_digraph.specs.rings.AlternatingRings.{IsAlternatingRing, ring_of}
 
--- From an atom, by turns over a single bond and over the double bond behind it, a target is reached as alternating
+-- From an atom, by turns over a single bond and over the double bond after it, a target is reached as alternating
 -- rings reach it, on a way that meets a third atom.
 abbrev pub reaches_by : Graph → ℕ → ℕ → ℕ → List ℕ → ℕ → Bool
 reaches_by graph third target zero path at = (at == target) && is_in third path
@@ -19,15 +19,15 @@ reaches_by graph third target (suc more) path at =
     cond (goes_on graph path next) (reaches_by graph third target more (other ∷ next ∷ path) other) false)
     (singles graph at)
 
--- an alternating ring of an atom, along a single bond to another one and over so many further double bonds, meets a third
+-- an alternating ring of an atom, along a single bond to another one and over n further double bonds, meets a third
 abbrev pub ring_meets : Graph → ℕ → ℕ → ℕ → ℕ → Bool
 ring_meets graph most third vertex other =
     let next = partner graph vertex in
     is_alternating graph other && not (other == next) && reaches_by graph third other most (next ∷ vertex ∷ []) next
 
 -- an alternating ring holds both atoms
-unfoldable pub share_ring : Graph → ℕ → ℕ → Bool
-share_ring graph vertex third =
+unfoldable pub share_alternating_ring : Graph → ℕ → ℕ → Bool
+share_alternating_ring graph vertex third =
     is_alternating graph vertex && is_alternating graph (partner graph vertex)
     && list_any (ring_meets graph 11 third vertex) (singles graph vertex)
 
@@ -40,8 +40,8 @@ pub record ShareRing (graph : Graph) (vertex third : ℕ) : Type 0 where
 
 -- two atoms share a ring exactly where the search finds one
 pub record FindsShared (graph : Graph) (vertex third : ℕ) : Type 0 where
-  pub found : share_ring graph vertex third ≡ true → ShareRing graph vertex third
-  pub finds : ShareRing graph vertex third → share_ring graph vertex third ≡ true
+  pub found : share_alternating_ring graph vertex third ≡ true → ShareRing graph vertex third
+  pub finds : ShareRing graph vertex third → share_alternating_ring graph vertex third ≡ true
 
 abbrev pub SharedRingsAreFound : Type 0
 SharedRingsAreFound = (graph : Graph) → IsSound graph → (vertex third : ℕ) → FindsShared graph vertex third

@@ -1,4 +1,4 @@
--- Steps over a single bond and the double bond behind it, whatever was met before. Own.
+-- Steps over a single bond and the double bond after it, whatever was met before. Own.
 use Rattle.std.specs.Prelude.{ℕ, cond, ◌&&◌, ◌==◌, List, [], ◌∷◌, filter, flat_map, map}
 use Rattle.cip_digraph.specs.rings.Alternating.{is_alternating, partner, singles}
 use Rattle.cip_digraph.specs.graph.Graph.{Graph, other_end}

@@ -4,9 +4,9 @@ ghost use Rattle.cip_digraph.specs.rings.Alternating.{closes_ring, reaches};
 ghost use Rattle.cip_mancude.specs.Partners.{alternating_partner, can_close};
 
 use crate::alternating::Alternation;
+use crate::bounded_walks::{MOST_DOUBLES, WalkTarget, closes_six_ring, reaches_by};
 use crate::path::Path;
 use crate::walk::has_walk;
-use crate::ways::{Aim, MOST_DOUBLES, reaches_by, reaches_soon};
 use cip_ring::VertexSet;
 use std::alloc::{AllocError, Global};
 
@@ -25,7 +25,7 @@ pub fn closes_ring(
     };
     if can_close(alternation, vertex, next, other) {
         // Each way meets the atom with which it begins.
-        let aim = Aim {
+        let aim = WalkTarget {
             target: other,
             third: vertex,
         };
@@ -46,12 +46,12 @@ fn can_close(alternation: &Alternation, vertex: u32, next: u32, other: u32) -> b
         && other != next
 }
 
-// Most rings have six atoms. Most other bonds are told by walks, which are few: at each atom at most two lead on, and
-// none is followed twice. A ring meets no atom twice, so that where a walk leads round, paths are followed.
+// Most rings have six atoms. Most other bonds are decided by walks, which are few: at each atom at most two lead on,
+// and none is followed twice. A ring meets no atom twice, so that where a walk leads round, paths are followed.
 fn finds_ring(
     alloc: Global,
     alternation: &Alternation,
-    aim: Aim,
+    aim: WalkTarget,
     next: u32,
     most: u32,
     reached: &mut VertexSet,
@@ -68,7 +68,7 @@ fn finds_ring(
 // The same along a path that has begun.
 fn goes_round(
     alternation: &Alternation,
-    aim: Aim,
+    aim: WalkTarget,
     next: u32,
     most: u32,
     path: &mut Path,
@@ -78,7 +78,7 @@ fn goes_round(
     requires begun { path.old ≡ next ∷ aim.third ∷ [] }
     ensures { IfOk result (λ found. found ≡ reaches alternation.now aim.target most (next ∷ aim.third ∷ []) next) }
 {
-    if reaches_soon(alternation, aim, most, path, next) {
+    if closes_six_ring(alternation, aim, most, path, next) {
         Ok(true)
     } else {
         match has_walk(alternation, aim.target, most, next, reached) {

@@ -2,21 +2,21 @@
 ghost use Rattle.std.specs.Prelude.{◌≡◌, IfOk, OnOk};
 ghost use Rattle.cip_digraph.specs.rings.Alternating.{is_in};
 ghost use Rattle.cip_digraph.specs.rings.SmallRings.{with_new};
-ghost use Rattle.cip_ring.specs.Steps.{within};
+ghost use Rattle.cip_ring.specs.Neighbours.{within};
 ghost use Rattle.cip_mancude.specs.Walks.{onward, onward_of};
 
 use crate::alternating::Alternation;
 use cip_digraph::Edge;
-use cip_ring::{Steps, VertexSet, within};
+use cip_ring::{Neighbours, VertexSet, reach_within};
 use std::alloc::AllocError;
 
-/// Steps over a single bond and the double bond behind it.
+/// Steps over a single bond and the double bond after it.
 #[derive(Drop)]
 struct Onward<'a> {
     alternation: &'a Alternation<'a>,
 }
 
-impl<'a> Steps for Onward<'a> {
+impl<'a> Neighbours for Onward<'a> {
     ghost step = { λ s. onward s.alternation.now };
 
     fn add_steps(&self, from: u32, reached: &mut VertexSet) -> Result<(), AllocError> {
@@ -24,7 +24,7 @@ impl<'a> Steps for Onward<'a> {
     }
 }
 
-/// Whether a walk over so many double bonds at most leads to a target. The set serves the search.
+/// Whether a walk over n double bonds at most leads to a target. The set serves the search.
 pub fn has_walk(
     alternation: &Alternation,
     target: u32,
@@ -34,7 +34,7 @@ pub fn has_walk(
 ) -> Result<bool, AllocError>
     ensures { IfOk result (λ found. found ≡ is_in target (within (onward alternation.now) at most)) }
 {
-    match within(&Onward { alternation }, at, most, reached) {
+    match reach_within(&Onward { alternation }, at, most, reached) {
         Ok(()) => Ok(reached.contains(target)),
         Err(error) => Err(error),
     }

@@ -9,9 +9,9 @@ use Rattle.cip_mol.specs.declared.site.Site.TheVariants.{Centre, Bond, Axis}
 -- nothing that is found of an axis rests on its middle: where none is known, the nearer end stands for it
 abbrev pub as_site : Ends → Site
 as_site (One end) = Centre end.at end.ligands.now
-as_site (Two Flat two) = Bond two.near.at two.far.at two.near.ligands.now two.far.ligands.now
+as_site (Two Flat two) = Bond two.nearer.at two.far.at two.nearer.ligands.now two.far.ligands.now
 as_site (Two Crossed two) =
-    Axis two.near.at (unwrap_or two.between two.near.at) two.far.at two.near.ligands.now two.far.ligands.now
+    Axis two.nearer.at (unwrap_or two.between two.nearer.at) two.far.at two.nearer.ligands.now two.far.ligands.now
 
 -- the atoms between the ends, as they are lent
 abbrev pub between_in : Ends → List ℕ

@@ -1,4 +1,4 @@
--- Bonds that join the same atoms. Own, after CTfile Formats: which end comes first tells of a mark alone.
+-- Bonds that join the same atoms. Own, after CTfile Formats: which end comes first matters for a mark alone.
 use Rattle.std.specs.Prelude.{◌≡◌, ◌⊎◌, List, [], ◌∷◌}
 use Rattle.cip_mol.specs.declared.molecule.Bond.{Bond}
 

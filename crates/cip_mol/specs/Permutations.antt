@@ -1,4 +1,4 @@
--- Places for so many items: each number below theirs stands once. Own.
+-- Places for n items: each number below theirs stands once. Own.
 use Rattle.std.specs.Prelude.{ℕ, List}
 use Rattle.std.specs.List.{range_with_len}
 use Rattle.std.specs.List.Sorted.{IsPermutation}

@@ -9,7 +9,7 @@ use Rattle.cip_mol.specs.declared.molecule.Mark.TheVariants.{Plain}
 abbrev pub no_bond : Bond
 no_bond = record { a = 0; b = 0; order = 0; mark = Plain }
 
--- where a number first stands in a list, counted from 0, and behind the list where it doesn't
+-- the place of a number's first occurrence in a list, counted from 0, and the length of the list if it isn't there
 abbrev pub index_of : ℕ → List ℕ → ℕ
 index_of n [] = 0
 index_of n (m ∷ ms) = cond (m == n) 0 (index_of n ms + 1)
@@ -19,7 +19,7 @@ abbrev pub placed : {X : Type 0} → X → List ℕ → List X → List X
 placed none places items =
     map (λ place. slice_index_or items (index_of place places) none) (range_with_len 0 (length items))
 
--- where a number goes, and itself where no place is told for it
+-- where a number goes, and itself where no place is given for it
 abbrev pub place_of : List ℕ → ℕ → ℕ
 place_of places n = slice_index_or places n n
 

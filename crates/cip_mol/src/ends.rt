@@ -2,8 +2,8 @@
 ghost use Rattle.std.specs.Prelude.{◌≡◌};
 ghost use Rattle.cip_mol.specs.Ends.{as_site, between_in, between_of};
 
-use crate::copying::copy_ligands;
-use crate::site::{Ligands, Site};
+use crate::ligands::Ligands;
+use crate::site::Site;
 
 /// An end of a unit: a centre, or an atom at an end of a bond or an axis, with the ligands that are ranked there.
 #[derive(Clone, Copy)]
@@ -22,7 +22,7 @@ pub enum Shape {
 /// Two ends, and the atom between them where one is known.
 #[derive(Clone, Copy)]
 pub struct TwoEnds<'a> {
-    pub near: End<'a>,
+    pub nearer: End<'a>,
     pub far: End<'a>,
     pub between: Option<u32>,
 }
@@ -43,12 +43,12 @@ impl<'a> TwoEnds<'a> {
         b: u32,
         second: &'a Ligands,
     ) -> TwoEnds<'a>
-        ensures near { (result.near.at ≡ a) × (result.near.ligands.now ≡ first.now) }
+        ensures nearer { (result.nearer.at ≡ a) × (result.nearer.ligands.now ≡ first.now) }
         ensures far { (result.far.at ≡ b) × (result.far.ligands.now ≡ second.now) }
         ensures between { result.between ≡ between }
     {
         TwoEnds {
-            near: End {
+            nearer: End {
                 at: a,
                 ligands: first,
             },
@@ -62,11 +62,11 @@ impl<'a> TwoEnds<'a> {
 
     /// The same from the other end.
     pub fn reversed(&self) -> TwoEnds<'a>
-        ensures { result ≡ record { near = self.now.far; far = self.now.near; between = self.now.between } }
+        ensures { result ≡ record { nearer = self.now.far; far = self.now.nearer; between = self.now.between } }
     {
         TwoEnds {
-            near: self.far,
-            far: self.near,
+            nearer: self.far,
+            far: self.nearer,
             between: self.between,
         }
     }
@@ -80,20 +80,20 @@ impl<'a> Ends<'a> {
         match self {
             Ends::One(end) => Site::Centre {
                 at: end.at,
-                ligands: copy_ligands(end.ligands),
+                ligands: end.ligands.copy(),
             },
             Ends::Two(Shape::Flat, two) => Site::Bond {
-                a: two.near.at,
+                a: two.nearer.at,
                 b: two.far.at,
-                first: copy_ligands(two.near.ligands),
-                second: copy_ligands(two.far.ligands),
+                first: two.nearer.ligands.copy(),
+                second: two.far.ligands.copy(),
             },
             Ends::Two(Shape::Crossed, two) => Site::Axis {
-                a: two.near.at,
-                middle: two.between.unwrap_or(two.near.at),
+                a: two.nearer.at,
+                middle: two.between.unwrap_or(two.nearer.at),
                 b: two.far.at,
-                first: copy_ligands(two.near.ligands),
-                second: copy_ligands(two.far.ligands),
+                first: two.nearer.ligands.copy(),
+                second: two.far.ligands.copy(),
             },
         }
     }

@@ -1,4 +1,4 @@
--- What is drawn of a molecule: its graph, where its double bonds can stand, and its units. Own.
+-- What is drawn of a molecule: its graph, where its double bonds can be, and its units. Own.
 use Rattle.std.specs.Prelude.{◌≡◌, ◌<◌, ◌-◌, ◌^◌, ℕ, List, length, map}
 use Rattle.cip_mol.specs.Drawing.{Drawing}
 use Rattle.cip_mol.specs.declared.site.Unit as units
@@ -8,7 +8,7 @@ use Rattle.cip_digraph.specs.rings.Positions.{positions_of}
 use Rattle.cip_digraph.specs.units.DrawnUnits.{units_in}
 use Rattle.cip_digraph.specs.units.Units.{sites_of}
 
--- the units of a molecule stand at the sites of its graph, and there are few
+-- the units of a molecule are at the sites of its graph, and there are few
 pub record Fit (drawing : Drawing) : Type 0 where
   pub sites : map (λ unit. unit.site) (units_in drawing) ≡ sites_of (graph_of drawing) (positions_of (graph_of drawing))
   pub few : length (units_in drawing) < 2 ^ 32 - 1

@@ -4,9 +4,9 @@ use Rattle.cip_mol.specs.declared.site.Geometry.{Geometry}
 use Rattle.cip_mol.specs.Drawing.{Drawing}
 use Rattle.cip_mol.specs.Geometry.{axis_in_plane, axis_in_space}
 use Rattle.cip_mol.specs.Points.{is_spatial}
-use Rattle.cip_orient.specs.declared.drawn.DrawnEnd.{DrawnEnd}
+use Rattle.cip_orient.specs.declared.drawn_ligands.DrawnEnd.{DrawnEnd}
 
--- one ligand at least is drawn, and all that is drawn are some of so many atoms
+-- one ligand at least is drawn, and all that is drawn are some of n atoms
 pub record IsDrawn (atoms : ℕ) (end : DrawnEnd) : Type 0 where
   pub within : end.at < atoms
   pub some : 0 < length end.ligands
@@ -20,6 +20,6 @@ pub record IsDrawnCentre (atoms at : ℕ) (numbers : List ℕ) : Type 0 where
 
 -- what is shown of an axis by its drawn ligands, where no mark is undecided
 abbrev pub of_drawn_axis : Drawing → DrawnEnd → DrawnEnd → Geometry
-of_drawn_axis drawing near far =
-    if is_spatial drawing.atoms then axis_in_space drawing.atoms near.at far.at near.ligands far.ligands
-    else axis_in_plane drawing.atoms drawing.bonds near.at far.at near.ligands far.ligands
+of_drawn_axis drawing nearer far =
+    if is_spatial drawing.atoms then axis_in_space drawing.atoms nearer.at far.at nearer.ligands far.ligands
+    else axis_in_plane drawing.atoms drawing.bonds nearer.at far.at nearer.ligands far.ligands

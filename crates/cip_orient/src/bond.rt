@@ -3,24 +3,24 @@ ghost use Rattle.std.specs.Prelude.{◌≡◌, length};
 ghost use Rattle.cip_mol.specs.Geometry.{bond_geometry};
 ghost use Rattle.cip_mol.specs.Sites.{IsEnd};
 
-use crate::drawn::drawn_end;
+use crate::drawn_ligands::drawn_end;
 use crate::marks::{has_either, is_crossed};
 use crate::pairs::{PairSign, show_drawn_pairs};
 use cip_mol::{Cause, Geometry, Molecule, TwoEnds};
 
 /// What is shown of a bond between two ends.
 pub(crate) fn show_bond(molecule: &Molecule, ends: &TwoEnds<'_>) -> Geometry
-    requires near { IsEnd (length molecule.now.atoms) ends.now.near.at ends.now.near.ligands.now }
+    requires nearer { IsEnd (length molecule.now.atoms) ends.now.nearer.at ends.now.nearer.ligands.now }
     requires far { IsEnd (length molecule.now.atoms) ends.now.far.at ends.now.far.ligands.now }
-    ensures { result ≡ bond_geometry molecule.now ends.now.near.at ends.now.far.at ends.now.near.ligands.now
+    ensures { result ≡ bond_geometry molecule.now ends.now.nearer.at ends.now.far.at ends.now.nearer.ligands.now
         ends.now.far.ligands.now }
 {
-    let (a, b) = (ends.near.at, ends.far.at);
+    let (a, b) = (ends.nearer.at, ends.far.at);
     if has_either(molecule, a) || has_either(molecule, b) || is_crossed(molecule, a, b) {
         Geometry::Unknown(Cause::Either)
     } else {
-        let near = drawn_end(molecule, &ends.near);
+        let nearer = drawn_end(molecule, &ends.nearer);
         let far = drawn_end(molecule, &ends.far);
-        show_drawn_pairs(molecule, PairSign::Sides, &near, &far)
+        show_drawn_pairs(molecule, PairSign::Sides, &nearer, &far)
     }
 }

@@ -9,8 +9,8 @@ ghost use Rattle.cip_mol.specs.Sites.{IsCentre};
 ghost use Rattle.cip_mol.specs.SpatialCentres.{in_space};
 ghost use Rattle.cip_orient.specs.DrawnEnds.{IsDrawnCentre};
 
-use crate::drawing::{flat_steps, point, points, step};
-use crate::drawn::drawn_of;
+use crate::coordinates::{flat_steps, point, points, step};
+use crate::drawn_ligands::drawn_atoms;
 use crate::flat_centre::show_in_plane;
 use crate::marks::{has_either, marks_to};
 use crate::pairs::shown_by;
@@ -26,7 +26,7 @@ pub(crate) fn show_centre(molecule: &Molecule, centre: &End<'_>) -> Geometry
     if has_either(molecule, at) {
         Geometry::Unknown(Cause::Either)
     } else {
-        let drawn = drawn_of(molecule, centre.ligands);
+        let drawn = drawn_atoms(molecule, centre.ligands);
         show_drawn(molecule, at, &drawn)
     }
 }

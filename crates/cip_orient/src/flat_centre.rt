@@ -7,7 +7,7 @@ ghost use Rattle.cip_mol.specs.Senses.{sense_of};
 
 use crate::marks::{has_mark, opposite};
 use cip_mol::{AtMostFour, Cause, Geometry, Sense};
-use cip_num::{Sign, Vec2, has_clash, place_of, side};
+use cip_num::{Sign, Vec2, has_coincident, place_of, side};
 
 /// What three or four ligands show, by their directions and marks.
 pub(crate) fn show_in_plane(directions: &[Vec2], marks: &[Sign]) -> Geometry
@@ -17,7 +17,7 @@ pub(crate) fn show_in_plane(directions: &[Vec2], marks: &[Sign]) -> Geometry
     requires marks { length marks.now ≡ length directions.now }
     ensures { result ≡ in_plane directions.now marks.now }
 {
-    if has_clash(directions) {
+    if has_coincident(directions) {
         Geometry::Unknown(Cause::Coincident)
     } else if has_mark(marks) {
         let places = places(directions);
@@ -123,7 +123,7 @@ fn sense_of(sign: Sign) -> Sense
     }
 }
 
-// How many pairs of places stand in the other order.
+// How many pairs of places are in the other order.
 fn inversions(places: &[usize]) -> usize
     requires { length places.now ≤ 4 }
     ensures { result ≡ inversions places.now }

@@ -8,8 +8,8 @@ ghost use Rattle.cip_mol.specs.Senses.{shown_by};
 ghost use Rattle.cip_orient.specs.DrawnEnds.{IsDrawn};
 ghost use Rattle.cip_orient.specs.PairSigns.{by_drawn_pairs, pair_sign};
 
-use crate::drawing::{step_between, steps};
-use crate::drawn::DrawnEnd;
+use crate::coordinates::{step_between, steps};
+use crate::drawn_ligands::DrawnEnd;
 use cip_mol::{Cause, Geometry, Molecule, Sense};
 use cip_num::{Sign, Vec3, same_side, volume};
 
@@ -24,15 +24,15 @@ pub(crate) enum PairSign {
 pub(crate) fn show_drawn_pairs(
     molecule: &Molecule,
     sign: PairSign,
-    near: &DrawnEnd,
+    nearer: &DrawnEnd,
     far: &DrawnEnd,
 ) -> Geometry
-    requires near { IsDrawn (length molecule.now.atoms) near.now }
+    requires nearer { IsDrawn (length molecule.now.atoms) nearer.now }
     requires far { IsDrawn (length molecule.now.atoms) far.now }
-    ensures { result ≡ by_drawn_pairs sign molecule.now.atoms near.now far.now }
+    ensures { result ≡ by_drawn_pairs sign molecule.now.atoms nearer.now far.now }
 {
-    let between = step_between(molecule, near.at, far.at);
-    let firsts = steps(molecule, near.at, &near.ligands);
+    let between = step_between(molecule, nearer.at, far.at);
+    let firsts = steps(molecule, nearer.at, &nearer.ligands);
     let seconds = steps(molecule, far.at, &far.ligands);
     show_pairs(sign, between, firsts.as_slice(), seconds.as_slice())
 }

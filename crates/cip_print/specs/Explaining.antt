@@ -1,4 +1,4 @@
--- What is told of a record beside its drawing: each of its units with what is found of it. Own.
+-- What is written for a record beside its drawing: each of its units with what is found of it. Own.
 use Rattle.std.specs.Prelude.{ℕ, List, [], ◌∷◌, ◌++◌, codes, decimal}
 use Rattle.cip_mol.specs.declared.outcome.Outcome.{Outcome}
 use Rattle.cip_mol.specs.declared.outcome.Outcome.TheVariants as outcomes
@@ -20,15 +20,15 @@ reason_text Contradictory = codes "Contradictory"
 reason_text Reentrant = codes "Reentrant"
 reason_text NoMark = codes "NoMark"
 
-abbrev pub told : UnitAnswer → Outcome → List ℕ
-told unit (outcomes.Label label) = ordered_label unit label
-told unit outcomes.Over = name_text unit.name ++ codes " over"
-told unit outcomes.Tie = name_text unit.name ++ codes " tie"
-told unit (outcomes.NoGeometry cause) = name_text unit.name ++ (codes " none " ++ reason_text cause)
+abbrev pub output : UnitAnswer → Outcome → List ℕ
+output unit (outcomes.Label label) = ordered_label unit label
+output unit outcomes.Over = name_text unit.name ++ codes " over"
+output unit outcomes.Tie = name_text unit.name ++ codes " tie"
+output unit (outcomes.NoGeometry cause) = name_text unit.name ++ (codes " none " ++ reason_text cause)
 
 -- the line of a unit
 unfoldable pub told_line : UnitAnswer → List ℕ
-told_line unit = told unit unit.outcome ++ 10 ∷ []
+told_line unit = output unit unit.outcome ++ 10 ∷ []
 
 abbrev pub told_lines : List UnitAnswer → List ℕ
 told_lines [] = []
@@ -43,6 +43,6 @@ told_answer (Refused fault) = refusal_line fault ++ 10 ∷ []
 abbrev pub record_line : ℕ → List ℕ
 record_line number = codes "record " ++ (decimal number ++ 10 ∷ [])
 
--- what is told of the record of this number
+-- what is written for the record of this number
 unfoldable pub explained : ℕ → Answer → List ℕ
 explained number answer = record_line number ++ told_answer answer

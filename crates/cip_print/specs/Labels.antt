@@ -25,7 +25,7 @@ abbrev pub names_at : ℕ → List Ligand → List ℕ → List ℕ
 names_at drawn ligands [] = []
 names_at drawn ligands (place ∷ places) = spaced_name drawn (slice_get ligands place) ++ names_at drawn ligands places
 
--- the ligands of the first end stand before those of the second
+-- the ligands of the first end are before those of the second
 unfoldable pub names_of_ends : ℕ → List Ligand → List Ligand → List ℕ → List ℕ
 names_of_ends drawn first second places =
     names_at drawn first (take (length first) places)

@@ -2,8 +2,8 @@
 use Rattle.std.specs.Prelude.{ℕ, List, ◌++◌, ◌+◌, codes, decimal, min, max}
 use Rattle.cip_mol.specs.declared.site.Site.{Site}
 use Rattle.cip_mol.specs.declared.site.Site.TheVariants as sites
-use Rattle.cip_print.specs.declared.naming.UnitName.{UnitName}
-use Rattle.cip_print.specs.declared.naming.UnitName.TheVariants.{Centre, Bond, Axis, Cumulene, Biaryl}
+use Rattle.cip_print.specs.declared.unit_name.UnitName.{UnitName}
+use Rattle.cip_print.specs.declared.unit_name.UnitName.TheVariants.{Centre, Bond, Axis, Cumulene, Biaryl}
 
 -- an atom counted from 1
 abbrev pub number : ℕ → List ℕ

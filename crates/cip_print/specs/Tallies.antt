@@ -55,7 +55,7 @@ counted counts (Refused fault) = record counts { records = counts.records + 1; r
 abbrev pub tally : List Answer → Counts
 tally answers = fold counted nothing answers
 
--- the line that tells the counts
+-- the line that gives the counts
 
 unfoldable pub records_part : Counts → List ℕ
 records_part counts = codes "records " ++ (decimal counts.records ++ (codes " refused " ++ decimal counts.refused))

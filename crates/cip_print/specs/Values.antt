@@ -35,7 +35,7 @@ abbrev pub or_none : List (List ℕ) → List (List ℕ)
 or_none [] = codes "none" ∷ []
 or_none (line ∷ lines) = line ∷ lines
 
--- there is room for the lines of all units behind a first line
+-- there is room for the lines of all units after a first line
 abbrev pub HasRoom : Answer → Type 0
 HasRoom (Labelled units) = length units < 2 ^ 32 - 1
 HasRoom (Refused fault) = ⊤

@@ -1,8 +1,8 @@
 // What is found of a record.
 
-use crate::naming::UnitName;
+use crate::unit_name::UnitName;
 use cip_mol::{Outcome, ReadFault, Site};
-use cip_text::Listing;
+use cip_text::List32;
 
 /// A stereogenic unit of a record by its name, with what is found of it. Ligands from the number `drawn` on are
 /// implicit hydrogens.
@@ -15,7 +15,7 @@ pub struct UnitAnswer {
 }
 
 /// Units in their order: centres, then bonds, then axes.
-pub type UnitAnswers = Listing<UnitAnswer>;
+pub type UnitAnswers = List32<UnitAnswer>;
 
 /// The answer to a record: its units, or why it is refused.
 #[derive(Drop)]

@@ -3,12 +3,12 @@
 use Rattle.std.specs.Prelude.{ℕ, zero, suc, Bool, cond, not, ◌==◌, ◌&&◌, ◌||◌, List, [], ◌∷◌, ◌++◌, filter, slice_index}
 use Rattle.cip_rank.specs.Tree.{children_of}
 
--- whether x is n or stands above it; k is any number that n isn't above
+-- whether x is n or is above it; k is any number that n isn't above
 abbrev pub is_above : List ℕ → ℕ → ℕ → ℕ → Bool
 is_above ps zero n x = n == x
 is_above ps (suc k) n x = (n == x) || (not (n == 0) && is_above ps k (slice_index ps n) x)
 
--- whether x stands on the way from a node to the root
+-- whether x is on the way from a node to the root
 unfoldable pub on_way : List ℕ → ℕ → ℕ → Bool
 on_way ps from x = is_above ps from from x
 

@@ -2,16 +2,16 @@
 ghost use Rattle.std.specs.Prelude.{◌≡◌, ◌≤◌, ◌<◌, ◌-◌, ◌^◌, IfOk, length};
 ghost use Rattle.cip_answer.specs.AxesTexts.{are_axes_flagged, axes_of, axes_without_items, is_flagged_without_items};
 
-use crate::errand::{Errand, run_once};
-use cip_answer::{AxesText, axes_text_within};
-use cip_label::{Digraphs, Labeller};
+use crate::with_labeller::{LabellerTask, with_new_labeller};
+use cip_answer::{AxesText, axes_of_lines};
+use cip_label::{Labeller, RootRanker};
 use cip_rank::Rules;
 use cip_text::RecordLines;
 use std::alloc::{AllocError, Global};
 
-/// What is told of the further units of the record of this number, whose label items are taken out first: a line for
-/// each, with its ligands in the order that its label rests on, or with the reason why it has none. No digraph may have
-/// more than `nodes` nodes.
+/// What is written for the further units of the record of this number, whose label items are taken out first: a line
+/// for each, with its ligands in the order that its label rests on, or with the reason why it has none. No digraph may
+/// have more than `nodes` nodes.
 pub fn axes_text(
     alloc: Global,
     bytes: &[u8],
@@ -25,7 +25,7 @@ pub fn axes_text(
     ensures text { IfOk result (λ axes. axes.text ≡ axes_of rules nodes number bytes.now) }
     ensures flagged { IfOk result (λ axes. axes.flagged ≡ are_axes_flagged rules nodes bytes.now) }
 {
-    run_once(alloc, bytes, nodes, &AxesErrand { number, rules })
+    with_new_labeller(alloc, bytes, nodes, &AxesErrand { number, rules })
 }
 
 // The number of a record whose further units are asked for, and by which wording of the rules they are labelled.
@@ -35,19 +35,19 @@ struct AxesErrand {
     rules: Rules,
 }
 
-impl Errand for AxesErrand {
+impl LabellerTask for AxesErrand {
     type Answer = AxesText;
 
-    ghost answers = { λ errand bound bytes axes.
-        (axes.text ≡ axes_without_items errand.rules bound errand.number bytes)
-        × (axes.flagged ≡ is_flagged_without_items errand.rules bound bytes) };
+    ghost answers = { λ task bound bytes axes.
+        (axes.text ≡ axes_without_items task.rules bound task.number bytes)
+        × (axes.flagged ≡ is_flagged_without_items task.rules bound bytes) };
 
-    fn run<D: Digraphs>(
+    fn run<D: RootRanker>(
         &self,
         alloc: Global,
         labeller: &mut Labeller<D>,
         lines: &RecordLines,
     ) -> Result<AxesText, AllocError> {
-        axes_text_within(alloc, labeller, lines, self.number, self.rules)
+        axes_of_lines(alloc, labeller, lines, self.number, self.rules)
     }
 }

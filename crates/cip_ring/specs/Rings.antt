@@ -8,7 +8,7 @@ use Rattle.cip_digraph.specs.declared.graph.Edge.{Edge}
 abbrev pub edge_at : Graph → ℕ → Edge
 edge_at graph edge = slice_index_or graph.edges edge (record { a = 0; b = 0; order = 0; counted = false })
 
--- a ring of so many atoms lies round the edge, and none of fewer
+-- a ring of n atoms lies round the edge, and none of fewer
 pub record IsSmallestRing (graph : Graph) (edge : Edge) (atoms : ℕ) : Type 0 where
   pub there : (others : List ℕ) × (IsRingThrough graph edge.a edge.b others × (length others + 1 ≡ atoms))
   pub least : (others : List ℕ) → IsRingThrough graph edge.a edge.b others → atoms ≤ length others + 1

@@ -1,13 +1,13 @@
-// What is reached from a vertex in so many steps, breadth first. No vertex is looked at twice.
+// What is reached from a vertex in n steps, breadth first. No vertex is looked at twice.
 ghost use Rattle.std.specs.Prelude.{◌≡◌, ℕ, List, ◌∷◌, [], ◌≤◌, take, length, IfOk, OnOk};
 ghost use Rattle.cip_digraph.specs.rings.SmallRings.{with_new};
-ghost use Rattle.cip_ring.specs.Steps.{next_within, NothingNew, TellsLeast, within};
+ghost use Rattle.cip_ring.specs.Neighbours.{next_within, NothingNew, TellsLeast, within};
 
 use crate::vertex_set::VertexSet;
 use std::alloc::AllocError;
 
 /// Where one step leads from a vertex.
-pub trait Steps {
+pub trait Neighbours {
     ghost step: { Self → ℕ → List ℕ };
 
     /// Adds where a step leads, as far as it isn't there.
@@ -15,8 +15,8 @@ pub trait Steps {
         ensures { OnOk result (reached.new ≡ with_new reached.old (step self.now from)) };
 }
 
-/// Leaves in a set what is reached in so many steps at most. What it held before goes.
-pub fn within<S: Steps>(
+/// Leaves in a set what is reached in n steps at most. What it held before goes.
+pub fn reach_within<S: Neighbours>(
     steps: &S,
     from: u32,
     most: u32,
@@ -38,9 +38,9 @@ pub fn within<S: Steps>(
     Ok(())
 }
 
-/// The least number of steps that reach a target, where so many at most do. The set serves the search, which drops what
+/// The least number of steps that reach a target, where n at most do. The set serves the search, which drops what
 /// it held before.
-pub fn steps_to<S: Steps>(
+pub fn distance_to<S: Neighbours>(
     steps: &S,
     from: u32,
     target: u32,
@@ -84,7 +84,7 @@ fn start(from: u32, reached: &mut VertexSet) -> Result<(), AllocError>
 }
 
 // One step from all vertices that were reached; from the first of them no new vertex is reached.
-fn step_on<S: Steps>(steps: &S, done: usize, reached: &mut VertexSet) -> Result<(), AllocError>
+fn step_on<S: Neighbours>(steps: &S, done: usize, reached: &mut VertexSet) -> Result<(), AllocError>
     requires within { done ≤ length reached.old }
     requires done { NothingNew (S.step steps.now) (take done reached.old) reached.old }
     ensures { OnOk result (reached.new ≡ next_within (S.step steps.now) reached.old) }

@@ -69,10 +69,10 @@ impl VertexSet {
     }
 
     /// Adds a vertex that is wanted, where it isn't there.
-    pub fn insert_if(&mut self, wanted: bool, vertex: u32) -> Result<(), AllocError>
-        ensures { OnOk result (self.new ≡ with_new self.old (cond wanted (vertex ∷ []) [])) }
+    pub fn insert_if(&mut self, unresolved: bool, vertex: u32) -> Result<(), AllocError>
+        ensures { OnOk result (self.new ≡ with_new self.old (cond unresolved (vertex ∷ []) [])) }
     {
-        if wanted && !self.contains(vertex) {
+        if unresolved && !self.contains(vertex) {
             let Ok(()) = self.vertices.push(vertex) else {
                 return Err(AllocError);
             };

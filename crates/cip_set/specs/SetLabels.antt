@@ -8,11 +8,11 @@ use Rattle.cip_print.specs.declared.answer.Answer.{Answer}
 use Rattle.cip_print.specs.declared.answer.Answer.TheVariants as answers
 use Rattle.cip_print.specs.declared.answer.UnitAnswer.{UnitAnswer}
 use Rattle.cip_answer.specs.Answers.{answer_by}
-use Rattle.cip_change.specs.SetLetters.{HasLetter}
-use Rattle.cip_change.specs.UnitsBeside.{IsCentreAt}
-use Rattle.cip_change.specs.SetAnswers.{set_answer, IsMarked}
-use Rattle.cip_change.specs.declared.set_answers.SetAnswer.{SetAnswer}
-use Rattle.cip_change.specs.declared.set_answers.SetAnswer.TheVariants.{Written, Refused}
+use Rattle.cip_edit.specs.SetLetters.{HasLetter}
+use Rattle.cip_edit.specs.UnitsBeside.{IsCentreAt}
+use Rattle.cip_edit.specs.SetAnswers.{set_answer, IsMarked}
+use Rattle.cip_edit.specs.declared.set_answer.SetAnswer.{SetAnswer}
+use Rattle.cip_edit.specs.declared.set_answer.SetAnswer.TheVariants.{Written, Refused}
 
 -- among the units of a record that were answered, the centre at an atom has this letter
 pub record IsLabelledAt (letter : Descriptor) (atom : ℕ) (units : List UnitAnswer) : Type 0 where

@@ -1,8 +1,8 @@
 // A single record that is mirrored.
 ghost use Rattle.std.specs.Prelude.{◌≡◌, ◌<◌, ◌-◌, ◌^◌, length, IfOk};
-ghost use Rattle.cip_change.specs.Answers.{mirror_answer, GivesReflected, IsFew};
+ghost use Rattle.cip_edit.specs.Answers.{mirror_answer, GivesReflected, IsFew};
 
-use cip_change::{MirrorAnswer, mirror_lines};
+use cip_edit::{MirrorAnswer, mirror_lines};
 use cip_item::without_label_items;
 use cip_text::RecordLines;
 use std::alloc::{AllocError, Global};

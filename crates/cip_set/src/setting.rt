@@ -1,13 +1,13 @@
 // A single record in which a centre is to have a letter.
 ghost use Rattle.std.specs.Prelude.{◌≡◌, ◌≤◌, ◌<◌, ◌-◌, ◌^◌, IfOk, length};
-ghost use Rattle.cip_change.specs.SetAnswers.{set_answer, set_without_items, IsFew};
+ghost use Rattle.cip_edit.specs.SetAnswers.{set_answer, set_without_items, IsFew};
 ghost use Rattle.cip_set.specs.SetLabels.{GivesLetter};
 
-use cip_change::{SetAnswer, set_within};
-use cip_label::{Digraphs, Labeller};
+use cip_edit::{SetAnswer, set_letter_in_lines};
+use cip_label::{Labeller, RootRanker};
 use cip_mol::CentreLetter;
 use cip_rank::Rules;
-use cip_record::{Errand, run_once};
+use cip_record::{LabellerTask, with_new_labeller};
 use cip_text::RecordLines;
 use std::alloc::{AllocError, Global};
 
@@ -28,12 +28,12 @@ pub fn set_letter(
     ensures gives { IfOk result (λ answer. GivesLetter rules nodes atom letter bytes.now answer) }
     ensures few { IfOk result (λ answer. IsFew bytes.now answer) }
 {
-    let errand = LetterErrand {
+    let task = LetterErrand {
         atom,
         letter,
         rules,
     };
-    run_once(alloc, bytes, nodes, &errand)
+    with_new_labeller(alloc, bytes, nodes, &task)
 }
 
 // A letter that is asked for the centre at an atom, counted from 1, and by which wording of the rules it is labelled.
@@ -44,18 +44,18 @@ struct LetterErrand {
     rules: Rules,
 }
 
-impl Errand for LetterErrand {
+impl LabellerTask for LetterErrand {
     type Answer = SetAnswer;
 
-    ghost answers = { λ errand bound bytes answer.
-        answer ≡ set_without_items errand.rules bound errand.atom errand.letter bytes };
+    ghost answers = { λ task bound bytes answer.
+        answer ≡ set_without_items task.rules bound task.atom task.letter bytes };
 
-    fn run<D: Digraphs>(
+    fn run<D: RootRanker>(
         &self,
         alloc: Global,
         labeller: &mut Labeller<D>,
         lines: &RecordLines,
     ) -> Result<SetAnswer, AllocError> {
-        set_within(alloc, labeller, lines, self.atom, self.letter, self.rules)
+        set_letter_in_lines(alloc, labeller, lines, self.atom, self.letter, self.rules)
     }
 }

@@ -1,4 +1,4 @@
--- A record by its lines: those before its terminator line, and what stands from that line on. CTfile Formats, SDfile.
+-- A record by its lines: those before its terminator line, and what is from that line on. CTfile Formats, SDfile.
 use Rattle.std.specs.Prelude.{◌≡◌, ◌≤◌, ℕ, List, [], ◌∷◌, length, map, if◌then◌else◌}
 use Rattle.std.specs.List.{concat}
 use Rattle.cip_text.specs.Lines.{lines_of, content_of}
@@ -25,7 +25,7 @@ abbrev pub closing : List ℕ → List ℕ
 closing bytes = concat (closing_lines (lines_of bytes))
 
 -- the lines of a record at hand: the contents of those before its terminator line, no more of them than bytes, and
--- what stands from that line on
+-- what is from that line on
 pub record AreLinesOf (bytes : List ℕ) (contents : List (List ℕ)) (rest : List ℕ) : Type 0 where
   pub before : contents ≡ body_contents bytes
   pub few : length contents ≤ length bytes

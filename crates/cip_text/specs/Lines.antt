@@ -9,7 +9,7 @@ line_feed = 10
 abbrev pub carriage_return : ℕ
 carriage_return = 13
 
--- The lines with their ends. A line ends behind each LF, and what follows the last LF is a line unless it is empty.
+-- The lines with their ends. A line ends after each LF, and what follows the last LF is a line unless it is empty.
 abbrev pub lines_of : List ℕ → List (List ℕ)
 lines_of [] = []
 lines_of (b ∷ bs) = if b == line_feed then (b ∷ []) ∷ lines_of bs else onto_first b (lines_of bs)
@@ -19,21 +19,21 @@ abbrev pub line_length : List ℕ → ℕ
 line_length [] = 0
 line_length (b ∷ bs) = if b == line_feed then 1 else suc (line_length bs)
 
-abbrev pub begins_with : ℕ → List ℕ → Bool
-begins_with b text = nat_lt 0 (length text) && slice_index text 0 == b
+abbrev pub starts_with_byte : ℕ → List ℕ → Bool
+starts_with_byte b text = nat_lt 0 (length text) && slice_index text 0 == b
 
-abbrev pub has_last : ℕ → List ℕ → Bool
-has_last b text = nat_lt 0 (length text) && slice_index text (length text - 1) == b
+abbrev pub ends_with_byte : ℕ → List ℕ → Bool
+ends_with_byte b text = nat_lt 0 (length text) && slice_index text (length text - 1) == b
 
 abbrev pub without_last : List ℕ → List ℕ
 without_last text = take (length text - 1) text
 
 abbrev pub without_return : List ℕ → List ℕ
-without_return text = if has_last carriage_return text then without_last text else text
+without_return text = if ends_with_byte carriage_return text then without_last text else text
 
 -- a line without its end
 abbrev pub content_of : List ℕ → List ℕ
-content_of line = if has_last line_feed line then without_return (without_last line) else line
+content_of line = if ends_with_byte line_feed line then without_return (without_last line) else line
 
 -- the end of a line: LF, CR LF or nothing
 abbrev pub end_of : List ℕ → List ℕ

@@ -2,7 +2,7 @@
 use Rattle.std.specs.Prelude.{ℕ, ℤ, pos, neg_ℤ, List, [], ◌+◌, ◌-◌, ◌*◌, Bool, ◌==◌, ◌&&◌, ◌||◌, nat_lt, nat_le, length, take, drop, fold, position, slice_index_or, Some, None, Ok, Err, Result, if◌then◌else◌}
 use Rattle.std.specs.declared.option.Option.{Option}
 use Rattle.std.specs.List.{list_all}
-use Rattle.cip_text.specs.Lines.{begins_with}
+use Rattle.cip_text.specs.Lines.{starts_with_byte}
 use Rattle.cip_text.specs.declared.numbers.NumberFault.{NumberFault}
 use Rattle.cip_text.specs.declared.numbers.NumberFault.TheVariants.{Empty, NotANumber, OutOfRange}
 
@@ -28,7 +28,7 @@ whole text = if list_all is_digit text && nat_lt 0 (length text) then Some (valu
 abbrev pub is_point : ℕ → Bool
 is_point b = b == 46
 
--- digits before a point and digits behind it, at least one in all; those past the fourth place are dropped
+-- digits before a point and digits after it, at least one in all; those past the fourth place are dropped
 abbrev pub parts : List ℕ → List ℕ → Option ℕ
 parts before behind =
     if list_all is_digit before && list_all is_digit behind && nat_lt 0 (length before + length behind)
@@ -47,11 +47,11 @@ decimal text = cut_at text (position is_point text)
 -- signs and ranges
 
 abbrev pub is_negative : List ℕ → Bool
-is_negative field = begins_with 45 field
+is_negative field = starts_with_byte 45 field
 
 -- what follows the sign, where there is one
 abbrev pub without_sign : List ℕ → List ℕ
-without_sign field = if begins_with 45 field || begins_with 43 field then drop 1 field else field
+without_sign field = if starts_with_byte 45 field || starts_with_byte 43 field then drop 1 field else field
 
 -- a number with its sign, at most so large
 abbrev pub signed : ℕ → Bool → Option ℕ → Result ℤ NumberFault

@@ -1,6 +1,6 @@
--- Where lines stand in a text, in bytes from 0. Own.
+-- Where lines are in a text, in bytes from 0. Own.
 use Rattle.std.specs.Prelude.{◌≤◌, ℕ, List, [], ◌∷◌, ◌+◌, ◌-◌, drop, length, take}
-use Rattle.cip_text.specs.declared.splitting.Line.{Line}
+use Rattle.cip_text.specs.declared.line_reader.Line.{Line}
 use Rattle.cip_text.specs.Lines.{lines_of, content_of}
 
 -- the place of a line that begins here
@@ -15,11 +15,11 @@ places_from start (line ∷ lines) = place_at start line ∷ places_from (start 
 abbrev pub places_of : List ℕ → List Line
 places_of bytes = places_from 0 (lines_of bytes)
 
--- what stands at a place
+-- what is at a place
 abbrev pub text_at : List ℕ → Line → List ℕ
 text_at bytes line = take (line.end - line.start) (drop line.start bytes)
 
--- the place lies within so many bytes
+-- the place lies within n bytes
 pub record IsWithin (bytes : ℕ) (line : Line) : Type 0 where
   pub content : line.start ≤ line.end
   pub end : line.end ≤ line.next

@@ -3,7 +3,7 @@
 use Rattle.std.specs.Prelude.{ℕ, ℤ, List, [], ◌++◌, ◌-◌, ◌/◌, ◌%◌, codes, decimal, length, replicate, unsigned_abs, if◌then◌else◌}
 use Rattle.std.specs.Int.{is_negative}
 
--- a text that ends in the last of so many columns
+-- a text that ends in the last of n columns
 unfoldable pub right : ℕ → List ℕ → List ℕ
 right width text = replicate (width - length text) 32 ++ text
 

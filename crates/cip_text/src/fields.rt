@@ -1,8 +1,8 @@
 // The fields of a line, by columns.
 ghost use Rattle.std.specs.Prelude.{◌≡◌, ◌≤◌, ◌<◌};
-ghost use Rattle.cip_text.specs.Columns.{field, without_spaces_before, without_spaces_behind};
+ghost use Rattle.cip_text.specs.Columns.{field, without_spaces_before, trim_end_spaces};
 
-/// What stands in these columns of a line's content, counted from 1 and cut to what is there, without the
+/// What is in these columns of a line's content, counted from 1 and cut to what is there, without the
 /// spaces around it.
 pub fn columns(content: &[u8], first: u32, last: u32) -> &[u8]
     requires counted { 0 < first }
@@ -11,12 +11,12 @@ pub fn columns(content: &[u8], first: u32, last: u32) -> &[u8]
 {
     let start = (first as usize - 1).min(content.len());
     let end = (last as usize).min(content.len());
-    without_spaces_behind(without_spaces_before(&content[start..end]))
+    trim_end_spaces(without_spaces_before(&content[start..end]))
 }
 
 /// A text without the spaces at its end.
-pub fn without_spaces_behind(text: &[u8]) -> &[u8]
-    ensures { result.now ≡ without_spaces_behind text.now }
+pub fn trim_end_spaces(text: &[u8]) -> &[u8]
+    ensures { result.now ≡ trim_end_spaces text.now }
 {
     let mut rest = text;
     while let [before @ .., b' '] = rest {

@@ -19,7 +19,7 @@ module _ (graph : Graph) (positions : List (List ℕ)) where
   abbrev pub bare : Node → Branch
   bare node = record { label = label_of node; below = none }
 
-  -- a node with so many spheres below it
+  -- a node with n spheres below it
   unfoldable pub grown : ℕ → Node → Branch
   grown zero node = bare node
   grown (suc spheres) node =

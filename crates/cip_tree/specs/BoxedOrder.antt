@@ -1,4 +1,4 @@
--- How branches in boxes stand by Rules 1a, 1b and 2. IUPAC 2013, P-92.1.3, P-92.2 and P-92.3.
+-- How branches in boxes compare by Rules 1a, 1b and 2. IUPAC 2013, P-92.1.3, P-92.2 and P-92.3.
 use Rattle.std.specs.Prelude.{ℕ, ◌+◌, pos, true, None, Some, [], ◌∷◌, slice_index_or}
 use Rattle.std.specs.declared.option.Option.{Option}
 use Rattle.cip_rank.specs.declared.rules.Rules.{Rules}

@@ -6,7 +6,7 @@ use Rattle.std.proofs.Common.{ap, ◌∙◌}
 use Rattle.cip_tree.specs.Branches.{Label, Branches, none, more, Branch}
 use Rattle.cip_tree.specs.FlatTree.{Placed}
 
--- a label for each branch, with what is below it and then what is behind it, and a mark where branches end
+-- a label for each branch, with what is below it and then what is after it, and a mark where branches end
 abbrev pub written : Branches → List (Option Label) → List (Option Label)
 written none rest = None ∷ rest
 written (more label below others) rest = Some label ∷ written below (written others rest)

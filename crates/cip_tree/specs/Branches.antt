@@ -1,4 +1,4 @@
--- Branches in boxes: a node with what is told of it, and the branches below it. Own.
+-- Branches in boxes: a node with what is known of it, and the branches below it. Own.
 use Rattle.std.specs.Prelude.{ℕ, suc, ◌+◌, List, [], ◌∷◌, max}
 use Rattle.cip_rank.specs.declared.rules.Rules.{Rules}
 use Rattle.cip_rank.specs.declared.rules.Rules.TheVariants.{Wording2013, Wording2018}
@@ -12,7 +12,7 @@ pub record Label : Type 0 where
   pub as_printed : ℕ
   pub as_corrected : ℕ
 
--- branches in order: of the first one its label and the branches below, and behind these the others
+-- branches in order: of the first one its label and the branches below, and after these the others
 pub data Branches : Type 0 where
   none : Branches
   more : Label → Branches → Branches → Branches

@@ -5,7 +5,7 @@ use Rattle.std.specs.Cmp.Lexicographic.{pointwise}
 use Rattle.std.specs.declared.option.Option.{Option}
 use Rattle.cip_digraph.specs.declared.nodes.NodeKind.{NodeKind}
 use Rattle.cip_digraph.specs.declared.nodes.NodeKind.TheVariants.{Real, Closure, Multiple, Delocalised}
-use Rattle.cip_digraph.specs.declared.nodes.Told.{Told}
+use Rattle.cip_digraph.specs.declared.nodes.NodeData.{NodeData}
 use Rattle.cip_digraph.specs.digraph.Digraph.{Node, is_real}
 use Rattle.cip_digraph.specs.rules.Keys.{counterpart}
 use Rattle.cip_tree.specs.Branches.{Branch, children, height}
@@ -56,7 +56,7 @@ counterpart_in all node = by_kind node.kind
     by_kind Multiple = number_of all (counterpart node)
     by_kind Delocalised = None
 
-abbrev pub told_in : List Placed → Placed → Told
+abbrev pub told_in : List Placed → Placed → NodeData
 told_in all node =
     let label = node.branch.label in
     record {
@@ -70,5 +70,5 @@ told_in all node =
       as_corrected = label.as_corrected;
     }
 
-abbrev pub flat_of : Branch → List Told
+abbrev pub flat_of : Branch → List NodeData
 flat_of tree = map (told_in (placed tree)) (placed tree)

@@ -1,8 +1,8 @@
--- Nodes behind the root in order of spheres: their parents ascend and stand before them. Own.
+-- Nodes after the root in order of spheres: their parents ascend and are before them. Own.
 use Rattle.std.specs.Prelude.{◌≡◌, ◌<◌, ◌≤◌, ◌+◌, ℕ, List, [], ◌∷◌}
 use Rattle.cip_tree.specs.FlatTree.{Placed}
 
--- of nodes of which the first has this number, behind one with this parent
+-- of nodes of which the first has this number, after one with this parent
 abbrev pub AreBehind : ℕ → ℕ → List Placed → Type 0
 AreBehind number parent [] = Unit {0}
 AreBehind number parent (node ∷ nodes) =

@@ -1,13 +1,13 @@
 // A digraph in boxes as the list of its nodes.
 ghost use Rattle.std.specs.Prelude.{◌≡◌, ◌<◌, ◌^◌, IfOk, length, map};
-ghost use Rattle.cip_digraph.specs.declared.nodes.Told.{Told as Entry};
+ghost use Rattle.cip_digraph.specs.declared.nodes.NodeData.{NodeData as Entry};
 ghost use Rattle.cip_tree.specs.Branches.{node_count};
 ghost use Rattle.cip_tree.specs.FlatTree.{flat_of, told_in};
 ghost use Rattle.cip_tree.specs.InOrder.{AreInOrder};
 
 use crate::placing::{Placed, place_all, tell};
 use crate::tree::PlainTree;
-use cip_digraph::{NodeKind, Nodes, Told};
+use cip_digraph::{NodeData, NodeKind, Nodes};
 use cip_rank::{Rules, Table};
 use std::alloc::{AllocError, Global};
 use std::marker::Model;
@@ -16,12 +16,12 @@ use std::marker::Model;
 #[derive(Drop)]
 pub struct Flat {
     table: Table,
-    nodes: Vec<Told>,
+    nodes: Vec<NodeData>,
 }
 
 impl Model for Flat {
     ghost use Rattle.std.specs.Prelude.{◌≡◌, List};
-    ghost use Rattle.cip_digraph.specs.declared.nodes.Told.{Told as Entry};
+    ghost use Rattle.cip_digraph.specs.declared.nodes.NodeData.{NodeData as Entry};
     ghost use Rattle.cip_digraph.specs.digraph.NodeList.{parents_of};
 
     ghost Value = { List Entry };
@@ -41,12 +41,12 @@ impl PlainTree {
         let placed = place_all(alloc, self)?;
         Ok(Flat {
             table: table_of(alloc, &placed)?,
-            nodes: told(alloc, &placed)?,
+            nodes: node_data(alloc, &placed)?,
         })
     }
 }
 
-fn told(alloc: Global, placed: &[Placed<'_>]) -> Result<Vec<Told>, AllocError>
+fn node_data(alloc: Global, placed: &[Placed<'_>]) -> Result<Vec<NodeData>, AllocError>
     requires { length placed.now < 2 ^ 32 }
     ensures { IfOk result (λ nodes. nodes.items ≡ map (told_in placed.now) placed.now) }
 {
@@ -85,11 +85,11 @@ impl Nodes for Flat {
     }
 
     fn vertex(&self, node: u32) -> Option<u32> {
-        let told = &self.nodes[node as usize];
-        match told.kind {
-            NodeKind::Real => Some(told.vertex),
-            NodeKind::Closure => Some(told.vertex),
-            NodeKind::Multiple => Some(told.vertex),
+        let node_data = &self.nodes[node as usize];
+        match node_data.kind {
+            NodeKind::Real => Some(node_data.vertex),
+            NodeKind::Closure => Some(node_data.vertex),
+            NodeKind::Multiple => Some(node_data.vertex),
             NodeKind::Delocalised => None,
         }
     }

@@ -10,14 +10,14 @@ use crate::tree::PlainTree;
 use cip_digraph::{Edge, Graph, Positions};
 use std::alloc::{AllocError, Global};
 
-// A graph, and where the double bonds at a vertex can stand.
+// A graph, and where the double bonds at a vertex can be.
 #[derive(Clone, Copy)]
 struct Bonding<'a> {
     graph: &'a Graph,
     positions: &'a Positions,
 }
 
-// The real node at the end of a path, with so many spheres below it.
+// The real node at the end of a path, with n spheres below it.
 #[cycle(grow)]
 fn grow(
     alloc: Global,
@@ -118,7 +118,7 @@ fn copies(edge: &Edge) -> u8
     }
 }
 
-// The double bond at a vertex can stand at several places.
+// The double bond at a vertex can be at several places.
 fn is_shifted(positions: &Positions, vertex: u32, edge: &Edge) -> bool
     ensures { result ≡ can_shift positions.now vertex edge.now }
 {

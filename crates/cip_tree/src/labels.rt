@@ -1,4 +1,4 @@
-// What is told of one node, and nodes without children.
+// What is known of one node, and nodes without children.
 ghost use Rattle.std.specs.Prelude.{◌≡◌, ◌<◌, ◌≤◌, ◌+◌, ◌-◌, ◌*◌, ◌^◌, ℕ, List, IfOk, length};
 ghost use Rattle.cip_digraph.specs.graph.Graph.{vertex_at};
 ghost use Rattle.cip_digraph.specs.rings.Positions.{listed_positions, mean_key};
@@ -31,7 +31,7 @@ fn atomic_of(graph: &Graph, vertex: u32) -> u32
     6 * z_of(graph, vertex) as u32
 }
 
-// Six times the mean atomic number where the double bond of a vertex can stand.
+// Six times the mean atomic number where the double bond of a vertex can be.
 fn mean_of(graph: &Graph, positions: &Positions, vertex: u32) -> u32
     requires { 0 < length (listed_positions positions.now vertex) }
     ensures { result ≡ mean_key graph.now positions.now vertex }
@@ -45,7 +45,7 @@ fn mean_of(graph: &Graph, positions: &Positions, vertex: u32) -> u32
 }
 
 // The mass key of an atom of a vertex, in half units.
-#[tactic(auto, using(crate::proofs::Masses::no_atom))]
+#[tactic(auto, using(crate::proofs::lemmas::Masses::no_atom))]
 fn mass_of(graph: &Graph, vertex: u32) -> u32
     ensures { result ≡ atom_mass (vertex_at graph.now vertex) }
 {
@@ -128,7 +128,7 @@ pub fn multiple(
     })
 }
 
-/// The duplicate below the end of a path for its vertex's double bond that can stand at several places.
+/// The duplicate below the end of a path for its vertex's double bond that can be at several places.
 pub fn delocalised(
     alloc: Global,
     graph: &Graph,

@@ -14,8 +14,8 @@ use cip_rank::Rules;
 use std::alloc::{AllocError, Global};
 use std::cmp::Ordering;
 
-/// How two children of the root stand by Rules 1a, 1b and 2, by their places among its children; none where they tie. Each
-/// sphere of a decision fits 32 bits.
+/// How two children of the root compare by Rules 1a, 1b and 2, by their places among its children; none where they tie.
+/// Each sphere of a decision fits 32 bits.
 pub fn plain_order(
     alloc: Global,
     tree: &PlainTree,

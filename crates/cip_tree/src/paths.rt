@@ -23,7 +23,7 @@ pub fn is_on(path: &[u32], vertex: u32) -> bool
     path.contains(&vertex)
 }
 
-/// Whether a vertex stands right above the end of a path.
+/// Whether a vertex is right above the end of a path.
 pub fn is_above(path: &[u32], vertex: u32) -> bool
     ensures { result ≡ begins_with vertex (drop 1 path.now) }
 {
@@ -56,7 +56,7 @@ pub fn counterpart(alloc: Global, path: &[u32], vertex: u32) -> Result<Vec<u32>,
 }
 
 /// The sphere of that node.
-#[tactic(auto, using(crate::proofs::OnPath::met))]
+#[tactic(auto, using(crate::proofs::lemmas::OnPath::met))]
 pub fn sphere_of_counterpart(path: &[u32], vertex: u32) -> u32
     requires { length path.now < 2 ^ 32 }
     ensures { result ≡ length (path_of_counterpart (duplicate Closure vertex path.now)) - 1 }

@@ -6,7 +6,7 @@ ghost use Rattle.cip_tree.specs.FlatTree.{hung, next_sphere, placed as placed_in
 
 use crate::paths::counterpart;
 use crate::tree::PlainTree;
-use cip_digraph::{NodeKind, Told};
+use cip_digraph::{NodeData, NodeKind};
 use std::alloc::{AllocError, Global};
 use std::marker::Model;
 
@@ -144,13 +144,13 @@ fn number_of(nodes: &[Placed<'_>], path: &[u32]) -> Option<u32>
     }
 }
 
-/// What is told of a node among all nodes.
-pub fn tell(alloc: Global, nodes: &[Placed<'_>], node: &Placed<'_>) -> Result<Told, AllocError>
+/// What is known of a node among all nodes.
+pub fn tell(alloc: Global, nodes: &[Placed<'_>], node: &Placed<'_>) -> Result<NodeData, AllocError>
     requires { length nodes.now < 2 ^ 32 }
-    ensures { IfOk result (λ told. told ≡ told_in nodes.now node.now) }
+    ensures { IfOk result (λ node_data. node_data ≡ told_in nodes.now node.now) }
 {
     let branch = node.branch();
-    Ok(Told {
+    Ok(NodeData {
         parent: node.parent(),
         kind: branch.kind,
         vertex: branch.vertex,

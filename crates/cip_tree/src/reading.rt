@@ -1,4 +1,4 @@
-// What a box tells of its node and of the branches below it.
+// What a box says of its node and of the branches below it.
 ghost use Rattle.std.specs.Prelude.{◌≡◌, ◌<◌, ◌^◌};
 ghost use Rattle.cip_tree.specs.Branches.{children as branches_below, gathered, count, node_count as count_of, depth, distance, height as height_of};
 ghost use Rattle.cip_tree.specs.Counted.{IsCounted};
@@ -8,7 +8,7 @@ use cip_rank::Rules;
 
 impl PlainTree {
     /// The branches below the node, in the order of the digraph.
-    #[tactic(auto, using(crate::proofs::Gathering::listed_gathered))]
+    #[tactic(auto, using(crate::proofs::lemmas::Gathering::listed_gathered))]
     pub fn children(&self) -> &[PlainTree]
         ensures { result.now ≡ branches_below self.now }
     {

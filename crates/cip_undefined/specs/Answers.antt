@@ -5,7 +5,7 @@ use Rattle.cip_text.specs.Bodies.{body_contents}
 use Rattle.cip_rank.specs.declared.rules.Rules.{Rules}
 use Rattle.cip_mol.specs.Drawing.{Drawing}
 use Rattle.cip_mol.specs.declared.refusal.ReadFault.{ReadFault}
-use Rattle.cip_label.specs.Settings.{Setting, setting_in}
+use Rattle.cip_label.specs.Settings.{LabelContext, setting_in}
 use Rattle.cip_molfile.specs.Molecules.{read_molecule}
 use Rattle.cip_undefined.specs.Ties.{told_units}
 use Rattle.cip_undefined.specs.UndefinedUnits.{found_among}
@@ -13,7 +13,7 @@ use Rattle.cip_undefined.specs.declared.unit.UndefinedAnswer.{UndefinedAnswer}
 use Rattle.cip_undefined.specs.declared.unit.UndefinedAnswer.TheVariants.{Listed, Refused}
 
 -- the undefined units of a setting; `nodes` bounds each of its digraphs
-abbrev pub answer_in : ℕ → Setting → UndefinedAnswer
+abbrev pub answer_in : ℕ → LabelContext → UndefinedAnswer
 answer_in nodes setting = Listed (told_units setting nodes (found_among setting nodes setting.units))
 
 module _ (rules : Rules) (nodes : ℕ) where

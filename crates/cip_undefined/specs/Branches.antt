@@ -1,5 +1,5 @@
--- What a branch holds: the atoms to which bonds lead from its ligand without passing the end where the ligand stands.
--- Own; they are those for which the nodes of the branch stand in a hierarchical digraph, IUPAC 2013, P-92.1.4.
+-- What a branch holds: the atoms to which bonds lead from its ligand without passing the end of the ligand.
+-- Own; they are those for which the nodes of the branch are in a hierarchical digraph, IUPAC 2013, P-92.1.4.
 use Rattle.std.specs.Prelude.{ℕ, ◌==◌, ◌&&◌, ◌||◌, Bool, not, List, [], ◌∷◌, filter, length, map, flat_map}
 use Rattle.std.specs.List.{list_any}
 use Rattle.cip_mol.specs.declared.site.Ligand.{Ligand}
@@ -10,7 +10,7 @@ use Rattle.cip_digraph.specs.graph.Graph.{Graph, edges_at, other_end}
 use Rattle.cip_digraph.specs.rings.Alternating.{is_in}
 use Rattle.cip_digraph.specs.rings.SmallRings.{with_new}
 use Rattle.cip_digraph.specs.units.Ends.{ends_of}
-use Rattle.cip_ring.specs.Steps.{within}
+use Rattle.cip_ring.specs.Neighbours.{within}
 use Rattle.cip_undefined.specs.declared.pairs.Pair.{Pair}
 
 -- some atoms of a graph

@@ -5,7 +5,7 @@ use Rattle.cip_mol.specs.declared.descriptor.Sense.{Sense}
 use Rattle.cip_mol.specs.declared.outcome.Outcome.{Outcome}
 use Rattle.cip_mol.specs.declared.outcome.Outcome.TheVariants.{Label, Tie, Over, NoGeometry}
 use Rattle.cip_mol.specs.declared.site.Site.{Site}
-use Rattle.cip_label.specs.Settings.{Setting, known_in}
+use Rattle.cip_label.specs.Settings.{LabelContext, known_in}
 use Rattle.cip_undefined.specs.UndefinedUnits.{open_outcome}
 
 -- an outcome with one letter in the place of any other
@@ -22,5 +22,5 @@ AreAlikeButLetters one other = lettered one ≡ lettered other
 -- with either sense
 abbrev pub SensesKeepOrders : Type 0
 SensesKeepOrders =
-    (setting : Setting) (nodes : ℕ) (site : Site) (sense : Sense) →
+    (setting : LabelContext) (nodes : ℕ) (site : Site) (sense : Sense) →
     AreAlikeButLetters (known_in setting nodes site sense) (open_outcome setting nodes site)

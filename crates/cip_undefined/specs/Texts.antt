@@ -1,5 +1,5 @@
--- What is told of the undefined units of a record: a line for each, `open` with the rule, the sphere and the order where
--- its ligands all differ, else `dependent`, `tie` or `over`; or the refusal. Own.
+-- What is written for the undefined units of a record: a line for each, `open` with the rule, the sphere and the order
+-- where its ligands all differ, else `dependent`, `tie` or `over`; or the refusal. Own.
 use Rattle.std.specs.Prelude.{ℕ, List, [], ◌∷◌, ◌++◌, codes, decimal}
 use Rattle.std.specs.List.{flat_map}
 use Rattle.cip_mol.specs.Letters.{rule_text}

@@ -1,12 +1,12 @@
 -- A tie is firm where two ligands tie whose branches hold no end of another undefined unit, unless that unit's tie is
--- firm itself. A unit whose tie isn't firm is dependent: drawing the other unit might tell its ligands apart. Own.
+-- firm itself. A unit whose tie isn't firm is dependent: drawing the other unit might distinguish its ligands. Own.
 use Rattle.std.specs.Prelude.{ℕ, zero, suc, ◌&&◌, Bool, true, false, cond, not, List, [], ◌∷◌, filter, length, map}
 use Rattle.std.specs.List.{flat_map, list_any}
 use Rattle.cip_mol.specs.declared.site.Site.{Site}
-use Rattle.cip_label.specs.declared.roots.Ranked.{Ranked}
-use Rattle.cip_label.specs.declared.roots.Ranked.TheVariants as ranked
+use Rattle.cip_label.specs.declared.ranked_root.Ranked.{Ranked}
+use Rattle.cip_label.specs.declared.ranked_root.Ranked.TheVariants as ranked
 use Rattle.cip_label.specs.Labelling.{ranked_root}
-use Rattle.cip_label.specs.Settings.{Setting}
+use Rattle.cip_label.specs.Settings.{LabelContext}
 use Rattle.cip_undefined.specs.Branches.{do_hold, ends_at, free_atoms}
 use Rattle.cip_undefined.specs.Pairs.{end_of, pairs_of}
 use Rattle.cip_undefined.specs.declared.pairs.Pair.{Pair}
@@ -32,7 +32,7 @@ other_ends found = flat_map (λ unit. cond (ties unit.state) [] (ends_at unit.si
 abbrev pub tied_sites : List UndefinedUnit → List Site
 tied_sites found = flat_map (λ unit. cond (ties unit.state) (unit.site ∷ []) []) found
 
-module _ (setting : Setting) (nodes : ℕ) where
+module _ (setting : LabelContext) (nodes : ℕ) where
   -- two ligands tie by all rules, within the bound
   abbrev pub is_tied : Pair → Bool
   is_tied two = is_tie (ranked_root setting nodes (end_of two))
@@ -48,7 +48,7 @@ module _ (setting : Setting) (nodes : ℕ) where
   abbrev pub loose : List ℕ → List Site → List Site
   loose free sites = filter (λ site. not (is_firm free site)) sites
 
-  -- The same again and again: firm ties make further ones firm. So many times at most something changes as there are
+  -- The same again and again: firm ties make further ones firm. n times at most something changes as there are
   -- sites.
   abbrev pub loose_after : ℕ → List ℕ → List Site → List Site
   loose_after zero others sites = sites

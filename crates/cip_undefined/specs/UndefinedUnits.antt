@@ -11,7 +11,7 @@ use Rattle.cip_mol.specs.declared.site.Geometry.{Geometry}
 use Rattle.cip_mol.specs.declared.site.Geometry.TheVariants.{Known, Unknown}
 use Rattle.cip_mol.specs.declared.site.Site.{Site}
 use Rattle.cip_mol.specs.declared.site.Unit as units
-use Rattle.cip_label.specs.Settings.{Setting, known_in}
+use Rattle.cip_label.specs.Settings.{LabelContext, known_in}
 use Rattle.cip_print.specs.Naming.{name_of}
 use Rattle.cip_undefined.specs.declared.unit.State.{State}
 use Rattle.cip_undefined.specs.declared.unit.State.TheVariants.{Open, Dependent, Tie, Over}
@@ -27,17 +27,17 @@ is_undefined (Unknown Reentrant) = false
 is_undefined (Unknown NoMark) = true
 
 -- what would be found of a site if one sense were shown; with the other one its letter alone is another
-abbrev pub open_outcome : Setting → ℕ → Site → Outcome
+abbrev pub open_outcome : LabelContext → ℕ → Site → Outcome
 open_outcome setting nodes site = known_in setting nodes site Plus
 
--- how the ligands stand; of a known sense something else is found than want of geometry
+-- how the ligands compare; of a known sense something else is found than want of geometry
 abbrev pub state_of : Outcome → State
 state_of (outcomes.Label label) = Open label.rule label.sphere label.order
 state_of outcomes.Tie = Tie
 state_of outcomes.Over = Over
 state_of (outcomes.NoGeometry cause) = Over
 
-abbrev pub found_unit : Setting → ℕ → Site → UndefinedUnit
+abbrev pub found_unit : LabelContext → ℕ → Site → UndefinedUnit
 found_unit setting nodes site = record {
   name = name_of site;
   site = site;
@@ -45,9 +45,9 @@ found_unit setting nodes site = record {
   state = state_of (open_outcome setting nodes site);
 }
 
-abbrev pub found_at : Setting → ℕ → units.Unit → List UndefinedUnit
+abbrev pub found_at : LabelContext → ℕ → units.Unit → List UndefinedUnit
 found_at setting nodes unit = cond (is_undefined unit.geometry) (found_unit setting nodes unit.site ∷ []) []
 
--- the undefined units among some, as far as their own ligands tell; `nodes` bounds each digraph
-abbrev pub found_among : Setting → ℕ → List units.Unit → List UndefinedUnit
+-- the undefined units among some, as far as their own ligands decide it; `nodes` bounds each digraph
+abbrev pub found_among : LabelContext → ℕ → List units.Unit → List UndefinedUnit
 found_among setting nodes all = flat_map (found_at setting nodes) all

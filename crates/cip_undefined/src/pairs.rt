@@ -16,10 +16,10 @@ pub(crate) struct Pair {
 
 impl Pair {
     /// These two alone.
-    pub(crate) fn ligands(&self) -> Ligands
+    pub(crate) fn ligands(&self, alloc: Global) -> Ligands
         ensures { result ≡ self.now.one ∷ self.now.other ∷ [] }
     {
-        let mut ligands = Ligands::new();
+        let mut ligands = Ligands::new(alloc);
         ligands.push(self.one);
         ligands.push(self.other);
         ligands

@@ -17,25 +17,25 @@ ghost use Rattle.cip_undefined.specs.Ties.{
   told_units,
 };
 
-use crate::branches::FreeAtoms;
 use crate::pairs::{Pair, pairs_of};
+use crate::reach::FreeAtoms;
 use crate::unit::{State, UndefinedUnit};
-use cip_label::{Digraphs, Labeller, Ranked, Setting};
+use cip_label::{LabelContext, Labeller, Ranked, RootRanker};
 use cip_mol::Site;
 use cip_rank::Steps;
 use std::alloc::{AllocError, Global};
 use std::sync::ledger::Ledger;
 
-/// Tells which of the ties among undefined units are dependent.
-pub(crate) fn tell_dependent<D: Digraphs, L: Ledger>(
+/// Says which of the ties among undefined units are dependent.
+pub(crate) fn tell_dependent<D: RootRanker, L: Ledger>(
     alloc: Global,
     labeller: &mut Labeller<D>,
-    setting: &Setting<'_>,
+    setting: &LabelContext<'_>,
     found: &mut [UndefinedUnit],
     steps: &mut Steps<L>,
 ) -> Result<(), AllocError>
     requires fit { All (λ unit. IsFitSite setting.now.graph unit.site) found.old }
-    ensures told { OnOk result (found.new ≡ told_units setting.now labeller.old found.old) }
+    ensures output { OnOk result (found.new ≡ told_units setting.now labeller.old found.old) }
     ensures kept { labeller.new ≡ labeller.old }
 {
     let others = other_ends(alloc, found)?;
@@ -89,10 +89,10 @@ fn ties(state: &State) -> bool
 }
 
 // The free atoms where some of these sites are left whose ties aren't firm.
-fn settle<'a, D: Digraphs, L: Ledger>(
+fn settle<'a, D: RootRanker, L: Ledger>(
     alloc: Global,
     labeller: &mut Labeller<D>,
-    setting: &Setting<'a>,
+    setting: &LabelContext<'a>,
     others: &[u32],
     sites: Vec<Site>,
     steps: &mut Steps<L>,
@@ -121,10 +121,10 @@ fn settle<'a, D: Digraphs, L: Ledger>(
 }
 
 // The sites whose ties aren't firm.
-fn loose<D: Digraphs, L: Ledger>(
+fn loose<D: RootRanker, L: Ledger>(
     alloc: Global,
     labeller: &mut Labeller<D>,
-    setting: &Setting<'_>,
+    setting: &LabelContext<'_>,
     sites: &[Site],
     free: &mut FreeAtoms<'_>,
     steps: &mut Steps<L>,
@@ -145,10 +145,10 @@ fn loose<D: Digraphs, L: Ledger>(
 }
 
 // Whether two ligands of a site tie whose branches hold no free atom.
-fn is_firm<D: Digraphs, L: Ledger>(
+fn is_firm<D: RootRanker, L: Ledger>(
     alloc: Global,
     labeller: &mut Labeller<D>,
-    setting: &Setting<'_>,
+    setting: &LabelContext<'_>,
     site: &Site,
     free: &mut FreeAtoms<'_>,
     steps: &mut Steps<L>,
@@ -169,10 +169,10 @@ fn is_firm<D: Digraphs, L: Ledger>(
 }
 
 // Whether two ligands tie by all rules.
-fn is_tied<D: Digraphs, L: Ledger>(
+fn is_tied<D: RootRanker, L: Ledger>(
     alloc: Global,
     labeller: &mut Labeller<D>,
-    setting: &Setting<'_>,
+    setting: &LabelContext<'_>,
     pair: &Pair,
     steps: &mut Steps<L>,
 ) -> Result<bool, AllocError>
@@ -180,7 +180,7 @@ fn is_tied<D: Digraphs, L: Ledger>(
     ensures tied { IfOk result (λ tied. tied ≡ is_tied setting.now labeller.old pair.now) }
     ensures kept { labeller.new ≡ labeller.old }
 {
-    let ligands = pair.ligands();
+    let ligands = pair.ligands(alloc);
     let ranked = labeller.rank_root(alloc, setting, pair.at, &ligands, steps)?;
     Ok(is_tie(&ranked))
 }
@@ -191,17 +191,17 @@ fn is_tie(ranked: &Ranked) -> bool
     matches!(ranked, Ranked::Tie)
 }
 
-fn tell_all<D: Digraphs, L: Ledger>(
+fn tell_all<D: RootRanker, L: Ledger>(
     alloc: Global,
     labeller: &mut Labeller<D>,
-    setting: &Setting<'_>,
+    setting: &LabelContext<'_>,
     found: &mut [UndefinedUnit],
     free: &mut FreeAtoms<'_>,
     steps: &mut Steps<L>,
 ) -> Result<(), AllocError>
     requires fit { All (λ unit. IsFitSite setting.now.graph unit.site) found.old }
     requires same { free.old.graph ≡ setting.now.graph }
-    ensures told { OnOk result (found.new ≡ map (told_unit setting.now labeller.old free.old.free) found.old) }
+    ensures output { OnOk result (found.new ≡ map (told_unit setting.now labeller.old free.old.free) found.old) }
     ensures kept { labeller.new ≡ labeller.old }
 {
     for unit in found.iter_mut() {
@@ -210,17 +210,17 @@ fn tell_all<D: Digraphs, L: Ledger>(
     Ok(())
 }
 
-fn tell<D: Digraphs, L: Ledger>(
+fn tell<D: RootRanker, L: Ledger>(
     alloc: Global,
     labeller: &mut Labeller<D>,
-    setting: &Setting<'_>,
+    setting: &LabelContext<'_>,
     unit: &mut UndefinedUnit,
     free: &mut FreeAtoms<'_>,
     steps: &mut Steps<L>,
 ) -> Result<(), AllocError>
     requires fit { IsFitSite setting.now.graph unit.old.site }
     requires same { free.old.graph ≡ setting.now.graph }
-    ensures told { OnOk result (unit.new ≡ told_unit setting.now labeller.old free.old.free unit.old) }
+    ensures output { OnOk result (unit.new ≡ told_unit setting.now labeller.old free.old.free unit.old) }
     ensures kept { labeller.new ≡ labeller.old }
     ensures still { free.new ≡ free.old }
 {

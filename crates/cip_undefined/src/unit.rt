@@ -1,11 +1,11 @@
-// Undefined units with how their ligands stand.
+// Undefined units with how their ligands compare.
 ghost use Rattle.std.specs.Prelude.{◌≡◌};
 
 use cip_mol::{Places, ReadFault, Rule, Site};
 use cip_print::UnitName;
 use std::marker::Model;
 
-/// How the ligands of a unit stand.
+/// How the ligands of a unit compare.
 #[derive(Drop)]
 pub enum State {
     /// They all differ: by the last rule that was needed, in its sphere; the ligands by their places, highest first.
@@ -14,7 +14,7 @@ pub enum State {
         sphere: u32,
         order: Places,
     },
-    /// Two tie, and drawing another undefined unit might tell them apart.
+    /// Two tie, and drawing another undefined unit might distinguish them.
     Dependent,
     /// Two tie.
     Tie,

@@ -6,16 +6,17 @@ ghost use Rattle.cip_digraph.specs.rings.Positions.{is_delocalised};
 ghost use Rattle.cip_unit.specs.Sites.{can_be_bond_unit, can_begin, LeadsToAtoms, one_bond_site, units_at};
 
 use crate::ends::{end_ligands, is_bond_end, is_double_end, vertex_at};
-use crate::sketch::Sketch;
 use crate::unit::push_unit;
+use crate::unit_context::UnitContext;
 use cip_digraph::{Edge, Graph, Positions, Units};
 use cip_mol::Site;
 use cip_ring::{VertexSet, is_in_small_ring};
-use std::alloc::AllocError;
+use std::alloc::{AllocError, Global};
 
 /// Adds the bond units of a first end, by the second one. The set serves the search for rings.
 pub fn push_bonds(
-    sketch: &Sketch<'_>,
+    alloc: Global,
+    sketch: &UnitContext<'_>,
     a: u32,
     reached: &mut VertexSet,
     units: &mut Units,
@@ -33,7 +34,7 @@ pub fn push_bonds(
     for edge in sketch.graph.edges_at(a) {
         // Most bonds are single: no site is made for them.
         if is_counted_double(edge) {
-            let Ok(()) = push_bond(sketch, a, edge, reached, units) else {
+            let Ok(()) = push_bond(alloc, sketch, a, edge, reached, units) else {
                 return Err(AllocError);
             };
         }
@@ -41,7 +42,7 @@ pub fn push_bonds(
     Ok(())
 }
 
-fn can_begin(sketch: &Sketch<'_>, a: u32) -> bool
+fn can_begin(sketch: &UnitContext<'_>, a: u32) -> bool
     ensures { result ≡ can_begin sketch.now.graph.now sketch.now.positions.now a }
 {
     sketch.positions.of(a).len() <= 1
@@ -56,7 +57,8 @@ fn is_counted_double(edge: &Edge) -> bool
 
 // Adds the unit of a bond, where it is one.
 fn push_bond(
-    sketch: &Sketch<'_>,
+    alloc: Global,
+    sketch: &UnitContext<'_>,
     a: u32,
     edge: &Edge,
     reached: &mut VertexSet,
@@ -83,8 +85,8 @@ fn push_bond(
         let site = Site::Bond {
             a,
             b,
-            first: end_ligands(sketch.graph, &unit, a),
-            second: end_ligands(sketch.graph, &unit, b),
+            first: end_ligands(alloc, sketch.graph, &unit, a),
+            second: end_ligands(alloc, sketch.graph, &unit, b),
         };
         push_unit(sketch.molecule, site, units)
     }

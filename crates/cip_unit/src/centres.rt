@@ -13,10 +13,11 @@ use crate::unit::push_unit;
 use cip_digraph::{Edge, Graph, Units, Vertex};
 use cip_elem::outer;
 use cip_mol::{Ligand, Ligands, Molecule, Site};
-use std::alloc::AllocError;
+use std::alloc::{AllocError, Global};
 
 /// Adds the centre at an atom, where it is one.
 pub fn push_centre(
+    alloc: Global,
     molecule: &Molecule,
     graph: &Graph,
     atom: u32,
@@ -27,7 +28,7 @@ pub fn push_centre(
     ensures { OnOk result (units.new ≡ units.old ++ units_at molecule.now (centre_sites graph.now atom)) }
 {
     if is_centre(graph, atom) {
-        push_site(molecule, graph, atom, units)
+        push_site(alloc, molecule, graph, atom, units)
     } else {
         Ok(())
     }
@@ -36,6 +37,7 @@ pub fn push_centre(
 // Most atoms are no centre: what makes a site stands aside, so that looking for them takes few steps.
 #[inline(never)]
 fn push_site(
+    alloc: Global,
     molecule: &Molecule,
     graph: &Graph,
     atom: u32,
@@ -48,7 +50,7 @@ fn push_site(
 {
     let site = Site::Centre {
         at: atom,
-        ligands: centre_ligands(graph, atom),
+        ligands: centre_ligands(alloc, graph, atom),
     };
     push_unit(molecule, site, units)
 }
@@ -58,7 +60,7 @@ fn is_centre(graph: &Graph, atom: u32) -> bool
     ensures { result ≡ is_centre graph.now atom }
 {
     // Most atoms have other bonds: their neighbours aren't counted. Edges ascend, and drawn atoms come first: the third
-    // edge tells whether three neighbours are drawn.
+    // edge says whether three neighbours are drawn.
     has_centre_bonds(&graph.vertices()[atom as usize], graph.edges_at(atom).len())
         && leads_to_drawn(graph.edges_at(atom), 2, atom, graph.drawn())
 }
@@ -73,7 +75,7 @@ fn leads_to_drawn(edges: &[Edge], place: usize, atom: u32, drawn: u32) -> bool
     }
 }
 
-// Whether an atom with so many bonds can be a centre.
+// Whether an atom with n bonds can be a centre.
 fn has_centre_bonds(vertex: &Vertex, edges: usize) -> bool
     requires { IsElement vertex.now }
     ensures { result ≡ has_centre_bonds vertex.now edges }
@@ -97,22 +99,22 @@ fn is_quadriligant(vertex: &Vertex) -> bool
     }
 }
 
-fn centre_ligands(graph: &Graph, atom: u32) -> Ligands
+fn centre_ligands(alloc: Global, graph: &Graph, atom: u32) -> Ligands
     requires { length (edges_at graph.now atom) ≤ 4 }
     ensures { result ≡ centre_ligands graph.now atom }
 {
-    let mut ligands = neighbours(graph, atom);
+    let mut ligands = neighbours(alloc, graph, atom);
     if ligands.len() == 3 {
         ligands.push(Ligand::LonePair);
     }
     ligands
 }
 
-fn neighbours(graph: &Graph, atom: u32) -> Ligands
+fn neighbours(alloc: Global, graph: &Graph, atom: u32) -> Ligands
     requires { length (edges_at graph.now atom) ≤ 4 }
     ensures { result ≡ map variants.Vertex (neighbours graph.now atom) }
 {
-    let mut ligands = Ligands::new();
+    let mut ligands = Ligands::new(alloc);
     for edge in graph.edges_at(atom) {
         ligands.push(Ligand::Vertex(edge.other_end(atom)));
     }

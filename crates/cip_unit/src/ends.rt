@@ -8,8 +8,9 @@ ghost use Rattle.cip_unit.specs.Sites.{has_drawn_outside};
 
 use cip_digraph::{Graph, Vertex};
 use cip_mol::{Ligand, Ligands};
+use std::alloc::Global;
 
-/// What is told of a number that is no vertex.
+/// What is known of a number that is no vertex.
 const NO_VERTEX: Vertex = Vertex {
     z: 0,
     isotope: 0,
@@ -35,7 +36,7 @@ pub fn is_bond_end(graph: &Graph, unit: &[u32], atom: u32) -> bool
         && has_end_bonds(graph, unit, atom)
 }
 
-/// Whether an atom with so many bonds can be an end of a double bond that is a unit.
+/// Whether an atom with n bonds can be an end of a double bond that is a unit.
 pub(crate) fn is_double_end(vertex: Vertex, edges: usize) -> bool
     ensures { result ≡ is_double_end vertex.z vertex.charge edges }
 {
@@ -89,7 +90,7 @@ fn has_drawn_outside(graph: &Graph, unit: &[u32], atom: u32) -> bool
 }
 
 /// How many neighbours of an atom are outside a unit.
-pub fn outer_count(graph: &Graph, unit: &[u32], atom: u32) -> usize
+pub fn outer_ligand_count(graph: &Graph, unit: &[u32], atom: u32) -> usize
     ensures { result ≡ length (outer_neighbours graph.now unit.now atom) }
 {
     let mut count = 0;
@@ -107,23 +108,23 @@ fn one_if(counts: bool) -> usize
 }
 
 /// The ligands of an end.
-pub fn end_ligands(graph: &Graph, unit: &[u32], atom: u32) -> Ligands
+pub fn end_ligands(alloc: Global, graph: &Graph, unit: &[u32], atom: u32) -> Ligands
     requires { length (edges_at graph.now atom) ≤ 3 }
     ensures { result ≡ end_ligands graph.now unit.now atom }
 {
-    let mut ligands = outer_ligands(graph, unit, atom);
+    let mut ligands = outer_ligands(alloc, graph, unit, atom);
     if vertex_at(graph, atom).z == 7 && graph.edges_at(atom).len() == 2 {
         ligands.push(Ligand::LonePair);
     }
     ligands
 }
 
-fn outer_ligands(graph: &Graph, unit: &[u32], atom: u32) -> Ligands
+fn outer_ligands(alloc: Global, graph: &Graph, unit: &[u32], atom: u32) -> Ligands
     requires { length (edges_at graph.now atom) ≤ 3 }
     ensures value { result ≡ map variants.Vertex (outer_neighbours graph.now unit.now atom) }
     ensures few { length result ≤ 3 }
 {
-    let mut ligands = Ligands::new();
+    let mut ligands = Ligands::new(alloc);
     for edge in graph.edges_at(atom) {
         push_outer(&mut ligands, unit, edge.other_end(atom));
     }

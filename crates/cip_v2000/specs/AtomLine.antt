@@ -11,9 +11,9 @@ use Rattle.cip_mol.specs.Ranges.{IsAtom}
 use Rattle.cip_mol.specs.declared.refusal.ReadCause.{ReadCause}
 use Rattle.cip_mol.specs.declared.refusal.ReadCause.TheVariants.{Symbol, AtomField}
 use Rattle.cip_v2000.specs.declared.atoms.AtomLine.{AtomLine}
-use Rattle.cip_reading.specs.Causes.{coordinate}
-use Rattle.cip_reading.specs.Fields.{number_in, signed_in}
-use Rattle.cip_reading.specs.Reading.{◌>>=◌}
+use Rattle.cip_ctfile.specs.Causes.{coordinate}
+use Rattle.cip_ctfile.specs.Fields.{number_in, signed_in}
+use Rattle.cip_ctfile.specs.Reading.{◌>>=◌}
 
 -- a mass difference states nothing where it is 0, where no reference mass is known, and below a mass of 1
 abbrev pub mass_from : Option ℕ → ℤ → ℕ

@@ -9,9 +9,9 @@ use Rattle.cip_mol.specs.declared.molecule.Mark.{Mark}
 use Rattle.cip_mol.specs.declared.molecule.Mark.TheVariants.{Plain, Up, Down, Either}
 use Rattle.cip_mol.specs.declared.refusal.ReadCause.{ReadCause}
 use Rattle.cip_mol.specs.declared.refusal.ReadCause.TheVariants.{BondEnd, BondType, BondMark}
-use Rattle.cip_reading.specs.Causes.{order_of, unless_refused}
-use Rattle.cip_reading.specs.Fields.{number_in, place_named}
-use Rattle.cip_reading.specs.Reading.{◌>>=◌}
+use Rattle.cip_ctfile.specs.Causes.{order_of, unless_refused}
+use Rattle.cip_ctfile.specs.Fields.{number_in, one_based_index}
+use Rattle.cip_ctfile.specs.Reading.{◌>>=◌}
 
 -- the stereo field of a single, a double or a triple bond
 abbrev pub mark_of : ℕ → Option ℕ → Option Mark
@@ -24,11 +24,11 @@ mark_of order (Some code) =
     else if (order == 2) && (code == 3) then Some Either
     else None
 
--- the bond of a line, among so many atoms and behind these bonds
+-- the bond of a line, among n atoms and after these bonds
 unfoldable pub bond_of : ℕ → List Bond → List ℕ → Result Bond ReadCause
 bond_of atoms before line = do
-  a ← ok_or (place_named (number_in atoms (field 1 3 line))) BondEnd
-  b ← ok_or (place_named (number_in atoms (field 4 6 line))) BondEnd
+  a ← ok_or (one_based_index (number_in atoms (field 1 3 line))) BondEnd
+  b ← ok_or (one_based_index (number_in atoms (field 4 6 line))) BondEnd
   order ← ok_or (order_of (number_in 3 (field 7 9 line))) BondType
   mark ← ok_or (mark_of order (number_in 6 (field 10 12 line))) BondMark
   let bond : Bond = record { a = a; b = b; order = order; mark = mark } in

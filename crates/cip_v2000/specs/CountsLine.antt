@@ -5,9 +5,9 @@ use Rattle.cip_text.specs.Columns.{field}
 use Rattle.cip_mol.specs.declared.refusal.ReadCause.{ReadCause}
 use Rattle.cip_mol.specs.declared.refusal.ReadCause.TheVariants.{Version, Counts}
 use Rattle.cip_v2000.specs.declared.counts.CountsLine.{CountsLine}
-use Rattle.cip_reading.specs.Causes.{guard}
-use Rattle.cip_reading.specs.Fields.{number_in}
-use Rattle.cip_reading.specs.Reading.{◌>>=◌}
+use Rattle.cip_ctfile.specs.Causes.{guard}
+use Rattle.cip_ctfile.specs.Fields.{number_in}
+use Rattle.cip_ctfile.specs.Reading.{◌>>=◌}
 use Rattle.cip_v2000.specs.Version.{is_v2000}
 
 unfoldable pub counts_of : List ℕ → Result CountsLine ReadCause

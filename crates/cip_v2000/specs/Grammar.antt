@@ -7,20 +7,20 @@ use Rattle.cip_mol.specs.declared.molecule.Bond.{Bond}
 use Rattle.cip_mol.specs.declared.refusal.ReadCause.TheVariants.{Short, Property}
 use Rattle.cip_mol.specs.declared.refusal.ReadFault.{ReadFault}
 use Rattle.cip_v2000.specs.declared.atoms.AtomLine.{AtomLine}
-use Rattle.cip_v2000.specs.declared.statements.Pair.{Pair}
+use Rattle.cip_v2000.specs.declared.atom_properties.Pair.{Pair}
 use Rattle.cip_v2000.specs.declared.counts.CountsLine.{CountsLine}
 use Rattle.cip_v2000.specs.AtomLine.{atom_of}
 use Rattle.cip_v2000.specs.BondLine.{bond_of}
 use Rattle.cip_v2000.specs.CountsLine.{counts_of}
 use Rattle.cip_v2000.specs.PropertyLines.{pairs_with}
-use Rattle.cip_reading.specs.Reading.{◌>>=◌, read_at, in_turn}
+use Rattle.cip_ctfile.specs.Reading.{◌>>=◌, read_at, in_turn}
 use Rattle.cip_v2000.specs.Statements.{settled}
 
 -- a row of the atom block, which follows four lines
 abbrev pub atom_row : List (List ℕ) → List AtomLine → ℕ → Result AtomLine ReadFault
 atom_row lines before row = read_at lines (4 + row) atom_of
 
--- a row of the bond block, which follows so many rows of the atom block
+-- a row of the bond block, which follows n rows of the atom block
 abbrev pub bond_row : List (List ℕ) → ℕ → List Bond → ℕ → Result Bond ReadFault
 bond_row lines atoms before row = read_at lines (4 + atoms + row) (bond_of atoms before)
 
@@ -31,7 +31,7 @@ pairs_from past atoms before number (line ∷ lines) = if is_molecule_end line t
   pairs ← pairs_with (record { line = number; cause = Property }) atoms before line
   pairs_from past atoms pairs (number + 1) lines
 
--- the property lines behind so many lines
+-- the property lines after n lines
 abbrev pub pairs_behind : ℕ → ℕ → List (List ℕ) → Result (List Pair) ReadFault
 pairs_behind atoms place lines = pairs_from (length lines + 1) atoms [] (place + 1) (drop place lines)
 

@@ -5,28 +5,28 @@ use Rattle.std.specs.declared.option.Option.{Option}
 use Rattle.std.specs.Option.{option_map, option_or, unwrap_or}
 use Rattle.cip_mol.specs.declared.molecule.Atom.{Atom}
 use Rattle.cip_v2000.specs.declared.atoms.AtomLine.{AtomLine}
-use Rattle.cip_v2000.specs.declared.statements.Pair.{Pair}
-use Rattle.cip_v2000.specs.declared.statements.Statement.{Statement}
-use Rattle.cip_v2000.specs.declared.statements.Statement.TheVariants.{Charge, Radical, Isotope}
+use Rattle.cip_v2000.specs.declared.atom_properties.Pair.{Pair}
+use Rattle.cip_v2000.specs.declared.atom_properties.AtomProperty.{AtomProperty}
+use Rattle.cip_v2000.specs.declared.atom_properties.AtomProperty.TheVariants.{Charge, Radical, Isotope}
 use Rattle.cip_v2000.specs.Statements.{state_charges, state_isotopes, settled}
 
-abbrev pub charge_in : Statement → Option ℤ
+abbrev pub charge_in : AtomProperty → Option ℤ
 charge_in (Charge n) = Some n
 charge_in (Radical n) = None
 charge_in (Isotope n) = None
 
-abbrev pub radical_in : Statement → Option ℕ
+abbrev pub radical_in : AtomProperty → Option ℕ
 radical_in (Charge n) = None
 radical_in (Radical n) = Some n
 radical_in (Isotope n) = None
 
-abbrev pub isotope_in : Statement → Option ℕ
+abbrev pub isotope_in : AtomProperty → Option ℕ
 isotope_in (Charge n) = None
 isotope_in (Radical n) = None
 isotope_in (Isotope n) = Some n
 
 -- the last statement of a kind on the atom at a place
-abbrev pub last_of : {A : Type 0} → (Statement → Option A) → ℕ → List Pair → Option A
+abbrev pub last_of : {A : Type 0} → (AtomProperty → Option A) → ℕ → List Pair → Option A
 last_of kind place [] = None
 last_of kind place (pair ∷ pairs) =
     option_or (last_of kind place pairs) (if pair.atom == place then kind pair.states else None)

@@ -5,11 +5,11 @@ use Rattle.std.specs.declared.option.Option.{Option}
 use Rattle.std.specs.List.{list_any}
 use Rattle.cip_mol.specs.declared.molecule.Atom.{Atom}
 use Rattle.cip_v2000.specs.declared.atoms.AtomLine.{AtomLine}
-use Rattle.cip_v2000.specs.declared.statements.Statement.{Statement}
-use Rattle.cip_v2000.specs.declared.statements.Statement.TheVariants.{Charge, Radical, Isotope}
-use Rattle.cip_v2000.specs.declared.statements.Pair.{Pair}
+use Rattle.cip_v2000.specs.declared.atom_properties.AtomProperty.{AtomProperty}
+use Rattle.cip_v2000.specs.declared.atom_properties.AtomProperty.TheVariants.{Charge, Radical, Isotope}
+use Rattle.cip_v2000.specs.declared.atom_properties.Pair.{Pair}
 
-abbrev pub is_isotope : Statement → Bool
+abbrev pub is_isotope : AtomProperty → Bool
 is_isotope (Charge n) = false
 is_isotope (Radical n) = false
 is_isotope (Isotope n) = true
@@ -31,7 +31,7 @@ kept charges isotopes line = record line.atom {
   isotope = if isotopes then line.symbol_isotope else line.atom.isotope;
 }
 
-abbrev pub with_statement : Statement → Atom → Atom
+abbrev pub with_statement : AtomProperty → Atom → Atom
 with_statement (Charge n) atom = record atom { charge = n }
 with_statement (Radical n) atom = record atom { radical = n }
 with_statement (Isotope n) atom = record atom { isotope = n }
@@ -47,7 +47,7 @@ with_pair atoms pair = with_pair_at atoms pair (slice_get atoms pair.atom)
 unfoldable pub settled : List Pair → List AtomLine → List Atom
 settled pairs lines = fold with_pair (map (kept (state_charges pairs) (state_isotopes pairs)) lines) pairs
 
-abbrev pub IsStatement : Statement → Type 0
+abbrev pub IsStatement : AtomProperty → Type 0
 IsStatement (Charge n) = unsigned_abs n ≤ 15
 IsStatement (Radical n) = n ≤ 3
 IsStatement (Isotope n) = n ≤ 400

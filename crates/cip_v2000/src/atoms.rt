@@ -1,14 +1,14 @@
 // Atom lines.
 ghost use Rattle.std.specs.Prelude.{◌≡◌, ◌≤◌, unsigned_abs, IfOk, IfSome};
 ghost use Rattle.cip_text.specs.Columns.{field};
-ghost use Rattle.cip_reading.specs.Fields.{signed_in};
+ghost use Rattle.cip_ctfile.specs.Fields.{signed_in};
 ghost use Rattle.cip_elem.specs.Symbols.{IsElement};
 ghost use Rattle.cip_v2000.specs.AtomLine.{isotope_of, charge_of, radical_of, atom_of, IsAtomLine};
 
+use cip_ctfile::{coordinate_at, digit_at, signed, z_coordinate_at};
 use cip_elem::{Element, number_of, reference_mass};
 use cip_mol::{Atom, ReadCause};
 use cip_num::Vec3;
-use cip_reading::{coordinate_at, digit_at, height_at, signed};
 use cip_text::columns;
 
 /// An atom, and the isotope that its symbol states: 0 where it states none.
@@ -26,7 +26,7 @@ pub fn atom_in(line: &[u8]) -> Result<AtomLine, ReadCause>
 {
     let x = coordinate_at(line, 1)?;
     let y = coordinate_at(line, 11)?;
-    let z = height_at(line, 21)?;
+    let z = z_coordinate_at(line, 21)?;
     let Some(element) = number_of(symbol(line)) else {
         return Err(ReadCause::Symbol);
     };
@@ -82,7 +82,7 @@ fn mass_difference(line: &[u8]) -> Option<i8>
 }
 
 // The isotope of an element with a mass difference.
-#[tactic(auto, using(crate::proofs::QuietFields::none_stated))]
+#[tactic(auto, using(crate::proofs::lemmas::QuietFields::none_stated))]
 fn isotope(element: Element, difference: i8) -> u16
     requires known { IsElement element.z }
     requires light { element.isotope ≤ 3 }

@@ -7,22 +7,22 @@ ghost use Rattle.cip_v2000.specs.AtomLine.{atom_of, IsAtomLine};
 ghost use Rattle.cip_v2000.specs.BondLine.{bond_of};
 ghost use Rattle.cip_v2000.specs.CountsLine.{counts_of};
 ghost use Rattle.cip_v2000.specs.Grammar.{atom_row, bond_row, pairs_behind};
-ghost use Rattle.cip_reading.specs.Causes.{IsFree};
-ghost use Rattle.cip_reading.specs.Reading.{read_at, in_turn, Gives};
+ghost use Rattle.cip_ctfile.specs.Causes.{IsFree};
+ghost use Rattle.cip_ctfile.specs.Reading.{read_at, in_turn, Gives};
 ghost use Rattle.cip_v2000.specs.Statements.{IsPair};
 
+use crate::atom_properties::Pair;
 use crate::atoms::{AtomLine, atom_in};
 use crate::bonds::bond_in;
 use crate::counts::{CountsLine, counts_in};
-use crate::properties::push_stated;
-use crate::statements::Pair;
+use crate::properties::push_properties;
+use cip_ctfile::{fault_at_line, missing_line_fault};
 use cip_mol::{Bond, BondList, ReadCause, ReadFault, ReadRefusal};
-use cip_reading::{numbered, short};
 use cip_text::is_molecule_end;
 use std::alloc::Global;
 
 /// Reads the counts line.
-#[tactic(auto, unfolding(cip_reading::specs::Reading::read_at))]
+#[tactic(auto, unfolding(cip_ctfile::specs::Reading::read_at))]
 pub fn counts_line(lines: &[&[u8]]) -> Result<CountsLine, ReadFault>
     requires { length lines.now < 2 ^ 32 - 1 }
     ensures value { result ≡ read_at (texts lines.now) 3 counts_of }
@@ -30,12 +30,12 @@ pub fn counts_line(lines: &[&[u8]]) -> Result<CountsLine, ReadFault>
     ensures there { IfOk result (λ _. 4 ≤ length lines.now) }
 {
     match line_at(lines, 3) {
-        Ok(line) => numbered(4, counts_in(line)),
+        Ok(line) => fault_at_line(4, counts_in(line)),
         Err(fault) => Err(fault),
     }
 }
 
-/// Reads the atom lines, so many.
+/// Reads n atom lines.
 pub fn atom_block(alloc: Global, lines: &[&[u8]], count: u32) -> Result<Vec<AtomLine>, ReadRefusal>
     requires few { length lines.now < 2 ^ 32 - 1 }
     requires there { 4 ≤ length lines.now }
@@ -57,7 +57,7 @@ pub fn atom_block(alloc: Global, lines: &[&[u8]], count: u32) -> Result<Vec<Atom
     Ok(atoms)
 }
 
-/// Reads the bond lines, so many, behind the lines of so many atoms.
+/// Reads the bond lines after the lines of the atoms.
 pub fn bond_block(
     alloc: Global,
     lines: &[&[u8]],
@@ -91,7 +91,7 @@ pub fn bond_block(
     Ok(bonds)
 }
 
-/// Reads the property lines behind so many lines, up to `M  END`.
+/// Reads the property lines after n lines, up to `M  END`.
 pub fn property_block(
     alloc: Global,
     lines: &[&[u8]],
@@ -114,15 +114,15 @@ pub fn property_block(
             line: place as u32 + 1,
             cause: ReadCause::Property,
         };
-        match push_stated(alloc, &mut pairs, fault, atoms, line) {
+        match push_properties(alloc, &mut pairs, fault, atoms, line) {
             Ok(()) => (),
             Err(refusal) => return Err(refusal),
         }
     }
-    Err(ReadRefusal::Fault(short(lines)))
+    Err(ReadRefusal::Fault(missing_line_fault(lines)))
 }
 
-#[tactic(auto, unfolding(cip_reading::specs::Reading::read_at))]
+#[tactic(auto, unfolding(cip_ctfile::specs::Reading::read_at))]
 fn atom_line(lines: &[&[u8]], place: usize) -> Result<AtomLine, ReadFault>
     requires { length lines.now < 2 ^ 32 - 1 }
     ensures value { result ≡ read_at (texts lines.now) place atom_of }
@@ -130,12 +130,12 @@ fn atom_line(lines: &[&[u8]], place: usize) -> Result<AtomLine, ReadFault>
     ensures there { IfOk result (λ _. place < length lines.now) }
 {
     match line_at(lines, place) {
-        Ok(line) => numbered(place as u32 + 1, atom_in(line)),
+        Ok(line) => fault_at_line(place as u32 + 1, atom_in(line)),
         Err(fault) => Err(fault),
     }
 }
 
-#[tactic(auto, unfolding(cip_reading::specs::Reading::read_at))]
+#[tactic(auto, unfolding(cip_ctfile::specs::Reading::read_at))]
 fn bond_line(
     lines: &[&[u8]],
     place: usize,
@@ -151,7 +151,7 @@ fn bond_line(
     ensures there { IfOk result (λ _. place < length lines.now) }
 {
     match line_at(lines, place) {
-        Ok(line) => numbered(place as u32 + 1, bond_in(atoms, before, line)),
+        Ok(line) => fault_at_line(place as u32 + 1, bond_in(atoms, before, line)),
         Err(fault) => Err(fault),
     }
 }
@@ -165,7 +165,7 @@ fn line_at<'a>(lines: &[&'a [u8]], place: usize) -> Result<&'a [u8], ReadFault>
         × (fault ≡ record { line = length lines.now + 1; cause = Short })) }
 {
     match lines.get(place) {
-        None => Err(short(lines)),
+        None => Err(missing_line_fault(lines)),
         Some(line) => Ok(line),
     }
 }

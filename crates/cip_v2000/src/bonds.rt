@@ -1,13 +1,13 @@
 // Bond lines.
 ghost use Rattle.std.specs.Prelude.{◌≡◌, ◌≤◌, IfOk};
 ghost use Rattle.cip_mol.specs.Ranges.{IsBond};
-ghost use Rattle.cip_reading.specs.Causes.{IsFree};
+ghost use Rattle.cip_ctfile.specs.Causes.{IsFree};
 ghost use Rattle.cip_v2000.specs.BondLine.{mark_of, bond_of};
 
+use cip_ctfile::{check_bond, digit_at, order, place_at};
 use cip_mol::{Bond, BondList, Mark, ReadCause};
-use cip_reading::{checked, digit_at, order, place_at};
 
-/// What a bond line says, among so many atoms and behind these bonds.
+/// What a bond line says, among n atoms and after these bonds.
 #[tactic(auto, unfolding(crate::specs::BondLine::bond_of))]
 pub fn bond_in(atoms: u32, before: &BondList, line: &[u8]) -> Result<Bond, ReadCause>
     requires few { atoms ≤ 999 }
@@ -19,7 +19,7 @@ pub fn bond_in(atoms: u32, before: &BondList, line: &[u8]) -> Result<Bond, ReadC
     match (place_at(atoms, line, 1), place_at(atoms, line, 4)) {
         (Some(a), Some(b)) => match order(digit_at(3, line, 7)) {
             Some(order) => match mark(order, digit_at(6, line, 10)) {
-                Some(mark) => checked(before, Bond { a, b, order, mark }),
+                Some(mark) => check_bond(before, Bond { a, b, order, mark }),
                 None => Err(ReadCause::BondMark),
             },
             None => Err(ReadCause::BondType),

@@ -3,8 +3,8 @@ ghost use Rattle.std.specs.Prelude.{◌≡◌, ◌≤◌, IfOk};
 ghost use Rattle.cip_v2000.specs.CountsLine.{counts_of};
 
 use crate::version::is_v2000;
+use cip_ctfile::number;
 use cip_mol::ReadCause;
-use cip_reading::number;
 use cip_text::columns;
 
 /// How many atoms and bonds follow.

@@ -2,12 +2,12 @@
 ghost use Rattle.std.specs.Prelude.{◌≡◌, ◌≤◌, [], All, length, IfSome, OnOk};
 ghost use Rattle.cip_text.specs.Slices.{texts};
 ghost use Rattle.cip_v2000.specs.PropertyLines.{property_of, statement_of, pair_of, pair_at, counted_pairs, pairs_of, pairs_with};
-ghost use Rattle.cip_reading.specs.Reading.{Gives};
+ghost use Rattle.cip_ctfile.specs.Reading.{Gives};
 ghost use Rattle.cip_v2000.specs.Statements.{IsStatement, IsPair};
 
-use crate::statements::{Pair, Statement};
+use crate::atom_properties::{AtomProperty, Pair};
+use cip_ctfile::{number, one_based_index, signed, split_spaces};
 use cip_mol::{ReadFault, ReadRefusal};
-use cip_reading::{number, place_named, signed, spaced_words};
 use std::alloc::{AllocError, Global};
 
 /// What a property line states.
@@ -18,9 +18,9 @@ pub enum Property {
     Isotopes,
 }
 
-/// Reads a property line, and puts its pairs behind those before them.
+/// Reads a property line, and puts its pairs after those before them.
 #[tactic(auto, unfolding(crate::specs::PropertyLines::pairs_with))]
-pub fn push_stated(
+pub fn push_properties(
     alloc: Global,
     pairs: &mut Vec<Pair>,
     fault: ReadFault,
@@ -33,7 +33,7 @@ pub fn push_stated(
     ensures value { Gives (λ _. pairs.new.items) result (pairs_with fault atoms pairs.old.items line.now) }
 {
     match property_in(line) {
-        Some(property) => match spaced_words(alloc, &line[6..]) {
+        Some(property) => match split_spaces(alloc, &line[6..]) {
             Ok(words) => push_counted(pairs, fault, property, atoms, words.as_slice()),
             Err(AllocError) => Err(ReadRefusal::Memory),
         },
@@ -41,7 +41,8 @@ pub fn push_stated(
     }
 }
 
-// The same of the words behind what the line states. They stay with the caller, which lets them go once.
+// The same of the words after what the line states.
+// proof: the caller keeps the words and drops them once
 fn push_counted(
     pairs: &mut Vec<Pair>,
     fault: ReadFault,
@@ -56,7 +57,7 @@ fn push_counted(
         (counted_pairs fault property atoms pairs.old.items (texts words.now)) }
 {
     match words {
-        [count, words @ ..] => match place_named(8, count) {
+        [count, words @ ..] => match one_based_index(8, count) {
             Some(last) => push_pairs(pairs, fault, property, atoms, last + 1, words),
             None => Err(ReadRefusal::Fault(fault)),
         },
@@ -64,7 +65,7 @@ fn push_counted(
     }
 }
 
-#[tactic(auto, using(crate::proofs::QuietFields::no_property))]
+#[tactic(auto, using(crate::proofs::lemmas::QuietFields::no_property))]
 fn property_in(line: &[u8]) -> Option<Property>
     ensures value { result ≡ property_of line.now }
     ensures long { IfSome result (λ _. 6 ≤ length line.now) }
@@ -85,7 +86,7 @@ fn property_in(line: &[u8]) -> Option<Property>
     }
 }
 
-// Reads so many pairs, and puts them behind those before them.
+// Reads n pairs, and puts them after those before them.
 fn push_pairs(
     pairs: &mut Vec<Pair>,
     fault: ReadFault,
@@ -135,27 +136,27 @@ fn pair_in(property: Property, atoms: u32, atom: &[u8], value: &[u8]) -> Option<
     ensures value { result ≡ pair_of property atoms atom.now value.now }
     ensures range { IfSome result IsPair }
 {
-    match (place_named(atoms, atom), statement_in(property, value)) {
+    match (one_based_index(atoms, atom), statement_in(property, value)) {
         (Some(atom), Some(states)) => Some(Pair { atom, states }),
         _ => None,
     }
 }
 
-fn statement_in(property: Property, word: &[u8]) -> Option<Statement>
+fn statement_in(property: Property, word: &[u8]) -> Option<AtomProperty>
     ensures value { result ≡ statement_of property word.now }
     ensures range { IfSome result IsStatement }
 {
     match property {
         Property::Charges => match signed(15, 15, word) {
-            Some(charge) => Some(Statement::Charge(charge)),
+            Some(charge) => Some(AtomProperty::Charge(charge)),
             None => None,
         },
         Property::Radicals => match number(3, word) {
-            Some(radical) => Some(Statement::Radical(radical as u8)),
+            Some(radical) => Some(AtomProperty::Radical(radical as u8)),
             None => None,
         },
         Property::Isotopes => match number(400, word) {
-            Some(isotope) => Some(Statement::Isotope(isotope as u16)),
+            Some(isotope) => Some(AtomProperty::Isotope(isotope as u16)),
             None => None,
         },
     }

@@ -4,13 +4,13 @@ ghost use Rattle.cip_text.specs.Bodies.{body_contents};
 ghost use Rattle.cip_text.specs.Slices.{texts};
 ghost use Rattle.cip_v2000.specs.AtomLine.{IsAtomLine};
 ghost use Rattle.cip_v2000.specs.Grammar.{behind_atoms, molecule_of};
-ghost use Rattle.cip_reading.specs.Reading.{Gives};
+ghost use Rattle.cip_ctfile.specs.Reading.{Gives};
 ghost use Rattle.cip_v2000.specs.Version.{is_v3000};
 
+use crate::atom_properties::apply_properties;
 use crate::atoms::AtomLine;
 use crate::blocks::{atom_block, bond_block, counts_line, property_block};
 use crate::counts::CountsLine;
-use crate::statements::settle;
 use cip_mol::{Molecule, ReadRefusal};
 use cip_text::body_contents;
 use std::alloc::{AllocError, Global};
@@ -44,7 +44,8 @@ pub fn read_lines(alloc: Global, lines: &[&[u8]]) -> Result<Molecule, ReadRefusa
     }
 }
 
-// Reads on from the bond lines. The atom lines stay with the caller.
+// Reads on from the bond lines.
+// proof: the caller keeps the atom lines
 fn drawn(
     alloc: Global,
     lines: &[&[u8]],
@@ -62,7 +63,7 @@ fn drawn(
         Ok(bonds) => {
             let before = 4 + (counts.atoms as usize + counts.bonds as usize);
             match property_block(alloc, lines, counts.atoms, before) {
-                Ok(pairs) => match settle(alloc, &pairs, atom_lines) {
+                Ok(pairs) => match apply_properties(alloc, &pairs, atom_lines) {
                     Ok(atoms) => Ok(Molecule::from_bonds(atoms, bonds)),
                     Err(AllocError) => Err(ReadRefusal::Memory),
                 },

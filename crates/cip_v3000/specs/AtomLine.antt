@@ -13,9 +13,9 @@ use Rattle.cip_mol.specs.Ranges.{IsAtom}
 use Rattle.cip_mol.specs.declared.molecule.Atom.{Atom}
 use Rattle.cip_mol.specs.declared.refusal.ReadCause.{ReadCause}
 use Rattle.cip_mol.specs.declared.refusal.ReadCause.TheVariants.{Symbol, Frame, Index, KeyValue}
-use Rattle.cip_reading.specs.Causes.{guard, coordinate}
-use Rattle.cip_reading.specs.Fields.{number_stated}
-use Rattle.cip_reading.specs.Reading.{◌>>=◌}
+use Rattle.cip_ctfile.specs.Causes.{guard, coordinate}
+use Rattle.cip_ctfile.specs.Fields.{parse_number}
+use Rattle.cip_ctfile.specs.Reading.{◌>>=◌}
 use Rattle.cip_v3000.specs.declared.atoms.AtomLine.{AtomLine}
 use Rattle.cip_v3000.specs.Keys.{keys_from}
 
@@ -28,7 +28,7 @@ unless_known known (Some index) = if (index == 0) || list_any (nat_eq index) kno
 
 -- an index that is none of those before it
 unfoldable pub new_index : List ℕ → List ℕ → Result ℕ ReadCause
-new_index known word = unless_known known (number_stated 1000000000 word)
+new_index known word = unless_known known (parse_number 1000000000 word)
 
 -- a number of any size
 abbrev pub is_number : Result ℤ NumberFault → Bool
@@ -67,7 +67,7 @@ atom_by symbol point mapping keys = do
     at = at;
   })
 
--- the atom of a line behind lines of these indices
+-- the atom of a line after lines of these indices
 unfoldable pub atom_of : List ℕ → List (List ℕ) → Result AtomLine ReadCause
 atom_of known words = do
   _ ← guard Frame (nat_lt 5 (length words))

@@ -5,9 +5,9 @@ use Rattle.std.specs.Option.{ok_or}
 use Rattle.std.specs.Str.{bytes_eq}
 use Rattle.cip_mol.specs.declared.refusal.ReadCause.{ReadCause}
 use Rattle.cip_mol.specs.declared.refusal.ReadCause.TheVariants.{Counts, Frame}
-use Rattle.cip_reading.specs.Causes.{guard}
-use Rattle.cip_reading.specs.Fields.{number_stated}
-use Rattle.cip_reading.specs.Reading.{◌>>=◌}
+use Rattle.cip_ctfile.specs.Causes.{guard}
+use Rattle.cip_ctfile.specs.Fields.{parse_number}
+use Rattle.cip_ctfile.specs.Reading.{◌>>=◌}
 use Rattle.cip_v3000.specs.declared.counts.CountsLine.{CountsLine}
 
 abbrev pub is_counts : List (List ℕ) → Bool
@@ -16,7 +16,7 @@ is_counts (word ∷ words) = bytes_eq word (codes "COUNTS")
 
 abbrev pub stated_by : ℕ → Option (List ℕ) → Option ℕ
 stated_by most None = None
-stated_by most (Some word) = number_stated most word
+stated_by most (Some word) = parse_number most word
 
 -- the number of a word that may be missing
 unfoldable pub count_at : ℕ → ℕ → List (List ℕ) → Option ℕ

@@ -10,23 +10,23 @@ use Rattle.cip_mol.specs.declared.molecule.Bond.{Bond}
 use Rattle.cip_mol.specs.declared.refusal.ReadCause.{ReadCause}
 use Rattle.cip_mol.specs.declared.refusal.ReadCause.TheVariants.{Short, Frame}
 use Rattle.cip_mol.specs.declared.refusal.ReadFault.{ReadFault}
-use Rattle.cip_reading.specs.Causes.{guard}
-use Rattle.cip_reading.specs.Reading.{◌>>=◌, numbered, through}
+use Rattle.cip_ctfile.specs.Causes.{guard}
+use Rattle.cip_ctfile.specs.Reading.{◌>>=◌, numbered, through}
 use Rattle.cip_v3000.specs.AtomLine.{atom_of}
 use Rattle.cip_v3000.specs.BondLine.{bond_of}
 use Rattle.cip_v3000.specs.CountsLine.{counts_of}
-use Rattle.cip_v3000.specs.declared.frames.FrameLine.{FrameLine}
-use Rattle.cip_v3000.specs.declared.frames.FrameLine.TheVariants.{BeginTable, BeginAtoms, EndAtoms, BeginBonds, EndBonds, EndTable}
+use Rattle.cip_v3000.specs.declared.block_lines.BlockLine.{BlockLine}
+use Rattle.cip_v3000.specs.declared.block_lines.BlockLine.TheVariants.{BeginTable, BeginAtoms, EndAtoms, BeginBonds, EndBonds, EndTable}
 use Rattle.cip_v3000.specs.Frames.{is_frame}
-use Rattle.cip_v3000.specs.JoinedLines.{JoinedLine, JoinedLines, text_of, next_number, joined_lines}
+use Rattle.cip_v3000.specs.JoinedLines.{LogicalLine, JoinedLines, text_of, next_number, logical_lines}
 use Rattle.cip_v3000.specs.Words.{words_of}
 
 -- the words of a joined line
-abbrev pub words_in : JoinedLine → List (List ℕ)
+abbrev pub words_in : LogicalLine → List (List ℕ)
 words_in line = words_of (text_of line)
 
 abbrev pub read_line : {A : Type 0}
-    → ReadFault → (List (List ℕ) → Result A ReadCause) → Option JoinedLine → Result A ReadFault
+    → ReadFault → (List (List ℕ) → Result A ReadCause) → Option LogicalLine → Result A ReadFault
 read_line past read None = Err past
 read_line past read (Some line) = numbered line.number (read (words_in line))
 
@@ -35,7 +35,7 @@ unfoldable pub read_at : {A : Type 0} → JoinedLines → ℕ → (List (List �
 read_at joined place read = read_line joined.past read (slice_get joined.lines place)
 
 -- a line that frames a part
-abbrev pub frame_at : JoinedLines → ℕ → FrameLine → Result (Unit {0}) ReadFault
+abbrev pub frame_at : JoinedLines → ℕ → BlockLine → Result (Unit {0}) ReadFault
 frame_at joined place due = read_at joined place (λ words. guard Frame (is_frame due words))
 
 -- the atoms that were read, with their indices
@@ -74,7 +74,7 @@ framed_bonds joined atoms count place = do
   _ ← frame_at joined (place + 1 + count) EndBonds
   Ok bonds
 
-abbrev pub begins_bonds : Option JoinedLine → Bool
+abbrev pub begins_bonds : Option LogicalLine → Bool
 begins_bonds None = false
 begins_bonds (Some line) = is_frame BeginBonds (words_in line)
 
@@ -87,12 +87,12 @@ bond_block joined atoms count place =
     if has_bond_block joined count place then framed_bonds joined atoms count place
     else Ok (record { indices = []; bonds = [] })
 
--- the place behind a bond block that begins at a place, where there is one
+-- the place after a bond block that begins at a place, where there is one
 abbrev pub behind_block : Bool → ℕ → ℕ → ℕ
 behind_block has count place = if has then place + count + 2 else place
 
--- the number of the line behind END CTAB; joined lines before it are passed over
-abbrev pub table_end : ReadFault → List JoinedLine → Result ℕ ReadFault
+-- the number of the line after END CTAB; joined lines before it are passed over
+abbrev pub table_end : ReadFault → List LogicalLine → Result ℕ ReadFault
 table_end past [] = Err past
 table_end past (line ∷ lines) =
     if is_frame EndTable (words_in line) then Ok (next_number line) else table_end past lines
@@ -118,4 +118,4 @@ molecule_in lines joined = do
 
 -- the molecule of a record's lines before its terminator line, or the first cause at the first line that has one
 unfoldable pub molecule_of : List (List ℕ) → Result Drawing ReadFault
-molecule_of lines = molecule_in lines (joined_lines lines)
+molecule_of lines = molecule_in lines (logical_lines lines)

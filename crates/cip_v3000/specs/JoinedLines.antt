@@ -3,7 +3,7 @@
 use Rattle.std.specs.Prelude.{ℕ, List, Bool, not, nat_eq, [], ◌∷◌, ◌++◌, ◌+◌, ◌-◌, length, take, drop, codes, if◌then◌else◌}
 use Rattle.std.specs.List.{ends_with, flat_map}
 use Rattle.std.specs.Str.{bytes_eq}
-use Rattle.cip_text.specs.Columns.{without_spaces_behind}
+use Rattle.cip_text.specs.Columns.{trim_end_spaces}
 use Rattle.cip_mol.specs.declared.refusal.ReadCause.TheVariants.{Short, Frame}
 use Rattle.cip_mol.specs.declared.refusal.ReadFault.{ReadFault}
 
@@ -15,33 +15,33 @@ abbrev pub body : List ℕ → List ℕ
 body line = drop 7 line
 
 abbrev pub is_continued : List ℕ → Bool
-is_continued line = ends_with nat_eq (without_spaces_behind (body line)) (codes "-")
+is_continued line = ends_with nat_eq (trim_end_spaces (body line)) (codes "-")
 
 -- what a line adds to the line that it is a part of
 abbrev pub part_of : List ℕ → List ℕ
 part_of line =
     if is_continued line
-    then take (length (without_spaces_behind (body line)) - 1) (without_spaces_behind (body line))
+    then take (length (trim_end_spaces (body line)) - 1) (trim_end_spaces (body line))
     else body line
 
 -- the lines that make one, and the number of the first
-pub record JoinedLine : Type 0 where
+pub record LogicalLine : Type 0 where
   pub parts : List (List ℕ)
   pub number : ℕ
 
-abbrev pub text_of : JoinedLine → List ℕ
+abbrev pub text_of : LogicalLine → List ℕ
 text_of line = flat_map part_of line.parts
 
--- the number of the line behind it
-abbrev pub next_number : JoinedLine → ℕ
+-- the number of the line after it
+abbrev pub next_number : LogicalLine → ℕ
 next_number line = line.number + length line.parts
 
 -- joined lines, and the fault where one more is due
 pub record JoinedLines : Type 0 where
-  pub lines : List JoinedLine
+  pub lines : List LogicalLine
   pub past : ReadFault
 
-abbrev pub behind : JoinedLine → JoinedLines → JoinedLines
+abbrev pub behind : LogicalLine → JoinedLines → JoinedLines
 behind line joined = record joined { lines = line ∷ joined.lines }
 
 -- the joined lines from one on whose first part has this number, and of which these parts came before; `past` is the
@@ -54,6 +54,6 @@ joined_from past number begun (line ∷ lines) =
     else behind (record { parts = begun ++ line ∷ []; number = number })
     (joined_from past (number + length begun + 1) [] lines)
 
--- the joined lines of a record behind its first four
-unfoldable pub joined_lines : List (List ℕ) → JoinedLines
-joined_lines lines = joined_from (length lines + 1) 5 [] (drop 4 lines)
+-- the joined lines of a record after its first four
+unfoldable pub logical_lines : List (List ℕ) → JoinedLines
+logical_lines lines = joined_from (length lines + 1) 5 [] (drop 4 lines)

@@ -5,9 +5,9 @@ use Rattle.std.specs.Option.{ok_or}
 use Rattle.std.specs.Str.{bytes_eq}
 use Rattle.cip_mol.specs.declared.refusal.ReadCause.{ReadCause}
 use Rattle.cip_mol.specs.declared.refusal.ReadCause.TheVariants.{KeyValue}
-use Rattle.cip_reading.specs.Fields.{number_stated, signed_stated}
-use Rattle.cip_reading.specs.Reading.{◌>>=◌}
-use Rattle.cip_reading.specs.Turns.{over}
+use Rattle.cip_ctfile.specs.Fields.{parse_number, parse_signed}
+use Rattle.cip_ctfile.specs.Reading.{◌>>=◌}
+use Rattle.cip_ctfile.specs.Turns.{over}
 use Rattle.cip_v3000.specs.declared.keys.AtomKeys.{AtomKeys}
 use Rattle.cip_v3000.specs.Words.{keyed}
 
@@ -19,16 +19,16 @@ valence_of (negsuc n) = 15
 abbrev pub with_value : AtomKeys → List ℕ × List ℕ → Result AtomKeys ReadCause
 with_value keys word =
     if bytes_eq word.0 (codes "CHG") then
-    (ok_or (signed_stated 15 15 word.1) KeyValue >>= (λ n. Ok (record keys { charge = n })))
+    (ok_or (parse_signed 15 15 word.1) KeyValue >>= (λ n. Ok (record keys { charge = n })))
     else if bytes_eq word.0 (codes "RAD") then
-    (ok_or (number_stated 3 word.1) KeyValue >>= (λ n. Ok (record keys { radical = n })))
+    (ok_or (parse_number 3 word.1) KeyValue >>= (λ n. Ok (record keys { radical = n })))
     else if bytes_eq word.0 (codes "MASS") then
-    (ok_or (number_stated 400 word.1) KeyValue >>= (λ n. Ok (record keys { mass = n })))
+    (ok_or (parse_number 400 word.1) KeyValue >>= (λ n. Ok (record keys { mass = n })))
     else if bytes_eq word.0 (codes "VAL") then
-    (ok_or (signed_stated 1 14 word.1) KeyValue >>= (λ n. Ok (record keys { valence_mark = valence_of n })))
+    (ok_or (parse_signed 1 14 word.1) KeyValue >>= (λ n. Ok (record keys { valence_mark = valence_of n })))
     else Ok keys
 
--- a key word behind those before it
+-- a key word after those before it
 unfoldable pub with_key : AtomKeys → List ℕ → Result AtomKeys ReadCause
 with_key keys word = do
   parts ← ok_or (keyed word) KeyValue

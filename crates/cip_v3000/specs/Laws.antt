@@ -1,4 +1,4 @@
--- At which line a fault of joined lines is told. Own.
+-- At which line a fault of joined lines is reported. Own.
 use Rattle.std.specs.Prelude.{◌≡◌, ◌≤◌, ◌<◌, ◌⊎◌, ℕ, List, Bool, true, false, ◌-◌, slice_get, Some, None}
 use Rattle.std.specs.declared.option.Option.{Option}
 use Rattle.cip_v3000.specs.JoinedLines.{begins_v30, is_continued}
@@ -24,8 +24,8 @@ pub record AreJoined (lines : List (List ℕ)) (first last : ℕ) : Type 0 where
   pub continued : (k : ℕ) → first ≤ k → k < last → is_continued_at lines k ≡ true
   pub ended : is_continued_at lines last ≡ false
 
--- A fault is told at the first part of the joined line that ends with the line that decides; where that is missing, or
--- can't be a part, it is told at that line itself.
+-- A fault is reported at the first part of the joined line that ends with the line that decides; where that is missing,
+-- or can't be a part, it is reported at that line itself.
 abbrev pub TellsAtFirstPart : List (List ℕ) → ℕ → ℕ → Type 0
 TellsAtFirstPart lines line decisive =
     AreJoined lines line decisive ⊎ ((line ≡ decisive) × (is_part_at lines decisive ≡ false))

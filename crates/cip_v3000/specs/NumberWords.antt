@@ -1,6 +1,6 @@
 -- Numbers of few digits that begin a text, as they are read. Own.
 use Rattle.std.specs.Prelude.{◌≡◌, ◌≤◌, ◌<◌, ℕ, List, ◌++◌, length, take, drop, slice_index}
-use Rattle.cip_reading.specs.Usual.{Spells}
+use Rattle.cip_ctfile.specs.Usual.{Spells}
 use Rattle.cip_v3000.specs.Words.{ended, words_of}
 
 -- a number of few digits begins a text, and ends at this place

@@ -2,29 +2,29 @@
 -- is own.
 use Rattle.std.specs.Prelude.{ℕ, List, [], ◌∷◌, ◌++◌, ◌+◌, ◌==◌, ◌&&◌, Bool, true, false, length, take, drop, position, Some, None, if◌then◌else◌}
 use Rattle.std.specs.declared.option.Option.{Option}
-use Rattle.cip_v3000.specs.declared.splitting.Within.{Within}
-use Rattle.cip_v3000.specs.declared.splitting.Within.TheVariants.{Plain, Bracket, Quote}
+use Rattle.cip_v3000.specs.declared.word_splitter.QuoteState.{QuoteState}
+use Rattle.cip_v3000.specs.declared.word_splitter.QuoteState.TheVariants.{Plain, Bracket, Quote}
 
--- what a byte behind this one stands in; a quote in brackets and a bracket between quotes are plain text
-abbrev pub after : Within → ℕ → Within
+-- what a byte after this one is in; a quote in brackets and a bracket between quotes are plain text
+abbrev pub after : QuoteState → ℕ → QuoteState
 after Plain b = if b == 40 then Bracket else if b == 34 then Quote else Plain
 after Bracket b = if b == 41 then Plain else Bracket
 after Quote b = if b == 34 then Plain else Quote
 
-abbrev pub is_plain : Within → Bool
+abbrev pub is_plain : QuoteState → Bool
 is_plain Plain = true
 is_plain Bracket = false
 is_plain Quote = false
 
 -- a space outside brackets and quotes ends a word
-abbrev pub ends_word : Within → ℕ → Bool
+abbrev pub ends_word : QuoteState → ℕ → Bool
 ends_word within b = is_plain within && (b == 32)
 
 abbrev pub ended : List ℕ → List (List ℕ)
 ended word = if length word == 0 then [] else word ∷ []
 
--- the words of a text, behind the word that has begun
-abbrev pub words_from : Within → List ℕ → List ℕ → List (List ℕ)
+-- the words of a text, after the word that has begun
+abbrev pub words_from : QuoteState → List ℕ → List ℕ → List (List ℕ)
 words_from within word [] = ended word
 words_from within word (b ∷ bs) =
     if ends_word within b then ended word ++ words_from Plain [] bs

@@ -1,4 +1,4 @@
--- Worked records, on which the grammar is tried: L-alanine, of which one atom stands on a continued line, with a line
+-- Worked records, on which the grammar is tried: L-alanine, of which one atom is on a continued line, with a line
 -- changed; and bromochlorofluoromethane with indices in no order. Own.
 use Rattle.std.specs.Prelude.{◌≡◌, ℕ, ℤ, pos, negsuc, List, [], ◌∷◌, ◌++◌, ◌-◌, codes, slice_set, take, Result, Ok, Err}
 use Rattle.cip_mol.specs.Drawing.{Drawing}

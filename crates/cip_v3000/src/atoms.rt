@@ -6,10 +6,10 @@ ghost use Rattle.cip_v3000.specs.AtomLine.{is_number, atom_by, atom_of, IsAtomLi
 ghost use Rattle.cip_v3000.specs.LineWords.{AreAtomWords};
 ghost use Rattle.cip_v3000.specs.Words.{words_of};
 
-use crate::indices::{GREATEST, Indices, new_index};
+use crate::atom_indices::{AtomIndices, GREATEST, new_index};
 use crate::keys::{AtomKeys, atom_keys};
-use crate::number_words::{next_number, next_point};
-use crate::splitting::next_word;
+use crate::numbers::{next_number, next_point};
+use crate::word_splitter::next_word;
 use cip_elem::number_of;
 use cip_mol::{Atom, ReadCause};
 use cip_num::Vec3;
@@ -30,7 +30,7 @@ pub struct AtomLine {
     pub atom: Atom,
 }
 
-// What the six words say that an atom line has at least, and the text behind them.
+// What the six words say that an atom line has at least, and the text after them.
 #[derive(Clone, Copy)]
 struct AtomWords<'a> {
     index: Option<u32>,
@@ -40,9 +40,9 @@ struct AtomWords<'a> {
     keys: &'a [u8],
 }
 
-/// What the words of an atom line say, behind lines of these indices.
+/// What the words of an atom line say, after lines of these indices.
 #[tactic(auto, unfolding(crate::specs::AtomLine::atom_of, crate::specs::AtomLine::new_index))]
-pub fn atom_in(known: &Indices, text: &[u8]) -> Result<AtomLine, ReadCause>
+pub fn atom_in(known: &AtomIndices, text: &[u8]) -> Result<AtomLine, ReadCause>
     ensures value { result ≡ atom_of known.now (words_of text.now) }
     ensures range { IfOk result (IsAtomLine known.now) }
 {

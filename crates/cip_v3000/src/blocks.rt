@@ -2,35 +2,35 @@
 ghost use Rattle.std.specs.Prelude.{◌≡◌, ◌≤◌, ◌<◌, ◌+◌, ◌-◌, ◌^◌, [], All, drop, length, map, IfOk, OnOk};
 ghost use Rattle.cip_text.specs.Kinds.{is_molecule_end};
 ghost use Rattle.cip_text.specs.Slices.{texts};
-ghost use Rattle.cip_reading.specs.Reading.{Gives};
+ghost use Rattle.cip_ctfile.specs.Reading.{Gives};
 ghost use Rattle.cip_v3000.specs.Blocks.{seen_atoms, seen_bonds, AreAtoms, AreBonds, HasNoBonds};
 ghost use Rattle.cip_v3000.specs.Grammar.{atom_block, atom_row, bond_row, bond_rows, has_bond_block, bond_block, behind_block, table_end, molecule_end};
 ghost use Rattle.cip_v3000.specs.Joining.{seen, seen_all, IsNumbered};
 
-use crate::frames::FrameLine;
-use crate::indices::Indices;
-use crate::joining::{JoinedLine, JoinedLines};
-use crate::rows::{atom_line, bond_line, frame, is_framed};
+use crate::atom_indices::AtomIndices;
+use crate::block_lines::BlockLine;
+use crate::continuation::{JoinedLines, LogicalLine};
+use crate::rows::{atom_line, bond_line, expect_block_line, is_framed};
+use cip_ctfile::missing_line_fault;
 use cip_mol::{Atom, BondList, ReadFault, ReadRefusal};
-use cip_reading::short;
 use cip_text::is_molecule_end;
 use std::alloc::{AllocError, Global};
 
 /// Atoms with their indices.
 #[derive(Drop)]
 pub struct AtomBlock {
-    pub indices: Indices,
+    pub indices: AtomIndices,
     pub atoms: Vec<Atom>,
 }
 
 /// Bonds with their indices.
 #[derive(Drop)]
 pub struct BondBlock {
-    pub indices: Indices,
+    pub indices: AtomIndices,
     pub bonds: BondList,
 }
 
-/// Reads the atom lines, so many.
+/// Reads n atom lines.
 pub fn atom_block(
     alloc: Global,
     joined: &JoinedLines<'_>,
@@ -43,7 +43,7 @@ pub fn atom_block(
     match Vec::with_capacity(alloc, count as usize) {
         Ok(atoms) => {
             let mut block = AtomBlock {
-                indices: Indices::new(alloc),
+                indices: AtomIndices::new(alloc),
                 atoms,
             };
             match read_atoms(alloc, joined, count, &mut block) {
@@ -55,7 +55,8 @@ pub fn atom_block(
     }
 }
 
-// Reads so many atoms into a block that has none. It stays with the caller, so that no row gives it back.
+// Reads n atoms into a block that has none.
+// proof: the caller keeps the block, so no row drops it
 fn read_atoms(
     alloc: Global,
     joined: &JoinedLines<'_>,
@@ -76,7 +77,7 @@ fn read_atoms(
     Ok(())
 }
 
-// Puts the atom of a row behind those before it.
+// Puts the atom of a row after those before it.
 fn read_atom(
     alloc: Global,
     joined: &JoinedLines<'_>,
@@ -115,30 +116,30 @@ pub fn has_bond_block(
     } else {
         match joined.lines.get(place) {
             None => Ok(false),
-            Some(line) => is_framed(alloc, line, FrameLine::BeginBonds),
+            Some(line) => is_framed(alloc, line, BlockLine::BeginBonds),
         }
     }
 }
 
 /// Bonds that are still to be read, between these atoms.
-pub fn no_bonds(alloc: Global, atoms: &Indices) -> Result<BondBlock, AllocError>
+pub fn no_bonds(alloc: Global, atoms: &AtomIndices) -> Result<BondBlock, AllocError>
     ensures { IfOk result (HasNoBonds (length atoms.now)) }
 {
     match BondList::new(alloc, atoms.len()) {
         Ok(bonds) => Ok(BondBlock {
-            indices: Indices::new(alloc),
+            indices: AtomIndices::new(alloc),
             bonds,
         }),
         Err(error) => Err(error),
     }
 }
 
-/// Reads the bond block at a place, where there is one, and says which place is behind it. The bonds stay with the
-/// caller, so that no end gives them back.
+/// Reads the bond block at a place, where there is one, and says which place is after it.
+// proof: the caller keeps the bonds, so no exit drops them
 pub fn bond_block(
     alloc: Global,
     joined: &JoinedLines<'_>,
-    atoms: &Indices,
+    atoms: &AtomIndices,
     count: u32,
     place: usize,
     block: &mut BondBlock,
@@ -153,11 +154,11 @@ pub fn bond_block(
     ensures are { OnOk result (AreBonds (length atoms.now) count block.new) }
 {
     match has_bond_block(alloc, joined, count, place) {
-        Ok(true) => match frame(alloc, joined, place, FrameLine::BeginBonds) {
+        Ok(true) => match expect_block_line(alloc, joined, place, BlockLine::BeginBonds) {
             Ok(()) => match read_bonds(alloc, joined, atoms, place + 1, count, block) {
                 Ok(()) => {
                     let end = place + 1 + count as usize;
-                    match frame(alloc, joined, end, FrameLine::EndBonds) {
+                    match expect_block_line(alloc, joined, end, BlockLine::EndBonds) {
                         Ok(()) => Ok(place + count as usize + 2),
                         Err(refusal) => Err(refusal),
                     }
@@ -171,11 +172,11 @@ pub fn bond_block(
     }
 }
 
-/// The number of the line behind the end of the table, which stands at this place of the joined lines or behind it;
+/// The number of the line after the end of the table, which is at this place of the joined lines or after it;
 /// `past` is the fault where it doesn't.
 pub fn table_end(
     alloc: Global,
-    lines: &[JoinedLine<'_>],
+    lines: &[LogicalLine<'_>],
     past: ReadFault,
     first: usize,
 ) -> Result<u32, ReadRefusal>
@@ -185,7 +186,7 @@ pub fn table_end(
     let mut place = first;
     while place < lines.len() {
         let line = lines[place];
-        match is_framed(alloc, &line, FrameLine::EndTable) {
+        match is_framed(alloc, &line, BlockLine::EndTable) {
             Ok(true) => return Ok(line.next_number()),
             Ok(false) => place += 1,
             Err(AllocError) => return Err(ReadRefusal::Memory),
@@ -194,7 +195,7 @@ pub fn table_end(
     Err(ReadRefusal::Fault(past))
 }
 
-/// Whether `M  END` stands at the line of this number or behind it.
+/// Whether `M  END` is at the line of this number or after it.
 pub fn molecule_end(lines: &[&[u8]], number: u32) -> Result<(), ReadFault>
     requires { length lines.now < 2 ^ 32 - 1 }
     ensures { result ≡ molecule_end (texts lines.now) number }
@@ -206,14 +207,14 @@ pub fn molecule_end(lines: &[&[u8]], number: u32) -> Result<(), ReadFault>
         }
         place += 1;
     }
-    Err(short(lines))
+    Err(missing_line_fault(lines))
 }
 
-// Reads so many bond lines, from this place on, into a block that has no bonds.
+// Reads n bond lines, from this place on, into a block that has no bonds.
 fn read_bonds(
     alloc: Global,
     joined: &JoinedLines<'_>,
-    atoms: &Indices,
+    atoms: &AtomIndices,
     first: usize,
     count: u32,
     block: &mut BondBlock,
@@ -234,11 +235,11 @@ fn read_bonds(
     Ok(())
 }
 
-// Puts the bond of a row behind those before it.
+// Puts the bond of a row after those before it.
 fn read_bond(
     alloc: Global,
     joined: &JoinedLines<'_>,
-    atoms: &Indices,
+    atoms: &AtomIndices,
     first: usize,
     row: usize,
     block: &mut BondBlock,

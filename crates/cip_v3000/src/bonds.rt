@@ -2,17 +2,17 @@
 ghost use Rattle.std.specs.Prelude.{◌≡◌, ◌≤◌, ◌<◌, false, length, nat_lt, IfOk, IfSome, IsNone};
 ghost use Rattle.cip_mol.specs.Ranges.{IsBond};
 ghost use Rattle.cip_mol.specs.declared.molecule.Mark.TheVariants.{Plain};
-ghost use Rattle.cip_reading.specs.Fields.{number_stated};
-ghost use Rattle.cip_v3000.specs.BondLine.{mark_of, with_mark, place_of, place_named, bond_by, bond_of, IsBondLine, IsMark};
+ghost use Rattle.cip_ctfile.specs.Fields.{parse_number};
+ghost use Rattle.cip_v3000.specs.BondLine.{mark_of, with_mark, place_of, bond_by, bond_of, IsBondLine, IsMark};
 ghost use Rattle.cip_v3000.specs.LineWords.{AreBondWords};
 ghost use Rattle.cip_v3000.specs.Words.{words_of};
-ghost use Rattle.cip_reading.specs.Turns.{over};
+ghost use Rattle.cip_ctfile.specs.Turns.{over};
 
-use crate::indices::{GREATEST, Indices, new_index};
-use crate::number_words::next_number;
-use crate::splitting::{key_and_value, next_word};
+use crate::atom_indices::{AtomIndices, GREATEST, new_index};
+use crate::numbers::next_number;
+use crate::word_splitter::{key_and_value, next_word};
+use cip_ctfile::{check_bond, order, parse_number};
 use cip_mol::{Bond, BondList, Mark, ReadCause};
-use cip_reading::{checked, number_stated, order};
 
 /// A bond and its index.
 #[derive(Clone, Copy)]
@@ -21,7 +21,7 @@ pub struct BondLine {
     pub bond: Bond,
 }
 
-// The numbers of the four words that a bond line has at least, none where a word is no such number, and the text behind
+// The numbers of the four words that a bond line has at least, none where a word is no such number, and the text after
 // them.
 #[derive(Clone, Copy)]
 struct BondWords<'a> {
@@ -32,11 +32,11 @@ struct BondWords<'a> {
     keys: &'a [u8],
 }
 
-/// What the words of a bond line say, among atoms of these indices and behind these bonds.
+/// What the words of a bond line say, among atoms of these indices and after these bonds.
 #[tactic(auto, unfolding(crate::specs::BondLine::bond_of, crate::specs::AtomLine::new_index))]
 pub fn bond_in(
-    atoms: &Indices,
-    known: &Indices,
+    atoms: &AtomIndices,
+    known: &AtomIndices,
     before: &BondList,
     text: &[u8],
 ) -> Result<BondLine, ReadCause>
@@ -48,7 +48,7 @@ pub fn bond_in(
     match bond_words(text) {
         Some(words) => match new_index(known, words.index) {
             Ok(index) => match bond_by(atoms, &words) {
-                Ok(drawn) => match checked(before, drawn) {
+                Ok(drawn) => match check_bond(before, drawn) {
                     Ok(bond) => Ok(BondLine { index, bond }),
                     Err(cause) => Err(cause),
                 },
@@ -83,7 +83,7 @@ fn bond_words(text: &[u8]) -> Option<BondWords<'_>>
 
 // The bond that the words draw.
 #[tactic(auto, unfolding(crate::specs::BondLine::bond_by))]
-fn bond_by(atoms: &Indices, words: &BondWords<'_>) -> Result<Bond, ReadCause>
+fn bond_by(atoms: &AtomIndices, words: &BondWords<'_>) -> Result<Bond, ReadCause>
     requires atoms { length atoms.now ≤ 1000000000 }
     requires order { IfSome words.now.order (λ order. order ≤ 3) }
     ensures value { result ≡ bond_by atoms.now words.now.order words.now.a words.now.b (words_of words.now.keys.now) }
@@ -101,18 +101,8 @@ fn bond_by(atoms: &Indices, words: &BondWords<'_>) -> Result<Bond, ReadCause>
     }
 }
 
-/// The place, from 0, of the atom that a word names by its index.
-#[tactic(auto, unfolding(crate::specs::BondLine::place_named))]
-pub fn place_named(indices: &Indices, word: &[u8]) -> Option<u32>
-    requires { length indices.now ≤ 1000000000 }
-    ensures value { result ≡ place_named indices.now word.now }
-    ensures within { IfSome result (λ place. place < length indices.now) }
-{
-    place_of(indices, number_stated(GREATEST, word))
-}
-
 // The place, from 0, of the atom of an index.
-fn place_of(indices: &Indices, index: Option<u32>) -> Option<u32>
+fn place_of(indices: &AtomIndices, index: Option<u32>) -> Option<u32>
     requires { length indices.now ≤ 1000000000 }
     ensures value { result ≡ place_of indices.now index }
     ensures within { IfSome result (λ place. place < length indices.now) }
@@ -152,7 +142,7 @@ fn with_mark(order: u8, mark: Mark, word: &[u8]) -> Result<Mark, ReadCause>
     match key_and_value(word) {
         Some((key, value)) => {
             if key == b"CFG".as_slice() {
-                match mark_of(order, number_stated(3, value)) {
+                match mark_of(order, parse_number(3, value)) {
                     Some(mark) => Ok(mark),
                     None => Err(ReadCause::BondMark),
                 }

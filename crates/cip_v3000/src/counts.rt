@@ -3,8 +3,8 @@ ghost use Rattle.std.specs.Prelude.{◌≡◌, IfOk};
 ghost use Rattle.cip_v3000.specs.CountsLine.{counts_of, AreCounts};
 ghost use Rattle.cip_v3000.specs.Words.{words_of};
 
-use crate::number_words::next_number;
-use crate::splitting::next_word;
+use crate::numbers::next_number;
+use crate::word_splitter::next_word;
 use cip_mol::ReadCause;
 
 /// How many atoms and bonds follow.

@@ -3,9 +3,9 @@ ghost use Rattle.std.specs.Prelude.{◌≡◌, ◌≤◌, unsigned_abs, IfOk};
 ghost use Rattle.cip_v3000.specs.Keys.{valence_of, with_value, with_key, keys_from, AreKeys};
 ghost use Rattle.cip_v3000.specs.Words.{words_of};
 
-use crate::splitting::{key_and_value, next_word};
+use crate::word_splitter::{key_and_value, next_word};
+use cip_ctfile::{parse_number, parse_signed};
 use cip_mol::ReadCause;
-use cip_reading::{number_stated, signed_stated};
 
 /// What the keys of an atom say, as `Atom` has it.
 #[derive(Clone, Copy)]
@@ -55,22 +55,22 @@ fn with_value(keys: AtomKeys, key: &[u8], value: &[u8]) -> Result<AtomKeys, Read
 {
     let mut keys = keys;
     if key == b"CHG".as_slice() {
-        let Some(charge) = signed_stated(15, 15, value) else {
+        let Some(charge) = parse_signed(15, 15, value) else {
             return Err(ReadCause::KeyValue);
         };
         keys.charge = charge;
     } else if key == b"RAD".as_slice() {
-        let Some(radical) = number_stated(3, value) else {
+        let Some(radical) = parse_number(3, value) else {
             return Err(ReadCause::KeyValue);
         };
         keys.radical = radical as u8;
     } else if key == b"MASS".as_slice() {
-        let Some(mass) = number_stated(400, value) else {
+        let Some(mass) = parse_number(400, value) else {
             return Err(ReadCause::KeyValue);
         };
         keys.mass = mass as u16;
     } else if key == b"VAL".as_slice() {
-        let Some(stated) = signed_stated(1, 14, value) else {
+        let Some(stated) = parse_signed(1, 14, value) else {
             return Err(ReadCause::KeyValue);
         };
         keys.valence_mark = valence(stated);

@@ -1,24 +1,27 @@
-//! Molfiles of version V3000: a molecule, or the first line that has a fault and why.
+//! The reader of V3000 molfiles.
+//!
+//! `read_lines` returns the molecule of a record's lines, or the first line with a fault and its cause; lines that end
+//! in `-` are joined with the next one. `read_table` also returns the atom indices and the lines after the bonds, for
+//! the readers of collections. `specs/` has the grammar. Uses the fields of `cip_ctfile`, and indexmap for atom
+//! indices.
 #![tactic(auto)]
 
+mod atom_indices;
 mod atoms;
+mod block_lines;
 mod blocks;
 mod bonds;
+mod continuation;
 mod counts;
-mod frames;
-mod indices;
-mod joining;
 mod keys;
-mod number_words;
+mod numbers;
 mod reading;
 mod rows;
-mod splitting;
 mod table;
+mod word_splitter;
 
-pub use bonds::place_named;
-pub use frames::{FrameLine, is_frame};
-pub use indices::Indices;
-pub use joining::{JoinedLine, Text, text_of};
+pub use block_lines::{BlockLine, is_frame};
+pub use continuation::{LogicalLine, Text, text_of};
 pub use reading::{read, read_lines};
-pub use splitting::words;
 pub use table::{Table, read_table};
+pub use word_splitter::words;

@@ -1,17 +1,17 @@
 -- The commands by their names in the order of the help text, each with its options. Own.
 use Rattle.std.specs.Prelude.{ℕ, List, [], ◌∷◌, codes}
-use Rattle.cip_words.specs.declared.forms.Command.{Command}
-use Rattle.cip_words.specs.declared.forms.Command.TheVariants.{Annotate, Explain, Make, Trial, Set, Mirror, Groups, Axes, Help}
-use Rattle.cip_words.specs.Options.{Named, start, records, number, atom, letter, nodes, workers, wording}
+use Rattle.cip_words.specs.declared.command_table.Command.{Command}
+use Rattle.cip_words.specs.declared.command_table.Command.TheVariants.{Annotate, Explain, Make, Trial, Set, Mirror, Groups, Axes, Help}
+use Rattle.cip_words.specs.Options.{NamedOption, start, records, number, atom, letter, nodes, workers, wording}
 
-abbrev pub Form : Type 0
-Form = List ℕ × Command × List Named
+abbrev pub CommandSpec : Type 0
+CommandSpec = List ℕ × Command × List NamedOption
 
 -- the options of every command that labels
-abbrev labelling : List Named
+abbrev labelling : List NamedOption
 labelling = nodes ∷ workers ∷ wording ∷ []
 
-abbrev pub forms : List Form
+abbrev pub forms : List CommandSpec
 forms =
     (codes "annotate", Annotate, labelling)
     ∷ (codes "explain", Explain, labelling)

@@ -2,7 +2,7 @@
 use Rattle.std.specs.Prelude.{ℕ, List, [], ◌∷◌, ◌++◌, codes, Some, None}
 use Rattle.std.specs.declared.option.Option.{Option}
 use Rattle.std.specs.List.{flat_map}
-use Rattle.cip_words.specs.declared.forms.Choice.{Choice}
+use Rattle.cip_words.specs.declared.command_table.OptionSpec.{OptionSpec}
 use Rattle.cip_words.specs.Forms.{forms}
 
 -- in brackets where it may be left out
@@ -10,7 +10,7 @@ abbrev pub bracketed : Option ℕ → List ℕ → List ℕ
 bracketed None text = text
 bracketed (Some default) text = codes "[" ++ (text ++ codes "]")
 
-abbrev pub choice_text : List ℕ → Choice → List ℕ
+abbrev pub choice_text : List ℕ → OptionSpec → List ℕ
 choice_text name choice = codes " " ++ bracketed choice.default (name ++ (codes " " ++ choice.letter ∷ []))
 
 abbrev pub form_line : List ℕ → List ℕ → List ℕ

@@ -7,7 +7,7 @@ use Rattle.cip_text.specs.Numbers.{whole}
 abbrev pub lead_of : List ℕ → ℕ
 lead_of word = slice_index_or word 0 48
 
--- no 0 leads it, but where it stands alone
+-- no 0 leads it, but where it is alone
 abbrev pub is_plain : List ℕ → Bool
 is_plain word = length word == 1 || nat_lt 48 (lead_of word)
 

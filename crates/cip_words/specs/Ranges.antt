@@ -1,8 +1,8 @@
 -- The ranges in which the numbers of settings lie. Own.
 use Rattle.std.specs.Prelude.{ℕ, ◌≡◌, ◌≤◌, ◌⊎◌}
 use Rattle.cip_rank.specs.declared.rules.Rules.{Rules}
-use Rattle.cip_words.specs.declared.forms.Values.{Values}
-use Rattle.cip_words.specs.declared.forms.Values.TheVariants.{Between, CentreLetter, Either}
+use Rattle.cip_words.specs.declared.command_table.Values.{Values}
+use Rattle.cip_words.specs.declared.command_table.Values.TheVariants.{Between, CentreLetter, Either}
 
 pub record IsBetween (least most number : ℕ) : Type 0 where
   pub above : least ≤ number

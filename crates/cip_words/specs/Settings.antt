@@ -8,13 +8,13 @@ use Rattle.std.specs.Str.{bytes_eq}
 use Rattle.cip_mol.specs.declared.centre_letter.CentreLetter.{CentreLetter}
 use Rattle.cip_rank.specs.declared.rules.Rules.{Rules}
 use Rattle.cip_rank.specs.declared.rules.Rules.TheVariants.{Wording2013, Wording2018}
-use Rattle.cip_words.specs.Choices.{◌>>=◌, are_pairs, once, set_to}
+use Rattle.cip_words.specs.Choices.{◌>>=◌, are_name_value_pairs, once, value_of}
 use Rattle.cip_words.specs.Letters.{letter_named}
-use Rattle.cip_words.specs.declared.forms.Command.{Command}
-use Rattle.cip_words.specs.declared.forms.Command.TheVariants as commands
-use Rattle.cip_words.specs.Forms.{Form, forms}
+use Rattle.cip_words.specs.declared.command_table.Command.{Command}
+use Rattle.cip_words.specs.declared.command_table.Command.TheVariants as commands
+use Rattle.cip_words.specs.Forms.{CommandSpec, forms}
 use Rattle.cip_words.specs.Options as options
-use Rattle.cip_words.specs.Options.{Named}
+use Rattle.cip_words.specs.Options.{NamedOption}
 use Rattle.cip_words.specs.Ranges.{CanLabel, CanMake, CanName, Labelling}
 use Rattle.cip_words.specs.declared.settings.Action.{Action}
 use Rattle.cip_words.specs.declared.settings.Action.TheVariants as does
@@ -24,7 +24,7 @@ use Rattle.cip_words.specs.declared.settings.Settings.{Settings}
 use Rattle.cip_words.specs.declared.settings.Settings.TheVariants.{Annotate, Explain, Make, Trial, Set, Mirror, Groups, Axes, Help}
 
 -- the command of this name
-abbrev pub form_of : List ℕ → List Form → Option Form
+abbrev pub form_of : List ℕ → List CommandSpec → Option CommandSpec
 form_of name [] = None
 form_of name (form ∷ forms) = if bytes_eq name form.0 then Some form else form_of name forms
 
@@ -35,28 +35,28 @@ wording_of year = if year == 2013 then Wording2013 else Wording2018
 -- the options
 
 abbrev pub start_of : List (String Global) → Option ℕ
-start_of words = set_to options.start.0 options.start.1 words
+start_of words = value_of options.start.0 options.start.1 words
 
 abbrev pub records_of : List (String Global) → Option ℕ
-records_of words = set_to options.records.0 options.records.1 words
+records_of words = value_of options.records.0 options.records.1 words
 
 abbrev pub record_of : List (String Global) → Option ℕ
-record_of words = set_to options.number.0 options.number.1 words
+record_of words = value_of options.number.0 options.number.1 words
 
 abbrev pub atom_of : List (String Global) → Option ℕ
-atom_of words = set_to options.atom.0 options.atom.1 words
+atom_of words = value_of options.atom.0 options.atom.1 words
 
 abbrev pub letter_of : List (String Global) → Option CentreLetter
 letter_of words = once options.letter.0 words >>= letter_named
 
 abbrev pub nodes_of : List (String Global) → Option ℕ
-nodes_of words = set_to options.nodes.0 options.nodes.1 words
+nodes_of words = value_of options.nodes.0 options.nodes.1 words
 
 abbrev pub workers_of : List (String Global) → Option ℕ
-workers_of words = set_to options.workers.0 options.workers.1 words
+workers_of words = value_of options.workers.0 options.workers.1 words
 
 abbrev pub rules_of : List (String Global) → Option Rules
-rules_of words = option_map wording_of (set_to options.wording.0 options.wording.1 words)
+rules_of words = option_map wording_of (value_of options.wording.0 options.wording.1 words)
 
 -- what all commands that label ask for
 abbrev pub labelling_of : List (String Global) → Option Labelling
@@ -97,16 +97,16 @@ setting_of words = do
   Some (Set number atom letter labelling.nodes labelling.workers labelling.rules)
 
 -- what a command asks for with these names and values
-abbrev pub asked : Command → List (String Global) → Option Settings
-asked commands.Make words = making_of words
-asked commands.Trial words = trial_of words
-asked commands.Set words = setting_of words
-asked commands.Help words = Some Help
-asked command words = labelling_of words >>= alone command
+abbrev pub requested : Command → List (String Global) → Option Settings
+requested commands.Make words = making_of words
+requested commands.Trial words = trial_of words
+requested commands.Set words = setting_of words
+requested commands.Help words = Some Help
+requested command words = labelling_of words >>= alone command
 
 -- the same where these are its options
-abbrev pub asked_by : Command → List Named → List (String Global) → Option Settings
-asked_by command options words = if are_pairs options words then asked command words else None
+abbrev pub asked_by : Command → List NamedOption → List (String Global) → Option Settings
+asked_by command options words = if are_name_value_pairs options words then requested command words else None
 
 -- what the words ask for; none where they are those of no command
 unfoldable pub settings_of : List (String Global) → Option Settings

@@ -3,13 +3,14 @@ ghost use Rattle.std.specs.Prelude.{◌≡◌, IfSome, map};
 ghost use Rattle.std.specs.Option.{option_map};
 ghost use Rattle.cip_words.specs.Forms.{forms};
 ghost use Rattle.cip_words.specs.Settings.{form_of, letter_of, rules_of, labelling_of, making_of, trial_of, setting_of};
-ghost use Rattle.cip_words.specs.Settings.{action_of, alone, asked, asked_by, labelling_by, settings_of, AreWithin};
+ghost use Rattle.cip_words.specs.Settings.{action_of, alone, requested, asked_by, labelling_by, settings_of, AreWithin};
 ghost use Rattle.cip_words.specs.Ranges.{CanLabel};
 
-use crate::forms::{
-    ATOM, Command, FORMS, Form, LETTER, NODES, Named, RECORD, RECORDS, START, WORDING, WORKERS,
+use crate::command_table::{
+    ATOM, Command, CommandSpec, FORMS, LETTER, NODES, NamedOption, RECORD, RECORDS, START, WORDING,
+    WORKERS,
 };
-use crate::values::{are_pairs, once, set_to};
+use crate::option_values::{are_name_value_pairs, single_value, value_of};
 use cip_mol::CentreLetter;
 use cip_rank::Rules;
 use std::marker::Model;
@@ -29,12 +30,12 @@ pub enum Settings {
         workers: u8,
         rules: Rules,
     },
-    /// So many records are made.
+    /// How many records are made, and from which number.
     Make {
         start: u32,
         records: u32,
     },
-    /// So many records are made and labelled, and the outcomes counted.
+    /// The same, labelled, and the outcomes counted.
     Trial {
         start: u32,
         records: u32,
@@ -240,26 +241,26 @@ pub fn read_words(words: &[String]) -> Option<Settings>
 }
 
 // What a command with these options asks for with these words.
-fn asked_by(command: Command, choices: &[Named], words: &[String]) -> Option<Settings>
+fn asked_by(command: Command, choices: &[NamedOption], words: &[String]) -> Option<Settings>
     ensures meant { result ≡ asked_by command (map (λ choice. (choice.0.now, choice.1)) choices.now) words.now }
     ensures within { IfSome result AreWithin }
 {
-    if are_pairs(choices, words) {
-        asked(command, words)
+    if are_name_value_pairs(choices, words) {
+        requested(command, words)
     } else {
         None
     }
 }
 
 // The command of this name.
-fn form_named(name: &[u8]) -> Option<Form>
+fn form_named(name: &[u8]) -> Option<CommandSpec>
     ensures { option_map (λ form. (form.0.now, form.1, map (λ choice. (choice.0.now, choice.1)) form.2.now)) result
         ≡ form_of name.now forms }
 {
     form_of(name, &FORMS)
 }
 
-fn form_of(name: &[u8], forms: &[Form]) -> Option<Form>
+fn form_of(name: &[u8], forms: &[CommandSpec]) -> Option<CommandSpec>
     ensures { option_map (λ form. (form.0.now, form.1, map (λ choice. (choice.0.now, choice.1)) form.2.now)) result
         ≡ form_of name.now
         (map (λ form. (form.0.now, form.1, map (λ choice. (choice.0.now, choice.1)) form.2.now)) forms.now) }
@@ -272,8 +273,8 @@ fn form_of(name: &[u8], forms: &[Form]) -> Option<Form>
     None
 }
 
-fn asked(command: Command, words: &[String]) -> Option<Settings>
-    ensures meant { result ≡ asked command words.now }
+fn requested(command: Command, words: &[String]) -> Option<Settings>
+    ensures meant { result ≡ requested command words.now }
     ensures within { IfSome result AreWithin }
 {
     match command {
@@ -331,7 +332,11 @@ fn alone(command: Command, labelling: Labelling) -> Option<Settings>
 fn read_labelling(words: &[String]) -> Option<Labelling>
     ensures { result ≡ labelling_of words.now }
 {
-    match (set_to(&NODES, words), set_to(&WORKERS, words), rules(words)) {
+    match (
+        value_of(&NODES, words),
+        value_of(&WORKERS, words),
+        rules(words),
+    ) {
         (Some(nodes), Some(workers), Some(rules)) => Some(Labelling {
             nodes,
             workers: workers as u8,
@@ -345,7 +350,7 @@ fn making(words: &[String]) -> Option<Settings>
     ensures meant { result ≡ making_of words.now }
     ensures within { IfSome result AreWithin }
 {
-    match (set_to(&START, words), set_to(&RECORDS, words)) {
+    match (value_of(&START, words), value_of(&RECORDS, words)) {
         (Some(start), Some(records)) => Some(Settings::Make { start, records }),
         _ => None,
     }
@@ -356,8 +361,8 @@ fn trial(words: &[String]) -> Option<Settings>
     ensures within { IfSome result AreWithin }
 {
     let (Some(start), Some(records), Some(labelling)) = (
-        set_to(&START, words),
-        set_to(&RECORDS, words),
+        value_of(&START, words),
+        value_of(&RECORDS, words),
         read_labelling(words),
     ) else {
         return None;
@@ -376,8 +381,8 @@ fn setting(words: &[String]) -> Option<Settings>
     ensures within { IfSome result AreWithin }
 {
     let (Some(number), Some(atom), Some(letter), Some(labelling)) = (
-        set_to(&RECORD, words),
-        set_to(&ATOM, words),
+        value_of(&RECORD, words),
+        value_of(&ATOM, words),
         letter(words),
         read_labelling(words),
     ) else {
@@ -396,7 +401,7 @@ fn setting(words: &[String]) -> Option<Settings>
 fn letter(words: &[String]) -> Option<CentreLetter>
     ensures { result ≡ letter_of words.now }
 {
-    match once(LETTER.0, words) {
+    match single_value(LETTER.0, words) {
         Some([b'R']) => Some(CentreLetter::R),
         Some([b'S']) => Some(CentreLetter::S),
         Some([b'r']) => Some(CentreLetter::SmallR),
@@ -408,7 +413,7 @@ fn letter(words: &[String]) -> Option<CentreLetter>
 fn rules(words: &[String]) -> Option<Rules>
     ensures { result ≡ rules_of words.now }
 {
-    match set_to(&WORDING, words) {
+    match value_of(&WORDING, words) {
         Some(2013) => Some(Rules::Wording2013),
         Some(_) => Some(Rules::Wording2018),
         None => None,

@@ -2,7 +2,7 @@
 use bstr::ByteSlice;
 use std::alloc::{AllocError, Global};
 
-/// The lines that a text has between those of another one, each run of them below the line behind which it stands. None
+/// The lines that a text has between those of another one, each run of them below the line after which it comes. None
 /// where that isn't all that it has, and where the other one is empty.
 pub fn lines_added(
     alloc: Global,

@@ -6,7 +6,7 @@ use crate::memory::{adapters, joined, sink, sources};
 use crate::pieces::cut;
 use crate::runs::{flow, long_record, meet, steady};
 use crate::streams::stream;
-use gate_calls::{Caller, Row, Text};
+use gate_tables::{Caller, Row, Text};
 use std::alloc::Global;
 use std::rt::Files;
 use std::thread::Threads;

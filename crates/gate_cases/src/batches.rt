@@ -2,7 +2,7 @@
 ghost use Rattle.std.specs.Prelude.{◌<◌, ◌^◌, length};
 
 use cip_batch::{Gate, Job, Open, Worker, map_batch};
-use gate_calls::Text;
+use gate_tables::Text;
 use std::alloc::{AllocError, Global};
 use std::sync::atomic::{AtomicU64, Ordering};
 use std::thread::Threads;
@@ -36,7 +36,7 @@ struct Held<'a> {
 impl<'a> Job for Held<'a> {
     type Out = u32;
 
-    type Desk = u32;
+    type State = u32;
 
     ghost answer = { λ job. job.number };
 
@@ -44,8 +44,8 @@ impl<'a> Job for Held<'a> {
         1
     }
 
-    fn work(&self, desk: &mut u32) -> Result<u32, AllocError> {
-        *desk = desk.wrapping_add(1);
+    fn work(&self, state: &mut u32) -> Result<u32, AllocError> {
+        *state = state.wrapping_add(1);
         if self.met.begun.fetch_add(1, Ordering::SeqCst) > 0 {
             return Ok(self.number);
         }
@@ -76,8 +76,8 @@ fn workers_at_desks(alloc: Global, count: u32) -> Result<Vec<Worker<u32, u32>>, 
     Ok(workers)
 }
 
-// The answers to jobs that so many workers share.
-fn push_shared<R: Threads + Sync, J: Job<Out = u32, Desk = u32> + Sync, G: Gate + Sync>(
+// The answers to jobs that n workers share.
+fn push_shared<R: Threads + Sync, J: Job<Out = u32, State = u32> + Sync, G: Gate + Sync>(
     rt: &R,
     alloc: Global,
     out: &mut Text,
@@ -93,7 +93,7 @@ fn push_shared<R: Threads + Sync, J: Job<Out = u32, Desk = u32> + Sync, G: Gate 
     }
 }
 
-fn shared<R: Threads + Sync, J: Job<Out = u32, Desk = u32> + Sync, G: Gate + Sync>(
+fn shared<R: Threads + Sync, J: Job<Out = u32, State = u32> + Sync, G: Gate + Sync>(
     rt: &R,
     alloc: Global,
     jobs: &[J],
@@ -115,7 +115,7 @@ fn push_numbers(out: &mut Text, numbers: &[u32]) {
     }
 }
 
-/// The answers to sixteen jobs that so many workers share, how many began, and whether one waited in vain: two are worked
+/// The answers to sixteen jobs that n workers share, how many began, and whether one waited in vain: two are worked
 /// on at once, which one thread alone can't.
 pub fn meeting_jobs_told<R: Threads + Sync>(rt: &R, alloc: Global, out: &mut Text, workers: u32) {
     let met = Met::new();
@@ -159,13 +159,13 @@ impl Gate for Counted {
 #[derive(Drop)]
 struct Long {
     number: u32,
-    turns: u32,
+    rounds: u32,
 }
 
 impl Job for Long {
     type Out = u32;
 
-    type Desk = u32;
+    type State = u32;
 
     ghost answer = { λ job. job.number };
 
@@ -174,7 +174,7 @@ impl Job for Long {
     }
 
     fn work(&self, _desk: &mut u32) -> Result<u32, AllocError> {
-        for _ in 0..self.turns {
+        for _ in 0..self.rounds {
             std::hint::spin_loop();
         }
         Ok(self.number)
@@ -184,13 +184,13 @@ impl Job for Long {
 fn long_jobs(alloc: Global) -> Result<Vec<Long>, AllocError> {
     let mut jobs = Vec::new(alloc);
     for number in 0..100u32 {
-        let turns = if number % 17 == 3 { 1_000_000 } else { number };
-        jobs.push(Long { number, turns })?;
+        let rounds = if number % 17 == 3 { 1_000_000 } else { number };
+        jobs.push(Long { number, rounds })?;
     }
     Ok(jobs)
 }
 
-/// The answers to a hundred jobs of very unlike length that so many workers share, how many entered the gate, and the sum
+/// The answers to a hundred jobs of very unlike length that n workers share, how many entered the gate, and the sum
 /// of their places.
 pub fn long_jobs_told<R: Threads + Sync>(rt: &R, alloc: Global, out: &mut Text, workers: u32) {
     let counted = Counted::new();
@@ -201,17 +201,17 @@ pub fn long_jobs_told<R: Threads + Sync>(rt: &R, alloc: Global, out: &mut Text, 
     push_counts(out, &counted.begun, &counted.places)
 }
 
-// A job that notes by whose desk it was done. The desk of each worker holds its number.
+// A job that notes by whose state it was done. The state of each worker holds its number.
 #[derive(Drop)]
 struct Noted<'a> {
     weight: u64,
-    desk: &'a AtomicU64,
+    state: &'a AtomicU64,
 }
 
 impl<'a> Job for Noted<'a> {
     type Out = u64;
 
-    type Desk = u64;
+    type State = u64;
 
     ghost answer = { λ job. job.weight };
 
@@ -219,14 +219,15 @@ impl<'a> Job for Noted<'a> {
         self.weight
     }
 
-    fn work(&self, desk: &mut u64) -> Result<u64, AllocError> {
-        self.desk.store(*desk, Ordering::SeqCst);
+    fn work(&self, state: &mut u64) -> Result<u64, AllocError> {
+        self.state.store(*state, Ordering::SeqCst);
         Ok(self.weight)
     }
 }
 
-/// By whose desks four jobs were done, which weigh 20, 10, 5 and 10: the worker's who has the least so far, the first of two
-/// who have the same. The last one needs no thread of its own and begins with 0, the other with 5, a quarter of a share.
+/// By whose states four jobs were done, which weigh 20, 10, 5 and 10: the worker's who has the least so far, the first
+/// of two who have the same. The last one needs no thread of its own and begins with 0, the other with 5, a quarter of
+/// a share.
 pub fn dealt<R: Threads + Sync>(rt: &R, alloc: Global, out: &mut Text) {
     let desks = [
         AtomicU64::new(9),
@@ -237,8 +238,8 @@ pub fn dealt<R: Threads + Sync>(rt: &R, alloc: Global, out: &mut Text) {
     if deal_to_two(rt, alloc, &desks).is_err() {
         return out.miss();
     }
-    for desk in &desks {
-        write!(out, "{} ", desk.load(Ordering::SeqCst));
+    for state in &desks {
+        write!(out, "{} ", state.load(Ordering::SeqCst));
     }
 }
 
@@ -258,6 +259,6 @@ fn deal_to_two<R: Threads + Sync>(
     Ok(())
 }
 
-fn weighing(weight: u64, desk: &AtomicU64) -> Noted<'_> {
-    Noted { weight, desk }
+fn weighing(weight: u64, state: &AtomicU64) -> Noted<'_> {
+    Noted { weight, state }
 }

@@ -1,5 +1,5 @@
-// All that the gate runs: worked cases, of which it prints what each leaves behind; digraphs that are made twice; and the
-// calls of tables, of which it prints those that answer something else.
+// All that the gate runs: worked cases, of which it prints what each leaves; digraphs that are made twice; and
+// the calls of tables, of which it prints those that answer something else.
 #![tactic(auto)]
 
 mod added;
@@ -9,22 +9,22 @@ mod case;
 mod meeting;
 mod memory;
 mod pieces;
+mod rounds;
 mod running;
 mod runs;
 mod streams;
-mod turns;
 mod watched;
 
 use crate::added::lines_added;
 use crate::answering::Runs;
 use crate::case::{Case, read_case};
+use crate::rounds::{run_in_turn, summary};
 use crate::running::{Outcome, run_case};
-use crate::turns::{run_in_turn, summary};
 use cip_io::{Sink, StdSink, push_all};
-use gate_calls::{Calls, make_calls};
-use gate_ranks::Ranks;
+use gate_branches::Ranks;
+use gate_differential::{Worked, compare_records};
 use gate_records::Records;
-use gate_twice::{Worked, compare_records};
+use gate_tables::{Calls, make_calls};
 use std::alloc::{AllocError, Global};
 use std::marker::Brand;
 use std::process::ExitCode;
@@ -74,7 +74,7 @@ fn show_cases<R: Files + Threads + Sync + AllocGlobal, K: Sink>(
     Ok(())
 }
 
-// What is shown of a case: what its run leaves behind, or one line of the runs in which a call fails in turn.
+// What is shown of a case: what its run leaves, or one line of the runs in which a call fails in turn.
 fn text_of<R: Files + Threads + Sync + AllocGlobal>(
     rt: &R,
     case: &Case<'_>,

@@ -1,6 +1,6 @@
 // A gate at which jobs of a batch meet, which one thread alone can't make them do.
 use cip_batch::Gate;
-use gate_calls::Text;
+use gate_tables::Text;
 use std::alloc::{AllocError, Global};
 use std::sync::atomic::{AtomicU64, Ordering};
 
@@ -16,7 +16,7 @@ pub struct Meeting {
 }
 
 impl Meeting {
-    /// A gate for batches of so many jobs.
+    /// A gate for batches of n jobs.
     pub fn new(alloc: Global, jobs: u32) -> Result<Meeting, AllocError> {
         let mut entries = Vec::new(alloc);
         for _ in 0..jobs {
@@ -39,7 +39,7 @@ impl Meeting {
         }
     }
 
-    // Waits until more than so many jobs came.
+    // Waits until more than n jobs came.
     fn wait(&self, jobs: u64) {
         for _ in 0..TURNS {
             if self.begun.load(Ordering::SeqCst) > jobs {

@@ -1,12 +1,12 @@
 // Sources and sinks over memory, adapters over std's readers and writers, and pieces that are written together.
 ghost use Rattle.std.specs.Prelude.{None};
 
-use cip_io::{Failed, Joined, MemSink, MemSource, Sink, Source, StdSink, StdSource, push_all};
-use gate_calls::Text;
+use cip_io::{Failed, MemSink, MemSource, Sink, Source, StdSink, StdSource, WriteBuffer, push_all};
+use gate_tables::Text;
 use std::alloc::{AllocError, Global};
 use std::io;
 
-// What each of so many calls of a source gives, a bar behind it, or that it fails.
+// What each of n calls of a source gives, a bar after it, or that it fails.
 fn push_pulls<S: Source>(out: &mut Text, source: &mut S, piece: &mut [u8], calls: u32) {
     for _ in 0..calls {
         match source.pull(piece) {
@@ -64,7 +64,7 @@ fn push_sink(alloc: Global, out: &mut Text) -> Result<(), AllocError> {
     Ok(())
 }
 
-// The fifth call, behind two for the first piece, is the last one of three pieces.
+// The fifth call, after two for the first piece, is the last one of three pieces.
 fn push_pieces(out: &mut Text, sink: &mut MemSink) {
     push_whole(out, sink, "hell");
     push_taken(out, sink, "o! ! ");
@@ -94,7 +94,7 @@ impl Sink for Called {
     }
 }
 
-/// How many calls a sink had and how many bytes behind each of these pieces, which are written together where they fit
+/// How many calls a sink had and how many bytes after each of these pieces, which are written together where they fit
 /// into room for five; or `flush` where what waits is to be written. In the end, what was written.
 pub fn joined(alloc: Global, out: &mut Text, pieces: &str) {
     let mut sink = Called {
@@ -102,20 +102,20 @@ pub fn joined(alloc: Global, out: &mut Text, pieces: &str) {
         calls: 0,
         faults: 0,
     };
-    match Joined::with_room(alloc, 5) {
+    match WriteBuffer::with_room(alloc, 5) {
         Ok(mut joined) => push_joined(out, &mut joined, &mut sink, pieces),
         Err(_) => out.miss(),
     }
     out.push_bytes(sink.bytes.as_slice())
 }
 
-fn push_joined(out: &mut Text, joined: &mut Joined, sink: &mut Called, pieces: &str) {
+fn push_joined(out: &mut Text, joined: &mut WriteBuffer, sink: &mut Called, pieces: &str) {
     for piece in pieces.split(' ') {
         push_next(out, joined, sink, piece);
     }
 }
 
-fn push_next(out: &mut Text, joined: &mut Joined, sink: &mut Called, piece: &str) {
+fn push_next(out: &mut Text, joined: &mut WriteBuffer, sink: &mut Called, piece: &str) {
     let done = match piece {
         "flush" => joined.flush(sink),
         _ => joined.push(piece.as_bytes(), sink),

@@ -6,7 +6,7 @@ ghost use Rattle.cip_frame.specs.Framing.{Holds, Passed, all_fit, fits};
 
 use cip_frame::{FrameFault, Framer, Tail};
 use cip_text::Bytes;
-use gate_calls::{Row, Text};
+use gate_tables::{Row, Text};
 use std::alloc::{AllocError, Global};
 
 // Hands out every record of a stream, whatever pieces it comes in, up to one that is too long. What it promises speaks
@@ -62,8 +62,8 @@ fn pieces_of(alloc: Global, stream: &[u8], size: usize) -> Result<Vec<Vec<u8>>, 
     Ok(pieces)
 }
 
-/// The records of a stream that comes in pieces of a size, a bar behind each, and what follows the last one; or why there
-/// are no further ones.
+/// The records of a stream that comes in pieces of a size, a bar after each, and what follows the last one; or why
+/// there are no further ones.
 pub fn cut(alloc: Global, out: &mut Text, row: &Row) {
     let size = row.number(2).max(1) as usize;
     let Ok(pieces) = pieces_of(alloc, row.field(4).as_bytes(), size) else {

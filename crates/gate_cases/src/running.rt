@@ -8,7 +8,7 @@ use cip_run::{Limits, Open, run_limits};
 use std::alloc::{AllocError, Global};
 use std::thread::Threads;
 
-/// What a run left behind, and whether a call on the sink or the diagnostics failed.
+/// What a run left, and whether a call on the sink or the diagnostics failed.
 #[derive(Drop)]
 pub struct Outcome {
     pub status: u8,

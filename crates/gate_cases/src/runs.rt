@@ -4,7 +4,7 @@ ghost use Rattle.std.specs.Prelude.{◌≢◌, None};
 use crate::meeting::Meeting;
 use cip_io::{Failed, MemSink, MemSource, Sink, Source, SteadySource};
 use cip_run::{LIMITS, Open, run, run_limits};
-use gate_calls::{Row, Text, words};
+use gate_tables::{Row, Text, words};
 use std::alloc::{AllocError, Global};
 use std::sync::atomic::{AtomicU64, Ordering};
 use std::thread::Threads;
@@ -17,7 +17,7 @@ fn copies(alloc: Global, record: &[u8], times: u32) -> Result<Vec<u8>, AllocErro
     Ok(bytes)
 }
 
-// So many copies of a record with an item before its terminator line.
+// n copies of a record with an item before its terminator line.
 fn with_item(alloc: Global, record: &[u8], item: &str, times: u32) -> Result<Vec<u8>, AllocError> {
     let Some(front) = record.strip_suffix(b"$$$$\n") else {
         return Ok(Vec::new(alloc));
@@ -42,18 +42,18 @@ fn new_sinks(alloc: Global) -> Result<Sinks, AllocError> {
     })
 }
 
-// What was said, and whether so many copies of a record are answered by an item.
+// What was said, and whether n copies of a record are answered by an item.
 fn push_left(alloc: Global, out: &mut Text, sinks: Sinks, record: &[u8], item: &str, times: u32) {
     let Sinks { written, said } = sinks;
     out.push_barred(said.into_bytes().as_slice());
     match with_item(alloc, record, item, times) {
-        Ok(wanted) if written.into_bytes() == wanted => out.push_str(" all answered"),
+        Ok(expected) if written.into_bytes() == expected => out.push_str(" all answered"),
         Ok(_) => {}
         Err(_) => out.miss(),
     }
 }
 
-// A source that never fails: a record so many times, and then so many letters, none of which is held.
+// A source that never fails: a record n times, and then n letters, none of which is held.
 #[derive(Drop)]
 struct LongRecord<'a> {
     record: &'a [u8],
@@ -237,8 +237,8 @@ fn push_flow<R: Threads + Sync>(
     write!(out, "{status}")
 }
 
-/// The status of a run over three batches of eight records for each worker, and whether all are answered by the row's item;
-/// and what the gate tells at which two workers meet in each batch.
+/// The status of a run over three batches of eight records for each worker, and whether all are answered by the row's
+/// item; and what the gate counts at which two workers meet in each batch.
 pub fn meet<R: Threads + Sync>(rt: &R, alloc: Global, out: &mut Text, row: &Row, record: &[u8]) {
     match Meeting::new(alloc, row.number(4).min(1_000)) {
         Ok(meeting) => push_meet(rt, alloc, out, row, record, &meeting),

@@ -2,50 +2,52 @@
 ghost use Rattle.std.specs.Prelude.{◌==◌, ◌<◌, ◌∷◌, ◌++◌, [], None, codes, decimal, length, true};
 ghost use Rattle.cip_text.specs.Lines.{line_feed};
 
-use cip_batch::{Crew, LIMITS, Open, Teller, Told, Verdict, answer_stream};
+use cip_batch::{
+    LIMITS, Open, RecordOutput, RecordProcessor, StreamStatus, WorkerPool, process_stream,
+};
 use cip_io::{MemSink, MemSource};
-use gate_calls::{Row, Text};
+use gate_tables::{Row, Text};
 use std::alloc::{AllocError, Global};
 use std::thread::Threads;
 
-// Tells the number of a record and how many bytes it has. One with a single byte is flagged.
+// Writes the number of a record and how many bytes it has. One with a single byte is flagged.
 #[derive(Drop)]
 struct Lengths;
 
-impl Teller for Lengths {
-    type Desk = ();
+impl RecordProcessor for Lengths {
+    type State = ();
 
     type Note = ();
 
-    ghost manner = { λ _. record {
+    ghost expected = { λ _. record {
       text = λ number bytes. decimal number ++ (codes ":" ++ (decimal (length bytes) ++ (line_feed ∷ [])));
       verdict = λ number bytes. record { flagged = length bytes == 1; note = None };
-      keeps_blank = true;
+      keeps_blank_tail = true;
     } };
 
-    fn new_desk(&self, _alloc: Global) -> Result<(), AllocError> {
+    fn new_state(&self, _alloc: Global) -> Result<(), AllocError> {
         Ok(())
     }
 
-    fn tell(
+    fn process(
         &self,
         alloc: Global,
         _desk: &mut (),
         number: u64,
         bytes: &[u8],
-    ) -> Result<Told<()>, AllocError> {
+    ) -> Result<RecordOutput<()>, AllocError> {
         let len = bytes.len();
         let line = format!(in alloc; "{number}:{len}\n")?;
-        Ok(Told {
+        Ok(RecordOutput {
             text: line.into_bytes(),
-            verdict: Verdict {
+            verdict: StreamStatus {
                 flagged: len == 1,
                 note: None,
             },
         })
     }
 
-    fn keeps_blank(&self) -> bool {
+    fn keeps_blank_tail(&self) -> bool {
         true
     }
 }
@@ -60,8 +62,8 @@ fn bytes_before(alloc: Global, tail: &[u8]) -> Result<Vec<u8>, AllocError> {
     Ok(bytes)
 }
 
-/// What is told of a stream of twenty records and a tail, in pieces of a size and by so many workers; and whether a record
-/// is flagged.
+/// What is written for a stream of twenty records and a tail, in pieces of a size and by n workers; and whether a
+/// record is flagged.
 pub fn stream<R: Threads + Sync>(rt: &R, alloc: Global, out: &mut Text, row: &Row) {
     let Ok(mut sink) = MemSink::with_room(alloc, 5, 500, Vec::new(alloc)) else {
         return out.miss();
@@ -83,13 +85,13 @@ fn is_flagged<R: Threads + Sync>(
 ) -> Result<bool, AllocError> {
     let bytes = bytes_before(alloc, row.field(2).as_bytes())?;
     let mut source = MemSource::steady(bytes, row.number(3).max(1) as usize);
-    let crew = Crew {
+    let pool = WorkerPool {
         rt,
         alloc,
         gate: &Open,
         workers: row.number(4).clamp(1, 16) as u8,
     };
-    match answer_stream(&crew, &Lengths, LIMITS, &mut source, sink) {
+    match process_stream(&pool, &Lengths, LIMITS, &mut source, sink) {
         Ok(verdict) => Ok(verdict.flagged),
         Err(_) => Err(AllocError),
     }

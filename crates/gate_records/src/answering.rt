@@ -3,11 +3,12 @@ use crate::calls::{Call, call_named};
 use crate::changing::{letter_set, marked, mirrored, not_mirrored};
 use crate::further::{axes_told, group_told, groups_told, undefined_told};
 use crate::images::images_told;
+use crate::inverted::inverted_told;
 use crate::labelled::labels;
 use crate::molfiles::{first_atom, refusal_of_v2000, refusal_of_v3000, second_atom};
 use crate::printing::{explained, lines_of, tally};
 use crate::records::changed_record;
-use gate_calls::{Caller, Row, Text};
+use gate_tables::{Caller, Row, Text};
 use std::alloc::Global;
 use std::rt::Files;
 use std::thread::Threads;
@@ -55,6 +56,7 @@ fn of_record(alloc: Global, out: &mut Text, call: Call, row: &Row, record: &[u8]
         Call::Axes => axes_told(alloc, out, record),
         Call::Group => group_told(alloc, out, record),
         Call::Images => images_told(alloc, out, record),
+        Call::Inverted => inverted_told(alloc, out, row, record),
         _ => of_changed(alloc, out, call, row, record),
     }
 }

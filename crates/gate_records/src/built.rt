@@ -5,7 +5,7 @@ use cip_mol::{
 use cip_print::{Answer, UnitAnswer, UnitAnswers, UnitName, name_of};
 use std::alloc::{AllocError, Global};
 
-/// The answer of a text: its units, a semicolon behind each, or a refusal.
+/// The answer of a text: its units, a semicolon after each, or a refusal.
 pub fn built(alloc: Global, text: &str) -> Result<Answer, AllocError> {
     if text == "refused" {
         return Ok(Answer::Refused(ReadFault {
@@ -14,14 +14,14 @@ pub fn built(alloc: Global, text: &str) -> Result<Answer, AllocError> {
         }));
     }
     let mut units = UnitAnswers::new(alloc);
-    push_units(&mut units, text)?;
+    push_units(alloc, &mut units, text)?;
     Ok(Answer::Labelled(units))
 }
 
-fn push_units(units: &mut UnitAnswers, text: &str) -> Result<(), AllocError> {
+fn push_units(alloc: Global, units: &mut UnitAnswers, text: &str) -> Result<(), AllocError> {
     for unit in text.split(';') {
         if !unit.is_empty() && units.len() < 100 {
-            units.push(unit_in(unit))?;
+            units.push(unit_in(alloc, unit))?;
         }
     }
     Ok(())
@@ -29,24 +29,24 @@ fn push_units(units: &mut UnitAnswers, text: &str) -> Result<(), AllocError> {
 
 // A unit by its kind, its atoms, the ligands at its first end and at its last one, and its outcome, between commas. Atoms
 // from 12 on aren't drawn.
-fn unit_in(text: &str) -> UnitAnswer {
+fn unit_in(alloc: Global, text: &str) -> UnitAnswer {
     let (kind, rest) = halves(text, ',');
     let (atoms, rest) = halves(rest, ',');
     let (first, rest) = halves(rest, ',');
     let (second, outcome) = halves(rest, ',');
     let atoms = atoms_in(atoms);
-    let first = ligands_in(first);
-    let second = ligands_in(second);
+    let first = ligands_in(alloc, first);
+    let second = ligands_in(alloc, second);
     let site = site_of(kind, atoms, first, second);
     UnitAnswer {
         name: name_in(kind, atoms, &site),
         site,
         drawn: 12,
-        outcome: outcome_in(outcome),
+        outcome: outcome_in(alloc, outcome),
     }
 }
 
-// What stands before a mark and behind it.
+// What is before a mark and after it.
 fn halves(text: &str, mark: char) -> (&str, &str) {
     text.split_once(mark).unwrap_or((text, ""))
 }
@@ -95,8 +95,8 @@ fn name_in(kind: &str, atoms: (u32, u32, u32), site: &Site) -> UnitName {
 }
 
 // Ligands by their numbers, and `:` for a lone pair.
-fn ligands_in(text: &str) -> Ligands {
-    let mut ligands = Ligands::new();
+fn ligands_in(alloc: Global, text: &str) -> Ligands {
+    let mut ligands = Ligands::new(alloc);
     for word in text.split_whitespace() {
         if ligands.len() < 4 {
             ligands.push(ligand_in(word));
@@ -112,18 +112,18 @@ fn ligand_in(word: &str) -> Ligand {
     }
 }
 
-fn outcome_in(text: &str) -> Outcome {
+fn outcome_in(alloc: Global, text: &str) -> Outcome {
     match text.as_bytes() {
         [b't', ..] => Outcome::Tie,
         [b'o', ..] => Outcome::Over,
         [b'E', b'i', ..] => Outcome::NoGeometry(Cause::Either),
         [b'R', b'e', ..] => Outcome::NoGeometry(Cause::Reentrant),
-        _ => Outcome::Label(label_in(text)),
+        _ => Outcome::Label(label_in(alloc, text)),
     }
 }
 
 // A label by its letter, its rule, the sphere and the order of the ligands.
-fn label_in(text: &str) -> Label {
+fn label_in(alloc: Global, text: &str) -> Label {
     let (letter, rest) = halves(text, ' ');
     let (rule, rest) = halves(rest, ' ');
     let (sphere, order) = halves(rest, ' ');
@@ -131,7 +131,7 @@ fn label_in(text: &str) -> Label {
         letter: letter_in(letter),
         rule: if rule == "5" { Rule::R5 } else { Rule::R1a },
         sphere: sphere.parse().unwrap_or(0),
-        order: order_in(order),
+        order: order_in(alloc, order),
     }
 }
 
@@ -146,8 +146,8 @@ fn letter_in(letter: &str) -> Descriptor {
     }
 }
 
-fn order_in(text: &str) -> Places {
-    let mut order = Places::new();
+fn order_in(alloc: Global, text: &str) -> Places {
+    let mut order = Places::new(alloc);
     for word in text.split_whitespace() {
         if order.len() < 4 {
             order.push(word.parse().unwrap_or(0));

@@ -20,6 +20,7 @@ pub enum Call {
     Axes,
     Group,
     Images,
+    Inverted,
     // of an answer that is built.
     Values,
     Explained,
@@ -41,6 +42,7 @@ const CALLS: &[(&str, Call)] = &[
     ("axes", Call::Axes),
     ("group", Call::Group),
     ("images", Call::Images),
+    ("inverted", Call::Inverted),
     ("values", Call::Values),
     ("explained", Call::Explained),
     ("tally", Call::Tally),

@@ -2,7 +2,7 @@
 use cip_mol::{CentreLetter, ReadFault};
 use cip_rank::Rules;
 use cip_set::{MirrorAnswer, MirrorRefusal, SetAnswer, SetRefusal, mirror_record, set_letter};
-use gate_calls::{Row, Text};
+use gate_tables::{Row, Text};
 use std::alloc::{AllocError, Global};
 
 // More bytes than any of the records has.
@@ -14,52 +14,52 @@ const UP: &str = "  1  4  1  1";
 
 const DOWN: &str = "  1  4  1  6";
 
-/// What a row wants where the mirrored record has it in the right place, with either line end; else what is told.
+/// What a row wants where the mirrored record has it in the right place, with either line end; else what is found.
 pub fn mirrored(alloc: Global, out: &mut Text, row: &Row, record: &str) {
     let Ok(given) = record.replace(alloc, row.field(3), row.field(4)) else {
         return out.miss();
     };
-    let Ok(wanted) = mirror_wanted(alloc, row, record) else {
+    let Ok(expected) = mirror_wanted(alloc, row, record) else {
         return out.miss();
     };
-    push_mirrored(alloc, out, row, (given.as_str(), wanted.as_str()))
+    push_mirrored(alloc, out, row, (given.as_str(), expected.as_str()))
 }
 
 fn push_mirrored(alloc: Global, out: &mut Text, row: &Row, records: (&str, &str)) {
-    let (given, wanted) = records;
-    if is_mirrored(alloc, out, given, wanted) && is_returned(alloc, out, given, wanted) {
+    let (given, expected) = records;
+    if is_mirrored(alloc, out, given, expected) && is_returned(alloc, out, given, expected) {
         out.clear();
-        return out.push_str(row.wanted());
+        return out.push_str(row.expected());
     }
 }
 
-// Whether a record is mirrored as wanted; what is told of it is written.
-fn is_mirrored(alloc: Global, out: &mut Text, given: &str, wanted: &str) -> bool {
+// Whether a record is mirrored as wanted; what is known of it is written.
+fn is_mirrored(alloc: Global, out: &mut Text, given: &str, expected: &str) -> bool {
     out.clear();
     push_mirror(alloc, out, given);
-    out.as_str() == wanted
+    out.as_str() == expected
 }
 
 // The same with the other line ends.
-fn is_returned(alloc: Global, out: &mut Text, given: &str, wanted: &str) -> bool {
+fn is_returned(alloc: Global, out: &mut Text, given: &str, expected: &str) -> bool {
     let Ok(given) = given.replace(alloc, "\n", "\r\n") else {
         out.miss();
         return false;
     };
-    let Ok(wanted) = wanted.replace(alloc, "\n", "\r\n") else {
+    let Ok(expected) = expected.replace(alloc, "\n", "\r\n") else {
         out.miss();
         return false;
     };
-    is_mirrored(alloc, out, given.as_str(), wanted.as_str())
+    is_mirrored(alloc, out, given.as_str(), expected.as_str())
 }
 
 // The mirrored record with a text in place of another one, or of its marked bond.
 fn mirror_wanted(alloc: Global, row: &Row, record: &str) -> Result<String, AllocError> {
     if row.field(3) == UP {
-        return record.replace(alloc, UP, row.wanted());
+        return record.replace(alloc, UP, row.expected());
     }
     let down = record.replace(alloc, UP, DOWN)?;
-    down.replace(alloc, row.field(3), row.wanted())
+    down.replace(alloc, row.field(3), row.expected())
 }
 
 /// Why the record isn't mirrored that has a text in the place of another one.
@@ -110,24 +110,24 @@ const BROMINE: &str = "  1  4  1  1\n";
 
 const UNMARKED: &str = "  1  4  1  0\n";
 
-/// What a row wants where the bond to fluorine is so marked, and no other one, for the letter to stand; else what is
-/// told.
+/// What a row wants where the bond to fluorine is so marked, and no other one, for the letter to come out; else what is
+/// found.
 pub fn marked(alloc: Global, out: &mut Text, row: &Row, record: &str) {
     let Ok(given) = with_bonds(alloc, record, row.field(4), row.field(5)) else {
         return out.miss();
     };
-    let Ok(wanted) = with_bonds(alloc, record, row.wanted(), UNMARKED) else {
+    let Ok(expected) = with_bonds(alloc, record, row.expected(), UNMARKED) else {
         return out.miss();
     };
-    push_marked(alloc, out, row, (given.as_str(), wanted.as_str()))
+    push_marked(alloc, out, row, (given.as_str(), expected.as_str()))
 }
 
 fn push_marked(alloc: Global, out: &mut Text, row: &Row, records: (&str, &str)) {
-    let (given, wanted) = records;
+    let (given, expected) = records;
     push_set(alloc, out, given, 1, letter(row.field(3)), 1_000);
-    if out.as_str() == wanted {
+    if out.as_str() == expected {
         out.clear();
-        return out.push_str(row.wanted());
+        return out.push_str(row.expected());
     }
 }
 
@@ -141,7 +141,7 @@ fn with_bonds(
     changed.replace(alloc, FLUORINE, fluorine)
 }
 
-/// What is told of the letter of an atom, within so many nodes, in the record that has a text in the place of another.
+/// What is found of the letter of an atom, within n nodes, in the record that has a text in the place of another.
 pub fn letter_set(alloc: Global, out: &mut Text, row: &Row, record: &str) {
     let Ok(given) = replaced(alloc, record, row.field(6), row.field(7)) else {
         return out.miss();

@@ -1,17 +1,17 @@
-// Stereo groups, further units and undefined units of a record that is told without a desk of the caller's.
+// Stereo groups, further units and undefined units of a record, without a labeller of the caller's.
 ghost use Rattle.std.specs.Prelude.{◌≡◌, ◌<◌, ◌≤◌, ◌-◌, ◌^◌, Ok, length};
 ghost use Rattle.cip_text.specs.Bodies.{body_contents};
 ghost use Rattle.cip_v3000.specs.Grammar.{molecule_of};
 
-use cip_desk::Desk;
 use cip_groups::{Group, GroupsAnswer, group_text, read_groups};
-use cip_label::{Digraphs, Labeller};
+use cip_label::{Labeller, RootRanker};
 use cip_mol::Molecule;
 use cip_rank::Rules;
+use cip_ranker::Ranker;
 use cip_record::axes_text;
 use cip_text::RecordLines;
-use cip_undefined::{UndefinedAnswer, undefined_text, undefined_within};
-use gate_calls::Text;
+use cip_undefined::{UndefinedAnswer, undefined_in_lines, undefined_text};
+use gate_tables::Text;
 use std::alloc::{AllocError, Global};
 
 // More bytes than any of the records has.
@@ -19,26 +19,26 @@ const MOST_BYTES: usize = 1_000_000;
 
 const MOST_NODES: u32 = 1_000_000;
 
-/// What is told of the groups of a first record, and whether it is flagged.
+/// What is written for the groups of a first record, and whether it is flagged.
 pub fn groups_told(alloc: Global, out: &mut Text, record: &[u8]) {
     if record.len() > MOST_BYTES {
         return out.push_str("out of range");
     }
-    let Ok(told) = group_text(alloc, record, 1, 100, Rules::Wording2018) else {
+    let Ok(output) = group_text(alloc, record, 1, 100, Rules::Wording2018) else {
         return out.miss();
     };
-    push_told(out, told.text.as_slice(), told.flagged)
+    push_told(out, output.text.as_slice(), output.flagged)
 }
 
-/// What is told of the further units of a first record, and whether it is flagged.
+/// What is written for the further units of a first record, and whether it is flagged.
 pub fn axes_told(alloc: Global, out: &mut Text, record: &[u8]) {
     if record.len() > MOST_BYTES {
         return out.push_str("out of range");
     }
-    let Ok(told) = axes_text(alloc, record, 1, 100, Rules::Wording2018) else {
+    let Ok(output) = axes_text(alloc, record, 1, 100, Rules::Wording2018) else {
         return out.miss();
     };
-    push_told(out, told.text.as_slice(), told.flagged)
+    push_told(out, output.text.as_slice(), output.flagged)
 }
 
 fn push_told(out: &mut Text, text: &[u8], flagged: bool) {
@@ -48,7 +48,7 @@ fn push_told(out: &mut Text, text: &[u8], flagged: bool) {
     }
 }
 
-/// What is told of the undefined units of a record, within so many nodes.
+/// What is written for the undefined units of a record, within n nodes.
 pub fn undefined_told(alloc: Global, out: &mut Text, record: &[u8], nodes: u32) {
     if nodes == 0 || nodes > MOST_NODES || record.len() > MOST_BYTES {
         return out.push_str("out of range");
@@ -64,7 +64,7 @@ fn push_undefined(alloc: Global, out: &mut Text, lines: &RecordLines, nodes: u32
     requires some { 1 ≤ nodes }
     requires bounded { nodes ≤ 1000000 }
 {
-    let Ok(answer) = undefined_of::<Desk>(alloc, lines, nodes) else {
+    let Ok(answer) = undefined_of::<Ranker>(alloc, lines, nodes) else {
         return out.miss();
     };
     push_undefined_text(alloc, out, &answer)
@@ -77,8 +77,9 @@ fn push_undefined_text(alloc: Global, out: &mut Text, answer: &UndefinedAnswer) 
     out.push_bytes(&text)
 }
 
-// Whoever grows the digraphs: what gives a desk back is long to prove.
-fn undefined_of<D: Digraphs + Drop>(
+// The undefined units of a record's lines, over any ranker.
+// proof: dropping a ranker is long to prove
+fn undefined_of<D: RootRanker + Drop>(
     alloc: Global,
     lines: &RecordLines,
     nodes: u32,
@@ -88,7 +89,7 @@ fn undefined_of<D: Digraphs + Drop>(
     requires bounded { nodes ≤ 1000000 }
 {
     let mut labeller = Labeller::<D>::reserve(alloc, nodes)?;
-    undefined_within(alloc, &mut labeller, lines, Rules::Wording2018)
+    undefined_in_lines(alloc, &mut labeller, lines, Rules::Wording2018)
 }
 
 /// The groups of a record: the kind of each, its first line, its atoms.

@@ -3,13 +3,13 @@ ghost use Rattle.std.specs.Prelude.{◌≡◌, ◌<◌, ◌-◌, ◌^◌, IfSome
 ghost use Rattle.cip_digraph.specs.rings.Positions.{positions_of};
 
 use crate::molfiles::read_v2000;
-use cip_desk::Desk;
-use cip_image::label_image;
-use cip_label::{Digraphs, Labeller, Setting};
+use cip_label::{LabelContext, Labeller, RootRanker};
 use cip_mol::{Label, Molecule, Outcome};
-use cip_molfile::Drawn;
+use cip_molfile::Structure;
 use cip_rank::{Rules, Steps};
-use gate_calls::Text;
+use cip_ranker::Ranker;
+use cip_symmetry::label_by_symmetry;
+use gate_tables::Text;
 use std::alloc::{AllocError, Global};
 use std::marker::Brand;
 use std::sync::ledger::{Blank, Ledger};
@@ -43,30 +43,30 @@ pub fn images_told(alloc: Global, out: &mut Text, record: &[u8]) {
 }
 
 fn of_molecule(alloc: Global, out: &mut Text, molecule: Molecule) {
-    let drawn = Drawn::of(alloc, molecule);
+    let drawn = Structure::of(alloc, molecule);
     match &drawn {
         Ok(drawn) => of_drawn(alloc, out, drawn),
         Err(_) => out.miss(),
     }
-    // given back by a call of its own, here and below: quicker to prove than a function's end
+    // proof: dropped by a call, here and below, which is quicker to prove than the end of scope
     drop(drawn);
 }
 
-fn of_drawn(alloc: Global, out: &mut Text, drawn: &Drawn) {
+fn of_drawn(alloc: Global, out: &mut Text, drawn: &Structure) {
     let units = drawn.units().list();
     let (graph, positions) = (drawn.graph(), drawn.positions());
-    let setting = Setting::new(alloc, graph, positions, units, Rules::Wording2018);
+    let setting = LabelContext::new(alloc, graph, positions, units, Rules::Wording2018);
     match &setting {
-        Ok(setting) => of_setting::<Desk, Brand>(alloc, out, setting, Blank::new(1)),
+        Ok(setting) => of_setting::<Ranker, Brand>(alloc, out, setting, Blank::new(1)),
         Err(_) => out.miss(),
     }
     drop(setting);
 }
 
-fn of_setting<D: Digraphs + Drop, L: Ledger>(
+fn of_setting<D: RootRanker + Drop, L: Ledger>(
     alloc: Global,
     out: &mut Text,
-    setting: &Setting<'_>,
+    setting: &LabelContext<'_>,
     blank: Blank,
 )
     requires name { blank.name ≡ L.name }
@@ -86,9 +86,9 @@ fn of_setting<D: Digraphs + Drop, L: Ledger>(
     }
 }
 
-fn compare_all<D: Digraphs + Drop, L: Ledger>(
+fn compare_all<D: RootRanker + Drop, L: Ledger>(
     alloc: Global,
-    setting: &Setting<'_>,
+    setting: &LabelContext<'_>,
     tally: &mut Tally,
     steps: &mut Steps<L>,
 ) -> Result<(), AllocError>
@@ -102,9 +102,9 @@ fn compare_all<D: Digraphs + Drop, L: Ledger>(
 }
 
 // The images of one centre.
-fn compare_from<D: Digraphs + Drop, L: Ledger>(
+fn compare_from<D: RootRanker + Drop, L: Ledger>(
     alloc: Global,
-    setting: &Setting<'_>,
+    setting: &LabelContext<'_>,
     kept: u32,
     tally: &mut Tally,
     steps: &mut Steps<L>,
@@ -122,9 +122,9 @@ fn compare_from<D: Digraphs + Drop, L: Ledger>(
 }
 
 // Compares what is found of a unit by another one, if it is its image, with what is found of it by itself.
-fn compare_two<D: Digraphs + Drop, L: Ledger>(
+fn compare_two<D: RootRanker + Drop, L: Ledger>(
     alloc: Global,
-    setting: &Setting<'_>,
+    setting: &LabelContext<'_>,
     two: (u32, u32),
     tally: &mut Tally,
     steps: &mut Steps<L>,
@@ -141,9 +141,9 @@ fn compare_two<D: Digraphs + Drop, L: Ledger>(
 }
 
 // What is found of a unit by itself. The memory is reserved for it alone, so that nothing is kept of what was found before.
-fn found_alone<D: Digraphs + Drop, L: Ledger>(
+fn found_alone<D: RootRanker + Drop, L: Ledger>(
     alloc: Global,
-    setting: &Setting<'_>,
+    setting: &LabelContext<'_>,
     unit: u32,
     steps: &mut Steps<L>,
 ) -> Result<Outcome, AllocError>
@@ -154,9 +154,9 @@ fn found_alone<D: Digraphs + Drop, L: Ledger>(
 }
 
 // What is found of the second unit by the first one, which is labelled before, so that its digraph is kept if it is costly.
-fn found_by_image<D: Digraphs + Drop, L: Ledger>(
+fn found_by_image<D: RootRanker + Drop, L: Ledger>(
     alloc: Global,
-    setting: &Setting<'_>,
+    setting: &LabelContext<'_>,
     two: (u32, u32),
     steps: &mut Steps<L>,
 ) -> Result<Option<Outcome>, AllocError>
@@ -166,7 +166,7 @@ fn found_by_image<D: Digraphs + Drop, L: Ledger>(
 {
     let mut labeller = Labeller::<D>::reserve(alloc, MOST_NODES)?;
     labeller.label(alloc, setting, two.0, steps)?;
-    label_image(alloc, &mut labeller, setting, two.0, two.1, steps)
+    label_by_symmetry(alloc, &mut labeller, setting, two.0, two.1, steps)
 }
 
 fn are_same(one: &Outcome, other: &Outcome) -> bool {

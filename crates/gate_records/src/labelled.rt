@@ -3,7 +3,7 @@ use cip_item::Texts;
 use cip_print::{Answer, item_values};
 use cip_rank::Rules;
 use cip_record::{is_flagged, label_record};
-use gate_calls::Text;
+use gate_tables::Text;
 use std::alloc::Global;
 
 // More bytes than any of the records has.
@@ -11,7 +11,7 @@ const MOST_BYTES: usize = 10_000;
 
 const MOST_NODES: u32 = 1_000_000;
 
-/// The value lines of a record, a bar behind each, up to the order of the ligands; behind them, whether it is flagged.
+/// The value lines of a record, a bar after each, up to the order of the ligands; after them, whether it is flagged.
 pub fn labels(alloc: Global, out: &mut Text, record: &[u8], nodes: u32) {
     if nodes == 0 || nodes > MOST_NODES || record.len() > MOST_BYTES {
         return out.push_str("out of range");

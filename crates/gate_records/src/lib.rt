@@ -1,4 +1,7 @@
-//! Calls on records that are read, labelled, changed and told of, and on answers that are printed.
+//! The calls of `records.txt`: records that are read, labelled, changed and printed.
+//!
+//! `Records` is the `Caller`. It also labels centres from symmetric ones and compares the result. Uses `gate_tables`
+//! and the calls for single records.
 #![tactic(auto)]
 
 mod answering;
@@ -7,6 +10,7 @@ mod calls;
 mod changing;
 mod further;
 mod images;
+mod inverted;
 mod labelled;
 mod molfiles;
 mod printing;

@@ -3,7 +3,7 @@ use bstr::ByteSlice;
 use cip_mol::{Atom, Molecule, ReadRefusal};
 use cip_text::body_contents;
 use cip_v2000::is_v3000;
-use gate_calls::Text;
+use gate_tables::Text;
 use std::alloc::Global;
 
 // More bytes than any of the molfiles has.

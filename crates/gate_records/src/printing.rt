@@ -5,10 +5,10 @@ ghost use Rattle.cip_print.specs.Values.{HasRoom};
 use crate::built::built;
 use cip_print::{Answer, Tally, explain_text, item_values};
 use cip_rank::Rules;
-use gate_calls::{Row, Text};
+use gate_tables::{Row, Text};
 use std::alloc::{AllocError, Global};
 
-/// The value lines of an answer, a bar behind each, within a row's bound and by its wording.
+/// The value lines of an answer, a bar after each, within a row's bound and by its wording.
 pub fn lines_of(alloc: Global, out: &mut Text, row: &Row) {
     let Ok(answer) = built(alloc, row.field(2)) else {
         return out.miss();
@@ -83,7 +83,7 @@ fn push_tally(alloc: Global, out: &mut Text, tally: &Tally) {
     out.push_bytes(line.as_slice())
 }
 
-// Whether there is room for the lines of all units behind a first line.
+// Whether there is room for the lines of all units after a first line.
 fn has_room(answer: &Answer) -> bool
     ensures { result ≡ true → HasRoom answer.now }
 {

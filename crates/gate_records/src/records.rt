@@ -1,6 +1,6 @@
 // Records of rows.
 use bstr::ByteSlice;
-use gate_calls::Row;
+use gate_tables::Row;
 use std::alloc::{AllocError, Global};
 
 /// A record whose lines are changed as a row's fields from this one on say, at most twice.
@@ -14,7 +14,7 @@ pub fn changed_record(
     changed(alloc, &once, row, place.saturating_add(3))
 }
 
-// The record with other text in the place of some lines: the first line, how many go, and what stands there then.
+// The record with other text in the place of some lines: the first line, how many go, and what is there then.
 fn changed(alloc: Global, record: &[u8], row: &Row, place: usize) -> Result<Vec<u8>, AllocError> {
     let first = row.number(place);
     let past = first.saturating_add(row.number(place.saturating_add(1)));

@@ -1,6 +1,6 @@
 -- Branches that are the same: a one-to-one match of their nodes that carries parents to parents and keeps all keys and
--- the class of the descriptor. IUPAC 2013, P-92.1: what no rule tells apart. The classes are own: descriptors that no
--- rule tells apart.
+-- the class of the descriptor. IUPAC 2013, P-92.1: what no rule distinguishes. The classes are own: descriptors that no
+-- rule distinguishes.
 use Rattle.std.specs.Prelude.{◌≡◌, ℕ, zero, suc, List, [], None, Some}
 use Rattle.std.specs.List.{AllByRecursion}
 use Rattle.std.specs.declared.option.Option.{Option}
@@ -39,7 +39,7 @@ pub record AreSameNodes {N : Type 0} (seen : Seen N) (a b : N) : Type 0 where
   pub mass : seen.mass a ≡ seen.mass b
   pub class : class_of (seen.mark a) ≡ class_of (seen.mark b)
 
--- so many spheres down
+-- n spheres down
 abbrev pub SameWithin : {N : Type 0} → Seen N → ℕ → N → N → Type 0
 SameWithin seen zero a b = AreSameNodes seen a b
 SameWithin seen (suc spheres) a b =
@@ -48,7 +48,7 @@ SameWithin seen (suc spheres) a b =
 abbrev pub SameBranch : {N : Type 0} → Seen N → N → N → Type 0
 SameBranch seen = SameWithin seen seen.height
 
--- no node stands more than so many spheres below
+-- no node is more than n spheres below
 abbrev pub EndsWithin : {N : Type 0} → (N → List N) → ℕ → N → Type 0
 EndsWithin children zero node = children node ≡ []
 EndsWithin children (suc spheres) node = AllByRecursion (EndsWithin children spheres) (children node)

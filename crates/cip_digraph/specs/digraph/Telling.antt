@@ -1,4 +1,4 @@
--- What a list of nodes by number tells of a digraph: the nodes of its first spheres, in order of spheres, and how they
+-- What a list of nodes by number says of a digraph: the nodes of its first spheres, in order of spheres, and how they
 -- hang. Own.
 use Rattle.std.specs.Prelude.{
   ◌≡◌,
@@ -19,7 +19,7 @@ use Rattle.std.specs.Prelude.{
 }
 use Rattle.std.specs.declared.option.Option.{Option}
 use Rattle.cip_rank.specs.declared.rules.Rules.TheVariants.{Wording2013, Wording2018}
-use Rattle.cip_digraph.specs.declared.nodes.Told.{Told}
+use Rattle.cip_digraph.specs.declared.nodes.NodeData.{NodeData}
 use Rattle.cip_digraph.specs.digraph.Digraph.{NodeKind, Real, Closure, Multiple, Delocalised, Node, children, sphere, digraph}
 use Rattle.cip_digraph.specs.graph.Graph.{Graph}
 use Rattle.cip_digraph.specs.rules.Keys.{atomic_key, mass_key, distance_key, sphere_in_digraph, counterpart}
@@ -38,7 +38,7 @@ abbrev pub Stands : List Node → List ℕ → Option ℕ → Type 0
 Stands nodes path None = ⊥
 Stands nodes path (Some number) = StandsAt nodes path number
 
--- where the counterpart of a node stands; real nodes and delocalised duplicates have none
+-- where the counterpart of a node is; real nodes and delocalised duplicates have none
 abbrev pub IsCounterpart : List Node → Node → Option ℕ → Type 0
 IsCounterpart nodes node place = by_kind node.kind
   where
@@ -67,25 +67,25 @@ parents_in graph positions root (suc before) =
     ++ parents_below graph positions (first_of graph positions root before) (sphere graph positions root before)
 
 module _ (graph : Graph) (positions : List (List ℕ)) where
-  -- what is told of a node among these nodes
-  pub record TellsOf (nodes : List Node) (node : Node) (told : Told) : Type 0 where
-    pub kind : told.kind ≡ node.kind
-    pub vertex : told.vertex ≡ node.vertex
-    pub counterpart : IsCounterpart nodes node told.counterpart
-    pub atomic : told.atomic ≡ atomic_key graph positions node
-    pub mass : told.mass ≡ mass_key graph node
-    pub as_printed : told.as_printed ≡ distance_key Wording2013 sphere_in_digraph node
-    pub as_corrected : told.as_corrected ≡ distance_key Wording2018 sphere_in_digraph node
+  -- what is known of a node among these nodes
+  pub record TellsOf (nodes : List Node) (node : Node) (node_data : NodeData) : Type 0 where
+    pub kind : node_data.kind ≡ node.kind
+    pub vertex : node_data.vertex ≡ node.vertex
+    pub counterpart : IsCounterpart nodes node node_data.counterpart
+    pub atomic : node_data.atomic ≡ atomic_key graph positions node
+    pub mass : node_data.mass ≡ mass_key graph node
+    pub as_printed : node_data.as_printed ≡ distance_key Wording2013 sphere_in_digraph node
+    pub as_corrected : node_data.as_corrected ≡ distance_key Wording2018 sphere_in_digraph node
 
-  -- the list tells of the nodes up to a sphere, one by one
-  pub record Tells (root last : ℕ) (all : List Told) : Type 0 where
+  -- the list describes the nodes up to a sphere, one by one
+  pub record Tells (root last : ℕ) (all : List NodeData) : Type 0 where
     pub len : length all ≡ length (digraph graph positions root last)
     pub parents : parents_of all ≡ parents_in graph positions root last
     pub each : (number : ℕ) → number < length all →
         let nodes = digraph graph positions root last in
         TellsOf nodes (node_at nodes number) (told_at all number)
 
-  -- the list tells of the whole digraph: there is no sphere behind the last one
-  pub record TellsWhole (root last : ℕ) (all : List Told) : Type 0 where
+  -- the list describes the whole digraph: there is no sphere after the last one
+  pub record TellsWhole (root last : ℕ) (all : List NodeData) : Type 0 where
     pub tells : Tells root last all
     pub none : sphere graph positions root (suc last) ≡ []

@@ -50,7 +50,7 @@ common path (vertex ∷ up) = if is_end_of (vertex ∷ up) path then length up +
 abbrev pub apart : List ℕ → List ℕ → ℕ
 apart path other = length path + length other - 2 * common path other
 
--- the outermost sphere with a node, counted from the sphere of some nodes; so many are looked at
+-- the outermost sphere with a node, counted from the sphere of some nodes; n are looked at
 abbrev pub height_below : {N : Type 0} → (N → List N) → ℕ → List N → ℕ
 height_below children zero nodes = 0
 height_below {N} children (suc more) nodes =
@@ -58,7 +58,7 @@ height_below {N} children (suc more) nodes =
     let further = height_below children more below in
     elim below as (λ _. ℕ) [ [] ↦ 0 | node ∷ others ↦ further + 1 ]
 
--- Descriptors stand on real nodes, by their paths. No way in the digraph is longer than twice the number of vertices.
+-- Descriptors are on real nodes, by their paths. No way in the digraph is longer than twice the number of vertices.
 abbrev pub seen_from : Rules → Graph → List (List ℕ) → List ℕ → (List ℕ → Option Descriptor) → Seen Node
 seen_from rules graph positions from mark = record {
   children = view_children graph positions from;

@@ -1,4 +1,4 @@
--- A table of rows that stand in one column, each with room for so many edges, and filled from its end down. Own.
+-- A table of rows that are in one column, each with room for n edges, and filled from its end down. Own.
 use Rattle.std.specs.Prelude.{◌≡◌, ◌<◌, ◌≤◌, ◌+◌, ◌-◌, ℕ, List, [], ◌∷◌, drop, filter, length, map, slice_index_or, slice_set, take}
 use Rattle.cip_digraph.specs.declared.graph.Edge.{Edge}
 use Rattle.cip_digraph.specs.declared.incidence.Span.{Span}
@@ -21,12 +21,12 @@ rooms_in from (span ∷ spans) = (span.limit - from) ∷ rooms_in span.limit spa
 abbrev pub table_of : List Edge → List Span → Table
 table_of column spans = record { rows = map (row_in column) spans; rooms = rooms_in 0 spans }
 
--- a row stands from a place on
+-- a row begins at a place
 pub record StandsFrom (from : ℕ) (span : Span) : Type 0 where
   pub above : from ≤ span.first
   pub kept : span.first ≤ span.limit
 
--- rows stand one behind the other, from one place up to another
+-- rows are one after the other, from one place up to another
 abbrev pub AreLaid : ℕ → List Span → ℕ → Type 0
 AreLaid from [] to = from ≤ to
 AreLaid from (span ∷ spans) to = StandsFrom from span × AreLaid span.limit spans to
@@ -60,19 +60,19 @@ pub record IsPut (vertex : ℕ) (edge : Edge) (span : Span) (old new : List Edge
   pub here : row_in new span ≡ insert_up vertex edge (drop 1 (row_in old span))
   pub above : drop span.limit new ≡ drop span.limit old
 
--- as many as there are edges at each of so many vertices
+-- as many as there are edges at each of n vertices
 pub record AreRooms (vertices : ℕ) (edges : List Edge) (rooms : List ℕ) : Type 0 where
   pub len : length rooms ≡ vertices
   pub each : (vertex : ℕ) → vertex < vertices
       → slice_index_or rooms vertex 0 ≡ length (filter (touches vertex) edges)
 
--- where rows with so much room each stand that have no edges yet
+-- where rows with that much room each are, which have no edges yet
 abbrev pub spans_from : ℕ → List ℕ → List Span
 spans_from from [] = []
 spans_from from (room ∷ rooms) =
     record { first = from + room; limit = from + room } ∷ spans_from (from + room) rooms
 
--- behind all of them
+-- after all of them
 abbrev pub end_from : ℕ → List ℕ → ℕ
 end_from from [] = from
 end_from from (room ∷ rooms) = end_from (from + room) rooms

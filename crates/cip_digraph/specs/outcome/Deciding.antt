@@ -11,17 +11,17 @@ abbrev pub is_empty : {X : Type 0} → List X → Bool
 is_empty [] = true
 is_empty (x ∷ xs) = false
 
--- the nodes so many spheres below some nodes
+-- the nodes n spheres below some nodes
 abbrev pub nodes_below : {N : Type 0} → (N → List N) → ℕ → List N → List N
 nodes_below children zero nodes = nodes
 nodes_below children (suc spheres) nodes = flat_map children (nodes_below children spheres nodes)
 
--- the nodes less than so many spheres below
+-- the nodes less than n spheres below
 abbrev pub nodes_within : {N : Type 0} → (N → List N) → ℕ → List N → List N
 nodes_within children zero nodes = []
 nodes_within children (suc spheres) nodes = nodes_within children spheres nodes ++ nodes_below children spheres nodes
 
--- the least number from one on, of so many, that passes a test, and the one behind them where none does
+-- the least number from one on, of n, that passes a test, and the one after them where none does
 abbrev pub least_from : (ℕ → Bool) → ℕ → ℕ → ℕ
 least_from test number zero = number
 least_from test number (suc more) =

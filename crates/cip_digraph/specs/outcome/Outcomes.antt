@@ -26,7 +26,7 @@ module _ (rules : Rules) (graph : Graph) (positions : List (List ℕ)) (all : Li
   abbrev pub is_in_unit : Node → Bool
   is_in_unit node = is_real node.kind && is_in node.vertex (flat_map (λ unit. atoms_of unit.site) all)
 
-  -- an end in its own digraph, with the descriptors that stand there
+  -- an end in its own digraph, with the descriptors that are there
   abbrev pub end_root : End → Root Node
   end_root end = root_at rules graph positions (auxiliary rules graph positions all) (end.at ∷ []) end.ligands
 

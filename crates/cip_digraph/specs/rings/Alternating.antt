@@ -38,7 +38,7 @@ goes_on graph path vertex =
     let other = partner graph vertex in
     is_alternating graph vertex && is_alternating graph other && not (is_in vertex path) && not (is_in other path)
 
--- From an atom, by turns over a single bond and over the double bond behind it, a vertex is reached: over so many
+-- From an atom, by turns over a single bond and over the double bond after it, a vertex is reached: over n
 -- double bonds at most, and without meeting any atom twice.
 abbrev pub reaches : Graph → ℕ → ℕ → List ℕ → ℕ → Bool
 reaches graph target zero path at = at == target

@@ -5,7 +5,7 @@ use Rattle.std.specs.List.{AllPairs}
 use Rattle.cip_digraph.specs.rings.Alternating.{is_in, is_alternating, partner, singles}
 use Rattle.cip_digraph.specs.graph.Graph.{Graph}
 
--- a way by turns over a single bond, to each atom of a list, and over the double bond behind it
+-- a way by turns over a single bond, to each atom of a list, and over the double bond after it
 abbrev pub Alternates : Graph → ℕ → List ℕ → ℕ → Type 0
 Alternates graph at [] target = at ≡ target
 Alternates graph at (next ∷ others) target =

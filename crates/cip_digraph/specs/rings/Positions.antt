@@ -1,4 +1,4 @@
--- Where the double bond of an alternating atom can stand, and the mean atomic number of its other end. IUPAC 2013,
+-- Where the double bond of an alternating atom can be, and the mean atomic number of its other end. IUPAC 2013,
 -- P-92.1.4: a duplicate of an atom in a mancude ring system has the mean of the atomic numbers it would have in all
 -- forms. The positions are those of alternating rings; this is own.
 use Rattle.std.specs.Prelude.{ℕ, Bool, ◌*◌, ◌/◌, ◌==◌, ◌||◌, List, [], map, filter, length, sum, nat_lt, slice_index_or, if◌then◌else◌}

@@ -13,7 +13,7 @@ with_new vertices [] = vertices
 with_new vertices (other ∷ others) =
     with_new (if is_in other vertices then vertices else vertices ++ other ∷ []) others
 
--- the vertices at most so many steps from a, none of them along the bond between a and b
+-- the vertices at most n steps from a, none of them along the bond between a and b
 abbrev pub within_steps : Graph → ℕ → ℕ → ℕ → List ℕ
 within_steps graph a b zero = a ∷ []
 within_steps graph a b (suc steps) =

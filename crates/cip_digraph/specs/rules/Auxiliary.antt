@@ -1,4 +1,4 @@
--- Auxiliary descriptors: those of units inside a digraph, each seen from where it stands. IUPAC 2013, P-92.1.4 and
+-- Auxiliary descriptors: those of units inside a digraph, each seen from where it is. IUPAC 2013, P-92.1.4 and
 -- Hanson et al. 2018. That only descriptors strictly inside its own subtree count there, and that a bond or an axis has
 -- its descriptor at the end nearer to the root, is own.
 use Rattle.std.specs.Prelude.{ℕ, zero, suc, ◌==◌, ◌&&◌, Bool, true, false, not, List, [], ◌∷◌, ◌++◌, map, filter, length, None, Some, nat_lt, nat_le, if◌then◌else◌}
@@ -57,13 +57,13 @@ module _ (rules : Rules) (graph : Graph) (positions : List (List ℕ)) where
         ligands = map (ligand_node (view_children graph positions path (real_at path))) ligands;
       }
 
-  -- The roots of a unit by its ends, the first of which stands at the real node of a path. The far end is ranked in its
+  -- The roots of a unit by its ends, the first of which is at the real node of a path. The far end is ranked in its
   -- own view, and only where the rest of the unit follows below the path.
   abbrev pub roots_at : (List ℕ → Option Descriptor) → List ℕ → List ℕ → List End → List (Root Node)
   roots_at mark path between [] = []
-  roots_at mark path between (near ∷ []) = root_at mark path near.ligands ∷ []
-  roots_at mark path between (near ∷ far ∷ ends) =
-      let both = root_at mark path near.ligands ∷ root_at mark (far.at ∷ between ++ path) far.ligands ∷ [] in
+  roots_at mark path between (nearer ∷ []) = root_at mark path nearer.ligands ∷ []
+  roots_at mark path between (nearer ∷ far ∷ ends) =
+      let both = root_at mark path nearer.ligands ∷ root_at mark (far.at ∷ between ++ path) far.ligands ∷ [] in
       elim (list_all (λ vertex. not (is_in vertex path)) (far.at ∷ between)) as
       (λ _. List (Root Node)) [ true ↦ both | false ↦ [] ]
 
@@ -98,14 +98,14 @@ module _ (rules : Rules) (graph : Graph) (positions : List (List ℕ)) where
       elim (nat_le (length (vertex ∷ next ∷ up)) (length graph.vertices)) as
       (λ _. Option Descriptor) [ true ↦ found | false ↦ None ]
 
--- what stands on a node strictly inside the subtree of another one
+-- what is on a node strictly inside the subtree of another one
 abbrev pub inside : (List ℕ → Option Descriptor) → List ℕ → List ℕ → Option Descriptor
 inside mark path inner =
     let found = mark inner in
     elim (is_end_of path inner && nat_lt (length path) (length inner)) as
     (λ _. Option Descriptor) [ true ↦ found | false ↦ None ]
 
--- From the outermost sphere inwards: at each node the letter by the descriptors strictly inside its subtree. So many
+-- From the outermost sphere inwards: at each node the letter by the descriptors strictly inside its subtree. n
 -- spheres of them are looked at.
 unfoldable pub marks_within : (List ℕ → (List ℕ → Option Descriptor) → Option Descriptor) → ℕ → List ℕ
     → Option Descriptor

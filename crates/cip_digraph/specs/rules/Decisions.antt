@@ -13,7 +13,7 @@ pub record Difference : Type 0 where
   pub side : Ordering
   pub depth : ℕ
 
--- the least depth from one on, of so many, at which a comparison differs
+-- the least depth from one on, of n, at which a comparison differs
 abbrev pub first_difference : (ℕ → Ordering) → ℕ → ℕ → Option Difference
 first_difference compare depth zero = None
 first_difference compare depth (suc more) =
@@ -29,19 +29,19 @@ or_else None other = other
 or_else (Some found) other = Some found
 
 module _ {N : Type 0} (seen : Seen N) (r_first : Bool) (a b : N) where
-  abbrev pub look : (ℕ → N → N → Ordering) → Option Difference
-  look rule = first_difference (λ depth. rule depth a b) 0 (seen.height + 1)
+  abbrev pub difference_at : (ℕ → N → N → Ordering) → Option Difference
+  difference_at rule = first_difference (λ depth. rule depth a b) 0 (seen.height + 1)
 
   -- of Rule 4b the higher readings decide, and where they tie, the lower ones
   abbrev pub difference_by : Rule → Option Difference
-  difference_by R1a = look (rule_1a seen)
-  difference_by R1b = look (rule_1b seen)
-  difference_by R2 = look (rule_2 seen)
-  difference_by R3 = look (rule_3 seen)
-  difference_by R4a = look (rule_4a seen)
-  difference_by R4b = or_else (look (rule_4b_higher seen)) (look (rule_4b_lower seen))
-  difference_by R4c = look (rule_4c seen)
-  difference_by R5 = look (rule_5 seen r_first)
+  difference_by R1a = difference_at (rule_1a seen)
+  difference_by R1b = difference_at (rule_1b seen)
+  difference_by R2 = difference_at (rule_2 seen)
+  difference_by R3 = difference_at (rule_3 seen)
+  difference_by R4a = difference_at (rule_4a seen)
+  difference_by R4b = or_else (difference_at (rule_4b_higher seen)) (difference_at (rule_4b_lower seen))
+  difference_by R4c = difference_at (rule_4c seen)
+  difference_by R5 = difference_at (rule_5 seen r_first)
 
 abbrev pub first_decision : (Rule → Option Difference) → List Rule → Option Decision
 first_decision find [] = None

@@ -1,4 +1,4 @@
--- What the spheres up to one tell of the order of a root's ligands, before the others are looked at. Own.
+-- What the spheres up to one say of the order of a root's ligands, before the others are looked at. Own.
 use Rattle.std.specs.Prelude.{◌≡◌, ◌<◌, ◌≤◌, ◌+◌, ℕ, Bool, true, false, List, [], ◌∷◌, length}
 use Rattle.std.specs.declared.option.Option.{Option}
 use Rattle.cip_rank.specs.declared.rules.Rules.{Rules}
@@ -26,12 +26,12 @@ use Rattle.cip_digraph.specs.units.Ranked.{
 use Rattle.cip_digraph.specs.graph.SoundGraphs.{IsSound}
 use Rattle.cip_digraph.specs.digraph.View.{seen_from}
 
--- as far as Rule 1a tells the order of two branches within a sphere
+-- as far as Rule 1a gives the order of two branches within a sphere
 abbrev pub order_within : {N : Type 0} → Seen N → ℕ → N → N → Option Decision
 order_within seen sphere a b =
     first_decision (λ rule. first_difference (λ depth. rule_1a seen depth a b) 0 sphere) (R1a ∷ [])
 
--- Rule 1a within a sphere tells all of a root's order
+-- Rule 1a within a sphere gives all of a root's order
 pub record IsToldWithin (seen : Seen Node) (sphere : ℕ) (root : Root Node) : Type 0 where
   pub tie : has_tie root ≡ false
   pub ranks : ranks root ≡ ranked_places (order_within seen sphere) root.ligands
@@ -40,7 +40,7 @@ pub record IsToldWithin (seen : Seen Node) (sphere : ℕ) (root : Root Node) : T
       (ranked_places (order_within seen sphere) root.ligands)
 
 module _ (rules : Rules) (graph : Graph) (positions : List (List ℕ)) (all : List units.Unit) where
-  -- a digraph as its root sees it, with the descriptors that stand there
+  -- a digraph as its root sees it, with the descriptors that are there
   abbrev pub seen_at : ℕ → Seen Node
   seen_at at = seen_from rules graph positions (at ∷ []) (auxiliary rules graph positions all)
 
@@ -54,7 +54,7 @@ module _ (rules : Rules) (graph : Graph) (positions : List (List ℕ)) (all : Li
       are_alike (seen_at end.at) (real_node end.at []) (end_root rules graph positions all end).ligands
       (is_in_unit rules graph positions all)
 
--- ligands that all differ by Rule 1a within a sphere have the order by all rules that this sphere tells
+-- ligands that all differ by Rule 1a within a sphere have the order by all rules that this sphere gives
 abbrev pub EarlyOrdersStay : Type 0
 EarlyOrdersStay =
     (rules : Rules) (graph : Graph) (positions : List (List ℕ)) (all : List units.Unit) (end : End) (sphere : ℕ) →

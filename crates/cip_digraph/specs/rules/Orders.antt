@@ -1,5 +1,5 @@
--- How two branches of a digraph stand by each rule. IUPAC 2013, P-92.1.4 and P-92.2 to P-92.6: each rule is applied to
--- the whole digraph before the next one. The form of Rule 4b, and that Rules 4c and 5 leave out what it decides, is
+-- How two branches of a digraph compare by each rule. IUPAC 2013, P-92.1.4 and P-92.2 to P-92.6: each rule is applied
+-- to the whole digraph before the next one. The form of Rule 4b, and that Rules 4c and 5 leave out what it decides, is
 -- own.
 use Rattle.std.specs.Prelude.{ℕ, ℤ, Bool, List, map, if◌then◌else◌}
 use Rattle.std.specs.Ordering.{is_lt}

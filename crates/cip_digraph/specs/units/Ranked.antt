@@ -10,7 +10,7 @@ use Rattle.cip_mol.specs.declared.outcome.Rule.{Rule}
 use Rattle.cip_mol.specs.declared.outcome.Rule.TheVariants.{R1a, R1b, R2, R3, R4a, R4b, R4c, R5}
 use Rattle.cip_digraph.specs.declared.decision.Decision.{Decision}
 
--- a root as it stands in a digraph: how branches compare there, by all rules and with the last one turned, and its
+-- a root as it is in a digraph: how branches compare there, by all rules and with the last one turned, and its
 -- ligands, of which each is a node, or none for a lone pair
 pub record Root (N : Type 0) : Type 0 where
   pub order : N → N → Option Decision
@@ -39,7 +39,7 @@ abbrev pub ranked_places : {N : Type 0} → (N → N → Option Decision) → Li
 ranked_places order ligands =
     sorted_down (λ i j. side_of (place_order order ligands i j)) (range_with_len 0 (length ligands))
 
--- what stands between neighbours in rank order
+-- what is between neighbours in rank order
 abbrev pub decisions_behind : {N : Type 0} → (N → N → Option Decision) → List (List N) → ℕ → List ℕ
     → List (Option Decision)
 decisions_behind order ligands place [] = []

@@ -27,7 +27,7 @@ outcomes rules bound drawing geometries =
     let all = with_geometries (sites_of graph positions) geometries in
     map (outcome_of rules graph positions all bound) all
 
--- how many nodes stand in each of some spheres of an atom's digraph
+-- how many nodes are in each of some spheres of an atom's digraph
 abbrev pub sizes : Drawing → ℕ → List ℕ → List ℕ
 sizes drawing root spheres =
     let graph = graph_of drawing in

@@ -15,10 +15,10 @@ use Rattle.cip_commands.specs.Statuses.{Means, Stream, Streams}
 abbrev pub NeverFails : Stream → Stream → Type 0
 NeverFails old new = Rose old.faults new.faults → ⊥
 
--- no read failed, the source tells what it has left, and no limit is passed by it
+-- no read failed, the source says what it has left, and no limit is passed by it
 pub record ReadsWell (limits : Limits) (old new : Stream) : Type 0 where
   pub reads : NeverFails old new
-  pub told : IsSome old.bytes
+  pub stated : IsSome old.bytes
   pub within : IfSome old.bytes (λ bytes. limit_place limits bytes ≡ None)
 
 -- the statuses of a command that reads, where no call fails

@@ -1,4 +1,4 @@
--- Runs over a stream that is divided behind a closed record. Own.
+-- Runs over a stream that is divided after a closed record. Own.
 use Rattle.std.specs.Prelude.{◌≡◌, ◌++◌, ℕ, List, true, max}
 use Rattle.std.specs.Io.KnownBytes.{Appends}
 use Rattle.cip_batch.specs.declared.limits.Limits.{Limits}
@@ -18,7 +18,7 @@ pub record AddsUp (whole front behind : ℕ) (old new front_old front_new behind
   pub front_written : Appends front_old.bytes front_new.bytes front_text
   pub behind_written : Appends behind_old.bytes behind_new.bytes behind_text
 
--- a stream that is annotated at once gets the text that its parts get, if it is divided behind a closed record
+-- a stream that is annotated at once gets the text that its parts get, if it is divided after a closed record
 abbrev pub PartsAddUp : Type 0
 PartsAddUp = (labelling : Labelling) (limits : Limits) (front behind : List ℕ) (whole one other : ℕ)
     (old new front_old front_new behind_old behind_new : Streams) → is_closed front ≡ true

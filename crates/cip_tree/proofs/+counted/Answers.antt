@@ -1,5 +1,5 @@
 use Rattle.std.proofs.Common.{arith}
-use Rattle.cip_tree.proofs.Depths.{count_parts}
+use Rattle.cip_tree.proofs.lemmas.Depths.{count_parts}
 use Rattle.cip_tree.proofs.+counted.Goals as goal
 
 pub reading::counted-counted-requires : goal.reading::counted-counted-requires

@@ -1,6 +1,6 @@
 use Rattle.std.proofs.Common.{ap, arith}
 use Rattle.cip_tree.specs.Branches.{Branch, count, depth}
-use Rattle.cip_tree.proofs.Depths.{count_parts, depth_parts}
+use Rattle.cip_tree.proofs.lemmas.Depths.{count_parts, depth_parts}
 use Rattle.cip_tree.proofs.+height.Goals as goal
 
 pub reading::depth_of-overflow_add-height : goal.reading::depth_of-overflow_add-height

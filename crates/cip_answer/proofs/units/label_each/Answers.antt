@@ -2,8 +2,8 @@ use Rattle.std.proofs.Common.{◌∙◌, ap, map, subst, ◌<◌, ◌≤◌, len
 use Rattle.std.proofs.lemmas.List.{take_all}
 use Rattle.cip_digraph.specs.graph.Graph.{Graph}
 use Rattle.cip_answer.specs.Answers.{unit_answer}
-use Rattle.cip_answer.specs.Images.{AreFound}
-use Rattle.cip_answer.proofs.UnitLists.{few_answers, has_room, next_unit}
+use Rattle.cip_answer.specs.SymmetryLabels.{AreFound}
+use Rattle.cip_answer.proofs.lemmas.UnitLists.{few_answers, has_room, next_unit}
 use Rattle.std.proofs.lemmas.Grind.{common_steps}
 use Rattle.cip_answer.proofs.units.label_each.Goals as goal
 
@@ -27,14 +27,14 @@ loop-place-preserved g c = record {
       (c.drawn.ensures.value ∙ ap (λ (graph : Graph). graph.drawn) c.graph.ensures.value) c.loop-place.invariant.kept
       c.in-Ok.ensures.outcome;
   all = c.loop-place.invariant.all;
-  kept = c.outcome_of.ensures.kept ∙ c.loop-place.invariant.kept;
+  kept = c.label_or_reuse.ensures.kept ∙ c.loop-place.invariant.kept;
   found =
-      subst (λ bound. AreFound c.args.setting.now bound c.outcome_of.new.images) c.loop-place.invariant.kept
+      subst (λ bound. AreFound c.args.setting.now bound c.label_or_reuse.new.images) c.loop-place.invariant.kept
       c.in-Ok.ensures.found;
 }
 
-pub outcome_of-requires-clause-place : goal.outcome_of-requires-clause-place
-outcome_of-requires-clause-place g c =
+pub label_or_reuse-requires-clause-place : goal.label_or_reuse-requires-clause-place
+label_or_reuse-requires-clause-place g c =
     subst (λ units. c.loop-place.place < length units) c.loop-place.invariant.all c.loop-place-test.true
 
 pub returns-clause-answers : goal.returns-clause-answers

@@ -1,6 +1,6 @@
 use Rattle.std.proofs.Common.{◌≡◌, map, take}
 use Rattle.cip_answer.specs.Answers.{unit_answer}
-use Rattle.cip_answer.specs.Images.{AreFound}
+use Rattle.cip_answer.specs.SymmetryLabels.{AreFound}
 use Rattle.cip_answer.proofs.units.label_each.Given as goal
 
 abbrev pub invariant-loop-place : goal.invariant-loop-place

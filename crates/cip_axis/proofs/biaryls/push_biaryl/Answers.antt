@@ -2,11 +2,11 @@ use Rattle.std.proofs.Common.{◌≡◌, ◌≤◌, ◌∙◌, ◌∷◌, ◌++�
 use Rattle.std.proofs.lemmas.Result.{on_ok_weaker}
 use Rattle.cip_mol.specs.Sites.{IsSite}
 use Rattle.cip_digraph.specs.graph.Graph.{edges_at, other_end}
-use Rattle.cip_unit.proofs.Kept.{one_is}
+use Rattle.cip_unit.proofs.lemmas.Kept.{one_is}
 use Rattle.cip_axis.specs.Biaryls.{is_biaryl}
 use Rattle.cip_axis.specs.Further.{biaryl_site, biaryl_unit}
 use Rattle.cip_axis.specs.Likeness.{like}
-use Rattle.cip_axis.proofs.Sited.{at_most, biaryl_parts, biaryl_shown}
+use Rattle.cip_axis.proofs.lemmas.Sited.{at_most, biaryl_parts, biaryl_shown}
 use Rattle.cip_axis.proofs.biaryls.push_biaryl.Goals as goal
 
 pub biaryl_unit-unit-requires-clause-shown : goal.biaryl_unit-unit-requires-clause-shown

@@ -1,6 +1,6 @@
 use Rattle.std.proofs.Common.{◌++◌, ap, sym, arith}
 use Rattle.cip_digraph.specs.graph.Graph.{edges_at, other_end}
-use Rattle.cip_unit.proofs.Kept.{kept_each}
+use Rattle.cip_unit.proofs.lemmas.Kept.{kept_each}
 use Rattle.cip_axis.specs.Biaryls.{is_biaryl}
 use Rattle.cip_axis.specs.Further.{biaryl_unit}
 use Rattle.std.proofs.lemmas.Grind.{common_steps}

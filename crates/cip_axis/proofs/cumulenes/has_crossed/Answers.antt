@@ -1,7 +1,7 @@
 use Rattle.std.proofs.Common.{◌<◌, ◌∙◌, length, sym, arith}
 use Rattle.std.proofs.lemmas.List.Elements.{All-get_or, All-rest}
 use Rattle.std.proofs.lemmas.Grind.{common_steps}
-use Rattle.cip_axis.proofs.CrossedChains.{crossed_here, crossed_none, crossed_on}
+use Rattle.cip_axis.proofs.lemmas.CrossedChains.{crossed_here, crossed_none, crossed_on}
 use Rattle.cip_axis.proofs.cumulenes.has_crossed.Goals as goal
 
 pub loop-atom-preserved : goal.loop-atom-preserved

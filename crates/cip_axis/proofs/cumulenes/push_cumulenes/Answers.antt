@@ -1,9 +1,9 @@
 use Rattle.std.proofs.Common.{◌≡◌, ◌∙◌, ◌++◌, ap, arith, eq-eqb, length, sym}
 use Rattle.std.proofs.lemmas.Grind.{common_steps}
 use Rattle.cip_digraph.specs.graph.Graph.{edges_at}
-use Rattle.cip_unit.proofs.Leads.{leads_on}
+use Rattle.cip_unit.proofs.lemmas.Leads.{leads_on}
 use Rattle.cip_axis.specs.Listing.{cumulenes_along}
-use Rattle.cip_axis.proofs.Chained.{along_is}
+use Rattle.cip_axis.proofs.lemmas.Chained.{along_is}
 use Rattle.cip_axis.proofs.cumulenes.push_cumulenes.Goals as goal
 
 pub push_over-requires-clause-next : goal.push_over-requires-clause-next

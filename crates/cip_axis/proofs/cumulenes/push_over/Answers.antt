@@ -9,10 +9,10 @@ use Rattle.cip_axis.specs.Cumulenes.{any_bond, first_atom, is_cumulene, last_ato
 use Rattle.cip_axis.specs.Further.{cumulene_site}
 use Rattle.cip_axis.specs.Likeness.{like}
 use Rattle.cip_axis.specs.Listing.{first_in_ring}
-use Rattle.cip_axis.proofs.ChainRings.{chain_rings}
-use Rattle.cip_axis.proofs.Chained.{short_none}
-use Rattle.cip_axis.proofs.Drawn.{chain_below, chain_short}
-use Rattle.cip_axis.proofs.Sited.{at_most, axis_end_parts, cumulene_parts, cumulene_shown}
+use Rattle.cip_axis.proofs.lemmas.ChainRings.{chain_rings}
+use Rattle.cip_axis.proofs.lemmas.Chained.{short_none}
+use Rattle.cip_axis.proofs.lemmas.Drawn.{chain_below, chain_short}
+use Rattle.cip_axis.proofs.lemmas.Sited.{at_most, axis_end_parts, cumulene_parts, cumulene_shown}
 use Rattle.cip_axis.proofs.cumulenes.push_over.Goals as goal
 use Rattle.cip_axis.proofs.cumulenes.push_over.Goals.{After-deref-then-is_unit}
 
@@ -27,7 +27,7 @@ returns c =
     let source = c.args.source.now in
     let units = c.args.units.now in
     sym (ap (λ more. units ++ more)
-    (short_none source.molecule.now source.graph.now c.args.a c.args.next (sym c.leads_on.ensures ∙ c.if-leads_on.false))
+    (short_none source.molecule.now source.graph.now c.args.a c.args.next (sym c.continues_chain.ensures ∙ c.if-continues_chain.false))
     ∙ append-nil units)
 
 pub is_cumulene-requires : goal.is_cumulene-requires

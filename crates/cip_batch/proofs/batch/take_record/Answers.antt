@@ -1,12 +1,12 @@
 use Rattle.std.proofs.Common.{◌+◌, ◌++◌, ◌<◌, ◌^◌, ◌∷◌, [], ◌∙◌, length, sym, subst}
 use Rattle.cip_batch.specs.Batches.{Advances, Gathered}
 use Rattle.cip_batch.specs.Verdicts.{clear}
-use Rattle.cip_batch.proofs.Batches.{batch_answered, no_memory, none_yet, one_more_room}
-use Rattle.cip_batch.proofs.Faults.{memory_no_fault, stays, told_no_fault}
+use Rattle.cip_batch.proofs.lemmas.Batches.{batch_answered, no_memory, none_yet, one_more_room}
+use Rattle.cip_batch.proofs.lemmas.Faults.{memory_no_fault, stays, told_no_fault}
 use Rattle.cip_batch.proofs.batch.take_record.Goals as goal
 
-pub answer_batch-requires-clause-room : goal.answer_batch-requires-clause-room
-answer_batch-requires-clause-room g c κs within =
+pub process_batch-requires-clause-room : goal.process_batch-requires-clause-room
+process_batch-requires-clause-room g c κs within =
     let batch = c.args.batch.now in
     subst (λ (b : Gathered _). b.first + length b.records < 2 ^ 64) (sym c.in-Ok.ensures.pushed)
     (one_more_room batch.first batch.records c.args.bytes c.requires.room)
@@ -15,9 +15,9 @@ pub returns-in_default : goal.returns-in_default
 returns-in_default g c =
     let batch = c.args.batch.now in
     record {
-      answered = no_memory (g.T.Teller.manner batch.teller) batch.first (batch.records ++ c.args.bytes ∷ [])
+      answered = no_memory (g.T.RecordProcessor.expected batch.processor) batch.first (batch.records ++ c.args.bytes ∷ [])
           (g.K.Sink.taken c.args.sink.now);
-      teller = c.push.ensures.teller;
+      processor = c.push.ensures.processor;
       fault = memory_no_fault;
       later = stays (g.K.Sink.faults c.args.sink.now);
     }
@@ -26,13 +26,13 @@ pub returns-else-is_full : goal.returns-else-is_full
 returns-else-is_full g c =
     let batch = c.args.batch.now in
     let records = batch.records ++ c.args.bytes ∷ [] in
-    let manner = g.T.Teller.manner batch.teller in
+    let expected = g.T.RecordProcessor.expected batch.processor in
     let taken = g.K.Sink.taken c.args.sink.now in
     record {
       answered = rw c.clear.ensures (subst
-          (λ (b : Gathered _). Advances manner batch.first records b.first b.records clear taken taken)
-          (sym c.in-Ok.ensures.pushed) (none_yet manner batch.first records taken));
-      teller = c.push.ensures.teller;
+          (λ (b : Gathered _). Advances expected batch.first records b.first b.records clear taken taken)
+          (sym c.in-Ok.ensures.pushed) (none_yet expected batch.first records taken));
+      processor = c.push.ensures.processor;
       fault = told_no_fault c.clear.result;
       later = stays (g.K.Sink.faults c.args.sink.now);
     }
@@ -41,11 +41,11 @@ pub returns-then-is_full : goal.returns-then-is_full
 returns-then-is_full g c =
     let batch = c.args.batch.now in
     record {
-      answered = batch_answered g.T.Teller.manner
-          (record { teller = batch.teller; first = batch.first; records = batch.records ++ c.args.bytes ∷ [] })
-          c.push.new.self c.answer_batch.new.batch c.answer_batch.result _ _ c.in-Ok.ensures.pushed
-          c.answer_batch.ensures.emptied c.answer_batch.ensures.answered;
-      teller = c.answer_batch.ensures.teller ∙ c.push.ensures.teller;
-      fault = c.answer_batch.ensures.fault;
-      later = c.answer_batch.ensures.later;
+      answered = batch_answered g.T.RecordProcessor.expected
+          (record { processor = batch.processor; first = batch.first; records = batch.records ++ c.args.bytes ∷ [] })
+          c.push.new.self c.process_batch.new.batch c.process_batch.result _ _ c.in-Ok.ensures.pushed
+          c.process_batch.ensures.emptied c.process_batch.ensures.answered;
+      processor = c.process_batch.ensures.processor ∙ c.push.ensures.processor;
+      fault = c.process_batch.ensures.fault;
+      later = c.process_batch.ensures.later;
     }

@@ -1,5 +1,5 @@
 use Rattle.std.proofs.Common.{◌++◌, ◌∷◌, [], ◌∙◌, ap, arith}
-use Rattle.cip_batch.proofs.InOrder.{all_in_order, one_more}
+use Rattle.cip_batch.proofs.lemmas.InOrder.{all_in_order, one_more}
 use Rattle.cip_batch.proofs.workers.complete.Goals as goal
 
 pub loop-place-preserved : goal.loop-place-preserved

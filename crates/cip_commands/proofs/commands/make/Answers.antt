@@ -1,6 +1,6 @@
 use Rattle.std.proofs.Common.{arith}
 use Rattle.std.proofs.lemmas.Grind.{common_steps}
-use Rattle.cip_commands.proofs.Ended.{making_broke_off}
+use Rattle.cip_commands.proofs.lemmas.Ended.{making_broke_off}
 use Rattle.cip_commands.proofs.commands.make.Goals as goal
 
 pub returns-in-Err : goal.returns-in-Err

@@ -1,7 +1,7 @@
 use Rattle.std.proofs.Common.{arith, rules, length, map, ap, ◌+◌, ◌∙◌, ◌≡◌}
 use Rattle.std.proofs.lemmas.List.{length-map}
 use Rattle.cip_commands.specs.Trying.{answer_of, answers_to}
-use Rattle.cip_commands.proofs.Counting.{batch_counted}
+use Rattle.cip_commands.proofs.lemmas.Counting.{batch_counted}
 use Rattle.cip_commands.proofs.trial.count_batch.Goals as goal
 
 pub add_all-requires : goal.add_all-requires

@@ -7,7 +7,7 @@ invariant-loop-done g l = record {
   so_far : l.count ≡ counted (answers_to l.trial.series l.trial.labelling l.done);
   records : l.count.counts.records ≡ l.done;
   within : l.done ≤ l.trial.series.records;
-  clerks : length l.clerks ≡ l.crew.workers;
+  clerks : length l.clerks ≡ l.pool.workers;
 }
 
 abbrev pub decreases-loop-done : goal.decreases-loop-done

@@ -1,6 +1,6 @@
 use Rattle.std.proofs.Common.{arith, refl}
 use Rattle.std.proofs.lemmas.Grind.{common_steps}
-use Rattle.cip_commands.proofs.Counting.{job_more}
+use Rattle.cip_commands.proofs.lemmas.Counting.{job_more}
 use Rattle.cip_commands.proofs.trial.next_jobs.Goals as goal
 
 pub loop-before-preserved : goal.loop-before-preserved

@@ -1,6 +1,6 @@
 use Rattle.std.proofs.Common.{ap, subst, ◌∙◌}
 use Rattle.std.specs.Io.KnownBytes.{Appends}
-use Rattle.cip_io.proofs.Growth.{appends_none}
+use Rattle.cip_io.proofs.lemmas.Growth.{appends_none}
 use Rattle.cip_io.specs.Growth.{AppendsPrefix}
 use Rattle.cip_print.specs.Tallies.{summary_line}
 use Rattle.cip_commands.specs.Trying.{Counted}

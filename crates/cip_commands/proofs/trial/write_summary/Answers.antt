@@ -1,6 +1,6 @@
-use Rattle.cip_io.proofs.Growth.{appends_none}
+use Rattle.cip_io.proofs.lemmas.Growth.{appends_none}
 use Rattle.cip_commands.specs.Trying.{answers_to}
-use Rattle.cip_commands.proofs.Counting.{summed}
+use Rattle.cip_commands.proofs.lemmas.Counting.{summed}
 use Rattle.cip_commands.proofs.trial.write_summary.Goals as goal
 
 pub returns-in-Ok-clause-summed : goal.returns-in-Ok-clause-summed

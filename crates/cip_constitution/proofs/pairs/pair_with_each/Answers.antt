@@ -1,7 +1,7 @@
 use Rattle.std.proofs.Common.{◌++◌, flat_map, length-append, arith}
 use Rattle.std.proofs.lemmas.Grind.{common_steps}
 use Rattle.cip_constitution.specs.Pairs.{pair_with}
-use Rattle.cip_constitution.proofs.followed.Pairs.{first_room}
+use Rattle.cip_constitution.proofs.lemmas.followed.Pairs.{first_room}
 use Rattle.cip_constitution.proofs.pairs.pair_with_each.Goals as goal
 
 pub pair_with-requires : goal.pair_with-requires

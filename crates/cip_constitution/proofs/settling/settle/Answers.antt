@@ -4,8 +4,8 @@ use Rattle.cip_constitution.specs.declared.settling.Settled.TheVariants as settl
 use Rattle.cip_constitution.specs.Following.{Trying}
 use Rattle.cip_constitution.specs.Settling.{setting_of}
 use Rattle.cip_constitution.specs.Trials.{KeepsTo}
-use Rattle.cip_constitution.proofs.settled.Rounds.{begins, goes_on, stays, nearer, ahead, none_before, ordered, tied}
-use Rattle.cip_constitution.proofs.settled.Rounds.{whole, over, all_followed, lazily}
+use Rattle.cip_constitution.proofs.lemmas.settled.Rounds.{begins, goes_on, stays, nearer, ahead, none_before, ordered, tied}
+use Rattle.cip_constitution.proofs.lemmas.settled.Rounds.{whole, over, all_followed, lazily}
 use Rattle.cip_constitution.proofs.settling.settle.Goals as goal
 
 -- no two ways of settling are the same

@@ -1,13 +1,13 @@
 use Rattle.std.proofs.Common.{◌≡◌, ◌<◌, ◌-◌, length}
-use Rattle.cip_constitution.specs.Trials.{told, KeepsTo}
-use Rattle.cip_constitution.proofs.settled.Rounds.{Kept, Fails}
+use Rattle.cip_constitution.specs.Trials.{node_data, KeepsTo}
+use Rattle.cip_constitution.proofs.lemmas.settled.Rounds.{Kept, Fails}
 use Rattle.cip_constitution.proofs.settling.settle.Given as goal
 
 abbrev pub invariant-loop-work : goal.invariant-loop-work
 invariant-loop-work g l = record {
-  kept : Kept (told l.setting) l.fn.arena l.arena l.fn.steps l.steps;
-  tried : 0 < l.arena.sphere → Fails (told l.setting) l.arena.root l.arena.sphere;
-  keeps : 0 < l.arena.sphere → KeepsTo (told l.setting) l.arena l.arena.sphere l.work;
+  kept : Kept (node_data l.setting) l.fn.arena l.arena l.fn.steps l.steps;
+  tried : 0 < l.arena.sphere → Fails (node_data l.setting) l.arena.root l.arena.sphere;
+  keeps : 0 < l.arena.sphere → KeepsTo (node_data l.setting) l.arena l.arena.sphere l.work;
   bound : l.work.bound ≡ l.fn.work.bound;
   pairs : l.work.pairs ≡ l.fn.work.pairs;
 }

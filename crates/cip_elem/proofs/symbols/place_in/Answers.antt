@@ -1,7 +1,7 @@
 use Rattle.std.proofs.Common.{◌≡◌, ◌==◌, ◌&&◌, ap, arith, false, get_or, length}
 use Rattle.std.proofs.lemmas.Bool.Decides.{nat_tests}
 use Rattle.std.proofs.lemmas.List.{length-drop, take_rest}
-use Rattle.cip_elem.proofs.Columns.{columns_step}
+use Rattle.cip_elem.proofs.lemmas.Columns.{columns_step}
 use Rattle.cip_elem.proofs.symbols.place_in.Goals.{else-first-a-via-then-first-a+else-second-b, else-first-a-via-else-first-a}
 use Rattle.cip_elem.proofs.symbols.place_in.Goals as goal
 

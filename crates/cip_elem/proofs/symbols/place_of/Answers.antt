@@ -1,6 +1,6 @@
 use Rattle.std.proofs.Common.{◌≡◌, ◌==◌, ◌∙◌, arith, false, get_or}
 use Rattle.std.proofs.lemmas.Bool.Decides.{nat_tests}
-use Rattle.cip_elem.proofs.Columns.{by_letter, by_letters, spaced_is_none, long_is_none, empty_is_none}
+use Rattle.cip_elem.proofs.lemmas.Columns.{by_letter, by_letters, spaced_is_none, long_is_none, empty_is_none}
 use Rattle.cip_elem.proofs.symbols.place_of.Goals as goal
 
 pub returns-in-len1-clause-value : goal.returns-in-len1-clause-value

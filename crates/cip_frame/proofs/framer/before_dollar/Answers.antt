@@ -1,6 +1,6 @@
 use Rattle.std.proofs.Common.{arith, length}
 use Rattle.std.proofs.lemmas.List.{take_all}
-use Rattle.cip_frame.proofs.PlainLines.{lacks_before}
+use Rattle.cip_frame.proofs.lemmas.PlainLines.{lacks_before}
 use Rattle.cip_frame.proofs.framer.before_dollar.Goals as goal
 
 pub returns-in-Some-clause-lacks : goal.returns-in-Some-clause-lacks

@@ -1,4 +1,4 @@
-use Rattle.cip_frame.proofs.PlainLines.{plain_to}
+use Rattle.cip_frame.proofs.lemmas.PlainLines.{plain_to}
 use Rattle.cip_frame.proofs.framer.plain_lines.Goals as goal
 
 pub returns-in-Some-clause-plain : goal.returns-in-Some-clause-plain

@@ -4,9 +4,9 @@ use Rattle.cip_mol.specs.Drawing.{Drawing}
 use Rattle.cip_mol.specs.declared.refusal.ReadFault.{ReadFault}
 use Rattle.cip_mol.specs.declared.refusal.ReadRefusal.{ReadRefusal}
 use Rattle.cip_text.specs.Slices.{texts}
-use Rattle.cip_reading.specs.Reading.{Fails}
+use Rattle.cip_ctfile.specs.Reading.{Fails}
 use Rattle.cip_v3000.specs.Tables.{table_of}
-use Rattle.cip_v3000.proofs.Tables.{undrawn_table}
+use Rattle.cip_v3000.proofs.lemmas.Tables.{undrawn_table}
 use Rattle.cip_groups.proofs.reading.lines_answer.Goals as goal
 
 no_fault : (read : Result Drawing ReadFault) (fault : ReadFault) → IsOk read → read ≡ Err fault → ⊥

@@ -2,8 +2,8 @@ use Rattle.std.proofs.Common.{◌≡◌, ◌∙◌, ◌++◌, arith, ap, length,
 use Rattle.std.specs.List.{range_with_len}
 use Rattle.cip_digraph.specs.graph.DrawnGraph.{atom_vertex, graph_of, hydrogen}
 use Rattle.cip_digraph.specs.graph.Graph.{Graph}
-use Rattle.cip_digraph.proofs.bonds.Sound.{drawn_sound}
-use Rattle.cip_hydro.proofs.Drawn.{around_counted, made_in_range, made_is}
+use Rattle.cip_digraph.proofs.lemmas.bonds.Sound.{drawn_sound}
+use Rattle.cip_hydro.proofs.lemmas.Drawn.{around_counted, made_in_range, made_is}
 use Rattle.cip_hydro.proofs.drawn_graph.graph_of.Goals as goal
 
 pub hydrogen_count-further-requires-clause-atoms : goal.hydrogen_count-further-requires-clause-atoms

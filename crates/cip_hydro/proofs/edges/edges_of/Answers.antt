@@ -1,5 +1,5 @@
 use Rattle.std.proofs.Common.{refl}
-use Rattle.cip_hydro.proofs.Around.{surroundings_count}
+use Rattle.cip_hydro.proofs.lemmas.Around.{surroundings_count}
 use Rattle.cip_hydro.proofs.edges.edges_of.Goals as goal
 
 pub returns : goal.returns

@@ -1,8 +1,8 @@
 use Rattle.std.proofs.Common.{arith}
 use Rattle.std.proofs.lemmas.Grind.{common_steps}
 use Rattle.std.proofs.Common.{◌+◌, ◌∙◌, ap}
-use Rattle.cip_hydro.proofs.Around.{surroundings_count}
-use Rattle.cip_hydro.proofs.Drawn.{bonds_join, edges_next}
+use Rattle.cip_hydro.proofs.lemmas.Around.{surroundings_count}
+use Rattle.cip_hydro.proofs.lemmas.Drawn.{bonds_join, edges_next}
 use Rattle.cip_hydro.proofs.edges.push_bonds.Goals as goal
 
 pub bond_edge-requires-clause-a : goal.bond_edge-requires-clause-a

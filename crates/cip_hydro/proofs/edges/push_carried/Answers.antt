@@ -1,5 +1,5 @@
 use Rattle.std.proofs.Common.{◌∙◌, arith}
-use Rattle.cip_hydro.proofs.Carried.{carried_next}
+use Rattle.cip_hydro.proofs.lemmas.Carried.{carried_next}
 use Rattle.cip_hydro.proofs.edges.push_carried.Goals as goal
 
 pub loop-place-preserved : goal.loop-place-preserved

@@ -1,11 +1,11 @@
 use Rattle.std.proofs.lemmas.Grind.{common_steps}
 use Rattle.std.proofs.Common.{arith, false}
-use Rattle.cip_hydro.specs.declared.surroundings.Surroundings.{Surroundings}
-use Rattle.cip_hydro.proofs.Carried.{count_next, edges_on, left_next}
+use Rattle.cip_hydro.specs.declared.valence_state.ValenceState.{ValenceState}
+use Rattle.cip_hydro.proofs.lemmas.Carried.{count_next, edges_on, left_next}
 use Rattle.cip_hydro.proofs.edges.push_hydrogens.Goals as goal
 
-abbrev nothing : Surroundings
-nothing = record { hydrogens = 0; lone = false; neglects = false }
+abbrev nothing : ValenceState
+nothing = record { hydrogens = 0; lone = false; is_neglected = false }
 
 pub push_carried-requires-clause-few : goal.push_carried-requires-clause-few
 push_carried-requires-clause-few c =

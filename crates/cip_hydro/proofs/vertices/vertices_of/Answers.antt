@@ -1,6 +1,6 @@
 use Rattle.std.proofs.Common.{◌<◌, ◌+◌, ◌∙◌, ap, arith, length}
-use Rattle.cip_hydro.proofs.Around.{surroundings_count}
-use Rattle.cip_hydro.proofs.Drawn.{vertices_next}
+use Rattle.cip_hydro.proofs.lemmas.Around.{surroundings_count}
+use Rattle.cip_hydro.proofs.lemmas.Drawn.{vertices_next}
 use Rattle.cip_hydro.proofs.vertices.vertices_of.Goals as goal
 
 pub bounds-surroundings-number : goal.bounds-surroundings-number

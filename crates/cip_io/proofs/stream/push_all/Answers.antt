@@ -1,6 +1,6 @@
 use Rattle.std.proofs.Common.{arith}
 use Rattle.std.proofs.lemmas.List.{take_rest}
-use Rattle.cip_io.proofs.Growth.{appends_more}
+use Rattle.cip_io.proofs.lemmas.Growth.{appends_more}
 use Rattle.cip_io.proofs.stream.push_all.Goals as goal
 
 pub loop-done-preserved : goal.loop-done-preserved

@@ -1,6 +1,6 @@
 use Rattle.std.proofs.Common.{arith, sym, ◌∙◌}
 use Rattle.std.proofs.lemmas.Grind.{common_steps}
-use Rattle.cip_item.proofs.Taking.{begin_item, go_on}
+use Rattle.cip_item.proofs.lemmas.Taking.{begin_item, go_on}
 use Rattle.cip_item.proofs.items.take_line.Goals as goal
 
 pub returns-in-Ok-clause-items : goal.returns-in-Ok-clause-items

@@ -1,4 +1,4 @@
-use Rattle.cip_mancude.proofs.SharedWays as law
+use Rattle.cip_mancude.proofs.lemmas.SharedWays as law
 use Rattle.cip_laws.proofs.alternation.shared_rings_are_found.Goals as goal
 
 pub returns : goal.returns

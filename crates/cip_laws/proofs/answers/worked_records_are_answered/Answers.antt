@@ -1,4 +1,4 @@
-use Rattle.cip_laws.proofs.answered.Answered.{worked_answers}
+use Rattle.cip_laws.proofs.lemmas.answered.Answered.{worked_answers}
 use Rattle.cip_laws.proofs.answers.worked_records_are_answered.Goals as goal
 
 pub returns : goal.returns

@@ -1,4 +1,4 @@
-use Rattle.cip_axis.proofs.FurtherFit as law
+use Rattle.cip_axis.proofs.lemmas.FurtherFit as law
 use Rattle.cip_laws.proofs.axes.further_units_are_fit.Goals as goal
 
 pub returns : goal.returns

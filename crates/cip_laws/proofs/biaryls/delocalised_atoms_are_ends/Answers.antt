@@ -1,4 +1,4 @@
-use Rattle.cip_laws.proofs.further.BiarylEnds.{delocalised_atoms_are_ends}
+use Rattle.cip_laws.proofs.lemmas.further.BiarylEnds.{delocalised_atoms_are_ends}
 use Rattle.cip_laws.proofs.biaryls.delocalised_atoms_are_ends.Goals as goal
 
 pub returns : goal.returns

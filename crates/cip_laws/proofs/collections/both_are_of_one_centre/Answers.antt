@@ -1,4 +1,4 @@
-use Rattle.cip_laws.proofs.turned_groups.TurnedCentres.{both_are_of_one_centre}
+use Rattle.cip_laws.proofs.lemmas.turned_groups.TurnedCentres.{both_are_of_one_centre}
 use Rattle.cip_laws.proofs.collections.both_are_of_one_centre.Goals as goal
 
 pub returns : goal.returns

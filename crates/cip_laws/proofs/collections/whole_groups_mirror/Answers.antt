@@ -1,4 +1,4 @@
-use Rattle.cip_laws.proofs.turned_groups.TurnedCentres.{whole_groups_mirror}
+use Rattle.cip_laws.proofs.lemmas.turned_groups.TurnedCentres.{whole_groups_mirror}
 use Rattle.cip_laws.proofs.collections.whole_groups_mirror.Goals as goal
 
 pub returns : goal.returns

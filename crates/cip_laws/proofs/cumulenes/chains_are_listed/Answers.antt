@@ -1,4 +1,4 @@
-use Rattle.cip_laws.proofs.further.ListedChains.{chains_are_listed}
+use Rattle.cip_laws.proofs.lemmas.further.ListedChains.{chains_are_listed}
 use Rattle.cip_laws.proofs.cumulenes.chains_are_listed.Goals as goal
 
 pub returns : goal.returns

@@ -1,4 +1,4 @@
-use Rattle.cip_digraph.proofs.tree.Branches.{ligands_end}
+use Rattle.cip_digraph.proofs.lemmas.tree.Branches.{ligands_end}
 use Rattle.cip_laws.proofs.digraphs.branches_end.Goals as goal
 
 pub returns : goal.returns

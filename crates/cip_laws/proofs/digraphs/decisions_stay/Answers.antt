@@ -1,4 +1,4 @@
-use Rattle.cip_rank.proofs.Refining.{depths_refine}
+use Rattle.cip_rank.proofs.lemmas.Refining.{depths_refine}
 use Rattle.cip_digraph.specs.rules.Orders.{rule_1a, rule_1b, rule_2, rule_3, rule_4a, readings, rule_4b_higher}
 use Rattle.cip_digraph.specs.rules.Orders.{rule_4b_lower, rule_4c, rule_5, read_children, higher_reading, lower_reading}
 use Rattle.cip_laws.proofs.digraphs.decisions_stay.Goals as goal

@@ -1,4 +1,4 @@
-use Rattle.cip_digraph.proofs.tree.Ended.{ended}
+use Rattle.cip_digraph.proofs.lemmas.tree.Ended.{ended}
 use Rattle.cip_laws.proofs.digraphs.digraphs_end.Goals as goal
 
 pub returns : goal.returns

@@ -1,4 +1,4 @@
-use Rattle.cip_digraph.proofs.bonds.Sound.{drawn_sound}
+use Rattle.cip_digraph.proofs.lemmas.bonds.Sound.{drawn_sound}
 use Rattle.cip_laws.proofs.digraphs.drawn_graphs_are_sound.Goals as goal
 
 pub returns : goal.returns

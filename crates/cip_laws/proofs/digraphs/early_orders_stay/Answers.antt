@@ -1,4 +1,4 @@
-use Rattle.cip_digraph.proofs.orders.EarlyRoots.{settled_order}
+use Rattle.cip_digraph.proofs.lemmas.orders.EarlyRoots.{settled_order}
 use Rattle.cip_laws.proofs.digraphs.early_orders_stay.Goals as goal
 
 pub returns : goal.returns

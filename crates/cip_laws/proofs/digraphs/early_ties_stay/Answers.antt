@@ -1,4 +1,4 @@
-use Rattle.cip_digraph.proofs.ties.Settled.{settled_tie}
+use Rattle.cip_digraph.proofs.lemmas.ties.Settled.{settled_tie}
 use Rattle.cip_laws.proofs.digraphs.early_ties_stay.Goals as goal
 
 pub returns : goal.returns

@@ -1,7 +1,7 @@
 use Rattle.std.proofs.Common.{refl}
 use Rattle.cip_digraph.specs.rules.Orders.{rule_1a, rule_1b, rule_2}
-use Rattle.cip_digraph.proofs.orders.Exchanged.{same_3, same_4a, same_4b_higher, same_4b_lower, same_4c, turned_5}
-use Rattle.cip_digraph.proofs.orders.Exchanged.{order_turned}
+use Rattle.cip_digraph.proofs.lemmas.orders.Exchanged.{same_3, same_4a, same_4b_higher, same_4b_lower, same_4c, turned_5}
+use Rattle.cip_digraph.proofs.lemmas.orders.Exchanged.{order_turned}
 use Rattle.cip_laws.proofs.digraphs.exchange_turns.Goals as goal
 
 pub returns : goal.returns

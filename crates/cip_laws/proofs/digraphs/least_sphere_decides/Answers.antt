@@ -1,4 +1,4 @@
-use Rattle.cip_digraph.proofs.orders.LeastSphere.{least_decides}
+use Rattle.cip_digraph.proofs.lemmas.orders.LeastSphere.{least_decides}
 use Rattle.cip_laws.proofs.digraphs.least_sphere_decides.Goals as goal
 
 pub returns : goal.returns

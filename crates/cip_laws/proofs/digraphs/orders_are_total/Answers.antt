@@ -1,4 +1,4 @@
-use Rattle.cip_digraph.proofs.orders.Whole.{order_total}
+use Rattle.cip_digraph.proofs.lemmas.orders.Whole.{order_total}
 use Rattle.cip_laws.proofs.digraphs.orders_are_total.Goals as goal
 
 pub returns : goal.returns

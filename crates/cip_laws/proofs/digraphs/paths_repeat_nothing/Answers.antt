@@ -2,9 +2,9 @@ use Rattle.std.proofs.Common.{eqb}
 use Rattle.std.specs.List.{IsDistinct}
 use Rattle.std.proofs.lemmas.List.Elements.{All-from_recursion}
 use Rattle.cip_digraph.specs.digraph.Digraph.{Node, sphere}
-use Rattle.cip_digraph.proofs.tree.Children.{sphere_has}
-use Rattle.cip_digraph.proofs.tree.Ended.{IsPath, Anywhere, leads_anywhere, paths_pass}
-use Rattle.cip_digraph.proofs.lists.Elements.{all_by}
+use Rattle.cip_digraph.proofs.lemmas.tree.Children.{sphere_has}
+use Rattle.cip_digraph.proofs.lemmas.tree.Ended.{IsPath, Anywhere, leads_anywhere, paths_pass}
+use Rattle.cip_digraph.proofs.lemmas.lists.Elements.{all_by}
 use Rattle.cip_laws.proofs.digraphs.paths_repeat_nothing.Goals as goal
 
 pub returns : goal.returns

@@ -1,4 +1,4 @@
-use Rattle.cip_digraph.proofs.reflected.Units.{outcome_exchanged}
+use Rattle.cip_digraph.proofs.lemmas.reflected.Units.{outcome_exchanged}
 use Rattle.cip_laws.proofs.digraphs.reflection_exchanges_outcomes.Goals as goal
 
 pub returns : goal.returns

@@ -1,4 +1,4 @@
-use Rattle.cip_digraph.proofs.ways.Alternating.{ring_found, ring_finds}
+use Rattle.cip_digraph.proofs.lemmas.ways.Alternating.{ring_found, ring_finds}
 use Rattle.cip_laws.proofs.digraphs.rings_are_found.Goals as goal
 
 pub returns : goal.returns

@@ -1,5 +1,5 @@
-use Rattle.cip_digraph.proofs.ties.SameFromTie.{same_from_tie}
-use Rattle.cip_digraph.proofs.ties.TieFromSame.{tie_from_same}
+use Rattle.cip_digraph.proofs.lemmas.ties.SameFromTie.{same_from_tie}
+use Rattle.cip_digraph.proofs.lemmas.ties.TieFromSame.{tie_from_same}
 use Rattle.cip_laws.proofs.digraphs.ties_are_same_branches.Goals as goal
 
 pub returns : goal.returns

@@ -1,4 +1,4 @@
-use Rattle.cip_digraph.proofs.ties.Turned.{turned_reason}
+use Rattle.cip_digraph.proofs.lemmas.ties.Turned.{turned_reason}
 use Rattle.cip_laws.proofs.digraphs.turning_keeps_reasons.Goals as goal
 
 pub returns : goal.returns

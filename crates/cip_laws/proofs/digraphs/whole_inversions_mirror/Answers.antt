@@ -1,4 +1,4 @@
-use Rattle.cip_digraph.proofs.reflected.Inversions.{whole_inversions_mirror}
+use Rattle.cip_digraph.proofs.lemmas.reflected.Inversions.{whole_inversions_mirror}
 use Rattle.cip_laws.proofs.digraphs.whole_inversions_mirror.Goals as goal
 
 pub returns : goal.returns

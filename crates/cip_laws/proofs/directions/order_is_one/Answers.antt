@@ -1,4 +1,4 @@
-use Rattle.cip_laws.proofs.senses.OneOrder.{one_order}
+use Rattle.cip_laws.proofs.lemmas.senses.OneOrder.{one_order}
 use Rattle.cip_laws.proofs.directions.order_is_one.Goals as goal
 
 pub returns : goal.returns

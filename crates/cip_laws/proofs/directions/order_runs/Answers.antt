@@ -1,4 +1,4 @@
-use Rattle.cip_laws.proofs.senses.RunningOrder as law
+use Rattle.cip_laws.proofs.lemmas.senses.RunningOrder as law
 use Rattle.cip_laws.proofs.directions.order_runs.Goals as goal
 
 pub returns : goal.returns

@@ -1,4 +1,4 @@
-use Rattle.cip_change.proofs.Lengths.{edits_grow_little}
+use Rattle.cip_edit.proofs.lemmas.Lengths.{edits_grow_little}
 use Rattle.cip_laws.proofs.edits.edits_grow_little.Goals as goal
 
 pub returns : goal.returns

@@ -1,4 +1,4 @@
-use Rattle.cip_change.proofs.EditedItems.{edits_keep_records}
+use Rattle.cip_edit.proofs.lemmas.EditedItems.{edits_keep_records}
 use Rattle.cip_laws.proofs.edits.edits_keep_records.Goals as goal
 
 pub returns : goal.returns

@@ -1,4 +1,4 @@
-use Rattle.cip_laws.proofs.senses.ExchangedAtEnd as law
+use Rattle.cip_laws.proofs.lemmas.senses.ExchangedAtEnd as law
 use Rattle.cip_laws.proofs.geometry.exchange_turns_bonds.Goals as goal
 
 pub returns : goal.returns

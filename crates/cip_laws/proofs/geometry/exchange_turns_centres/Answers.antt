@@ -1,4 +1,4 @@
-use Rattle.cip_laws.proofs.senses.ExchangedLigands as law
+use Rattle.cip_laws.proofs.lemmas.senses.ExchangedLigands as law
 use Rattle.cip_laws.proofs.geometry.exchange_turns_centres.Goals as goal
 
 pub returns : goal.returns

@@ -1,4 +1,4 @@
-use Rattle.cip_laws.proofs.senses.ReflectedPairs as law
+use Rattle.cip_laws.proofs.lemmas.senses.ReflectedPairs as law
 use Rattle.cip_laws.proofs.geometry.reflection_keeps_bonds.Goals as goal
 
 pub returns : goal.returns

@@ -1,4 +1,4 @@
-use Rattle.cip_laws.proofs.senses.ReflectedAxes as law
+use Rattle.cip_laws.proofs.lemmas.senses.ReflectedAxes as law
 use Rattle.cip_laws.proofs.geometry.reflection_turns_axes.Goals as goal
 
 pub returns : goal.returns

@@ -1,4 +1,4 @@
-use Rattle.cip_laws.proofs.senses.ReflectedCentres as law
+use Rattle.cip_laws.proofs.lemmas.senses.ReflectedCentres as law
 use Rattle.cip_laws.proofs.geometry.reflection_turns_centres.Goals as goal
 
 pub returns : goal.returns

@@ -1,4 +1,4 @@
-use Rattle.cip_laws.proofs.lines.RepeatedLines.{repeated_is_named_twice}
+use Rattle.cip_laws.proofs.lemmas.lines.RepeatedLines.{repeated_is_named_twice}
 use Rattle.cip_laws.proofs.groups.repeated_is_named_twice.Goals as goal
 
 pub returns : goal.returns

@@ -1,4 +1,4 @@
-use Rattle.cip_laws.proofs.put_items.PutAgain.{items_are_put_again}
+use Rattle.cip_laws.proofs.lemmas.put_items.PutAgain.{items_are_put_again}
 use Rattle.cip_laws.proofs.items.items_are_put_again.Goals as goal
 
 pub returns : goal.returns

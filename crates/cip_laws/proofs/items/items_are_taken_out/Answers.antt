@@ -1,4 +1,4 @@
-use Rattle.cip_item.proofs.TakenOut.{items_are_taken_out}
+use Rattle.cip_item.proofs.lemmas.TakenOut.{items_are_taken_out}
 use Rattle.cip_laws.proofs.items.items_are_taken_out.Goals as goal
 
 pub returns : goal.returns

@@ -1,4 +1,4 @@
-use Rattle.cip_item.proofs.Numbered.{only_label_items_go}
+use Rattle.cip_item.proofs.lemmas.Numbered.{only_label_items_go}
 use Rattle.cip_laws.proofs.items.only_label_items_go.Goals as goal
 
 pub returns : goal.returns

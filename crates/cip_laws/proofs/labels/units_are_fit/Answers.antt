@@ -1,4 +1,4 @@
-use Rattle.cip_label.proofs.FitUnits.{units_fit}
+use Rattle.cip_label.proofs.lemmas.FitUnits.{units_fit}
 use Rattle.cip_laws.proofs.labels.units_are_fit.Goals as goal
 
 pub returns : goal.returns

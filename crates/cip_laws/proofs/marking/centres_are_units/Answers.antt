@@ -1,4 +1,4 @@
-use Rattle.cip_change.proofs.CentrePlaces.{has_place, place_has}
+use Rattle.cip_edit.proofs.lemmas.CentrePlaces.{has_place, place_has}
 use Rattle.cip_laws.proofs.marking.centres_are_units.Goals as goal
 
 pub returns : goal.returns

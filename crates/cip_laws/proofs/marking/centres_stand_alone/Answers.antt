@@ -1,5 +1,5 @@
 use Rattle.cip_digraph.specs.units.Ends.{end_at}
-use Rattle.cip_change.proofs.CentreOutcomes.{cost_stays, outcome_same}
+use Rattle.cip_edit.proofs.lemmas.CentreOutcomes.{cost_stays, outcome_same}
 use Rattle.cip_laws.proofs.marking.centres_stand_alone.Goals as goal
 
 pub returns : goal.returns

@@ -1,4 +1,4 @@
-use Rattle.cip_change.proofs.SetMarks.{down_found, down_known, sense, up_known}
+use Rattle.cip_edit.proofs.lemmas.SetMarks.{down_found, down_known, sense, up_known}
 use Rattle.cip_laws.proofs.marking.eligible_marks_show_senses.Goals as goal
 
 pub returns : goal.returns

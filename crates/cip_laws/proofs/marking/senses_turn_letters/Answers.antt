@@ -1,4 +1,4 @@
-use Rattle.cip_change.proofs.RemarkedCentres as law
+use Rattle.cip_edit.proofs.lemmas.RemarkedCentres as law
 use Rattle.cip_laws.proofs.marking.senses_turn_letters.Goals as goal
 
 pub returns : goal.returns

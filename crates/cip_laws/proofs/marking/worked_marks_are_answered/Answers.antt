@@ -11,13 +11,13 @@ use Rattle.cip_digraph.specs.rules.Auxiliary.{marks_within}
 use Rattle.cip_digraph.specs.rules.Decisions.{order}
 use Rattle.cip_digraph.specs.rules.Orders.{rule_1a, rule_1b, rule_2, rule_3, rule_4a, readings, rule_4b_higher, rule_4b_lower, rule_4c, rule_5}
 use Rattle.cip_digraph.specs.units.Units.{sites_of}
-use Rattle.cip_change.specs.SetLetters.{mark_asked}
+use Rattle.cip_edit.specs.SetLetters.{mark_for_letter}
 use Rattle.cip_laws.proofs.marking.worked_marks_are_answered.Goals as goal
 
 pub returns : goal.returns
 unfolding valences_of natural_half_of comparison sets marks_within order real_children graph_of rule_1a rule_1b rule_2
     rule_3 rule_4a readings rule_4b_higher rule_4b_lower rule_4c rule_5 outcome_of positions_of sites_of view_children
-    mark_asked
+    mark_for_letter
 returns c = record {
   first = refl;
   other = refl;

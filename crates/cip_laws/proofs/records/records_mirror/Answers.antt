@@ -1,4 +1,4 @@
-use Rattle.cip_laws.proofs.lines.Going.{records_mirror}
+use Rattle.cip_laws.proofs.lemmas.lines.Going.{records_mirror}
 use Rattle.cip_laws.proofs.records.records_mirror.Goals as goal
 
 pub returns : goal.returns

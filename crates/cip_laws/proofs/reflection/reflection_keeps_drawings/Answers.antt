@@ -1,4 +1,4 @@
-use Rattle.cip_laws.proofs.drawings.ReflectedDrawings as law
+use Rattle.cip_laws.proofs.lemmas.drawings.ReflectedDrawings as law
 use Rattle.cip_laws.proofs.reflection.reflection_keeps_drawings.Goals as goal
 
 pub returns : goal.returns

@@ -1,4 +1,4 @@
-use Rattle.cip_laws.proofs.further.ReflectedFurther as law
+use Rattle.cip_laws.proofs.lemmas.further.ReflectedFurther as law
 use Rattle.cip_laws.proofs.reflection.reflection_keeps_further.Goals as goal
 
 pub returns : goal.returns

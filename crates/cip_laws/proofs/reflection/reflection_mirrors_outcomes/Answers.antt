@@ -1,4 +1,4 @@
-use Rattle.cip_laws.proofs.outcomes.ReflectedOutcomes as law
+use Rattle.cip_laws.proofs.lemmas.outcomes.ReflectedOutcomes as law
 use Rattle.cip_laws.proofs.reflection.reflection_mirrors_outcomes.Goals as goal
 
 pub returns : goal.returns

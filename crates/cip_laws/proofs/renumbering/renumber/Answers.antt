@@ -6,8 +6,8 @@ use Rattle.cip_mol.specs.Permutations.{ArePlaces}
 use Rattle.cip_mol.specs.RenumberedDrawing.{renumbered}
 use Rattle.cip_laws.specs.RenumberingLaw.{KeepsOutcomes}
 use Rattle.cip_laws.specs.VertexImages.{vertex_image}
-use Rattle.cip_laws.proofs.drawings.Renumbered.{renumbering_keeps_outcomes}
-use Rattle.cip_laws.proofs.drawings.RenumberedDrawings.{renumbered_drawings_are_renumberings}
+use Rattle.cip_laws.proofs.lemmas.drawings.Renumbered.{renumbering_keeps_outcomes}
+use Rattle.cip_laws.proofs.lemmas.drawings.RenumberedDrawings.{renumbered_drawings_are_renumberings}
 use Rattle.cip_laws.proofs.renumbering.renumber.Goals as goal
 
 keeps_outcomes : (drawing : Drawing) (atoms bonds : List ℕ) → IsSound (length drawing.atoms) drawing.bonds

@@ -1,4 +1,4 @@
-use Rattle.cip_laws.proofs.drawings.RenumberedDrawings as law
+use Rattle.cip_laws.proofs.lemmas.drawings.RenumberedDrawings as law
 use Rattle.cip_laws.proofs.renumbering.renumbered_drawings_are_renumberings.Goals as goal
 
 pub returns : goal.returns

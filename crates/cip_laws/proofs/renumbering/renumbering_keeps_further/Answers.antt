@@ -1,4 +1,4 @@
-use Rattle.cip_laws.proofs.further.RenumberedFurther as law
+use Rattle.cip_laws.proofs.lemmas.further.RenumberedFurther as law
 use Rattle.cip_laws.proofs.renumbering.renumbering_keeps_further.Goals as goal
 
 pub returns : goal.returns

@@ -1,4 +1,4 @@
-use Rattle.cip_laws.proofs.drawings.Renumbered as law
+use Rattle.cip_laws.proofs.lemmas.drawings.Renumbered as law
 use Rattle.cip_laws.proofs.renumbering.renumbering_keeps_outcomes.Goals as goal
 
 pub returns : goal.returns

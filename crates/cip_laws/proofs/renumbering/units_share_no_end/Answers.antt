@@ -1,4 +1,4 @@
-use Rattle.cip_laws.proofs.units.AloneSites as law
+use Rattle.cip_laws.proofs.lemmas.units.AloneSites as law
 use Rattle.cip_laws.proofs.renumbering.units_share_no_end.Goals as goal
 
 pub returns : goal.returns

@@ -1,4 +1,4 @@
-use Rattle.cip_laws.proofs.graph.DelocalisedEnds.{several_in_rings}
+use Rattle.cip_laws.proofs.lemmas.graph.DelocalisedEnds.{several_in_rings}
 use Rattle.cip_laws.proofs.rings.delocalised_atoms_lie_in_rings.Goals as goal
 
 pub returns : goal.returns

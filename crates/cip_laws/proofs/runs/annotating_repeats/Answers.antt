@@ -1,4 +1,4 @@
-use Rattle.cip_laws.proofs.done.Repeating.{annotating_repeats}
+use Rattle.cip_laws.proofs.lemmas.done.Repeating.{annotating_repeats}
 use Rattle.cip_laws.proofs.runs.annotating_repeats.Goals as goal
 
 pub returns : goal.returns

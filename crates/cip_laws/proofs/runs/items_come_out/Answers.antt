@@ -1,4 +1,4 @@
-use Rattle.cip_laws.proofs.done.Repeating.{items_come_out}
+use Rattle.cip_laws.proofs.lemmas.done.Repeating.{items_come_out}
 use Rattle.cip_laws.proofs.runs.items_come_out.Goals as goal
 
 pub returns : goal.returns

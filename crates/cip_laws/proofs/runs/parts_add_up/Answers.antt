@@ -1,4 +1,4 @@
-use Rattle.cip_laws.proofs.done.Dividing.{parts_add_up}
+use Rattle.cip_laws.proofs.lemmas.done.Dividing.{parts_add_up}
 use Rattle.cip_laws.proofs.runs.parts_add_up.Goals as goal
 
 pub returns : goal.returns

@@ -1,4 +1,4 @@
-use Rattle.cip_laws.proofs.done.Completing.{complete}
+use Rattle.cip_laws.proofs.lemmas.done.Completing.{complete}
 use Rattle.cip_laws.proofs.runs.runs_complete.Goals as goal
 
 pub returns : goal.returns

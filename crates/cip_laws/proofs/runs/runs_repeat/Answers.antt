@@ -1,4 +1,4 @@
-use Rattle.cip_laws.proofs.done.RunsAgain.{runs_repeat}
+use Rattle.cip_laws.proofs.lemmas.done.RunsAgain.{runs_repeat}
 use Rattle.cip_laws.proofs.runs.runs_repeat.Goals as goal
 
 pub returns : goal.returns

@@ -5,7 +5,7 @@ use Rattle.cip_item.specs.Putting.{heading}
 use Rattle.cip_print.specs.Labels.{ordered_label, names_of_ends}
 use Rattle.cip_print.specs.Values.{values_of}
 use Rattle.cip_answer.specs.Worked.{bromochlorofluoromethane, closed, labelled, with_returns}
-use Rattle.cip_laws.proofs.answered.Answered.{worked_answers}
+use Rattle.cip_laws.proofs.lemmas.answered.Answered.{worked_answers}
 use Rattle.cip_rank.specs.declared.rules.Rules.TheVariants.{Wording2018}
 use Rattle.cip_commands.specs.Telling.{annotated, with_answer}
 use Rattle.cip_laws.proofs.runs.worked_records_are_given.Goals as goal

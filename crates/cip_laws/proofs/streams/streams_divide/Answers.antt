@@ -1,4 +1,4 @@
-use Rattle.cip_batch.proofs.Dividing.{streams_divide}
+use Rattle.cip_batch.proofs.lemmas.Dividing.{streams_divide}
 use Rattle.cip_laws.proofs.streams.streams_divide.Goals as goal
 
 pub returns : goal.returns

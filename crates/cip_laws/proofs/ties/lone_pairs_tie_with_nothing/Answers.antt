@@ -1,4 +1,4 @@
-use Rattle.cip_laws.proofs.digraph.SameTrees as law
+use Rattle.cip_laws.proofs.lemmas.digraph.SameTrees as law
 use Rattle.cip_laws.proofs.ties.lone_pairs_tie_with_nothing.Goals as goal
 
 pub returns : goal.returns

@@ -1,4 +1,4 @@
-use Rattle.cip_laws.proofs.digraph.SameTrees as law
+use Rattle.cip_laws.proofs.lemmas.digraph.SameTrees as law
 use Rattle.cip_laws.proofs.ties.ties_are_same_trees.Goals as goal
 
 pub returns : goal.returns

@@ -1,4 +1,4 @@
-use Rattle.cip_rank.proofs.Permuted.{permuted_tie}
+use Rattle.cip_rank.proofs.lemmas.Permuted.{permuted_tie}
 use Rattle.cip_laws.proofs.trees.arrangement_is_free.Goals as goal
 
 pub returns : goal.returns

@@ -1,4 +1,4 @@
-use Rattle.cip_rank.proofs.TotalOrder.{comparison_total}
+use Rattle.cip_rank.proofs.lemmas.TotalOrder.{comparison_total}
 use Rattle.cip_laws.proofs.trees.comparisons_order.Goals as goal
 
 pub returns : goal.returns

@@ -1,4 +1,4 @@
-use Rattle.cip_rank.proofs.Refining as refining
+use Rattle.cip_rank.proofs.lemmas.Refining as refining
 use Rattle.cip_laws.proofs.trees.depths_refine.Goals as goal
 
 pub returns : goal.returns

@@ -2,7 +2,7 @@ use Rattle.std.proofs.Common.{slice_index}
 use Rattle.std.proofs.lemmas.Cmp.{on_total, nat_cmp_total}
 use Rattle.cip_rank.specs.Ranking.{key_at}
 use Rattle.cip_rank.specs.Tree.{children_of, height_of}
-use Rattle.cip_rank.proofs.MatchingBranches.{match_from_tie, tie_from_match}
+use Rattle.cip_rank.proofs.lemmas.MatchingBranches.{match_from_tie, tie_from_match}
 use Rattle.cip_laws.proofs.trees.ties_are_matches.Goals as goal
 
 pub returns : goal.returns

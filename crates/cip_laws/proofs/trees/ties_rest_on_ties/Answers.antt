@@ -1,4 +1,4 @@
-use Rattle.cip_rank.proofs.RestOnTies.{ties_alone}
+use Rattle.cip_rank.proofs.lemmas.RestOnTies.{ties_alone}
 use Rattle.cip_laws.proofs.trees.ties_rest_on_ties.Goals as goal
 
 pub returns : goal.returns

@@ -1,4 +1,4 @@
-use Rattle.cip_laws.proofs.v2000_lines.InOrder.{molecule_in_order}
+use Rattle.cip_laws.proofs.lemmas.v2000_lines.InOrder.{molecule_in_order}
 use Rattle.cip_laws.proofs.v2000.lines_decide_in_order.Goals as goal
 
 pub returns : goal.returns

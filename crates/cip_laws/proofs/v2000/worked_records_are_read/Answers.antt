@@ -6,11 +6,11 @@ use Rattle.cip_mol.specs.Bonds.{cause_of}
 use Rattle.cip_v2000.specs.AtomLine.{atom_of}
 use Rattle.cip_v2000.specs.BondLine.{bond_of}
 use Rattle.cip_v2000.specs.CountsLine.{counts_of}
-use Rattle.cip_reading.specs.Fields.{number_in, signed_in}
+use Rattle.cip_ctfile.specs.Fields.{number_in, signed_in}
 use Rattle.cip_v2000.specs.Grammar.{molecule_of, pairs_from}
-use Rattle.cip_reading.specs.Spaces.{spaced_words_of}
+use Rattle.cip_ctfile.specs.Spaces.{spaced_words_of}
 use Rattle.cip_v2000.specs.PropertyLines.{pair_of, pair_at, pairs_with}
-use Rattle.cip_reading.specs.Reading.{read_at, through, in_turn}
+use Rattle.cip_ctfile.specs.Reading.{read_at, through, in_turn}
 use Rattle.cip_v2000.specs.Statements.{settled}
 use Rattle.cip_v2000.specs.Worked.{AreRefused}
 use Rattle.cip_laws.proofs.v2000.worked_records_are_read.Goals as goal

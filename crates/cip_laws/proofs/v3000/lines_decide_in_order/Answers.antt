@@ -1,4 +1,4 @@
-use Rattle.cip_laws.proofs.v3000_lines.InOrder.{molecule_in_order}
+use Rattle.cip_laws.proofs.lemmas.v3000_lines.InOrder.{molecule_in_order}
 use Rattle.cip_laws.proofs.v3000.lines_decide_in_order.Goals as goal
 
 pub returns : goal.returns

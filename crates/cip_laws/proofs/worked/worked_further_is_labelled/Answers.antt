@@ -11,7 +11,7 @@ use Rattle.cip_digraph.specs.outcome.Outcomes.{outcome_of}
 use Rattle.cip_digraph.specs.rings.Positions.{positions_of}
 use Rattle.cip_digraph.specs.units.Units.{sites_of}
 use Rattle.cip_digraph.specs.digraph.View.{view_children}
-use Rattle.cip_mancude.specs.SharedRings.{share_ring}
+use Rattle.cip_mancude.specs.SharedRings.{share_alternating_ring}
 use Rattle.cip_axis.specs.Biaryls.{is_biaryl}
 use Rattle.cip_axis.specs.Further.{further_of}
 use Rattle.cip_laws.proofs.worked.worked_further_is_labelled.Goals as goal
@@ -19,7 +19,7 @@ use Rattle.cip_laws.proofs.worked.worked_further_is_labelled.Goals as goal
 pub returns : goal.returns
 unfolding valences_of graph_of positions_of sites_of natural_half_of real_children view_children comparison sets rule_1a
     rule_1b rule_2 rule_3 rule_4a readings rule_4b_higher rule_4b_lower rule_4c rule_5 order marks_within outcome_of
-    share_ring is_biaryl further_of
+    share_alternating_ring is_biaryl further_of
 returns c = record {
   chain = refl;
   chain_backwards = refl;

@@ -1,6 +1,6 @@
 use Rattle.std.proofs.Common.{length, ap, arith}
 use Rattle.cip_make.specs.Chains.{branch_of}
-use Rattle.cip_make.proofs.Words.{next, few_more, last}
+use Rattle.cip_make.proofs.lemmas.Words.{next, few_more, last}
 use Rattle.cip_make.proofs.chain.branches.Goals as goal
 
 pub loop-at-preserved : goal.loop-at-preserved

@@ -1,7 +1,7 @@
 use Rattle.std.proofs.Common.{rules, ◌≡◌, ◌++◌, ◌∙◌, pos, codes, ap}
 use Rattle.cip_text.specs.Writing.{coordinate, right}
 use Rattle.cip_make.specs.Lines.{atom_line, symbol}
-use Rattle.cip_make.proofs.Texts.{longer}
+use Rattle.cip_make.proofs.lemmas.Texts.{longer}
 use Rattle.cip_make.proofs.lines.push_atom_line.Goals as goal
 
 pub returns : goal.returns

@@ -2,7 +2,7 @@ use Rattle.std.proofs.Common.{arith, ◌+◌, ap}
 use Rattle.std.proofs.lemmas.Grind.{common_steps}
 use Rattle.std.proofs.lemmas.List.{drop_all}
 use Rattle.cip_make.specs.Made.{branch_bonds}
-use Rattle.cip_make.proofs.Texts.{none_left}
+use Rattle.cip_make.proofs.lemmas.Texts.{none_left}
 use Rattle.cip_make.proofs.making.push_branch_bonds.Goals as goal
 
 pub loop-branch-preserved : goal.loop-branch-preserved

@@ -1,6 +1,6 @@
 use Rattle.std.proofs.Common.{◌≡◌, ◌+◌, ◌++◌, ◌∙◌, ap, arith, suc}
 use Rattle.cip_make.specs.Made.{chain_atom, chain_atoms}
-use Rattle.cip_make.proofs.Texts.{longer}
+use Rattle.cip_make.proofs.lemmas.Texts.{longer}
 use Rattle.cip_make.proofs.making.push_chain_atoms.Goals as goal
 
 pub loop-before-preserved : goal.loop-before-preserved

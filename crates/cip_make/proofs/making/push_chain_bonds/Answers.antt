@@ -2,7 +2,7 @@ use Rattle.std.proofs.Common.{◌≡◌, ◌+◌, ◌++◌, ◌∙◌, ap, arith
 use Rattle.cip_make.specs.declared.chain.Stereo.TheVariants.{Plain}
 use Rattle.cip_make.specs.Lines.{bond_line}
 use Rattle.cip_make.specs.Made.{chain_bonds}
-use Rattle.cip_make.proofs.Texts.{longer}
+use Rattle.cip_make.proofs.lemmas.Texts.{longer}
 use Rattle.cip_make.proofs.making.push_chain_bonds.Goals as goal
 
 pub loop-before-preserved : goal.loop-before-preserved

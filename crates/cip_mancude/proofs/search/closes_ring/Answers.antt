@@ -1,6 +1,6 @@
 use Rattle.std.proofs.Common.{sym, ◌∙◌}
 use Rattle.std.proofs.lemmas.Result.{IfOk-weaker}
-use Rattle.cip_mancude.proofs.Searched.{closes_is}
+use Rattle.cip_mancude.proofs.lemmas.Searched.{closes_is}
 use Rattle.cip_mancude.proofs.search.closes_ring.Goals as goal
 
 pub returns-then-can_close : goal.returns-then-can_close

@@ -1,7 +1,7 @@
 use Rattle.std.proofs.Common.{◌+◌, ◌∙◌, ap, map}
 use Rattle.std.proofs.lemmas.List.{take_all}
 use Rattle.cip_mol.specs.Reflection.{mirrored_atom}
-use Rattle.cip_mol.proofs.Mapped.{mapped_more}
+use Rattle.cip_mol.proofs.lemmas.Mapped.{mapped_more}
 use Rattle.cip_mol.proofs.mirror.mirrored_atoms.Goals as goal
 
 pub loop-atom-preserved : goal.loop-atom-preserved

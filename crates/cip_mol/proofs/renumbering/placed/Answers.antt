@@ -1,6 +1,6 @@
 use Rattle.std.proofs.Common.{◌≡◌, ◌<◌, length, subst, arith, rules}
-use Rattle.cip_mol.proofs.Permutations.{as_many, place_below}
-use Rattle.cip_mol.proofs.Placing.{StandAtPlaces, none_stands, one_more_stands, all_stand}
+use Rattle.cip_mol.proofs.lemmas.Permutations.{as_many, place_below}
+use Rattle.cip_mol.proofs.lemmas.Placing.{StandAtPlaces, none_stands, one_more_stands, all_stand}
 use Rattle.cip_mol.proofs.renumbering.placed.Goals as goal
 
 pub loop-k-init : goal.loop-k-init

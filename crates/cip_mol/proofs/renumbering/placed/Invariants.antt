@@ -1,4 +1,4 @@
-use Rattle.cip_mol.proofs.Placing.{StandAtPlaces}
+use Rattle.cip_mol.proofs.lemmas.Placing.{StandAtPlaces}
 use Rattle.cip_mol.proofs.renumbering.placed.Given as goal
 
 abbrev pub invariant-loop-k : goal.invariant-loop-k

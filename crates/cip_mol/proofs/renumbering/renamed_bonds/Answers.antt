@@ -1,7 +1,7 @@
 use Rattle.std.proofs.Common.{◌+◌, ◌∙◌, ap, map}
 use Rattle.std.proofs.lemmas.List.{take_all}
 use Rattle.cip_mol.specs.RenumberedDrawing.{place_of, renamed}
-use Rattle.cip_mol.proofs.Mapped.{mapped_more}
+use Rattle.cip_mol.proofs.lemmas.Mapped.{mapped_more}
 use Rattle.cip_mol.proofs.renumbering.renamed_bonds.Goals as goal
 
 pub loop-bond-preserved : goal.loop-bond-preserved

@@ -1,6 +1,6 @@
 use Rattle.std.proofs.Common.{◌≤◌, ◌∙◌, arith}
 use Rattle.std.specs.Prelude.{unsigned_abs}
-use Rattle.cip_num.proofs.Sizes.{flat_back, flat_product_small, minor_back, product_back}
+use Rattle.cip_num.proofs.lemmas.Sizes.{flat_back, flat_product_small, minor_back, product_back}
 use Rattle.cip_num.proofs.plane.product.Goals as goal
 
 pub returns-clause-value : goal.returns-clause-value

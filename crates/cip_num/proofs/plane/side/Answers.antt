@@ -1,4 +1,4 @@
-use Rattle.cip_num.proofs.Sizes.{flat_kept, flat_size_kept}
+use Rattle.cip_num.proofs.lemmas.Sizes.{flat_kept, flat_size_kept}
 use Rattle.cip_num.proofs.plane.side.Goals as goal
 
 pub small_product-requires-clause-a : goal.small_product-requires-clause-a

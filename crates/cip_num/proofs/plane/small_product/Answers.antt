@@ -1,6 +1,6 @@
 use Rattle.std.proofs.Common.{arith}
 use Rattle.std.proofs.lemmas.Grind.{common_steps}
-use Rattle.cip_num.proofs.Sizes.{flat_back, flat_product_back, flat_product_small}
+use Rattle.cip_num.proofs.lemmas.Sizes.{flat_back, flat_product_back, flat_product_small}
 use Rattle.cip_num.proofs.plane.small_product.Goals as goal
 
 pub returns-clause-value : goal.returns-clause-value

@@ -1,7 +1,7 @@
 use Rattle.std.proofs.Common.{◌≡◌, ◌≤◌, ◌∙◌}
 use Rattle.std.specs.Prelude.{ℤ, unsigned_abs}
 use Rattle.cip_num.specs.Space.{minor}
-use Rattle.cip_num.proofs.Sizes.{flat_back, flat_kept, minor_back, minor_kept}
+use Rattle.cip_num.proofs.lemmas.Sizes.{flat_back, flat_kept, minor_back, minor_kept}
 use mir.Syntax.{w64, w128}
 use mir.Val.{to_z, of_z}
 use Rattle.cip_num.proofs.space.cross_of.Goals as goal

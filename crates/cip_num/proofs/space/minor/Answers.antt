@@ -1,6 +1,6 @@
 use Rattle.std.proofs.Common.{◌≡◌, ◌≤◌, ◌∙◌}
 use Rattle.std.specs.Prelude.{ℤ, ◌*ℤ◌, ◌-ℤ◌, unsigned_abs}
-use Rattle.cip_num.proofs.Sizes.{flat_back, flat_kept, flat_product_kept, flat_product_size, minor_back, minor_kept}
+use Rattle.cip_num.proofs.lemmas.Sizes.{flat_back, flat_kept, flat_product_kept, flat_product_size, minor_back, minor_kept}
 use mir.Syntax.{w64, w128}
 use mir.Val.{to_z, of_z}
 use Rattle.cip_num.proofs.space.minor.Goals as goal

@@ -1,4 +1,4 @@
-use Rattle.cip_num.proofs.Sizes.{minor_kept, product_kept}
+use Rattle.cip_num.proofs.lemmas.Sizes.{minor_kept, product_kept}
 use Rattle.cip_num.proofs.space.same_side.Goals as goal
 
 pub square-requires-clause-m : goal.square-requires-clause-m

@@ -1,4 +1,4 @@
-use Rattle.cip_num.proofs.Sizes.{flat_kept, minor_kept, product_kept}
+use Rattle.cip_num.proofs.lemmas.Sizes.{flat_kept, minor_kept, product_kept}
 use Rattle.cip_num.proofs.space.volume.Goals as goal
 
 pub minor-requires-clause-p : goal.minor-requires-clause-p

@@ -12,9 +12,9 @@ show_by_marks-requires-clause-axis c = c.step_between-axis.ensures.small
 pub show_by_marks-requires-clause-marks : goal.show_by_marks-requires-clause-marks
 show_by_marks-requires-clause-marks c =
     let marks = ap (λ (all : List Sign). length all) (c.as_slice.ensures.value ∙ c.marks_to-marks.ensures)
-    ∙ length-map c.args.near.now.ligands _ in
+    ∙ length-map c.args.nearer.now.ligands _ in
     let ligands = ap (λ (all : List Vec3). length all) (c.as_slice-3.ensures.value ∙ c.steps-firsts.ensures.value)
-    ∙ length-map c.args.near.now.ligands _ in
+    ∙ length-map c.args.nearer.now.ligands _ in
     marks ∙ sym ligands
 
 pub show_by_marks-requires-clause-other_marks : goal.show_by_marks-requires-clause-other_marks

@@ -1,5 +1,5 @@
 use Rattle.std.proofs.Common.{◌∙◌, ap, length, arith}
-use Rattle.cip_orient.proofs.FirstPlaces.{first_listed}
+use Rattle.cip_orient.proofs.lemmas.FirstPlaces.{first_listed}
 use Rattle.std.proofs.lemmas.Grind.{common_steps}
 use Rattle.cip_orient.proofs.flat_centre.places.Goals as goal
 

@@ -1,5 +1,5 @@
 use Rattle.std.proofs.Common.{◌∙◌}
-use Rattle.cip_orient.proofs.BondsAtAtoms.{has_either-at}
+use Rattle.cip_orient.proofs.lemmas.BondsAtAtoms.{has_either-at}
 use Rattle.cip_orient.proofs.marks.has_either.Goals as goal
 
 pub returns : goal.returns

@@ -1,5 +1,5 @@
 use Rattle.std.proofs.Common.{◌∙◌}
-use Rattle.cip_orient.proofs.BondsAtAtoms.{is_crossed-at}
+use Rattle.cip_orient.proofs.lemmas.BondsAtAtoms.{is_crossed-at}
 use Rattle.cip_orient.proofs.marks.is_crossed.Goals as goal
 
 pub returns : goal.returns

@@ -1,5 +1,5 @@
 use Rattle.std.proofs.Common.{◌∙◌}
-use Rattle.cip_orient.proofs.BondsAtAtoms.{mark_to-at}
+use Rattle.cip_orient.proofs.lemmas.BondsAtAtoms.{mark_to-at}
 use Rattle.cip_orient.proofs.marks.mark_between.Goals as goal
 
 pub returns : goal.returns

@@ -1,5 +1,5 @@
 use Rattle.std.proofs.Common.{arith}
-use Rattle.cip_print.proofs.Told.{one_counted}
+use Rattle.cip_print.proofs.lemmas.Explained.{one_counted}
 use Rattle.cip_print.proofs.tally.counts_of.Goals as goal
 
 pub loop-place-preserved : goal.loop-place-preserved

@@ -5,6 +5,6 @@ use Rattle.cip_ring.proofs.search.step_on.Given as goal
 
 abbrev pub invariant-loop-place : goal.invariant-loop-place
 invariant-loop-place g l = record {
-  value : l.reached ≡ with_new l.initial.reached (flat_map (g.S.Steps.step l.steps) (take l.place l.initial.reached));
+  value : l.reached ≡ with_new l.initial.reached (flat_map (g.S.Neighbours.step l.steps) (take l.place l.initial.reached));
   upto : l.place ≤ length l.initial.reached;
 }

@@ -1,5 +1,5 @@
 use Rattle.std.proofs.Common.{◌∙◌}
-use Rattle.cip_ring.proofs.Reached.{found_small_ring}
+use Rattle.cip_ring.proofs.lemmas.Reached.{found_small_ring}
 use Rattle.cip_ring.proofs.small_rings.is_in_small_ring.Goals as goal
 
 pub returns-in-Ok : goal.returns-in-Ok

@@ -1,5 +1,5 @@
 use Rattle.std.proofs.Common.{rules, ◌≡◌, None, Some}
-use Rattle.cip_ring.proofs.Smallest.{told_none, told_some}
+use Rattle.cip_ring.proofs.lemmas.Smallest.{told_none, told_some}
 use Rattle.cip_ring.proofs.small_rings.smallest_ring.Goals as goal
 
 pub returns-in-Ok-Some : goal.returns-in-Ok-Some

@@ -1,5 +1,5 @@
 use Rattle.std.proofs.Common.{◌∙◌, ap, arith, length}
-use Rattle.cip_set.proofs.MirrorReads.{few_with_items, reads_of}
+use Rattle.cip_set.proofs.lemmas.MirrorReads.{few_with_items, reads_of}
 use Rattle.cip_set.proofs.mirror.mirror_record.Goals as goal
 
 pub returns-clause-reads : goal.returns-clause-reads

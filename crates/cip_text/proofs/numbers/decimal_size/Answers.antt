@@ -1,7 +1,7 @@
 use Rattle.std.proofs.Common.{arith, rules, ◌≡◌, ◌≤◌, ◌<◌, length, slice_index}
 use Rattle.std.proofs.lemmas.Grind.{common_steps}
 use Rattle.std.proofs.lemmas.List.{take_all, take_rest}
-use Rattle.cip_text.proofs.Decimals.{no_number, cut_here, uncut}
+use Rattle.cip_text.proofs.lemmas.Decimals.{no_number, cut_here, uncut}
 use Rattle.cip_text.proofs.numbers.decimal_size.Goals as goal
 
 pub returns-then-byte-eq46 : goal.returns-then-byte-eq46

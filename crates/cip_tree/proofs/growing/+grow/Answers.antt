@@ -5,7 +5,7 @@ use Rattle.cip_digraph.specs.graph.Graph.{edges_at}
 use Rattle.cip_tree.specs.Along.{neighbour_below, edge_below, copies, duplicate_for}
 use Rattle.cip_digraph.specs.digraph.View.{real_at}
 use Rattle.cip_tree.specs.Boxed.{bare, grown}
-use Rattle.cip_tree.proofs.Rooted.{edge_grown, closure_grown, real_grown, grown_at_once, grown_around}
+use Rattle.cip_tree.proofs.lemmas.Rooted.{edge_grown, closure_grown, real_grown, grown_at_once, grown_around}
 use Rattle.cip_tree.proofs.growing.+grow.Goals as goal
 use Rattle.cip_tree.proofs.growing.+grow.Goals.{grow-then-spheres-gt0+else-loop-edge-test, grow-else-spheres-gt0, add_neighbour-then-is_on+in_ok-child, add_neighbour-else-is_on+in_ok-longer+in_ok-child-2}
 
@@ -17,11 +17,11 @@ add_edge-returns t c =
     let edge = c.args.edge.now in
     let old = c.args.children.now.items in
     let more = replicate (copies edge) (bare graph positions (duplicate_for positions path edge)) in
-    let near = map (grown graph positions c.args.spheres) (neighbour_below path c.other_end-other.result) in
+    let nearer = map (grown graph positions c.args.spheres) (neighbour_below path c.other_end-other.result) in
     let all : c.add_neighbour.new.children.items ++ more
     ≡ old ++ map (grown graph positions c.args.spheres) (edge_below positions path edge) =
     ap (λ bs. bs ++ more) c.in_ok-add_neighbour.ensures
-    ∙ append_assoc old near more
+    ∙ append_assoc old nearer more
     ∙ ap (λ other. old ++ (map (grown graph positions c.args.spheres) (neighbour_below path other) ++ more))
     c.other_end-other.ensures
     ∙ ap (λ bs. old ++ bs) (edge_grown graph positions c.args.spheres path edge) in

@@ -2,7 +2,7 @@ use Rattle.std.proofs.Common.{◌+◌, ℕ, sym, ◌∙◌, arith, Ordering}
 use Rattle.cip_rank.specs.Comparison.{comparison}
 use Rattle.cip_tree.specs.Branches.{children as branches_below}
 use Rattle.cip_tree.specs.BranchKeys.{key_of}
-use Rattle.cip_tree.proofs.FirstDecisions.{tied_here}
+use Rattle.cip_tree.proofs.lemmas.FirstDecisions.{tied_here}
 use Rattle.cip_tree.proofs.order.first_decision.Goals as goal
 
 pub loop-depth-preserved : goal.loop-depth-preserved

@@ -1,5 +1,5 @@
 use Rattle.std.proofs.Common.{◌≡◌, IfOk, sym, ◌∙◌, subst, arith}
-use Rattle.cip_tree.proofs.FirstDecisions.{decided_1a, decided_1b, decided_2, of_children}
+use Rattle.cip_tree.proofs.lemmas.FirstDecisions.{decided_1a, decided_1b, decided_2, of_children}
 use Rattle.cip_tree.proofs.order.plain_order.Goals as goal
 
 pub first_decision-requires : goal.first_decision-requires

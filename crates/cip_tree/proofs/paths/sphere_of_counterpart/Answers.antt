@@ -1,5 +1,5 @@
 use Rattle.std.proofs.Common.{length, ap, arith}
-use Rattle.cip_tree.proofs.OnPath.{no_longer}
+use Rattle.cip_tree.proofs.lemmas.OnPath.{no_longer}
 use Rattle.cip_tree.proofs.paths.sphere_of_counterpart.Goals as goal
 
 pub overflow_cast-result : goal.overflow_cast-result

@@ -1,8 +1,8 @@
 use Rattle.std.proofs.Common.{length, ap, ◌∙◌, arith}
 use Rattle.cip_tree.specs.FlatTree.{Placed}
-use Rattle.cip_tree.proofs.Depths.{shallow}
-use Rattle.cip_tree.proofs.FlatNodes.{further, first_further}
-use Rattle.cip_tree.proofs.SpheresInOrder.{few_placed}
+use Rattle.cip_tree.proofs.lemmas.Depths.{shallow}
+use Rattle.cip_tree.proofs.lemmas.FlatNodes.{further, first_further}
+use Rattle.cip_tree.proofs.lemmas.SpheresInOrder.{few_placed}
 use Rattle.cip_tree.proofs.placing.place_all.Goals as goal
 
 pub height-end-requires : goal.height-end-requires

@@ -1,4 +1,4 @@
-use Rattle.cip_undefined.proofs.KeptOrders.{senses_keep}
+use Rattle.cip_undefined.proofs.lemmas.KeptOrders.{senses_keep}
 use Rattle.cip_undefined.proofs.laws.senses_keep_orders.Goals as goal
 
 pub returns : goal.returns

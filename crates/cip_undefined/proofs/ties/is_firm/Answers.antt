@@ -1,5 +1,5 @@
 use Rattle.std.proofs.Common.{All, arith, subst, sym}
-use Rattle.cip_undefined.proofs.FitPairs.{IsFitPair, pairs_fit}
+use Rattle.cip_undefined.proofs.lemmas.FitPairs.{IsFitPair, pairs_fit}
 use Rattle.cip_undefined.proofs.ties.is_firm.Goals as goal
 
 pub is_tied-requires : goal.is_tied-requires

@@ -4,7 +4,7 @@ use Rattle.cip_mol.specs.declared.site.Site.{Site}
 use Rattle.cip_label.specs.Fitting.{IsFitSite}
 use Rattle.cip_undefined.specs.Branches.{FreeAtoms, free_atoms}
 use Rattle.cip_undefined.specs.Ties.{is_firm, loose, loose_after}
-use Rattle.cip_undefined.proofs.Rounds.{settled}
+use Rattle.cip_undefined.proofs.lemmas.Rounds.{settled}
 use Rattle.cip_undefined.proofs.ties.settle.Goals as goal
 
 pub returns-then-len-clause-free : goal.returns-then-len-clause-free

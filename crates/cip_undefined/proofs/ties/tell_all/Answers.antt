@@ -11,7 +11,7 @@ loop-unit-preserved g c =
     let nodes = c.args.labeller.now in
     record {
       so_far = ap (slice_set c.loop-unit.found c.loop-unit.unit-index)
-          (c.in_ok-tell.ensures.told
+          (c.in_ok-tell.ensures.output
           ∙ ap (told_unit setting c.loop-unit.labeller c.loop-unit.free.free) (sym c.unit-item.is)
           ∙ ap (λ n. told_unit setting n c.loop-unit.free.free c.unit-item.result) c.loop-unit.invariant.kept
           ∙ ap (λ (atoms : FreeAtoms). told_unit setting nodes atoms.free c.unit-item.result)

@@ -1,6 +1,6 @@
 use Rattle.std.proofs.Common.{All, subst, sym}
 use Rattle.cip_label.specs.Fitting.{IsFitSite}
-use Rattle.cip_undefined.proofs.FitPairs.{tied_fit}
+use Rattle.cip_undefined.proofs.lemmas.FitPairs.{tied_fit}
 use Rattle.cip_undefined.proofs.ties.tell_dependent.Goals as goal
 
 pub settle-requires : goal.settle-requires

@@ -1,8 +1,8 @@
 use Rattle.std.proofs.Common.{◌++◌, ap, sym, arith}
 use Rattle.cip_digraph.specs.units.Allenes.{axis_site, doubles, is_axis_unit}
 use Rattle.cip_unit.specs.Sites.{units_at}
-use Rattle.cip_unit.proofs.Kept.{kept_each}
-use Rattle.cip_unit.proofs.Leads.{leads_on}
+use Rattle.cip_unit.proofs.lemmas.Kept.{kept_each}
+use Rattle.cip_unit.proofs.lemmas.Leads.{leads_on}
 use Rattle.std.proofs.lemmas.Grind.{common_steps}
 use Rattle.cip_unit.proofs.axes.push_axes_through.Goals as goal
 

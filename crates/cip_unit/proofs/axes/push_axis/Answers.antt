@@ -1,5 +1,5 @@
 use Rattle.std.proofs.Common.{sym, arith}
-use Rattle.cip_unit.proofs.Shown.{axis_shown}
+use Rattle.cip_unit.proofs.lemmas.Shown.{axis_shown}
 use Rattle.std.proofs.lemmas.Grind.{common_steps}
 use Rattle.cip_unit.proofs.axes.push_axis.Goals as goal
 

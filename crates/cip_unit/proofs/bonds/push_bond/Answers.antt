@@ -6,9 +6,9 @@ use Rattle.cip_digraph.specs.units.DoubleBonds.{bond_site, end_ligands, is_bond_
 use Rattle.cip_digraph.specs.graph.Graph.{edges_at, other_end}
 use Rattle.cip_digraph.specs.rings.SmallRings.{is_in_small_ring}
 use Rattle.cip_unit.specs.Sites.{units_at}
-use Rattle.cip_unit.proofs.Kept.{one_is}
-use Rattle.cip_unit.proofs.FewUnits.{bond_end_few}
-use Rattle.cip_unit.proofs.Shown.{bond_shown, unit_parts}
+use Rattle.cip_unit.proofs.lemmas.Kept.{one_is}
+use Rattle.cip_unit.proofs.lemmas.FewUnits.{bond_end_few}
+use Rattle.cip_unit.proofs.lemmas.Shown.{bond_shown, unit_parts}
 use Rattle.cip_unit.proofs.bonds.push_bond.Goals as goal
 
 -- what can be a unit is one outside of small rings

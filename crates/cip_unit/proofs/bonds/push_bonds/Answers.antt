@@ -2,11 +2,11 @@ use Rattle.std.proofs.Common.{◌++◌, ap, sym, arith, ◌∙◌, refl}
 use Rattle.cip_digraph.specs.units.DoubleBonds.{bond_site, is_bond_unit}
 use Rattle.cip_digraph.specs.graph.Graph.{edges_at}
 use Rattle.cip_unit.specs.Sites.{units_at}
-use Rattle.cip_unit.proofs.Kept.{kept_each}
-use Rattle.cip_unit.proofs.Leads.{leads_on}
+use Rattle.cip_unit.proofs.lemmas.Kept.{kept_each}
+use Rattle.cip_unit.proofs.lemmas.Leads.{leads_on}
 use Rattle.std.proofs.lemmas.Grind.{common_steps}
 use Rattle.std.proofs.lemmas.List.{append-nil}
-use Rattle.cip_unit.proofs.FirstEnds.{none_begins}
+use Rattle.cip_unit.proofs.lemmas.FirstEnds.{none_begins}
 use Rattle.cip_unit.proofs.bonds.push_bonds.Goals as goal
 
 pub returns-then-not-can_begin : goal.returns-then-not-can_begin

@@ -1,8 +1,8 @@
 use Rattle.std.proofs.Common.{◌≡◌, length, arith}
 use Rattle.std.specs.Prelude.{nat_le}
 use Rattle.cip_digraph.specs.units.Centres.{drawn_neighbours}
-use Rattle.cip_digraph.proofs.bonds.Neighbours.{neighbours_ascend}
-use Rattle.cip_unit.proofs.ThirdNeighbours.{third_tells}
+use Rattle.cip_digraph.proofs.lemmas.bonds.Neighbours.{neighbours_ascend}
+use Rattle.cip_unit.proofs.lemmas.ThirdNeighbours.{third_tells}
 use Rattle.std.proofs.lemmas.Grind.{common_steps}
 use Rattle.cip_unit.proofs.centres.is_centre.Goals as goal
 

@@ -1,4 +1,4 @@
-use Rattle.cip_unit.proofs.Shown.{centre_shown}
+use Rattle.cip_unit.proofs.lemmas.Shown.{centre_shown}
 use Rattle.std.proofs.Common.{arith}
 use Rattle.std.proofs.lemmas.Grind.{common_steps}
 use Rattle.cip_unit.proofs.centres.push_site.Goals as goal

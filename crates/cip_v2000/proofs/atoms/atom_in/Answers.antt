@@ -6,9 +6,9 @@ use Rattle.cip_elem.specs.Symbols.{element_of}
 use Rattle.cip_elem.specs.declared.symbols.Element.{Element}
 use Rattle.cip_mol.specs.declared.refusal.ReadCause.{ReadCause}
 use Rattle.cip_mol.specs.declared.refusal.ReadCause.TheVariants.{Symbol, AtomField}
-use Rattle.cip_reading.specs.Causes.{coordinate}
-use Rattle.cip_reading.specs.Fields.{number_in, signed_in}
-use Rattle.cip_reading.specs.Reading.{◌>>=◌}
+use Rattle.cip_ctfile.specs.Causes.{coordinate}
+use Rattle.cip_ctfile.specs.Fields.{number_in, signed_in}
+use Rattle.cip_ctfile.specs.Reading.{◌>>=◌}
 use Rattle.cip_text.specs.Columns.{field}
 use Rattle.cip_text.specs.Numbers.{decimal4_of}
 use Rattle.cip_v2000.specs.AtomLine.{atom_of, charge_of, isotope_of, radical_of}
@@ -63,7 +63,7 @@ unfolding atom_of
 atom_is line x y z element difference code valence a b c d e f g =
     λ i. atom_by (a i) (b i) (c i) (d i) (e i) (f i) (g i)
 
--- the fields behind the symbol, where they are read so
+-- the fields after the symbol, where they are read so
 module _ (line : List ℕ) (x y z : Result ℤ ReadCause) (element : Option Element)
     (at_x : x ≡ coordinate (decimal4_of (field 1 10 line))) (at_y : y ≡ coordinate (decimal4_of (field 11 20 line)))
     (at_z : z ≡ coordinate (decimal4_of (field 21 30 line))) (symbol : element ≡ element_of (field 32 34 line)) where

@@ -1,5 +1,5 @@
 use Rattle.std.proofs.Common.{sym}
-use Rattle.cip_v2000.proofs.QuietFields.{no_difference}
+use Rattle.cip_v2000.proofs.lemmas.QuietFields.{no_difference}
 use Rattle.cip_v2000.proofs.atoms.mass_difference.Goals as goal
 
 pub returns-then-line-eq48-clause-value : goal.returns-then-line-eq48-clause-value

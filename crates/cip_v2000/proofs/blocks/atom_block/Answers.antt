@@ -3,7 +3,7 @@ use Rattle.std.proofs.lemmas.List.Elements.{All-push}
 use Rattle.cip_text.specs.Slices.{texts}
 use Rattle.cip_v2000.specs.AtomLine.{IsAtomLine}
 use Rattle.cip_v2000.specs.Grammar.{atom_row}
-use Rattle.cip_reading.proofs.Rows.{row_read, row_refused, rows_read, length-push}
+use Rattle.cip_ctfile.proofs.lemmas.Rows.{row_read, row_refused, rows_read, length-push}
 use Rattle.cip_v2000.proofs.blocks.atom_block.Goals as goal
 
 pub returns-in-Err-clause-value : goal.returns-in-Err-clause-value

@@ -2,7 +2,7 @@ use Rattle.std.proofs.Common.{◌≡◌, ◌≤◌, ◌+◌, ◌-◌, [], length
 use Rattle.cip_text.specs.Slices.{texts}
 use Rattle.cip_v2000.specs.AtomLine.{IsAtomLine}
 use Rattle.cip_v2000.specs.Grammar.{atom_row}
-use Rattle.cip_reading.specs.Reading.{in_turn}
+use Rattle.cip_ctfile.specs.Reading.{in_turn}
 use Rattle.cip_v2000.proofs.blocks.atom_block.Given as goal
 
 abbrev pub invariant-loop-row : goal.invariant-loop-row

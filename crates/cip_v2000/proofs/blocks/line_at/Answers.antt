@@ -1,4 +1,4 @@
-use Rattle.cip_v2000.proofs.FoundTexts.{text_found, text_missing}
+use Rattle.cip_v2000.proofs.lemmas.FoundTexts.{text_found, text_missing}
 use Rattle.cip_v2000.proofs.blocks.line_at.Goals as goal
 
 pub returns-in-Some-clause-found : goal.returns-in-Some-clause-found
@@ -8,4 +8,4 @@ returns-in-Some-clause-found c =
 
 pub returns-in-None-clause-missing : goal.returns-in-None-clause-missing
 returns-in-None-clause-missing c =
-    (text_missing c.args.lines.now c.args.place c.in-None.ensures.lookup.3, c.short.ensures)
+    (text_missing c.args.lines.now c.args.place c.in-None.ensures.lookup.3, c.missing_line_fault.ensures)

@@ -1,7 +1,7 @@
 use Rattle.std.proofs.Common.{◌∙◌, ◌+◌, sym, ap, arith, length}
 use Rattle.std.proofs.lemmas.List.{length-map}
 use Rattle.cip_text.specs.Slices.{texts}
-use Rattle.cip_v2000.proofs.PropertyBlock.{pairs_end, pairs_refused, pairs_more, pairs_short}
+use Rattle.cip_v2000.proofs.lemmas.PropertyBlock.{pairs_end, pairs_refused, pairs_more, pairs_short}
 use Rattle.cip_v2000.proofs.blocks.property_block.Goals as goal
 
 pub returns-then-is_molecule_end-clause-value : goal.returns-then-is_molecule_end-clause-value
@@ -28,7 +28,7 @@ loop-place-preserved c = record {
 
 pub returns-clause-value : goal.returns-clause-value
 returns-clause-value c =
-    rw c.short.ensures
+    rw c.missing_line_fault.ensures
     (pairs_short (length (texts c.args.lines.now) + 1) c.args.atoms c.loop-place.pairs.items c.loop-place.place
     c.args.lines.now _ c.loop-place-test.false
     (ap (λ n. n + 1) (length-map c.args.lines.now (λ line. line.now))) c.loop-place.invariant.so_far)

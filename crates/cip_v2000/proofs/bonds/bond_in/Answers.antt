@@ -14,7 +14,7 @@ in_range a b order code mark some few is = record {
   triple = λ three. grind (arith, common_steps);
 }
 
-pub checked-requires : goal.checked-requires
-checked-requires c =
+pub check_bond-requires : goal.check_bond-requires
+check_bond-requires c =
     in_range _ _ c.in-Some.order c.digit_at-in-Some.result c.in-Some-mark.mark
     c.in-Some.ensures.range.0 c.in-Some.ensures.range.1 (sym c.in-Some-mark.ensures)

@@ -3,7 +3,7 @@ use Rattle.std.specs.Prelude.{slice_get}
 use Rattle.cip_text.specs.Slices.{texts}
 use Rattle.cip_v2000.specs.PropertyLines.{pair_at, pair_from}
 use Rattle.cip_v2000.specs.declared.properties.Property.{Property}
-use Rattle.cip_v2000.proofs.FoundTexts.{text_found, text_missing}
+use Rattle.cip_v2000.proofs.lemmas.FoundTexts.{text_found, text_missing}
 use Rattle.cip_v2000.proofs.properties.pair_at.Goals as goal
 
 pair_is : (property : Property) (atoms : ℕ) (words : List (List ℕ)) (place : ℕ) (atom value : Option (List ℕ))

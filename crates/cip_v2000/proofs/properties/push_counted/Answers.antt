@@ -4,11 +4,11 @@ use Rattle.std.proofs.lemmas.Grind.{common_steps}
 use Rattle.std.proofs.lemmas.List.{take_all}
 use Rattle.cip_text.specs.Slices.{texts}
 use Rattle.cip_mol.specs.declared.refusal.ReadFault.{ReadFault}
-use Rattle.cip_reading.specs.Fields.{number_in, place_named}
-use Rattle.cip_reading.specs.Reading.{◌>>=◌}
+use Rattle.cip_ctfile.specs.Fields.{number_in, one_based_index}
+use Rattle.cip_ctfile.specs.Reading.{◌>>=◌}
 use Rattle.cip_v2000.specs.PropertyLines.{counted_pairs, pairs_of}
 use Rattle.cip_v2000.specs.declared.properties.Property.{Property}
-use Rattle.cip_v2000.specs.declared.statements.Pair.{Pair}
+use Rattle.cip_v2000.specs.declared.atom_properties.Pair.{Pair}
 use Rattle.cip_v2000.proofs.properties.push_counted.Goals as goal
 
 whole_rest : {A : Type 0} (n : ℕ) (xs : List A) → take (length xs - n) (drop n xs) ≡ drop n xs
@@ -27,14 +27,14 @@ module _ (fault : ReadFault) (atoms : ℕ) (before : List Pair) (property : Prop
   no_count (word ∷ words) few = absurd (omega (arith, few))
 
   no_last : (words : List (Bor (List ℕ))) (d : Bor (List ℕ)) → 1 ≤ length words
-      → None ≡ place_named (number_in 8 (get_or words 0 d).now)
+      → None ≡ one_based_index (number_in 8 (get_or words 0 d).now)
       → counted_pairs fault property atoms before (texts words) ≡ Err fault
   no_last [] d more at = absurd (omega (arith, more))
   no_last (word ∷ words) d more at =
       ap (λ o. ok_or o fault >>= λ last. pairs_of fault property atoms before (last + 1) (texts words)) (sym at)
 
   some_last : (words : List (Bor (List ℕ))) (d : Bor (List ℕ)) (last : ℕ)
-      → 1 ≤ length words → Some last ≡ place_named (number_in 8 (get_or words 0 d).now)
+      → 1 ≤ length words → Some last ≡ one_based_index (number_in 8 (get_or words 0 d).now)
       → counted_pairs fault property atoms before (texts words)
       ≡ pairs_of fault property atoms before (last + 1) (texts (drop 1 words))
   some_last [] d last more at = absurd (omega (arith, more))

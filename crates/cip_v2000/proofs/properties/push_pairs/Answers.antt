@@ -4,7 +4,7 @@ use Rattle.std.proofs.lemmas.List.Elements.{All-push}
 use Rattle.cip_text.specs.Slices.{texts}
 use Rattle.cip_v2000.specs.PropertyLines.{pair_row}
 use Rattle.cip_v2000.specs.Statements.{IsPair}
-use Rattle.cip_reading.proofs.Rows.{row_read, row_refused, rows_read}
+use Rattle.cip_ctfile.proofs.lemmas.Rows.{row_read, row_refused, rows_read}
 use Rattle.cip_v2000.proofs.properties.push_pairs.Goals as goal
 
 pub returns-in_default-clause-value : goal.returns-in_default-clause-value

@@ -1,7 +1,7 @@
 use Rattle.std.proofs.Common.{◌≡◌, ◌-◌, All}
 use Rattle.cip_text.specs.Slices.{texts}
 use Rattle.cip_v2000.specs.PropertyLines.{pairs_of, pair_row}
-use Rattle.cip_reading.specs.Reading.{in_turn}
+use Rattle.cip_ctfile.specs.Reading.{in_turn}
 use Rattle.cip_v2000.specs.Statements.{IsPair}
 use Rattle.cip_v2000.proofs.properties.push_pairs.Given as goal
 

@@ -14,20 +14,20 @@ in_range atoms bonds a b counted_atoms counted_bonds few_atoms few_bonds each_at
   bonds = each_bond;
 }
 
-pub settle-requires-clause-pairs : goal.settle-requires-clause-pairs
-settle-requires-clause-pairs c = subst (All IsPair) (sym c.deref.ensures.value) c.in-Ok-property_block.ensures.range
+pub apply_properties-requires-clause-pairs : goal.apply_properties-requires-clause-pairs
+apply_properties-requires-clause-pairs c = subst (All IsPair) (sym c.deref.ensures.value) c.in-Ok-property_block.ensures.range
 
-pub settle-requires-clause-lines : goal.settle-requires-clause-lines
-settle-requires-clause-lines c = c.requires.range
+pub apply_properties-requires-clause-lines : goal.apply_properties-requires-clause-lines
+apply_properties-requires-clause-lines c = c.requires.range
 
 pub from_bonds-requires-clause-range : goal.from_bonds-requires-clause-range
 from_bonds-requires-clause-range c =
-    in_range _ _ c.args.counts.atoms c.args.counts.bonds (c.in-Ok-settle.ensures.counted ∙ c.requires.counted)
-    c.in-Ok.ensures.counted c.requires.counts.0 c.requires.counts.1 c.in-Ok-settle.ensures.range c.in-Ok.ensures.range
+    in_range _ _ c.args.counts.atoms c.args.counts.bonds (c.in-Ok-apply_properties.ensures.counted ∙ c.requires.counted)
+    c.in-Ok.ensures.counted c.requires.counts.0 c.requires.counts.1 c.in-Ok-apply_properties.ensures.range c.in-Ok.ensures.range
 
 pub from_bonds-requires-clause-counted : goal.from_bonds-requires-clause-counted
 from_bonds-requires-clause-counted c =
-    c.in-Ok.ensures.among ∙ sym (c.in-Ok-settle.ensures.counted ∙ c.requires.counted)
+    c.in-Ok.ensures.among ∙ sym (c.in-Ok-apply_properties.ensures.counted ∙ c.requires.counted)
 
 pub property_block-requires-clause-few : goal.property_block-requires-clause-few
 property_block-requires-clause-few c = c.requires.few

@@ -1,6 +1,6 @@
 use Rattle.std.proofs.Common.{ap, sym}
 use Rattle.cip_v2000.specs.Version.{line_is_v3000}
-use Rattle.cip_v2000.proofs.FoundTexts.{text_found, text_missing}
+use Rattle.cip_v2000.proofs.lemmas.FoundTexts.{text_found, text_missing}
 use Rattle.cip_v2000.proofs.version.is_v3000.Goals as goal
 
 pub returns-in-None : goal.returns-in-None

@@ -1,4 +1,4 @@
-use Rattle.cip_v3000.proofs.PlacedWords.{atom_words_are}
+use Rattle.cip_v3000.proofs.lemmas.PlacedWords.{atom_words_are}
 use Rattle.cip_v3000.proofs.atoms.atom_words.Goals as goal
 
 pub returns-in-Some-next_word-2-clause-some : goal.returns-in-Some-next_word-2-clause-some

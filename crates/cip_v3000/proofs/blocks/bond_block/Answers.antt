@@ -19,7 +19,7 @@ returns-in-Ok-false-clause-are c =
       counted = ap length none ∙ sym due;
     }
 
-pub returns-in-Ok-frame-clause-behind : goal.returns-in-Ok-frame-clause-behind
-returns-in-Ok-frame-clause-behind c =
+pub returns-in-Ok-expect_block_line-clause-behind : goal.returns-in-Ok-expect_block_line-clause-behind
+returns-in-Ok-expect_block_line-clause-behind c =
     sym (ap (λ has. behind_block has c.args.count c.args.place)
     (sym c.in-Ok-true.ensures ∙ c.in-Ok-true.field-0-test))

@@ -1,6 +1,6 @@
 use Rattle.std.proofs.Common.{◌∙◌, arith, refl, sym}
 use Rattle.std.proofs.lemmas.Grind.{common_steps}
-use Rattle.cip_v3000.proofs.BlockRows.{molecule_ends, molecule_goes_on, molecule_runs_out}
+use Rattle.cip_v3000.proofs.lemmas.BlockRows.{molecule_ends, molecule_goes_on, molecule_runs_out}
 use Rattle.cip_v3000.proofs.blocks.molecule_end.Goals as goal
 
 pub returns-then-is_molecule_end : goal.returns-then-is_molecule_end

@@ -1,13 +1,13 @@
 use Rattle.std.proofs.Common.{◌+◌, ◌∙◌, All, ap, length, subst, sym}
 use Rattle.std.proofs.lemmas.List.Elements.{All-push}
 use Rattle.cip_mol.specs.Ranges.{IsAtom}
-use Rattle.cip_reading.proofs.Refusals.{fails_alike}
-use Rattle.cip_reading.proofs.Rows.{length-push}
+use Rattle.cip_ctfile.proofs.lemmas.Refusals.{fails_alike}
+use Rattle.cip_ctfile.proofs.lemmas.Rows.{length-push}
 use Rattle.cip_v3000.specs.AtomLine.{atom_of}
 use Rattle.cip_v3000.specs.Blocks.{seen_atoms}
 use Rattle.cip_v3000.specs.Grammar.{read_at}
 use Rattle.cip_v3000.specs.Joining.{seen_all}
-use Rattle.cip_v3000.proofs.BlockRows.{atom_row_read, atom_row_refused}
+use Rattle.cip_v3000.proofs.lemmas.BlockRows.{atom_row_read, atom_row_refused}
 use Rattle.cip_v3000.proofs.blocks.read_atom.Goals as goal
 
 pub returns-in-Err-clause-value : goal.returns-in-Err-clause-value

@@ -1,5 +1,5 @@
 use Rattle.std.proofs.Common.{◌≡◌, ◌-◌}
-use Rattle.cip_reading.specs.Reading.{through}
+use Rattle.cip_ctfile.specs.Reading.{through}
 use Rattle.cip_v3000.specs.Blocks.{seen_atoms, AreAtoms}
 use Rattle.cip_v3000.specs.Grammar.{atom_row, atom_block}
 use Rattle.cip_v3000.specs.Joining.{seen_all}

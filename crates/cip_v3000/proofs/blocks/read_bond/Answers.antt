@@ -1,13 +1,13 @@
 use Rattle.std.proofs.Common.{◌+◌, sym}
 use Rattle.std.proofs.lemmas.List.Elements.{All-push}
 use Rattle.cip_mol.specs.Ranges.{IsBond}
-use Rattle.cip_reading.proofs.Refusals.{fails_alike}
-use Rattle.cip_reading.proofs.Rows.{length-push}
+use Rattle.cip_ctfile.proofs.lemmas.Refusals.{fails_alike}
+use Rattle.cip_ctfile.proofs.lemmas.Rows.{length-push}
 use Rattle.cip_v3000.specs.Blocks.{seen_bonds}
 use Rattle.cip_v3000.specs.BondLine.{bond_of}
 use Rattle.cip_v3000.specs.Grammar.{read_at}
 use Rattle.cip_v3000.specs.Joining.{seen_all}
-use Rattle.cip_v3000.proofs.BlockRows.{bond_row_read, bond_row_refused}
+use Rattle.cip_v3000.proofs.lemmas.BlockRows.{bond_row_read, bond_row_refused}
 use Rattle.cip_v3000.proofs.blocks.read_bond.Goals as goal
 
 pub returns-in-Err-clause-value : goal.returns-in-Err-clause-value

@@ -1,6 +1,6 @@
 use Rattle.std.proofs.Common.{sym}
-use Rattle.cip_reading.proofs.Refusals.{fails_alike}
-use Rattle.cip_reading.proofs.Rows.{step_read, step_refused, steps_read}
+use Rattle.cip_ctfile.proofs.lemmas.Refusals.{fails_alike}
+use Rattle.cip_ctfile.proofs.lemmas.Rows.{step_read, step_refused, steps_read}
 use Rattle.cip_v3000.specs.Blocks.{seen_bonds}
 use Rattle.cip_v3000.specs.Grammar.{bond_row}
 use Rattle.cip_v3000.specs.Joining.{seen_all}

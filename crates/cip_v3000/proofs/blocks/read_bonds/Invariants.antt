@@ -1,5 +1,5 @@
 use Rattle.std.proofs.Common.{◌≡◌, ◌-◌, length}
-use Rattle.cip_reading.specs.Reading.{through}
+use Rattle.cip_ctfile.specs.Reading.{through}
 use Rattle.cip_v3000.specs.Blocks.{seen_bonds, AreBonds}
 use Rattle.cip_v3000.specs.Grammar.{bond_row, bond_rows}
 use Rattle.cip_v3000.specs.Joining.{seen_all}

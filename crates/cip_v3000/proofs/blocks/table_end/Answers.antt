@@ -1,6 +1,6 @@
 use Rattle.std.proofs.Common.{arith, ◌∙◌, sym}
 use Rattle.std.proofs.lemmas.Grind.{common_steps}
-use Rattle.cip_v3000.proofs.BlockRows.{table_ends, table_goes_on}
+use Rattle.cip_v3000.proofs.lemmas.BlockRows.{table_ends, table_goes_on}
 use Rattle.cip_v3000.proofs.blocks.table_end.Goals as goal
 
 pub returns-in-Ok-true : goal.returns-in-Ok-true

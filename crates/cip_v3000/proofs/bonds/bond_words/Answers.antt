@@ -1,4 +1,4 @@
-use Rattle.cip_v3000.proofs.PlacedWords.{bond_words_are}
+use Rattle.cip_v3000.proofs.lemmas.PlacedWords.{bond_words_are}
 use Rattle.cip_v3000.proofs.bonds.bond_words.Goals as goal
 
 pub returns-in-Some-next_number-3-clause-some : goal.returns-in-Some-next_number-3-clause-some

@@ -1,5 +1,5 @@
 use Rattle.std.proofs.Common.{rules, ◌≡◌, [], ◌∷◌}
-use Rattle.cip_reading.proofs.Turns.{over_next, over_refused, over_done}
+use Rattle.cip_ctfile.proofs.lemmas.Turns.{over_next, over_refused, over_done}
 use Rattle.cip_v3000.specs.BondLine.{with_mark}
 use Rattle.cip_v3000.specs.Words.{words_of}
 use Rattle.cip_v3000.proofs.bonds.mark_in.Goals as goal

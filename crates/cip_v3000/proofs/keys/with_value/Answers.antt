@@ -17,10 +17,10 @@ fits_mass : (n : ℕ) → n ≤ 400 → Fits w16 n
 fits_mass n few = omega (arith, few)
 
 pub valence-requires : goal.valence-requires
-valence-requires c = small_back c.in-Some-signed_stated.stated c.in-Some-signed_stated.ensures.range
+valence-requires c = small_back c.in-Some-parse_signed.stated c.in-Some-parse_signed.ensures.range
 
 pub overflow_cast-keys : goal.overflow_cast-keys
-overflow_cast-keys c = fits_byte c.in-Some-number_stated.radical c.in-Some-number_stated.ensures.range
+overflow_cast-keys c = fits_byte c.in-Some-parse_number.radical c.in-Some-parse_number.ensures.range
 
 pub overflow_cast-keys-then-eq-3 : goal.overflow_cast-keys-then-eq-3
-overflow_cast-keys-then-eq-3 c = fits_mass c.in-Some-number_stated-2.mass c.in-Some-number_stated-2.ensures.range
+overflow_cast-keys-then-eq-3 c = fits_mass c.in-Some-parse_number-2.mass c.in-Some-parse_number-2.ensures.range

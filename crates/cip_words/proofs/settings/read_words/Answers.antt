@@ -1,6 +1,6 @@
 use Rattle.std.proofs.Common.{map, sym, ap, ◌∙◌}
 use Rattle.std.specs.Option.{option_map}
-use Rattle.cip_words.proofs.NamedForms.{form_found, no_form, no_words}
+use Rattle.cip_words.proofs.lemmas.NamedForms.{form_found, no_form, no_words}
 use Rattle.cip_words.proofs.settings.read_words.Goals as goal
 
 pub returns-in_default-clause-meant : goal.returns-in_default-clause-meant

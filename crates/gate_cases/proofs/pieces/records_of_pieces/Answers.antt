@@ -2,7 +2,7 @@ use Rattle.std.proofs.Common.{◌≡◌, ◌++◌, ◌+◌, ◌∙◌, sym, ap, 
 use Rattle.std.specs.List.{take_while}
 use Rattle.cip_frame.specs.Records.{cut_of}
 use Rattle.cip_frame.specs.Framing.{all_fit, fits}
-use Rattle.gate_cases.proofs.JoinedPieces.{joined, one_more, passed_by_all}
+use Rattle.gate_cases.proofs.lemmas.JoinedPieces.{joined, one_more, passed_by_all}
 use Rattle.gate_cases.proofs.pieces.records_of_pieces.Goals as goal
 
 pub returns-in-Err-clause-too_long : goal.returns-in-Err-clause-too_long

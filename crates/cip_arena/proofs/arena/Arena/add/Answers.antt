@@ -3,11 +3,11 @@ use Rattle.std.proofs.Common.{◌∷◌, ◌++◌}
 use Rattle.std.proofs.lemmas.List.{length-map}
 use Rattle.cip_rank.specs.Tree.{last_parent}
 use Rattle.cip_arena.specs.Growth.{Growth}
-use Rattle.cip_digraph.specs.declared.nodes.Told.{Told}
+use Rattle.cip_digraph.specs.declared.nodes.NodeData.{NodeData}
 use Rattle.cip_digraph.specs.digraph.NodeList.{told_at, parents_of}
 use Rattle.cip_arena.specs.Walk.{IsEarlier, IsMarked}
-use Rattle.cip_arena.proofs.Added.{parents_added, earlier_added, near_added, last_added}
-use Rattle.cip_arena.proofs.Marked.{marked_added}
+use Rattle.cip_arena.proofs.lemmas.Added.{parents_added, earlier_added, near_added, last_added}
+use Rattle.cip_arena.proofs.lemmas.Marked.{marked_added}
 use Rattle.std.proofs.lemmas.Grind.{common_steps}
 use Rattle.cip_arena.proofs.arena.Arena.add.Goals as goal
 
@@ -19,8 +19,8 @@ invariant_of-self g c =
     let room : length ts < c.self.inside.bound = subst (λ a. length a.nodes < a.bound) (sym c.self.view_is)
     c.requires.room in
     let below : t.parent < length ts = subst (λ a. t.parent < length a.nodes) (sym c.self.view_is) c.requires.below in
-    let near : t.as_printed ≤ length ts = subst (λ a. t.as_printed ≤ length a.nodes) (sym c.self.view_is)
-    c.requires.near in
+    let nearer : t.as_printed ≤ length ts = subst (λ a. t.as_printed ≤ length a.nodes) (sym c.self.view_is)
+    c.requires.nearer in
     let items : c.push_reserved.new.self.items ≡ ts ++ t ∷ [] = c.push_reserved.ensures.items in
     let more : length c.push_reserved.new.self.items ≡ length ts + 1 = ap length items ∙ length-append ts (t ∷ []) in
     record {
@@ -31,12 +31,12 @@ invariant_of-self g c =
       fits = omega (arith, more, room);
       room = omega (arith, inv.room, c.push_reserved.ensures.capacity);
       earlier = subst IsEarlier (sym items) (earlier_added ts t inv.earlier below);
-      near = subst (λ (xs : List Told). (k : ℕ) → k < length xs → (told_at xs k).as_printed ≤ k) (sym items)
-          (near_added ts t inv.near near);
+      nearer = subst (λ (xs : List NodeData). (k : ℕ) → k < length xs → (told_at xs k).as_printed ≤ k) (sym items)
+          (near_added ts t inv.nearer nearer);
       first = omega (arith, more, inv.first);
       sphere = omega (arith, more, inv.sphere);
       flags_room = omega (arith, inv.flags_room, c.mark_vertex.ensures.room);
-      marked = subst (λ (xs : List Told). IsMarked c.mark_vertex.new.flags.items xs) (sym items)
+      marked = subst (λ (xs : List NodeData). IsMarked c.mark_vertex.new.flags.items xs) (sym items)
           (subst (λ (flags : List Bool). IsMarked flags (ts ++ t ∷ [])) (sym c.mark_vertex.ensures.marked)
           (marked_added c.self.inside.present.items ts t inv.marked));
     }
@@ -46,7 +46,7 @@ push-number-requires g c =
     let ts = c.self.inside.nodes.items in
     let parent = c.args.node.parent in
     let len : length c.self.inside.table.parents ≡ length ts = ap (λ (ps : List ℕ). length ps) c.self.invariant.parents
-    ∙ length-map ts (λ (n : Told). n.parent) in
+    ∙ length-map ts (λ (n : NodeData). n.parent) in
     let room : length ts < c.self.inside.bound = subst (λ (a : Growth). length a.nodes < a.bound) (sym c.self.view_is)
     c.requires.room in
     let below : parent < length ts = subst (λ (a : Growth). parent < length a.nodes) (sym c.self.view_is)
@@ -62,7 +62,7 @@ push-number-requires g c =
 
 pub returns-clause-added : goal.returns-clause-added
 returns-clause-added g c =
-    ap {A = List Told} {B = Growth} (λ ns. record {
+    ap {A = List NodeData} {B = Growth} (λ ns. record {
       bound = c.self.inside.bound;
       root = c.self.inside.root;
       sphere = c.self.inside.sphere;
@@ -73,7 +73,7 @@ returns-clause-added g c =
 
 pub returns-clause-last : goal.returns-clause-last
 returns-clause-last g c =
-    ap (λ (all : List Told). last_parent (parents_of all)) c.push_reserved.ensures.items
+    ap (λ (all : List NodeData). last_parent (parents_of all)) c.push_reserved.ensures.items
     ∙ last_added c.self.inside.nodes.items c.args.node
 
 pub returns-clause-number : goal.returns-clause-number

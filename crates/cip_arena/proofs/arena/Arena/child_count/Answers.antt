@@ -1,7 +1,7 @@
 use Rattle.std.proofs.Common.{ap, ◌∙◌, subst}
 use Rattle.cip_arena.specs.Making.{node_size}
 use Rattle.cip_arena.specs.Walk.{IsEarlier}
-use Rattle.cip_arena.proofs.Grows.{size_is_count}
+use Rattle.cip_arena.proofs.lemmas.Grows.{size_is_count}
 use Rattle.cip_arena.proofs.arena.Arena.child_count.Goals as goal
 
 pub returns : goal.returns

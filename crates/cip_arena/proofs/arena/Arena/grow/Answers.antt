@@ -2,7 +2,7 @@ use Rattle.std.proofs.Common.{◌≡◌, ◌+◌, ◌-◌, ℕ, arith, ap, sym, 
 use Rattle.cip_arena.specs.Walk.{IsEarlier}
 use Rattle.cip_arena.specs.Making.{with_sphere}
 use Rattle.cip_arena.specs.Growth.{Growth, Holds}
-use Rattle.cip_arena.proofs.Grows.{is_grown, size_told, holds_grown, last_holds}
+use Rattle.cip_arena.proofs.lemmas.Grows.{is_grown, size_told, holds_grown, last_holds}
 use Rattle.std.proofs.lemmas.Grind.{common_steps}
 use Rattle.cip_arena.proofs.arena.Arena.grow.Goals as goal
 

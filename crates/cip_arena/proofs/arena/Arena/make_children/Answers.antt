@@ -7,25 +7,25 @@ use Rattle.std.proofs.lemmas.List.Sums.{sum_by_more, sum_by_more_le, fold_more}
 use Rattle.cip_digraph.specs.digraph.NodeList.{told_at}
 use Rattle.cip_digraph.specs.graph.Graph.{edges_at}
 use Rattle.std.proofs.lemmas.List.{take_all}
-use Rattle.cip_digraph.specs.declared.nodes.Told.{Told}
+use Rattle.cip_digraph.specs.declared.nodes.NodeData.{NodeData}
 use Rattle.cip_digraph.specs.declared.graph.Edge.{Edge}
 use Rattle.cip_arena.specs.Growth.{Growth}
 use Rattle.cip_arena.specs.Walk.{IsEarlier}
 use Rattle.cip_arena.specs.Making.{children_at, edge_size, node_size, size_at, real_vertex, with_edge}
-use Rattle.cip_arena.proofs.Sized.{edge_kept}
-use Rattle.cip_arena.proofs.Added.{keeps_then}
-use Rattle.cip_arena.proofs.Neighbours.{told_read}
+use Rattle.cip_arena.proofs.lemmas.Sized.{edge_kept}
+use Rattle.cip_arena.proofs.lemmas.Added.{keeps_then}
+use Rattle.cip_arena.proofs.lemmas.Neighbours.{told_read}
 use Rattle.cip_arena.proofs.arena.Arena.make_children.Goals as goal
 
 abbrev no_edge : Edge
 no_edge = record { a = 0; b = 0; order = 0; counted = false }
 
 -- what was read is the vertex of a real node
-real_read : (items old : List Told) (node : ℕ) (read : Told) (found vertex : Option ℕ) → items ≡ old → node < length old
+real_read : (items old : List NodeData) (node : ℕ) (read : NodeData) (found vertex : Option ℕ) → items ≡ old → node < length old
     → read ≡ get_or items node read → found ≡ real_vertex read → found ≡ vertex
     → real_vertex (told_at old node) ≡ vertex
-real_read items old node read found vertex same lt is told then =
-    ap real_vertex (sym (told_read items old node read same lt is)) ∙ sym told ∙ then
+real_read items old node read found vertex same lt is node_data then =
+    ap real_vertex (sym (told_read items old node read same lt is)) ∙ sym node_data ∙ then
 
 pub make_edge-requires-clause-room : goal.make_edge-requires-clause-room
 make_edge-requires-clause-room g c =
@@ -67,7 +67,7 @@ loop-edge-preserved g c =
             nodes = with_edge c.args.graph.now c.args.positions.now
                 c.args.node c.in-Some.vertex a.nodes e;
           }) inv.self
-          ∙ ap {A = List Told} {B = Growth} (λ ns. record c.args.self.now { nodes = ns })
+          ∙ ap {A = List NodeData} {B = Growth} (λ ns. record c.args.self.now { nodes = ns })
           (sym (fold_more (with_edge c.args.graph.now c.args.positions.now c.args.node c.in-Some.vertex) old es
           c.loop-edge.edge-index no_edge c.loop-edge-test.true));
       kept = keeps_then old c.loop-edge.self.nodes c.make_edge.new.self.nodes inv.kept c.make_edge.ensures.kept;
@@ -91,7 +91,7 @@ returns-in_default-clause-made g c =
     let none = real_read c.self.inside.nodes.items old c.args.node c.index.result.now c.real_vertex.result None
     (ap (λ (a : Growth). a.nodes) c.self.view_is) c.requires.within c.index.ensures c.real_vertex.ensures
     c.in_default.is in
-    ap {A = List Told} {B = Growth} (λ ns. record c.args.self.now { nodes = ns })
+    ap {A = List NodeData} {B = Growth} (λ ns. record c.args.self.now { nodes = ns })
     (sym (ap (children_at c.args.graph.now c.args.positions.now old c.args.node) none))
 
 pub returns-in_default-clause-last : goal.returns-in_default-clause-last
@@ -126,7 +126,7 @@ returns-after-loop-edge-clause-made g c =
     let all : take c.loop-edge.edge-index es ≡ edges_at c.args.graph.now c.in-Some.vertex =
     take_all c.loop-edge.edge-index es c.loop-edge-test.false ∙ c.edges_at-edge-items.ensures.value in
     c.loop-edge.invariant.self
-    ∙ ap {A = List Told} {B = Growth} (λ ns. record c.args.self.now { nodes = ns })
+    ∙ ap {A = List NodeData} {B = Growth} (λ ns. record c.args.self.now { nodes = ns })
     (ap (fold (with_edge c.args.graph.now c.args.positions.now c.args.node c.in-Some.vertex) old) all
     ∙ sym (ap (children_at c.args.graph.now c.args.positions.now old c.args.node) real))
 

@@ -1,6 +1,6 @@
 use Rattle.std.proofs.Common.{arith, ap}
 use Rattle.std.proofs.lemmas.Grind.{common_steps}
-use Rattle.cip_arena.proofs.Added.{keeps_more, keeps_twice}
+use Rattle.cip_arena.proofs.lemmas.Added.{keeps_more, keeps_twice}
 use Rattle.cip_arena.proofs.arena.Arena.make_edge.Goals as goal
 
 pub returns-then-edge-clause-kept : goal.returns-then-edge-clause-kept
@@ -20,11 +20,11 @@ returns-then-edge-clause-cost g c = grind (arith, common_steps)
 pub add_copies-requires-clause-room : goal.add_copies-requires-clause-room
 add_copies-requires-clause-room g c = grind (arith, common_steps)
 
-pub tell_duplicate-told-requires-clause-within : goal.tell_duplicate-told-requires-clause-within
-tell_duplicate-told-requires-clause-within g c = grind (arith, common_steps)
+pub duplicate_node_data-node_data-requires-clause-within : goal.duplicate_node_data-node_data-requires-clause-within
+duplicate_node_data-node_data-requires-clause-within g c = grind (arith, common_steps)
 
-pub tell_duplicate-told-requires-clause-stands : goal.tell_duplicate-told-requires-clause-stands
-tell_duplicate-told-requires-clause-stands g c = grind (arith, common_steps)
+pub duplicate_node_data-node_data-requires-clause-stands : goal.duplicate_node_data-node_data-requires-clause-stands
+duplicate_node_data-node_data-requires-clause-stands g c = grind (arith, common_steps)
 
 pub returns-else-edge-clause-size : goal.returns-else-edge-clause-size
 returns-else-edge-clause-size g c = grind (arith, common_steps)

@@ -1,11 +1,11 @@
 use Rattle.std.proofs.Common.{◌≡◌, true, false, None, Some, refl, sym, ap, ◌∙◌, subst, arith}
-use Rattle.cip_digraph.specs.declared.nodes.Told.{Told}
+use Rattle.cip_digraph.specs.declared.nodes.NodeData.{NodeData}
 use Rattle.cip_arena.specs.Growth.{Growth}
 use Rattle.cip_arena.specs.Making.{with_neighbour}
 use Rattle.cip_arena.specs.Walk.{IsEarlier}
-use Rattle.cip_arena.proofs.Neighbours.{told_read, with_nodes, closure_is, real_is, none_made, one_made, walked_as}
-use Rattle.cip_arena.proofs.Neighbours.{above_as, stands_as, none_more, one_more, room_for_one, above_low, longer}
-use Rattle.cip_arena.proofs.Walked.{none_above, parent_above, parent_found}
+use Rattle.cip_arena.proofs.lemmas.Neighbours.{told_read, with_nodes, closure_is, real_is, none_made, one_made, walked_as}
+use Rattle.cip_arena.proofs.lemmas.Neighbours.{above_as, stands_as, none_more, one_more, room_for_one, above_low, longer}
+use Rattle.cip_arena.proofs.lemmas.Walked.{none_above, parent_above, parent_found}
 use Rattle.std.proofs.lemmas.Grind.{common_steps}
 use Rattle.cip_arena.proofs.arena.Arena.make_neighbour.Goals as goal
 
@@ -21,7 +21,7 @@ returns-then-comes_from g c =
     c.requires.vertex c.requires.above come in
     let found = parent_found old early other node c.args.from.vertex c.args.from.above c.requires.within
     c.requires.vertex c.requires.above come in
-    let up = ap (λ (t : Told). t.parent) (told_read c.self.inside.nodes.items old node c.index.result.now same
+    let up = ap (λ (t : NodeData). t.parent) (told_read c.self.inside.nodes.items old node c.index.result.now same
     c.requires.within c.index.ensures) in
     record {
       made = with_nodes c.args.self.now old (with_neighbour c.args.graph.now old node other)
@@ -44,21 +44,21 @@ returns-then-not-is_above g c =
     let above = above_as old node other c.deref-in-Some.result.now c.is_above.result false
     (c.deref-in-Some.ensures.value ∙ same) c.is_above.ensures c.if-not-is_above.true in
     let added = ap (λ (a : Growth). a.nodes) c.add.ensures.added in
-    let long = longer old c.add.new.self.nodes c.tell_closure-told.result added in
-    let parent : c.tell_closure-told.result.parent ≡ node = ap (λ (t : Told). t.parent) c.tell_closure-told.ensures in
+    let long = longer old c.add.new.self.nodes c.closure_node_data-node_data.result added in
+    let parent : c.closure_node_data-node_data.result.parent ≡ node = ap (λ (t : NodeData). t.parent) c.closure_node_data-node_data.ensures in
     let cost = c.add.ensures.cost in
     let last = c.add.ensures.last in
-    let told = closure_is c.args.graph.now old node other c.deref-then-not-is_above.result.now c.in-Some.at
-    c.tell_closure-told.result (c.deref-then-not-is_above.ensures.value ∙ same) walked c.tell_closure-told.ensures in
+    let node_data = closure_is c.args.graph.now old node other c.deref-then-not-is_above.result.now c.in-Some.at
+    c.closure_node_data-node_data.result (c.deref-then-not-is_above.ensures.value ∙ same) walked c.closure_node_data-node_data.ensures in
     let low = c.in-Some.ensures.low in
     let within = c.requires.within in
     record {
       made = c.add.ensures.added ∙ with_nodes c.args.self.now _ _
-          (one_made c.args.graph.now old node other c.tell_closure-told.result above told);
+          (one_made c.args.graph.now old node other c.closure_node_data-node_data.result above node_data);
       stands = stands_as old node other (Some c.in-Some.at) walked;
       low = omega (arith, long, low, within);
       last = omega (arith, last, parent);
-      size = one_more old node other c.add.new.self.nodes c.tell_closure-told.result added above;
+      size = one_more old node other c.add.new.self.nodes c.closure_node_data-node_data.result added above;
       cost = omega (arith, long, cost);
     }
 
@@ -95,20 +95,20 @@ returns-in_default g c =
     c.in_default.ensures.found in
     let above = none_above old early other node c.requires.within walked in
     let added = ap (λ (a : Growth). a.nodes) c.add-in_default.ensures.added in
-    let long = longer old c.add-in_default.new.self.nodes c.tell_real-told.result added in
-    let parent : c.tell_real-told.result.parent ≡ node = ap (λ (t : Told). t.parent) c.tell_real-told.ensures in
+    let long = longer old c.add-in_default.new.self.nodes c.real_node_data-node_data.result added in
+    let parent : c.real_node_data-node_data.result.parent ≡ node = ap (λ (t : NodeData). t.parent) c.real_node_data-node_data.ensures in
     let cost = c.add-in_default.ensures.cost in
     let last = c.add-in_default.ensures.last in
-    let told = real_is c.args.graph.now old node other c.deref-in_default.result.now c.tell_real-told.result
-    (c.deref-in_default.ensures.value ∙ same) walked c.tell_real-told.ensures in
+    let node_data = real_is c.args.graph.now old node other c.deref-in_default.result.now c.real_node_data-node_data.result
+    (c.deref-in_default.ensures.value ∙ same) walked c.real_node_data-node_data.ensures in
     let number = c.add-in_default.ensures.number in
     record {
       made = c.add-in_default.ensures.added ∙ with_nodes c.args.self.now _ _
-          (one_made c.args.graph.now old node other c.tell_real-told.result above told);
+          (one_made c.args.graph.now old node other c.real_node_data-node_data.result above node_data);
       stands = number ∙ stands_as old node other None walked;
       low = omega (arith, long, number);
       last = omega (arith, last, parent);
-      size = one_more old node other c.add-in_default.new.self.nodes c.tell_real-told.result added above;
+      size = one_more old node other c.add-in_default.new.self.nodes c.real_node_data-node_data.result added above;
       cost = omega (arith, long, cost);
     }
 
@@ -136,29 +136,29 @@ add-requires-in_default-clause-room g c =
 
 pub add-requires-clause-below : goal.add-requires-clause-below
 add-requires-clause-below g c =
-    let parent : c.tell_closure-told.result.parent ≡ c.args.from.node = ap (λ (t : Told). t.parent)
-    c.tell_closure-told.ensures in
+    let parent : c.closure_node_data-node_data.result.parent ≡ c.args.from.node = ap (λ (t : NodeData). t.parent)
+    c.closure_node_data-node_data.ensures in
     let within = c.requires.within in
     omega (arith, parent, within)
 
 pub add-requires-clause-in_order : goal.add-requires-clause-in_order
 add-requires-clause-in_order g c =
-    let parent : c.tell_closure-told.result.parent ≡ c.args.from.node = ap (λ (t : Told). t.parent)
-    c.tell_closure-told.ensures in
+    let parent : c.closure_node_data-node_data.result.parent ≡ c.args.from.node = ap (λ (t : NodeData). t.parent)
+    c.closure_node_data-node_data.ensures in
     let last = c.requires.last in
     omega (arith, parent, last)
 
 pub add-requires-in_default-clause-below : goal.add-requires-in_default-clause-below
 add-requires-in_default-clause-below g c =
-    let parent : c.tell_real-told.result.parent ≡ c.args.from.node = ap (λ (t : Told). t.parent)
-    c.tell_real-told.ensures in
+    let parent : c.real_node_data-node_data.result.parent ≡ c.args.from.node = ap (λ (t : NodeData). t.parent)
+    c.real_node_data-node_data.ensures in
     let within = c.requires.within in
     omega (arith, parent, within)
 
 pub add-requires-in_default-clause-in_order : goal.add-requires-in_default-clause-in_order
 add-requires-in_default-clause-in_order g c =
-    let parent : c.tell_real-told.result.parent ≡ c.args.from.node = ap (λ (t : Told). t.parent)
-    c.tell_real-told.ensures in
+    let parent : c.real_node_data-node_data.result.parent ≡ c.args.from.node = ap (λ (t : NodeData). t.parent)
+    c.real_node_data-node_data.ensures in
     let last = c.requires.last in
     omega (arith, parent, last)
 
@@ -168,17 +168,17 @@ is_above-requires-clause-within g c = grind (arith, common_steps)
 pub index-requires : goal.index-requires
 index-requires g c = grind (arith, common_steps)
 
-pub tell_closure-told-requires : goal.tell_closure-told-requires
-tell_closure-told-requires g c = grind (arith, common_steps)
+pub closure_node_data-node_data-requires : goal.closure_node_data-node_data-requires
+closure_node_data-node_data-requires g c = grind (arith, common_steps)
 
-pub find_above-requires-clause-earlier : goal.find_above-requires-clause-earlier
-find_above-requires-clause-earlier g c = grind (arith, common_steps)
+pub find_ancestor-requires-clause-earlier : goal.find_ancestor-requires-clause-earlier
+find_ancestor-requires-clause-earlier g c = grind (arith, common_steps)
 
 pub is_above-requires-clause-earlier : goal.is_above-requires-clause-earlier
 is_above-requires-clause-earlier g c = grind (arith, common_steps)
 
-pub tell_real-told-requires-clause-within : goal.tell_real-told-requires-clause-within
-tell_real-told-requires-clause-within g c = grind (arith, common_steps)
+pub real_node_data-node_data-requires-clause-within : goal.real_node_data-node_data-requires-clause-within
+real_node_data-node_data-requires-clause-within g c = grind (arith, common_steps)
 
-pub find_above-requires-clause-within : goal.find_above-requires-clause-within
-find_above-requires-clause-within g c = grind (arith, common_steps)
+pub find_ancestor-requires-clause-within : goal.find_ancestor-requires-clause-within
+find_ancestor-requires-clause-within g c = grind (arith, common_steps)

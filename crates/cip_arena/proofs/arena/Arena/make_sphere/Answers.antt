@@ -1,10 +1,10 @@
 use Rattle.std.proofs.Common.{◌≡◌, ◌<◌, ◌≤◌, ◌+◌, ◌-◌, arith, ap, sym, ◌∙◌, subst, length, List}
-use Rattle.cip_digraph.specs.declared.nodes.Told.{Told}
+use Rattle.cip_digraph.specs.declared.nodes.NodeData.{NodeData}
 use Rattle.cip_arena.specs.Growth.{Growth}
 use Rattle.cip_arena.specs.Walk.{IsEarlier}
 use Rattle.cip_arena.specs.Making.{node_size, size_upto, with_children}
-use Rattle.cip_arena.proofs.Sized.{node_kept, size_next, size_after, sphere_after}
-use Rattle.cip_arena.proofs.Added.{keeps_then}
+use Rattle.cip_arena.proofs.lemmas.Sized.{node_kept, size_next, size_after, sphere_after}
+use Rattle.cip_arena.proofs.lemmas.Added.{keeps_then}
 use Rattle.cip_arena.proofs.arena.Arena.make_sphere.Goals as goal
 
 pub make_children-requires-clause-room : goal.make_children-requires-clause-room
@@ -50,7 +50,7 @@ loop-node-preserved g c =
             nodes = with_children c.args.graph.now c.args.positions.now
                 a.nodes n;
           }) inv.self
-          ∙ ap {A = List Told} {B = Growth} (λ ns. record c.args.self.now { nodes = ns })
+          ∙ ap {A = List NodeData} {B = Growth} (λ ns. record c.args.self.now { nodes = ns })
           (sym (sphere_after c.args.graph.now c.args.positions.now old first n inv.low));
       kept = keeps_then old c.loop-node.self.nodes c.make_children.new.self.nodes inv.kept c.make_children.ensures.kept;
       size = omega (arith, kept, after, size, made);

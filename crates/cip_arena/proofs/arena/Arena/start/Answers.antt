@@ -1,6 +1,6 @@
 use Rattle.std.proofs.Common.{arith}
 use Rattle.std.proofs.lemmas.Grind.{common_steps}
-use Rattle.cip_arena.proofs.Marked.{first_marked}
+use Rattle.cip_arena.proofs.lemmas.Marked.{first_marked}
 use Rattle.cip_arena.proofs.arena.Arena.start.Goals as goal
 
 pub returns-clause-holds : goal.returns-clause-holds

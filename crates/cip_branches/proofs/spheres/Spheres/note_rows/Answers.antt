@@ -1,25 +1,25 @@
 use Rattle.std.proofs.Common.{◌≤◌, ℕ, List, length, ◌∙◌, sym, ap, subst, arith}
 use Rattle.std.proofs.lemmas.List.{with_items_is}
-use Rattle.cip_branches.specs.Layers.{Layers}
+use Rattle.cip_branches.specs.SphereColumns.{SphereColumns}
 use Rattle.cip_branches.specs.Passing.{AreNotedBut}
-use Rattle.cip_rows.specs.Reserved.{Reserved}
+use Rattle.cip_partition.specs.ReservedList.{ReservedList}
 use Rattle.cip_branches.proofs.spheres.Spheres.note_rows.Goals as goal
 
 pub note_places-requires-clause-within : goal.note_places-requires-clause-within
 note_places-requires-clause-within c =
-    subst (λ (s : Layers). c.args.to ≤ length s.ranked.rows) (sym c.self.view_is) c.requires.within
+    subst (λ (s : SphereColumns). c.args.to ≤ length s.ranked.rows) (sym c.self.view_is) c.requires.within
 
 pub note_places-requires-clause-len : goal.note_places-requires-clause-len
 note_places-requires-clause-len c =
     ap (λ (ns : List ℕ). length ns) c.deref_mut.ensures.value
-    ∙ ap (λ (column : Reserved ℕ). length column.items) c.noted.view_is
+    ∙ ap (λ (column : ReservedList ℕ). length column.items) c.noted.view_is
     ∙ c.self.invariant.before_len ∙ sym c.self.invariant.numbers_len
 
 pub note_places-requires-clause-noted : goal.note_places-requires-clause-noted
 note_places-requires-clause-noted c =
-    let held = c.deref_mut.ensures.value ∙ ap (λ (column : Reserved ℕ). column.items) c.noted.view_is in
+    let held = c.deref_mut.ensures.value ∙ ap (λ (column : ReservedList ℕ). column.items) c.noted.view_is in
     subst (λ (ns : List ℕ). AreNotedBut c.self.inside.order.rows c.args.from c.args.to ns c.self.inside.order.numbers)
-    (sym held) (subst (λ (s : Layers). AreNotedBut s.ranked.rows c.args.from c.args.to s.before s.ranked.numbers)
+    (sym held) (subst (λ (s : SphereColumns). AreNotedBut s.ranked.rows c.args.from c.args.to s.before s.ranked.numbers)
     (sym c.self.view_is) c.requires.noted)
 
 pub invariant_of-noted : goal.invariant_of-noted
@@ -44,14 +44,14 @@ invariant_of-self c =
       ranked_room = was.ranked_room;
       starts_room = was.starts_room;
       starts_fit = was.starts_fit;
-      before_room = ap (λ (column : Reserved ℕ). column.room) c.noted.view_is ∙ was.before_room;
+      before_room = ap (λ (column : ReservedList ℕ). column.room) c.noted.view_is ∙ was.before_room;
       flags_room = was.flags_room;
       sets_room = was.sets_room;
       rows_len = was.rows_len;
       numbers_len = was.numbers_len;
       before_len = ap (λ (ns : List ℕ). length ns) set ∙ c.note_places.auto.before
           ∙ ap (λ (ns : List ℕ). length ns) c.deref_mut.ensures.value
-          ∙ ap (λ (column : Reserved ℕ). length column.items) c.noted.view_is ∙ was.before_len;
+          ∙ ap (λ (column : ReservedList ℕ). length column.items) c.noted.view_is ∙ was.before_len;
       flags_len = was.flags_len;
       sets_len = was.sets_len;
       none = was.none;
@@ -61,4 +61,4 @@ pub returns : goal.returns
 returns c =
     let set = with_items_is c.noted.inside.items c.note_places.new.before (c.note_places.auto.before
     ∙ c.deref_mut.ensures.len) in
-    rw (set, c.note_places.ensures) (ap (λ (s : Layers). record s { before = s.ranked.numbers }) c.self.view_is)
+    rw (set, c.note_places.ensures) (ap (λ (s : SphereColumns). record s { before = s.ranked.numbers }) c.self.view_is)

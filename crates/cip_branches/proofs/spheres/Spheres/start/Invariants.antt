@@ -1,5 +1,5 @@
 use Rattle.std.proofs.Common.{◌≡◌, take}
-use Rattle.cip_branches.specs.Layers.{cleared, with_sphere, with_tops}
+use Rattle.cip_branches.specs.SphereColumns.{cleared, with_sphere, with_tops}
 use Rattle.cip_branches.proofs.spheres.Spheres.start.Given as goal
 
 abbrev pub invariant-loop-branch : goal.invariant-loop-branch

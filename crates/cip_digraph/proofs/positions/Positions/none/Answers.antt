@@ -1,6 +1,6 @@
 use Rattle.std.proofs.Common.{◌∙◌, ap, map, arith}
 use Rattle.cip_digraph.specs.rings.PositionLists.{listed}
-use Rattle.cip_digraph.proofs.lists.Positions.{copies_listed}
+use Rattle.cip_digraph.proofs.lemmas.lists.Positions.{copies_listed}
 use Rattle.std.proofs.lemmas.Grind.{common_steps}
 use Rattle.cip_digraph.proofs.positions.Positions.none.Goals as goal
 

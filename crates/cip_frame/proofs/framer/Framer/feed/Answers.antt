@@ -1,5 +1,5 @@
 use Rattle.std.proofs.Common.{rules, ◌≡◌}
-use Rattle.cip_frame.proofs.Holding.{holds_more, passed_more, front_more}
+use Rattle.cip_frame.proofs.lemmas.Holding.{holds_more, passed_more, front_more}
 use Rattle.cip_frame.proofs.framer.Framer.feed.Goals as goal
 
 pub returns-in-Err-clause-passed : goal.returns-in-Err-clause-passed

@@ -3,8 +3,8 @@ use Rattle.std.proofs.lemmas.Grind.{common_steps}
 use Rattle.cip_text.specs.Lines.{lines_of}
 use Rattle.cip_frame.specs.declared.fault.FrameFault.TheVariants.{RecordTooLong}
 use Rattle.cip_frame.specs.Taking.{is_line}
-use Rattle.cip_frame.proofs.Ahead.{ahead_first, ahead_line, ahead_over}
-use Rattle.cip_frame.proofs.PieceLines.{first_is_line}
+use Rattle.cip_frame.proofs.lemmas.Ahead.{ahead_first, ahead_line, ahead_over}
+use Rattle.cip_frame.proofs.lemmas.PieceLines.{first_is_line}
 use Rattle.cip_frame.proofs.framer.Framer.take_first.Goals as goal
 
 pub take_line-requires : goal.take_line-requires

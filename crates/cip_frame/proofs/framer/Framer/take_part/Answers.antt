@@ -2,7 +2,7 @@ use Rattle.std.proofs.Common.{rules, ◌≡◌, ◌<◌, ◌++◌, take, drop, E
 use Rattle.std.proofs.lemmas.List.{take-append-drop, take_rest}
 use Rattle.cip_frame.specs.declared.fault.FrameFault.TheVariants.{RecordTooLong}
 use Rattle.cip_frame.specs.Taking.{IsTooLong}
-use Rattle.cip_frame.proofs.Ahead.{ahead_plain, plain_over}
+use Rattle.cip_frame.proofs.lemmas.Ahead.{ahead_plain, plain_over}
 use Rattle.cip_frame.proofs.framer.Framer.take_part.Goals as goal
 
 pub returns-in-Err-clause-too_long : goal.returns-in-Err-clause-too_long

@@ -1,15 +1,15 @@
 use Rattle.std.proofs.Common.{rules, arith, ◌≡◌, ◌≤◌, ◌+◌, ◌++◌, ◌∙◌, ℕ, List, All, ap, drop, length, length-append, refl, subst, sym, true}
 use Rattle.std.proofs.lemmas.List.{drop_all}
 use Rattle.std.proofs.lemmas.List.Elements.{All-same}
-use Rattle.cip_text.specs.Lines.{has_last}
+use Rattle.cip_text.specs.Lines.{ends_with_byte}
 use Rattle.cip_frame.specs.Records.{open_line}
-use Rattle.cip_frame.proofs.PlainLines.{none_open}
+use Rattle.cip_frame.proofs.lemmas.PlainLines.{none_open}
 use Rattle.cip_frame.proofs.framer.Framer.take_plain.Goals.{then-is_empty+in-Ok, else-is_empty}
 use Rattle.cip_frame.proofs.framer.Framer.take_plain.Goals as goal
 
--- behind lines that have ended none is open
+-- after lines that have ended none is open
 none_begun : (items front lines : List ℕ) (line limit now : ℕ) → items ≡ front ++ lines → line ≡ length items
-    → has_last 10 lines ≡ true → length front + length lines ≤ limit → now ≡ limit
+    → ends_with_byte 10 lines ≡ true → length front + length lines ≤ limit → now ≡ limit
     → (line ≤ length items) × (drop line items ≡ open_line items) × (length items ≤ now)
 none_begun items front lines line limit now added all ended room same = (
   omega (arith, all),

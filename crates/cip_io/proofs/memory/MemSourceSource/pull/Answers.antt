@@ -1,6 +1,6 @@
 use Rattle.std.proofs.Common.{rules, ◌<◌, ◌∙◌, arith, length, sym}
 use Rattle.std.proofs.lemmas.Grind.{common_steps}
-use Rattle.cip_io.proofs.Supply.{front_given, all_given}
+use Rattle.cip_io.proofs.lemmas.Supply.{front_given, all_given}
 use Rattle.cip_io.proofs.memory.MemSourceSource.pull.Goals as goal
 
 pub returns-else-contains-clause-count : goal.returns-else-contains-clause-count

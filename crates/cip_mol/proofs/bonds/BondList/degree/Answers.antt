@@ -1,4 +1,4 @@
-use Rattle.cip_mol.proofs.OtherEnds.{length-neighbours}
+use Rattle.cip_mol.proofs.lemmas.OtherEnds.{length-neighbours}
 use Rattle.cip_mol.proofs.bonds.BondList.degree.Goals as goal
 
 pub returns : goal.returns

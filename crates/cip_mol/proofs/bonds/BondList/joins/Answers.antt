@@ -1,5 +1,5 @@
 use Rattle.std.proofs.Common.{◌∙◌}
-use Rattle.cip_mol.proofs.OtherEnds.{list_any-neighbours}
+use Rattle.cip_mol.proofs.lemmas.OtherEnds.{list_any-neighbours}
 use Rattle.cip_mol.proofs.bonds.BondList.joins.Goals as goal
 
 pub returns : goal.returns

@@ -1,6 +1,6 @@
 use Rattle.std.proofs.Common.{arith}
 use Rattle.std.proofs.lemmas.Grind.{common_steps}
-use Rattle.cip_mol.proofs.Mirrored.{range_mirrored, sound_mirrored}
+use Rattle.cip_mol.proofs.lemmas.Mirrored.{range_mirrored, sound_mirrored}
 use Rattle.cip_mol.proofs.molecule.Molecule.mirror.Goals as goal
 
 pub of_sound-requires-clause-range : goal.of_sound-requires-clause-range

@@ -2,7 +2,7 @@ use Rattle.std.proofs.Common.{arith}
 use Rattle.std.proofs.lemmas.Grind.{common_steps}
 use Rattle.cip_mol.specs.Points.{no_atom}
 use Rattle.cip_mol.specs.RenumberedDrawing.{no_bond}
-use Rattle.cip_mol.proofs.Renumbered.{range_renumbered, sound_renumbered}
+use Rattle.cip_mol.proofs.lemmas.Renumbered.{range_renumbered, sound_renumbered}
 use Rattle.cip_mol.proofs.molecule.Molecule.renumber.Goals as goal
 
 pub of_sound-requires-clause-range : goal.of_sound-requires-clause-range

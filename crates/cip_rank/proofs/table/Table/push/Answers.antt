@@ -22,7 +22,7 @@ use Rattle.std.specs.Prelude.{IfSome, Some}
 use Rattle.std.specs.declared.option.Option.{Option}
 use Rattle.cip_rank.specs.Tree.{IsTree, spheres_of, last_parent}
 use Rattle.cip_rank.specs.Ranges.{TellChildren, firsts_with}
-use Rattle.cip_rank.proofs.Pushed.{spheres_pushed, each_pushed, tree_pushed, still_tell_children}
+use Rattle.cip_rank.proofs.lemmas.Pushed.{spheres_pushed, each_pushed, tree_pushed, still_tell_children}
 use Rattle.cip_rank.proofs.table.Table.push.Goals as goal
 
 parent_known : (parent : Option ℕ) (p : ℕ) (parents : List ℕ) → parent ≡ Some p → IfSome parent (λ q. q < length parents)

@@ -1,4 +1,0 @@
-use Rattle.cip_answer.proofs.further.answer_further.Given as goal
-
-abbrev pub ghosts-label_all : goal.ghosts-label_all
-ghosts-label_all g a = record { name = a.blank.name; parts = a.blank.parts }

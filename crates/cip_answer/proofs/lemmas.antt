@@ -1,0 +1,2 @@
+pub mod FoundUnits
+pub mod UnitLists

@@ -1,0 +1,11 @@
+pub mod Added
+pub mod Children
+pub mod Few
+pub mod Grows
+pub mod Lengths
+pub mod Marked
+pub mod Masses
+pub mod Neighbours
+pub mod Sized
+pub mod Ups
+pub mod Walked

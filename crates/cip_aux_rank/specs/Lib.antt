@@ -1,0 +1,8 @@
+pub mod Asking
+pub mod Keys
+pub mod Marks
+pub mod Narrowing
+pub mod LigandBranches
+pub mod NearColumns
+pub mod RankingCache
+pub mod Room

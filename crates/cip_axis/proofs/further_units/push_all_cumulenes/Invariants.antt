@@ -1,0 +1,10 @@
+use Rattle.std.proofs.Common.{◌≡◌, ◌++◌}
+use Rattle.std.specs.Prelude.{flat_map}
+use Rattle.std.specs.List.{range_with_len}
+use Rattle.cip_axis.specs.Further.{cumulenes_of}
+use Rattle.cip_axis.proofs.further_units.push_all_cumulenes.Given as goal
+
+abbrev pub invariant-loop-atom : goal.invariant-loop-atom
+invariant-loop-atom l =
+    let source = l.source in
+    l.units ≡ l.initial.units ++ flat_map (cumulenes_of source.molecule.now source.graph.now) (range_with_len 0 l.atom)

@@ -1,0 +1,15 @@
+pub mod Answered
+pub mod Batches
+pub mod Bounds
+pub mod Counting
+pub mod Dividing
+pub mod Ending
+pub mod Faults
+pub mod Growing
+pub mod Halting
+pub mod InOrder
+pub mod LimitPlaces
+pub mod Progressing
+pub mod Tails
+pub mod Turning
+pub mod Untold

@@ -1,0 +1,11 @@
+pub mod Flagged
+pub mod Further
+pub mod Inwards
+pub mod Kept
+pub mod KidSets
+pub mod Noted
+pub mod Passed
+pub mod Steady
+pub mod Dirty
+pub mod Turned
+pub mod Refinement

@@ -1,6 +1,0 @@
-use Rattle.std.proofs.Common.{take}
-use Rattle.cip_collections.specs.Places.{ArePlaces}
-use Rattle.cip_collections.proofs.places.places_of.Given as goal
-
-abbrev pub invariant-loop-place : goal.invariant-loop-place
-invariant-loop-place l = ArePlaces l.places (take l.place l.units)

@@ -1,0 +1,6 @@
+pub mod Answered
+pub mod Counting
+pub mod Ended
+pub mod Made
+pub mod Meanings
+pub mod ToldBare

@@ -1,8 +1,0 @@
-pub mod Branches
-pub mod Counting
-pub mod Desks
-pub mod Keeping
-pub mod Rooting
-pub mod Rows
-pub mod Standing
-pub mod ToldEarly

@@ -1,0 +1,17 @@
+pub mod LentEnds
+pub mod LettersTurn
+pub mod Odd
+pub mod OddTurns
+pub mod PairTurns
+pub mod RanksTurn
+pub mod UnitAtoms
+pub mod bonds
+pub mod lists
+pub mod marks
+pub mod numbered
+pub mod orders
+pub mod reflected
+pub mod rows
+pub mod ties
+pub mod tree
+pub mod ways

@@ -1,0 +1,5 @@
+pub mod Cut
+pub mod Hanging
+pub mod PlaceTrees
+pub mod Linked
+pub mod Placing

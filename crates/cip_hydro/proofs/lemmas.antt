@@ -1,0 +1,4 @@
+pub mod Around
+pub mod Carried
+pub mod Drawn
+pub mod Sums

@@ -1,9 +1,0 @@
-use Rattle.std.proofs.Common.{◌≡◌, ◌++◌, length}
-use Rattle.cip_inside.specs.Asking.{asked_pairs}
-use Rattle.cip_inside.proofs.asking.ask_all.Given as goal
-
-abbrev pub invariant-loop-rest : goal.invariant-loop-rest
-invariant-loop-rest l = l.pairs.items ++ asked_pairs l.near.tops l.rest ≡ asked_pairs l.near.tops l.ligands
-
-abbrev pub decreases-loop-rest : goal.decreases-loop-rest
-decreases-loop-rest l = length l.rest

@@ -1,7 +1,0 @@
-use Rattle.std.proofs.Common.{◌≡◌, ◌++◌, map, take}
-use Rattle.cip_inside.specs.Asking.{asked_of}
-use Rattle.cip_inside.proofs.asking.ask_row.Given as goal
-
-abbrev pub invariant-loop-other : goal.invariant-loop-other
-invariant-loop-other l =
-    l.pairs.items ≡ l.initial.pairs.items ++ map (asked_of l.near.tops l.one) (take l.other-index l.others)

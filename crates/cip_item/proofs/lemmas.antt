@@ -1,0 +1,14 @@
+pub mod AlikeLines
+pub mod Closed
+pub mod Gaps
+pub mod Headings
+pub mod ItemLines
+pub mod Joining
+pub mod Made
+pub mod Names
+pub mod NoLabels
+pub mod Numbered
+pub mod TakenOut
+pub mod Taking
+pub mod Unnamed
+pub mod Walking

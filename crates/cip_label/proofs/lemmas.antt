@@ -1,0 +1,13 @@
+pub mod PlaceLists
+pub mod PutNumbers
+pub mod LastReason
+pub mod KnownOutcomes
+pub mod LigandNodes
+pub mod OppositeOrders
+pub mod RankedOnce
+pub mod RootsAlike
+pub mod SiteEnds
+pub mod UnitOutcomes
+pub mod StepsRise
+pub mod FitUnits
+pub mod TurnedRanks

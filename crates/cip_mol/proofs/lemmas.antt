@@ -1,0 +1,12 @@
+pub mod Mapped
+pub mod Mirrored
+pub mod OtherEnds
+pub mod Permutations
+pub mod Placing
+pub mod Redrawn
+pub mod ReflectedDrawing
+pub mod Renumbered
+pub mod Rests
+pub mod SimpleBonds
+pub mod SoundBonds
+pub mod Tables

@@ -1,0 +1,16 @@
+pub mod Clashes
+pub mod Coincidence
+pub mod Counting
+pub mod CrossProducts
+pub mod Neighbours
+pub mod Permutations
+pub mod Places
+pub mod Placing
+pub mod Quarters
+pub mod Ring
+pub mod Rotation
+pub mod Signs
+pub mod SignsOfProducts
+pub mod Sizes
+pub mod StrictOrder
+pub mod Turns

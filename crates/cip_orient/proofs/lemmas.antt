@@ -1,0 +1,4 @@
+pub mod BondsAtAtoms
+pub mod FirstPlaces
+pub mod NoMarks
+pub mod Undecided

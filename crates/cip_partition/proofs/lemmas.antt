@@ -1,0 +1,16 @@
+pub mod AssignedRows
+pub mod Cases
+pub mod ClassInRows
+pub mod ClassInSphere
+pub mod FamilyColumn
+pub mod PartedAlike
+pub mod PartedClass
+pub mod PartedPair
+pub mod PartedRows
+pub mod PartedSphere
+pub mod RefinedSphere
+pub mod DirtyPlaces
+pub mod TiedPlaces
+pub mod TwinLists
+pub mod TwinPlaces
+pub mod WrittenSets

@@ -1,0 +1,9 @@
+pub mod Keys
+pub mod Kids
+pub mod PlaceTree
+pub mod Parting
+pub mod Ranked
+pub mod ReservedList
+pub mod Rows
+pub mod Stirring
+pub mod Twins

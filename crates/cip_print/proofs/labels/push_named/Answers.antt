@@ -1,7 +1,0 @@
-use Rattle.std.proofs.lemmas.Result.{on_ok_weaker}
-use Rattle.cip_print.proofs.Texts.{joined}
-use Rattle.cip_print.proofs.labels.push_named.Goals as goal
-
-pub returns-in-Ok : goal.returns-in-Ok
-returns-in-Ok c =
-    on_ok_weaker c.push_word.result (λ word. joined _ _ _ _ _ c.in-Ok.ensures word) c.push_word.ensures

@@ -1,0 +1,5 @@
+pub mod LastDigits
+pub mod Lines
+pub mod Summaries
+pub mod Texts
+pub mod Explained

@@ -1,9 +1,0 @@
-use Rattle.std.proofs.Common.{arith}
-use Rattle.std.proofs.lemmas.Grind.{common_steps}
-use Rattle.cip_rows.proofs.column.Column.fill.Goals as goal
-
-pub loop-preserved : goal.loop-preserved
-loop-preserved g c = grind (arith, common_steps)
-
-pub push-requires : goal.push-requires
-push-requires g c = grind (arith, common_steps)

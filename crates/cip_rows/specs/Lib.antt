@@ -1,9 +1,0 @@
-pub mod Keys
-pub mod Kids
-pub mod Kin
-pub mod Parting
-pub mod Ranked
-pub mod Reserved
-pub mod Rows
-pub mod Stirring
-pub mod Twins

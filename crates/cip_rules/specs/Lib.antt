@@ -1,0 +1,10 @@
+pub mod Configuring
+pub mod Counting
+pub mod Deciding
+pub mod Laws
+pub mod DescriptorMap
+pub mod Moving
+pub mod NodeKeys
+pub mod Orders
+pub mod Rule4bWorkspace
+pub mod Taking

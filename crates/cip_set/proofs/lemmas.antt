@@ -1,0 +1,2 @@
+pub mod MirrorReads
+pub mod SetReads

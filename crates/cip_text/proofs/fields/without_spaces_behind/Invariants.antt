@@ -1,9 +1,0 @@
-use Rattle.std.proofs.Common.{◌≡◌, length, reverse}
-use Rattle.cip_text.specs.Columns.{without_spaces_before}
-use Rattle.cip_text.proofs.fields.without_spaces_behind.Given as goal
-
-abbrev pub invariant-loop-rest : goal.invariant-loop-rest
-invariant-loop-rest l = without_spaces_before (reverse l.rest) ≡ without_spaces_before (reverse l.text)
-
-abbrev pub decreases-loop-rest : goal.decreases-loop-rest
-decreases-loop-rest l = length l.rest

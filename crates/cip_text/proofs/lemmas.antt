@@ -1,0 +1,12 @@
+pub mod Contents
+pub mod Decimals
+pub mod Ended
+pub mod Ends
+pub mod Firsts
+pub mod Halves
+pub mod LastBytes
+pub mod LineLengths
+pub mod PlacedLines
+pub mod Positions
+pub mod Spaces
+pub mod Standing

@@ -1,0 +1,12 @@
+pub mod BranchLists
+pub mod Deeper
+pub mod Depths
+pub mod FirstDecisions
+pub mod FlatNodes
+pub mod Gathering
+pub mod KeyOrders
+pub mod Masses
+pub mod OnPath
+pub mod Rooted
+pub mod SeenBranches
+pub mod SpheresInOrder

@@ -1,0 +1,4 @@
+pub mod FitPairs
+pub mod KeptOrders
+pub mod Rounds
+pub mod Walked

@@ -1,0 +1,9 @@
+pub mod BlockRows
+pub mod Continued
+pub mod Counted
+pub mod FirstWords
+pub mod FrameWords
+pub mod Joined
+pub mod NumberWords
+pub mod PlacedWords
+pub mod Tables

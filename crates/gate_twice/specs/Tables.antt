@@ -1,8 +1,0 @@
--- Tables that have room for the same digraphs. Own.
-use Rattle.std.specs.Prelude.{◌≡◌, ◌<◌, ◌≤◌}
-use Rattle.gate_twice.specs.declared.tables.Tables.{Tables}
-
-pub record HaveRoom (tables : Tables) : Type 0 where
-  pub some : 0 < tables.arena.bound
-  pub work : tables.arena.bound ≤ tables.work.bound
-  pub near : tables.arena.bound ≤ tables.near.bound
