@@ -1,4 +1,5 @@
-"""The commands and their options, as the table of the code has them (crates/cip_words/src/forms.rt)."""
+"""The commands and their options with their texts, as the table of the code has them
+(crates/cip_words/src/command_table.rt)."""
 import os
 import re
 from typing import NamedTuple
@@ -6,17 +7,19 @@ from typing import NamedTuple
 import script
 import sdf
 
-TABLE = os.path.join(script.TOP, "crates", "cip_words", "src", "forms.rt")
-OPTION = re.compile(r'pub const (\w+): Named = \(\s*b"(--\w+)",\s*Choice \{(.*?)\n    \},\n\);', re.DOTALL)
+TABLE = os.path.join(script.TOP, "crates", "cip_words", "src", "command_table.rt")
+OPTION = re.compile(r'((?:/// [^\n]*\n)+)pub const (\w+): NamedOption = \(\s*b"(--\w+)",\s*OptionSpec \{(.*?)\n    \},\n\);',
+                    re.DOTALL)
 COMMAND = re.compile(r'\(\s*b"(\w+)",\s*Command::\w+,\s*&\[([^\]]*)\],?\s*\)')
+VARIANT = re.compile(r"((?:    /// .*\n)+)    (\w+),\n")
 # neither a sign nor leading zeros
 PLAIN = re.compile(r"0|[1-9][0-9]{0,18}")
 NUMBER = re.compile(r"(least|most|one|other): ([\d_]+)")
 
 
 class Option(NamedTuple):
-    """An option: its name, the letter of its value, what it takes (numbers of a range, or one of some words), and the
-    number that holds where it isn't given."""
+    """An option: its name, the letter of its value, what it takes (numbers of a range, or one of some words), its
+    default, and what it is for, in sentences."""
 
     name: str
     letter: str
@@ -24,13 +27,19 @@ class Option(NamedTuple):
     most: int
     words: tuple
     default: int
+    text: str
 
 
 def number(text):
     return int(text.replace("_", ""))
 
 
-def option_of(name, body):
+def sentences(comment):
+    """The text of a doc comment."""
+    return " ".join(line.strip().removeprefix("///").strip() for line in comment.splitlines())
+
+
+def option_of(name, body, comment):
     numbers = {key: number(value) for key, value in NUMBER.findall(body)}
     letter = re.search(r"letter: b'(\w)'", body)[1]
     default = re.search(r"default: Some\(([\d_]+)\)", body)
@@ -38,18 +47,29 @@ def option_of(name, body):
     if "CentreLetter" in body:
         words = ("R", "S", "r", "s")
     least, most = numbers.get("least"), numbers.get("most")
-    return Option(name, letter, least, most, words, number(default[1]) if default else None)
+    return Option(name, letter, least, most, words, number(default[1]) if default else None, sentences(comment))
+
+
+def table_text():
+    with open(TABLE, encoding="utf-8") as file:
+        return file.read()
+
+
+def texts():
+    """By command, what it does, in a sentence."""
+    text = table_text()
+    variants = text[text.index("pub enum Command {"):].split("\n}\n", 1)[0] + "\n"
+    return {name.lower(): sentences(comment) for comment, name in VARIANT.findall(variants)}
 
 
 def forms():
     """By command, its options, in the order of the table."""
-    with open(TABLE, encoding="utf-8") as file:
-        text = file.read()
-    options = {name: option_of(written, body) for name, written, body in OPTION.findall(text)}
+    text = table_text()
+    options = {name: option_of(written, body, comment) for comment, name, written, body in OPTION.findall(text)}
     table = text[text.index("pub const FORMS"):]
     rows = COMMAND.findall(table)
     found = {command: [options[name] for name in re.findall(r"\w+", names)] for command, names in rows}
-    if len(found) != int(re.search(r"FORMS: \[Form; (\d+)\]", table)[1]):
+    if len(found) != int(re.search(r"FORMS: \[CommandSpec; (\d+)\]", table)[1]):
         raise sdf.Fault(f"{TABLE}: not all commands are read")
     return found
 

@@ -9,11 +9,11 @@ import re
 OTHER_NAMES = {"z": "seqCis", "e": "seqTrans"}
 ATOM_LIST = "atom.prop."
 NO_LETTER = ("n/a", "?", "")
-PAIR_OF_RDKIT = re.compile(r"\((\d+), '([^']*)'\)")
-LIST_OF_RDKIT = re.compile(r"\[(?:\(\d+, '[^']*'\)(?:, )?)*\]")
+PAIR_OF_RDKIT = re.compile(r"\(([0-9]{1,9}), '([^']*)'\)")
+LIST_OF_RDKIT = re.compile(r"\[(?:\([0-9]{1,9}, '[^']*'\)(?:, )?)*\]")
 REMARK = re.compile(r"\([A-Za-z][A-Za-z ]{2,}\)")
 # the letter of a kind of unit, or the symbol of an element, may stand before a number
-ATOMS = r"(?:[abx]|C|N|B|Si|Ge|As|Se)?(\d+(?:[-=]\d+)?)"
+ATOMS = r"(?:[abx]|C|N|B|Si|Ge|As|Se)?([0-9]{1,9}(?:[-=][0-9]{1,9})?)(?![0-9])"
 LETTER = r"(seqCis|seqTrans|[RSrsZEzeMPmp])(?![A-Za-z])"
 TOKEN = re.compile(rf"[\s,;:()\[\]=/_-]*(?:{ATOMS}|{LETTER})[\s,;:()\[\]=/_-]*")
 

@@ -223,5 +223,5 @@ class Schedule:
         return None
 
     def ready(self):
-        """What waits for nothing but its turn."""
-        return [name for name in self.waiting if all(low.name in self.stand for low in self.crates[name].lows)]
+        """What waits for nothing but its turn: a library names also those on which the crates that it names stand."""
+        return [name for name in self.waiting if all(low.name in self.stand for low in self.crates[name].below)]

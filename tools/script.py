@@ -5,6 +5,8 @@ input or a program can't be used, 4 where its output can't be written.
 """
 import argparse
 import contextlib
+import glob
+import gzip
 import importlib.util
 import lzma
 import os
@@ -16,6 +18,7 @@ import sys
 import tempfile
 import threading
 import time
+import zlib
 
 import sdf
 
@@ -23,6 +26,7 @@ TOP = os.path.dirname(os.path.dirname(os.path.abspath(__file__)))
 PROGRAM = os.path.join(TOP, "crates", "cip", "out", "cip")
 DEBIAN_PYTHON = "/usr/bin/python3"
 FINE, DIFFERENT, WORDS, UNUSABLE, UNWRITTEN = range(5)
+UNPACKERS = {"gzip": gzip.open, "xz": lzma.open}
 
 
 class Parser(argparse.ArgumentParser):
@@ -63,6 +67,13 @@ def told(name, why, status):
     Bar.clear()
     print(f"{name}: {why}", file=sys.stderr)
     return status
+
+
+def say_counts(counts, names):
+    """Prints counts on standard error, as a log has them."""
+    Bar.clear()
+    name = os.path.basename(sys.argv[0])
+    print(f"{name}: " + ", ".join(f"{what} {counts[what]}" for what in names), file=sys.stderr)
 
 
 def say(line):
@@ -153,8 +164,9 @@ def with_package(module_name, name, package):
 
 
 def module():
-    """The module for Python: that of this tree, or else as it is installed."""
-    sys.path.insert(0, os.path.join(TOP, "python"))
+    """The module for Python: that of this tree, or that below the PREFIX of an installed script, or any other."""
+    below = glob.glob(os.path.join(TOP, "..", "..", "lib", "python3*", "*-packages", "cip", "__init__.py"))
+    sys.path[:0] = [os.path.join(TOP, "python"), *(os.path.dirname(os.path.dirname(path)) for path in sorted(below))]
     try:
         import cip
     except ImportError:
@@ -180,24 +192,40 @@ def program(path):
 
 @contextlib.contextmanager
 def plain(path):
-    """An SDfile as a file of the system, which a program can be given; unpacked where its name ends in .xz.
+    """An SDfile as a file of the system, which a program can be given; unpacked if it is packed by gzip or xz.
 
-    A fault where it has no record.
+    A fault if it has no record.
     """
-    with lzma.open(path) if path.endswith(".xz") else open(path, "rb") as file, tempfile.TemporaryFile() as copy:
+    with open(path, "rb") as given, contextlib.ExitStack() as held:
+        file = given if given.seekable() else held.enter_context(kept(given))
         try:
-            if path.endswith(".xz") or not file.seekable():
-                shutil.copyfileobj(file, copy, sdf.PIECE)
-                file = copy
-                file.seek(0)
+            if packer := sdf.packed_by(beginning(file)):
+                file = held.enter_context(unpacked(file, packer[0]))
             if next(sdf.records(file), None) is None:
                 raise sdf.Fault("no record in it")
-        except (lzma.LZMAError, EOFError):
-            raise sdf.Fault(f"{path}: not packed by xz") from None
         except sdf.Fault as fault:
             raise sdf.Fault(f"{path}: {fault}") from None
         file.seek(0)
         yield file
+
+
+def beginning(file):
+    """The first bytes of a file, which is then at its beginning again."""
+    found = file.read(max(map(len, sdf.PACKED)))
+    file.seek(0)
+    return found
+
+
+@contextlib.contextmanager
+def unpacked(file, packer):
+    """A packed file as a plain one of the system."""
+    with UNPACKERS[packer](file) as stream, tempfile.TemporaryFile() as copy:
+        try:
+            shutil.copyfileobj(stream, copy, sdf.PIECE)
+        except (lzma.LZMAError, gzip.BadGzipFile, zlib.error, EOFError):
+            raise sdf.Fault(f"its {packer} is broken") from None
+        copy.seek(0)
+        yield copy
 
 
 @contextlib.contextmanager

@@ -9,9 +9,22 @@ from typing import NamedTuple, Optional
 LIMIT = 16 << 20
 PIECE = 1 << 20
 FARTHEST = 50_000
+# how much of a strange line is shown
+LONGEST = 200
 LABEL_ITEM = b"CIP_LABELS"
 LETTERS = ("R", "S", "r", "s", "Z", "E", "seqCis", "seqTrans", "M", "P", "m", "p")
-RULES = ("1a", "1b", "2", "3", "4a", "4b", "4c", "5")
+# the sequence rules in their order, with what each prefers
+RULES = {
+    "1a": "higher atomic number",
+    "1b": "duplicate nearer the root",
+    "2": "higher mass number",
+    "3": "Z before E",
+    "4a": "R, S, M, P before r, s, m, p before none",
+    "4b": "like before unlike",
+    "4c": "r before s",
+    "5": "R before S",
+}
+COUNTED = ("records", "labels", "refused", "over")
 KINDS = {"a": "centre", "b": "double bond", "x": "allene", "c": "cumulene", "t": "biaryl axis"}
 REFERENCE_MASSES = {"H": 1, "Li": 7, "B": 11, "C": 12, "N": 14, "O": 16, "F": 19, "Si": 28, "P": 31, "S": 32, "Cl": 35,
                     "Se": 79, "Br": 80, "I": 127}
@@ -20,10 +33,15 @@ V2000_MARKS = {(1, 1): "up", (1, 4): "either", (1, 6): "down", (2, 3): "either"}
 V3000_MARKS = {(1, 1): "up", (1, 2): "either", (1, 3): "down", (2, 2): "either"}
 
 TERMINATOR = re.compile(rb"\$\$\$\$ *\r?\n")
-MOLECULE_END = re.compile(rb"(?:^|\n)M  END *\r?(?:\n|$)")
-ITEM_HEAD = re.compile(rb">.*?<(.*?)>")
-SETTING = re.compile(r"cip 2 rule1b (2013|2018) nodes [1-9]\d*")
-UNIT = re.compile(r"[a-z](\d+)(?:-(\d+))?")
+MOLECULE_END = re.compile(rb"M  END *(?:\r?\n|\Z)")
+ITEM_HEAD = re.compile(rb">[^<]*<([^>]*)>")
+# how a packed file begins, and what unpacks it
+PACKED = {b"\x1f\x8b": ("gzip", "zcat"), b"\xfd7zXZ": ("xz", "xzcat")}
+# nothing counts more than the bytes of a record, and other digits than those of ASCII are none
+NUMBER = r"(?:0|[1-9][0-9]{0,8})"
+SETTING = re.compile(r"cip 2 rule1b (2013|2018) nodes [1-9][0-9]{0,8}")
+UNIT = re.compile(rf"a({NUMBER})|[bxct]({NUMBER})-({NUMBER})")
+LIGAND = re.compile(rf"{NUMBER}|[H:|]")
 WORD = re.compile(r'(?:\([^)]*\)?|"[^"]*"?|[^ ])+')
 
 
@@ -86,6 +104,8 @@ def records(file):
     """The records of a stream, one after the other; blank lines behind the last one are none."""
     rest, searched, count = bytearray(), 0, 0
     while piece := file.read(PIECE):
+        if not rest and not count and (packer := packed_by(piece)):
+            raise Fault("packed by {}: {} FILE | cip annotate".format(*packer))
         rest += piece
         done = 0
         for end in record_ends(rest, searched):
@@ -97,9 +117,14 @@ def records(file):
         # a terminator line may begin with the open line
         searched = rest.rfind(b"\n") + 1
     if rest.strip(b" \t\r\n"):
-        if not (count or is_closed(rest) or MOLECULE_END.search(rest) or LABEL_ITEM in rest):
+        if not (count or is_closed(rest) or molecule_end(rest) or LABEL_ITEM in rest):
             raise Fault("not an SDfile: it has neither a line `$$$$` nor a line `M  END`")
         yield bytes(rest)
+
+
+def packed_by(text):
+    """What packed a file that begins so, and what unpacks it; nothing if it isn't packed."""
+    return next((packer for begin, packer in PACKED.items() if text.startswith(begin)), None)
 
 
 def record_ends(text, start=0):
@@ -107,6 +132,14 @@ def record_ends(text, start=0):
     for found in TERMINATOR.finditer(text, start):
         if found.start() == 0 or text[found.start() - 1] == 10:
             yield found.end()
+
+
+def molecule_end(record):
+    """The place after the first line `M  END`, or 0 if there is none."""
+    for found in MOLECULE_END.finditer(record):
+        if found.start() == 0 or record[found.start() - 1] == 10:
+            return found.end()
+    return 0
 
 
 def is_word(content, word):
@@ -121,7 +154,7 @@ def is_closed(record):
 def contents(record):
     """The contents of the lines of a record, without their line ends."""
     *ended, last = record.split(b"\n")
-    lines = [line.removesuffix(b"\r") for line in ended]
+    lines = [line[:-1] if line.endswith(b"\r") else line for line in ended]
     return lines + [last] if last else lines
 
 
@@ -134,28 +167,64 @@ def text(content):
 
 
 def name(record):
-    """The name line of a record."""
-    return text(contents(record)[0]) if record.strip(b"\r\n") else ""
+    """The name line of a record, which a record without a line of its own hasn't."""
+    end = record.find(b"\n")
+    line = record if end < 0 else record[:end - 1 if record[end - 1:end] == b"\r" else end]
+    if line[:1] not in (b"$", b">") or molecule_end(record):
+        return text(line)
+    return text(next(iter(own_lines(record)), b""))
+
+
+def own_lines(record):
+    """The lines of a record without `M  END`, but for its label items and its terminator."""
+    found, is_label = [], False
+    for line in data_lines(record):
+        is_head = is_label_head(line)
+        if not (is_head or is_label):
+            found.append(line)
+        # a blank line ends an item, and belongs to it
+        is_label = is_head or is_label and bool(line.strip(b" \t"))
+    return found
+
+
+def body(record):
+    """What `cip annotate` keeps at the head of a record: its bytes through the line `M  END`, or if it has none the
+    lines of its own that aren't blank."""
+    end = molecule_end(record)
+    return record[:end] if end else [line for line in own_lines(record) if line.strip(b" \t")]
+
+
+def data_lines(record):
+    """The lines after the first line `M  END`, or all if there is none, without the terminator."""
+    lines = contents(record[molecule_end(record):])
+    return lines[:-1] if lines and is_word(lines[-1], b"$$$$") else lines
+
+
+def is_label_head(line):
+    return line.startswith(b">") and b"<" + LABEL_ITEM + b">" in line
 
 
 def items(record):
-    """The data items behind the first line `M  END`, or of the whole record where it has none."""
-    lines = contents(record)
-    if lines and is_word(lines[-1], b"$$$$"):
-        lines.pop()
-    begin = next((place + 1 for place, line in enumerate(lines) if is_word(line, b"M  END")), 0)
+    """The data items after the first line `M  END`, or of the whole record if it has none."""
     found, is_open = [], False
-    for line in lines[begin:]:
+    for line in data_lines(record):
         head = ITEM_HEAD.match(line)
-        is_label = line.startswith(b">") and b"<" + LABEL_ITEM + b">" in line
-        if is_label or head and not is_open:
-            found.append(Item(LABEL_ITEM if is_label else head[1], []))
+        if is_label_head(line) or head and not is_open:
+            found.append(Item(LABEL_ITEM if is_label_head(line) else head[1], []))
             is_open = True
         elif is_open and line.strip(b" \t"):
             found[-1].values.append(line)
         else:
             is_open = False
     return found
+
+
+def value(record, item_name):
+    """The text of the first data item of a name, or None."""
+    for item in items(record):
+        if text(item.name) == item_name:
+            return "\n".join(map(text, item.values))
+    return None
 
 
 def answer(record, number=None):
@@ -180,10 +249,10 @@ def answer_of(lines):
         raise foreign(lines[0] if lines else "")
     found = Answer(lines[0], [], [], None)
     for line in lines[1:]:
-        words = line.split()
-        if words[0] == "refused" and len(words) == 3 and words[1].isdigit():
+        words = line.split(" ")
+        if words[0] == "refused" and len(words) == 3 and is_number(words[1]):
             found = found._replace(refused=(int(words[1]), words[2]))
-        elif UNIT.fullmatch(words[0]) and words[1:] == ["over"]:
+        elif is_unit(words[0]) and words[1:] == ["over"]:
             found.over.append(words[0])
         elif is_label(words):
             found.labels.append(label_of(words))
@@ -192,10 +261,28 @@ def answer_of(lines):
     return found
 
 
+def counts_of(answer):
+    """What a log counts of a record."""
+    return {"records": 1, "labels": len(answer.labels), "refused": int(bool(answer.refused)), "over": len(answer.over)}
+
+
 def is_label(words):
     """Whether the words of a value line are those of a label."""
-    return (len(words) > 5 and bool(UNIT.fullmatch(words[0])) and words[1] in LETTERS and words[2] in RULES
-            and words[3].isdigit() and words[4] == "order")
+    return (len(words) > 5 and is_unit(words[0]) and words[1] in LETTERS and words[2] in RULES
+            and is_number(words[3]) and is_order(words[4:]))
+
+
+def is_order(words):
+    """Whether words are `order` and ligands."""
+    return words[:1] == ["order"] and all(map(LIGAND.fullmatch, words[1:]))
+
+
+def is_number(word):
+    return bool(re.fullmatch(NUMBER, word))
+
+
+def is_unit(word):
+    return bool(UNIT.fullmatch(word))
 
 
 def label_of(words):
@@ -209,7 +296,8 @@ def order_of(words):
 
 
 def foreign(line):
-    return Fault(f"an item CIP_LABELS that `cip annotate` of this version didn't write: {line!r}; "
+    shown = line if len(line) <= LONGEST else line[:LONGEST] + ".."
+    return Fault(f"an item CIP_LABELS that `cip annotate` of this version didn't write: {shown!r}; "
                  "annotate the file again")
 
 
@@ -264,7 +352,7 @@ def drawing_v2000(lines):
         words = line[6:].split()
         for number, value in zip(words[1::2], words[2::2]):
             at = int(number) - 1
-            atoms[at] = atoms[at]._replace(**{stated[line[:6]]: int(value)})
+            atoms[at] = atoms[at]._replace(**{stated[line[:6]]: whole(value)})
     return Drawing(atoms, bonds)
 
 
@@ -285,12 +373,13 @@ def drawing_v3000(lines):
             place = tuple(coordinate(word) for word in words[2:5])
             if len(place) < 3:
                 raise ValueError("a coordinate is missing")
-            values = [int(keys.get(key, 0)) for key in ("CHG", "MASS", "RAD", "VAL")]
+            values = [whole(keys.get(key, "0")) for key in ("CHG", "MASS", "RAD", "VAL")]
             atoms.append(Atom(words[1], place, *values[:3], 15 if values[3] == -1 else values[3]))
         elif block == "BOND":
             keys = dict(word.split("=", 1) for word in words[4:] if "=" in word)
-            mark = V3000_MARKS.get((int(words[1]), int(keys.get("CFG", 0))), "")
-            bonds.append(bond_within(len(atoms), places[words[2]], places[words[3]], int(words[1]), mark))
+            order, mark = whole(words[1]), whole(keys.get("CFG", "0"))
+            ends = places[words[2]], places[words[3]]
+            bonds.append(bond_within(len(atoms), *ends, order, V3000_MARKS.get((order, mark), "")))
     return Drawing(atoms, bonds)
 
 
@@ -301,18 +390,25 @@ def coordinate(text):
     return value
 
 
+def whole(text):
+    """A number of a few digits."""
+    if len(text) > 10:
+        raise ValueError("no number of a drawing")
+    return int(text)
+
+
 def joined_lines(lines):
     """The contents of V3000 lines behind their first seven bytes, with those that are continued."""
-    begun = ""
+    begun = []
     for line in lines[4:]:
         if not line.startswith("M  V30 "):
             return
-        begun += line[7:].rstrip(" ")
-        if begun.endswith("-"):
-            begun = begun[:-1]
+        part = line[7:].rstrip(" ")
+        if part.endswith("-"):
+            begun.append(part[:-1])
         else:
-            yield begun
-            begun = ""
+            yield "".join([*begun, part])
+            begun = []
 
 
 def bond_within(count, first, second, order, mark):

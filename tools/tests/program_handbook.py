@@ -32,6 +32,7 @@ class Blocks(unittest.TestCase):
         self.labelled = trying.annotated(self.given)
         self.put("mine.sdf", self.given)
         self.put("labelled.sdf", self.labelled)
+        os.symlink(trying.path("tools"), os.path.join(self.room, "tools"))
 
     def put(self, name, content):
         with open(os.path.join(self.room, name), "wb") as file:
@@ -61,6 +62,16 @@ class Blocks(unittest.TestCase):
             self.shell(block)
             self.assertEqual(self.read("labelled.sdf"), self.labelled)
 
+    def test_a_nightly_run_accepts_refused_records_and_no_other_failure(self):
+        block = blocks("sh", "cip annotate < mine.sdf")[0]
+        self.put("mine.sdf", self.given + b"cut\n\n\n$$$$\n")
+        self.shell(block)
+        self.assertEqual(self.read("labelled.sdf"), trying.annotated(self.read("mine.sdf")))
+        self.assertRegex(self.read("refused.txt"), rb"\bcut\b")
+        self.put("labelled.sdf", b"of yesterday")
+        self.shell(block.replace("annotate", "annotate --workers 17"), status=script.UNUSABLE)
+        self.assertEqual(self.read("labelled.sdf"), b"of yesterday")
+
     @trying.needs("parallel")
     def test_parallel(self):
         found = blocks("sh", "parallel --pipe --recend")
@@ -89,11 +100,16 @@ class Blocks(unittest.TestCase):
         rules = [line.split("\t")[5] for line in self.tables()]
         told = self.shell(blocks("sh", "sqlite3")[0])
         self.assertEqual(told.splitlines(), [f"{rule}|{rules.count(rule)}" for rule in sorted(set(rules))])
+        types = self.shell("sqlite3 labels.db 'SELECT DISTINCT typeof(record), typeof(sphere), typeof(name) FROM labels'")
+        self.assertEqual(types, "integer|integer|text\n")
 
     @needs_module("pandas", "python3-pandas")
     def test_a_table_in_pandas(self):
         lines = self.tables()
         block = "import pandas\n" + blocks("python", "labels = pandas")[0]
+        # a name of digits, and a row whose numbers are missing
+        self.put("labels.tsv", self.read("labels.tsv") + b"99\t0000001\t\t\t\t\t\t\tShort\t4\n")
+        block += "assert labels.name.iloc[-1] == '0000001' and (labels.sphere > 2).sum() > 0\n"
         block += "print(len(pandas.read_json('labels.jsonl', lines=True)))\n"
         done = trying.ran(script.DEBIAN_PYTHON, "-c", block, cwd=self.room)
         self.assertEqual(done.returncode, 0, done.stderr.decode())
@@ -116,7 +132,6 @@ class Blocks(unittest.TestCase):
 
     def test_resume(self):
         block = blocks("sh", "tools/resume cip mine.sdf labelled.sdf")[0]
-        os.symlink(trying.path("tools"), os.path.join(self.room, "tools"))
         self.put("labelled.sdf", self.labelled[:len(self.labelled) // 2])
         self.shell(block)
         self.assertEqual(self.read("labelled.sdf"), self.labelled)
@@ -126,6 +141,16 @@ class Blocks(unittest.TestCase):
         block = "from rdkit import Chem\n" + blocks("python", "for molecule in Chem.SDMolSupplier")[0]
         done = trying.ran(script.DEBIAN_PYTHON, "-c", block, cwd=self.room)
         self.assertEqual((done.returncode, done.stdout.decode()), (0, self.values()))
+
+    @needs_module("rdkit", "python3-rdkit")
+    def test_smiles_that_rdkit_draws(self):
+        block = blocks("python", "from rdkit import Chem\nfrom rdkit.Chem import AllChem\n\nwith Chem.SDWriter")[0]
+        self.put("mine.smi", b"N[C@@H](C)C(=O)O alanine\nC/C=C/C butene\nCC[S@](C)=O sulfoxide\n")
+        done = trying.ran(script.DEBIAN_PYTHON, "-c", block, cwd=self.room)
+        self.assertEqual(done.returncode, 0, done.stderr.decode())
+        told = trying.ran(trying.program(), "explain", given=self.read("mine.sdf")).stdout.decode()
+        self.assertEqual([line.split(" ")[:2] for line in told.splitlines() if not line.startswith("record")],
+                         [["a2", "S"], ["b2-3", "E"], ["a3", "S"]])
 
     @needs_module("openbabel", "python3-openbabel")
     def test_open_babel(self):

@@ -9,6 +9,9 @@ import trying
 
 COMPOUNDS = trying.path("examples", "compounds.sdf")
 DEBIAN = script.DEBIAN_PYTHON
+# the records whose calls are refused in turn: V2000, symmetric, of many units, V3000, with groups, refused
+REFUSED_IN_TURN = ("bromochlorofluoromethane", "meso_trihydroxyglutaric_acid", "menthol", "alanine_in_version_3000",
+                   "racemic_group", "refused_bond_type")
 # a record of each family that bench/growth draws
 SHAPES = """
 import shapes
@@ -55,8 +58,22 @@ class Scripts(unittest.TestCase):
 
     @trying.needs("cc", "gcc")
     def test_refusals(self):
-        told = self.is_well("tools/refusals", trying.program(), trying.path("examples", "alanine.sdf"))
-        self.assertIn(", 0 of the runs ended wrongly", told)
+        files = [trying.path("crates", "gate_cases", "data", f"{name}.sdf") for name in REFUSED_IN_TURN]
+        last = self.is_well("tools/refusals", trying.program(), *files).splitlines()[-1]
+        calls, wrong = re.fullmatch(r"(\d+) calls refused or failed, (\d+) of the runs ended wrongly", last).groups()
+        self.assertEqual(int(wrong), 0)
+        self.assertGreaterEqual(int(calls), 100 * len(REFUSED_IN_TURN))
+
+    @trying.needs("cc", "gcc")
+    def test_refusals_fail_where_nothing_is_refused(self):
+        with tempfile.TemporaryDirectory() as folder:
+            program = os.path.join(folder, "unloaded")
+            with open(program, "w", encoding="ascii") as file:
+                file.write(f"#!/bin/sh\nunset LD_PRELOAD\nexec '{trying.program()}' \"$@\"\n")
+            os.chmod(program, 0o755)
+            alanine = trying.path("examples", "alanine.sdf")
+            told = self.is_well("tools/refusals", program, alanine, status=script.DIFFERENT)
+        self.assertIn(": no call is refused", told)
 
     def test_refused_and_unmirrored(self):
         given = trying.bytes_of("examples", "groups.sdf") + trying.bytes_of("examples", "alanine.sdf") + b"cut\n\n\n"

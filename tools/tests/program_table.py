@@ -31,5 +31,5 @@ class Compared(unittest.TestCase):
         labelled = trying.annotated(done.stdout)
         for name in ("atom.prop._CIPCode", "pairs"):
             made = trying.script_ran("tools/table", "--compare", name, given=labelled)
-            self.assertRegex(made.stderr.decode(), "^table: same [1-9][0-9]*, different 0, cip alone 0, item alone 0, ")
+            self.assertRegex(made.stderr.decode(), "(?m)^table: same [1-9][0-9]*, different 0, cip alone 0, item alone 0, ")
             self.assertEqual(made.returncode, 0)

@@ -62,7 +62,7 @@ class View(unittest.TestCase):
 
     def test_a_wedge_without_a_letter_asks_for_explain(self):
         told, over = self.told(HALOMETHANE_ALONE, molfile("menthol") + ITEM % (19, b"a7 over"))
-        self.assertIn("cip explain tells why", told["wedges"][0])
+        self.assertIn("cip explain says why", told["wedges"][0])
         self.assertEqual(over["drawn"][0], ["a7", "no letter: its digraph is larger than the bound on nodes",
                                             "They tie up to sphere 2. The next one has more nodes than are looked at."])
 
@@ -72,11 +72,29 @@ class View(unittest.TestCase):
             HALOMETHANE_ALONE, HALOMETHANE_ALONE, BIPHENYL_ALONE, molfile("menthol") + ITEM % (100_000, MENTHOL),
             explain=explained)
         self.assertEqual((tie["drawn"][0][:2], tie["wedges"]),
-                         (["a1", "no letter: two of its ligands are alike"], []))
+                         (["a1", "no letter: two of its ligands are alike by Rules 1a to 5; a centre of C2 symmetry "
+                           "may still be one"], []))
         self.assertEqual(no_unit["wedges"],
                          ["The wedge at C1 has no letter: no unit that cip annotate labels stands there."])
         self.assertTrue(biphenyl["wedges"][0].endswith("A biaryl axis is labelled by cip axes."))
         self.assertEqual((menthol["drawn"], menthol["others"]), ([], ["a2"]))
+
+    def test_a_wedge_that_is_wide_at_a_centre_is_to_be_turned_round(self):
+        turned = molfile("menthol").replace(b"  4  2  1  1", b"  2  4  1  1")
+        self.assertNotEqual(turned, molfile("menthol"))
+        record = turned + ITEM % (100_000, b"none")
+        explained = b"a4 none NoMark\n"
+        plain, tied, undefined = self.told(
+            record, record, record, explain=b"record 1\n" + explained + b"record 2\n" + explained + b"record 3\n",
+            undefined=b"record 1\nrecord 2\na4 tie\nrecord 3\na4 open 1a 2 order 10 2 5 H\n")
+        words = "The wedge at C2 has no letter: it counts at C2, its narrow end. Turn it round for C4."
+        self.assertEqual((plain["wedges"][0], undefined["wedges"][0]), (words, words))
+        self.assertNotIn("Turn", tied["wedges"][0])
+
+    def test_an_open_double_bond_lacks_no_wedge(self):
+        told, = self.told(molfile("menthol") + ITEM % (100_000, b"none"), explain=b"record 1\nb4-5 none Either\n",
+                          undefined=b"record 1\nb4-5 open 1a 1 order 2 H | 6 H\n")
+        self.assertEqual(told["drawn"][0][1], "undefined: its ligands differ, and it is drawn as undecided")
 
     def test_a_wedge_at_a_biaryl_is_that_of_the_axes(self):
         without, axis = self.told(BIPHENYL_ALONE, BIPHENYL_ALONE, explain=b"record 1\nrecord 2\n",

@@ -11,6 +11,8 @@ import trying
 MOLFILE = b"one\n\n\n  0  0  0  0  0  0            999 V2000\nM  END\n"
 RECORD = MOLFILE + b"> <CIP_LABELS>\ncip 2 rule1b 2018 nodes 9\nnone\n\n$$$$\n"
 
+# what a table ends with on standard error
+COUNTS = b"table: records 1, labels 0, refused 0, over 0"
 
 SLOW = "#!/bin/sh\nsleep 0.5\ncat > /dev/null\n"
 
@@ -50,11 +52,11 @@ class Bars(unittest.TestCase):
         status, text = on_terminal(self.given, "table")
         self.assertEqual(status, 0)
         self.assertIn(b"[##############################] 100%", text)
-        self.assertTrue(text.endswith(b"\r\x1b[K"))
+        self.assertEqual(text.rpartition(b"\r\x1b[K")[2].rstrip(), COUNTS)
 
     def test_a_pipe_shows_none(self):
         made = trying.script_ran("tools/table", given=RECORD)
-        self.assertEqual((made.returncode, made.stderr), (0, b""))
+        self.assertEqual((made.returncode, made.stderr.rstrip()), (0, COUNTS))
 
     def test_a_program_that_goes_on_has_a_bar(self):
         program, out = self.put("slow", SLOW.encode()), os.path.join(self.folder, "out.sdf")

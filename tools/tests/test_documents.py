@@ -3,18 +3,42 @@ import os
 import re
 import unittest
 
+import causes
+import crate_table
 import forms
+import sdf
 import trying
 
 SECTION = re.compile(r"^\.Nm cip\n((?:\.(?:Cm|Fl|Op) .*\n)+)", re.MULTILINE)
 CODE = re.compile(r"^```.*?^```", re.MULTILINE | re.DOTALL)
 LINK = re.compile(r"\]\(([^)#]+)\)|`((?:docs|tools|bench|examples|include|python|crates)/[\w./-]+)`")
 # the changes tell of what was there too
-PAGES = ("README.md", "CONTRIBUTING.md", "bench/README.md", *(
+PAGES = ("README.md", "CONTRIBUTING.md", "bench/README.md", "tools/README.md", *(
     f"docs/{name}" for name in sorted(os.listdir(trying.path("docs"))) if name.endswith(".md")))
-MOST_WORDS = 2000
+MOST_WORDS, MOST_WORDS_OF_THE_MAP, MOST_WORDS_OF_THE_HANDBOOK = 2000, 1500, 4050
+# what docs/CONTRACTS.md names in place of tests
+ROWS = {"runs.txt": ("flow\t", "meet\t", "jobs meet\t", "stream\t"), "digraphs.txt": ("settled\t",),
+        "cases.txt": (r"\w+_in_pieces_of_\d+ ", r"many_labelled_by_\w+ ")}
 FORMS = forms.forms()
 OPTIONS = {option.name: option for options in FORMS.values() for option in options}
+
+
+def sources():
+    """The files of the crates, by their paths below crates/."""
+    crates = trying.path("crates")
+    return [os.path.relpath(os.path.join(at, name), crates) for at, _, names in os.walk(crates) for name in names]
+
+
+def named_files(text):
+    """The files of crates that a page names, each of those in braces by itself."""
+    for path in re.findall(r"[\w/{},-]+\.(?:rt|antt)\b", " ".join(re.findall(r"`([^`\n]+)`", text))):
+        before, braces, after = re.fullmatch(r"([^{]*)(?:\{([^}]*)\})?(.*)", path).groups()
+        yield from (before + name + after for name in (braces or "").split(","))
+
+
+def longest_chain(crate):
+    """How many crates, from one that uses none up to this one, have to be proved one after the other."""
+    return 1 + max(map(longest_chain, crate_table.stands_on()[crate]), default=0)
 
 
 def with_commas(number):
@@ -104,6 +128,18 @@ class Forms(unittest.TestCase):
             with self.subTest(command):
                 self.assertEqual(told, [option.name for option in FORMS[command]])
 
+    def test_what_is_written_from_the_table_is_as_the_table_is(self):
+        done = trying.script_ran("tools/options", "--check")
+        self.assertEqual((done.returncode, done.stdout), (0, b""))
+
+    def test_the_rules_have_the_names_of_the_code(self):
+        text = trying.text_of("crates", "cip_mol", "specs", "Letters.antt")
+        self.assertEqual(re.findall(r'^rule_text \w+ = codes "(\w+)"', text, re.MULTILINE), list(sdf.RULES))
+
+    def test_the_causes_have_the_names_of_the_code(self):
+        text = trying.text_of("crates", "cip_mol", "specs", "Causes.antt")
+        self.assertEqual(sorted(re.findall(r'^cause_text \w+ = codes "(\w+)"', text, re.MULTILINE)), sorted(causes.CAUSES))
+
     def test_the_readme_names_each_command(self):
         text = trying.text_of("README.md")
         for command in FORMS:
@@ -129,12 +165,43 @@ class Pages(unittest.TestCase):
                     with self.subTest(page=page, name=there):
                         self.assertTrue(os.path.exists(trying.path(there)))
 
-    def test_the_pages_of_what_files_say_are_as_the_files_are(self):
-        done = trying.script_ran("tools/listings", "--check")
-        self.assertEqual((done.returncode, done.stdout), (0, b""))
+    def test_the_map_names_each_crate_and_is_read_in_ten_minutes(self):
+        text = trying.text_of("docs", "ARCHITECTURE.md")
+        self.assertEqual([name for name in crate_table.named() if f"`{name}`" not in text], [])
+        self.assertLessEqual(len(text.split()), MOST_WORDS_OF_THE_MAP)
+
+    def test_tests_that_are_named_as_rows_are_there(self):
+        for file, rows in ROWS.items():
+            text = trying.text_of("crates", "gate_cases", "data", file)
+            for row in rows:
+                with self.subTest(row):
+                    self.assertRegex(text, rf"(?m)^{row}")
+
+    def test_the_longest_chain_of_crates_is_the_one_that_is_named(self):
+        bullet = re.search(r"The longest chain of crates that the program needs has (\w+)\*\*(.*?)\. A build",
+                           trying.text_of("docs", "DECISIONS.md"), re.DOTALL)
+        chain, lower = re.findall(r"`(\w+)`", bullet[2]), crate_table.stands_on()
+        self.assertTrue(all(low in lower[high] for low, high in zip(chain, chain[1:])))
+        self.assertEqual((len(chain), chain[-1], bullet[1]), (longest_chain("cip"), "cip", "ten"))
+
+    def test_the_files_of_crates_that_pages_name_are_there(self):
+        there = [f"/{path}" for path in sources()]
+        for page in ("CONTRIBUTING.md", "docs/ARCHITECTURE.md", "docs/CONTRACTS.md", "docs/TRUST.md"):
+            text = CODE.sub("", trying.text_of(page))
+            for name in {name for name in named_files(text) if not re.search(r"FILE|FUNCTION|NAME", name)}:
+                with self.subTest(page=page, name=name):
+                    self.assertTrue(any(path.endswith(f"/{name}") for path in there))
+
+    def test_the_list_of_scripts_has_each(self):
+        text = trying.text_of("tools", "README.md")
+        names = [name for name in sorted(os.listdir(trying.path("tools"))) if os.path.isfile(trying.path("tools", name))]
+        self.assertEqual([name for name in names if name != "README.md" and f"`{name}`" not in text], [])
 
     def test_the_readme_can_be_read_in_a_sitting(self):
         self.assertLessEqual(len(trying.text_of("README.md").split()), MOST_WORDS)
+
+    def test_the_handbook_stays_short(self):
+        self.assertLessEqual(len(trying.text_of("docs", "USE.md").split()), MOST_WORDS_OF_THE_HANDBOOK)
 
 
 class Versions(unittest.TestCase):
@@ -157,4 +224,4 @@ class Versions(unittest.TestCase):
         self.agrees(r"^\*\*(\d+)\*\* \(", "CHANGELOG.md")
 
     def test_of_the_library(self):
-        self.agrees(r"fn cip_version\(\) -> u32\n    ensures .*\n\{\n    (\d+)\n\}", "crates", "cip_c", "src", "crossing.rt")
+        self.agrees(r"fn cip_version\(\) -> u32\n    ensures .*\n\{\n    (\d+)\n\}", "crates", "cip_c", "src", "exports.rt")

@@ -7,6 +7,8 @@ import unittest
 import trying
 
 PART = re.compile(r"^(file|old|new): (.*)$")
+ROW = re.compile(r"^\| `(\w+)` \| `(\w+)` \| (.*) \|$", re.MULTILINE)
+WHEN = re.compile(r"in each gate|not yet|\d{4}-\d\d-\d\d")
 
 
 def edits():
@@ -36,3 +38,13 @@ class Edits(unittest.TestCase):
         for edit in edits():
             with self.subTest(edit=os.path.relpath(edit, trying.path())):
                 self.assertEqual(set(counts(edit)), {1})
+
+    def test_the_page_has_a_row_for_each(self):
+        rows = ROW.findall(trying.text_of("docs", "WRONG-BODIES.md"))
+        there = {tuple(os.path.relpath(edit, trying.path("crates")).removesuffix(".edit").split(os.sep)) for edit in edits()}
+        self.assertEqual({(crate, name) for crate, name, _ in rows}, {(crate, name) for crate, _, name in there})
+        self.assertEqual({(crate, name) for crate, name, day in rows if day == "in each gate"},
+                         {(crate, name) for crate, folder, name in there if folder == "must-fail"})
+        for crate, name, day in rows:
+            with self.subTest(crate=crate, name=name):
+                self.assertRegex(day, WHEN)

@@ -16,6 +16,7 @@ class Fake:
 
     def __init__(self, name, lows, count, turns, passes=True):
         self.name, self.lows, self.count, self.turns, self.passes = name, lows, count, turns, passes
+        self.below = {low for near in lows for low in (near, *near.below)}
 
     def functions(self):
         return self.count
@@ -29,10 +30,10 @@ class Fake:
 
 
 def crates(turns, failing=""):
-    """A base, a short and a long chain over it, and one that stands already."""
+    """A base, a short and a long chain over it, one that stands already, and a large one over that."""
     made = {}
-    for name, lows, count in (("base", [], 5), ("kept", [], 9), ("short", ["base"], 2), ("long", ["base"], 1),
-                              ("top", ["long", "kept"], 7)):
+    for name, lows, count in (("base", [], 5), ("kept", ["base"], 9), ("short", ["base"], 2), ("long", ["base"], 1),
+                              ("top", ["long", "kept"], 7), ("large", ["kept"], 50)):
         made[name] = Fake(name, [made[low] for low in lows], count, turns, name != failing)
     return made
 
@@ -55,15 +56,19 @@ class Schedules(unittest.TestCase):
             failed = proving.Schedule(crates(turns, failing), io.StringIO(), told.append).run()
         return turns, told, failed
 
+    def test_a_crate_waits_for_all_below_it(self):
+        schedule = proving.Schedule(crates([]), io.StringIO(), print)
+        self.assertEqual(schedule.ready(), ["base"])
+
     def test_the_longest_chain_goes_first(self):
         turns, told, failed = self.scheduled()
-        self.assertEqual(turns, ["base", "long", "top", "short"])
+        self.assertEqual(turns, ["base", "large", "long", "top", "short"])
         self.assertEqual(told, turns)
         self.assertIsNone(failed)
 
     def test_a_failure_ends_it(self):
         turns, told, failed = self.scheduled("long")
-        self.assertEqual((turns, told, failed.name), (["base", "long"], ["base"], "long"))
+        self.assertEqual((turns, told, failed.name), (["base", "large", "long"], ["base", "large"], "long"))
 
 
 class Libraries(unittest.TestCase):

@@ -23,8 +23,9 @@ def told(*records):
 
 
 class Refused(unittest.TestCase):
-    def test_nothing_is_told_where_all_is_labelled(self):
-        self.assertEqual(told(record(b"one"), record(b"two", b"a1 S 1a 1 order 4 3 2 5")), (script.FINE, "", ""))
+    def test_nothing_is_told_where_all_is_labelled_but_the_counts(self):
+        counts = "refused: records 2, labels 1, refused 0, over 0\n"
+        self.assertEqual(told(record(b"one"), record(b"two", b"a1 S 1a 1 order 4 3 2 5")), (script.FINE, "", counts))
 
     def test_a_refused_record_is_told_with_its_cause_in_words(self):
         status, text, _ = told(record(b"one"), record(b"ferrocene", b"refused 31 Degree"))
@@ -32,9 +33,20 @@ class Refused(unittest.TestCase):
         self.assertEqual((status, text), (script.DIFFERENT, wanted))
 
     def test_each_unit_over_the_bound_is_told(self):
-        _, text, _ = told(record(b" ", b"a1 over\na4 S 1a 1 order 4 3 2 5\nb2-3 over"))
+        _, text, counts = told(record(b" ", b"a1 over\na4 S 1a 1 order 4 3 2 5\nb2-3 over"))
         wanted = "record 1: no label for {}: its digraph has more than 100000 nodes (over)\n"
         self.assertEqual(text, wanted.format("a1") + wanted.format("b2-3"))
+        self.assertEqual(counts, "refused: records 1, labels 1, refused 0, over 2\n")
+
+    def test_a_record_without_a_line_has_no_name(self):
+        _, text, _ = told(ITEM % b"refused 1 Short" + END, b"> <other>\n1\n\n" + ITEM % b"refused 4 Short" + END)
+        self.assertEqual(re.findall(r"^record (.*): refused", text, re.MULTILINE), ["1", "2, > <other>"])
+
+    def test_a_packed_file_is_named_as_one(self):
+        for begin, unpacker in ((b"\x1f\x8b\x08", "zcat"), (b"\xfd7zXZ\0", "xzcat")):
+            status, text, complaint = told(begin + ITEM % b"refused 4 Version" + END)
+            self.assertEqual((status, text), (script.UNUSABLE, ""))
+            self.assertIn(f": {unpacker} FILE | cip annotate\n", complaint)
 
     def test_a_record_without_the_item_is_a_fault(self):
         status, text, complaint = told(record(b"one"), MOLECULE % (b"two", b"V2000", 0) + END)
@@ -63,6 +75,11 @@ class Unmirrored(unittest.TestCase):
 
     def test_nothing_is_told_where_all_are_mirrored(self):
         self.assertEqual(self.compared(record(b"one"), record(b"one")), (script.FINE, "", ""))
+
+    def test_records_without_a_line_are_told_too(self):
+        given, mirrored = record(b"one") + END + END, record(b"one") + 2 * (ITEM % b"refused 1 Short" + END)
+        status, text, _ = self.compared(given, mirrored)
+        self.assertEqual((status, re.findall(r"^record (\d+)", text, re.MULTILINE)), (script.DIFFERENT, ["2", "3"]))
 
     def test_files_of_other_records_are_a_fault(self):
         for other in (record(b"two"), record(b"one") + record(b"two")):

@@ -40,6 +40,24 @@ class Resume(unittest.TestCase):
         self.assertEqual((status, left), (script.WORDS, front))
         self.assertIn("was written with cip 2", told)
 
+    def test_a_record_without_a_line_or_a_name_is_known_again(self):
+        refused = SETTINGS + b"\nrefused 1 Short"
+        for given in (END, b"> <CIP_LABELS>\nold\n\n" + END, b"\n" + END, b"cut\r\n\r\n" + END):
+            kept = given.replace(b"> <CIP_LABELS>\nold\n\n", b"").replace(END, b"")
+            front = kept + ITEM % refused + END
+            self.assertEqual(self.resumed(given, front), (script.DIFFERENT, "resume: 1 records are whole\n", front))
+
+    def test_a_file_that_is_no_front_is_not_emptied(self):
+        for front in (b"a letter to somebody\n", b"\x1f\x8b\x08", RECORD % b"other"):
+            status, told, left = self.resumed(RECORD % b"one" + END, front)
+            self.assertEqual((status, left), (script.UNUSABLE, front))
+            self.assertEqual(told, "resume: record 1 of OUT isn't that of IN\n")
+
+    def test_a_front_of_the_first_record_is_begun_anew(self):
+        for length in (0, 1, 20, 80):
+            status, _, left = self.resumed(RECORD % b"one" + END, (RECORD % b"one" + ITEM % SETTINGS)[:length])
+            self.assertEqual((status, left), (script.FINE, b""))
+
     def test_another_file_is_left_alone(self):
         front = RECORD % b"other" + ITEM % (SETTINGS + b"\nnone") + END
         status, told, left = self.resumed(RECORD % b"one" + END, front)

@@ -2,7 +2,7 @@
 import { lettersOf } from "./branches.mjs";
 import { endsOf } from "./deciding.mjs";
 import { MOST_NODES } from "./digraph.mjs";
-import { element, whileOver } from "./elements.mjs";
+import { asFile, button, element, save, whileOver } from "./elements.mjs";
 import { GAP, NARROW_GAP } from "./layout.mjs";
 import { moleculeOf } from "./molecule.mjs";
 import { fillPanel, rankDisc } from "./panel.mjs";
@@ -10,6 +10,7 @@ import { Picture, colour } from "./picture.mjs";
 import { strayWedges, unitsWithout, whyNot, wordsOf } from "./reasons.mjs";
 import { atomName, isFlagged, isSmall, labelsOf, unitName } from "./records.mjs";
 import { RULES } from "./rules.mjs";
+import { senseOf } from "./senses.mjs";
 import { inSlices } from "./slices.mjs";
 
 const NARROW_WINDOW = 700;
@@ -39,8 +40,13 @@ export class Card {
     Object.assign(this, { card, record, page, molecule: null });
     this.picture = record.atoms.length ? new Picture(record) : null;
     this.svg = this.picture ? this.picture.drawn() : element("p", "undrawn", "Nothing can be drawn.");
-    const inside = element("div", "inside", element("div", "", this.svg), element("div", "", ...this.lines()));
-    card.append(inside);
+    const drawing = element("div", "", this.svg, ...(this.picture ? [this.saveButton()] : []));
+    card.append(element("div", "inside", drawing, element("div", "", ...this.lines())));
+  }
+
+  saveButton() {
+    const name = `record-${this.record.number}.svg`;
+    return button("chip plain keep", () => save(name, "image/svg+xml", asFile(this.svg)), "save as SVG");
   }
 
   lines() {
@@ -149,11 +155,12 @@ export class Card {
     return yield* endsOf(this.molecule, unit, { wording: record.wording, limit, labels });
   }
 
-  panelOptions({ unit, ends: places }, ends) {
+  panelOptions({ unit, ends: places, letter = "", order = [] }, ends) {
     const names = places.length > 1 ? places.map((place) => atomName(this.record, String(place + 1))) : null;
     const isOfItem = ends.some(({ decisions }) => decisions.some((decision) => decision.isOfItem));
+    const ligands = order.map((some) => some.map((name) => atomName(this.record, name)));
     return {
-      colour, names, letterAt: isOfItem ? lettersOf(this.record.labels) : () => "",
+      sense: senseOf(letter, ligands), hasSmallLetter: letter !== "" && isSmall(letter), colour, names, letterAt: isOfItem ? lettersOf(this.record.labels) : () => "",
       before: { a: "", t: "–" }[unit[0]] ?? "=", isNumbered: document.body.classList.contains("numbers"),
       gap: innerWidth < NARROW_WINDOW ? NARROW_GAP : GAP,
       file: `record-${this.record.number}-${unit}`,

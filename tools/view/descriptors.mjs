@@ -1,5 +1,5 @@
 // Descriptors inside a digraph, and the rules that compare them. IUPAC 2013, P-92.3 to P-92.6; the forms are those of
-// docs/DEFINITIONS.md, crates cip_aux and cip_ligands. What is drawn of a unit is known from its letter and the order
+// crates/cip_aux/specs and crates/cip_rules/specs. What is drawn of a unit is known from its letter and the order
 // of its ligands, so no geometry is read.
 import { bothReadings, viewFrom } from "./digraph.mjs";
 import { arePartedBy, depthOf, finalOf, stepsOf } from "./ranking.mjs";

@@ -1,5 +1,5 @@
 // The hierarchical digraph of a unit's end. IUPAC 2013, P-92.1.4 and P-92.2; the forms are those of
-// docs/DEFINITIONS.md, crate cip_digraph. A node is told by its kind, its vertex, its parent and its sphere; the root
+// crates/cip_digraph/specs. A node is told by its kind, its vertex, its parent and its sphere; the root
 // has sphere 0.
 
 // in half units, as crates/cip_elem has them

@@ -1,5 +1,5 @@
-// The molecule of a record as the rules see it. The forms are those of docs/DEFINITIONS.md, crates cip_mol and
-// cip_mancude. Nothing here touches a document.
+// The molecule of a record as the rules see it. The forms are those of crates/cip_mol/specs and
+// crates/cip_mancude/specs. Nothing here touches a document.
 
 const SYMBOLS = (
   "H He Li Be B C N O F Ne Na Mg Al Si P S Cl Ar K Ca Sc Ti V Cr Mn Fe Co Ni Cu Zn Ga Ge As Se Br Kr Rb Sr Y Zr Nb " +

@@ -1,6 +1,7 @@
 // The page of labelled records: cards that are filled as they come into view, and filters.
 import { Card, emptyCard, letterBadge } from "./cards.mjs";
 import { button, element } from "./elements.mjs";
+import { writeAnswers } from "./exercise.mjs";
 import { whyNot } from "./reasons.mjs";
 import { isFlagged, labelsOf, recordOf } from "./records.mjs";
 import { RULES } from "./rules.mjs";
@@ -75,6 +76,8 @@ function isWanted(record) {
   return text.toLowerCase().includes(chosen.words);
 }
 
+function counted(text, what) { return `${text} ${what}${text === "1" ? "" : "s"}`; }
+
 function labelCount(some) { return some.reduce((sum, record) => sum + labelsOf(record).length, 0); }
 
 function refresh() {
@@ -83,7 +86,7 @@ function refresh() {
   const all = [records.length, labelCount(records)], shown = [wanted.length, labelCount(wanted)];
   const [recordText, labelText] = all.map((count, place) =>
     wanted.length === records.length ? String(count) : `${shown[place]} of ${count}`);
-  byId("count").textContent = `${recordText} records, ${labelText} labels`;
+  byId("count").textContent = `${counted(recordText, "record")}, ${counted(labelText, "label")}`;
   byId("nothing").hidden = wanted.length > 0;
 }
 
@@ -112,14 +115,14 @@ function chip(count, content, act) {
   return made;
 }
 
-function counted(part) {
+function countsOf(part) {
   const counts = new Map();
   for (const label of records.flatMap(labelsOf)) counts.set(label[part], (counts.get(label[part]) || 0) + 1);
   return counts;
 }
 
 function showFilters() {
-  const letters = counted("letter"), rules = counted("rule");
+  const letters = countsOf("letter"), rules = countsOf("rule");
   for (const letter of settings.letters.filter((one) => letters.has(one))) {
     byId("letters").append(chip(letters.get(letter), letterBadge(letter), choose(chosen.letters, letter)));
   }
@@ -142,14 +145,23 @@ follow("numbers", "change", (event) => {
   document.body.classList.toggle("numbers", event.target.checked);
   for (const card of filled.values()) card.showNumbers(event.target.checked);
 });
+// without letters no digraph is open, and atoms have the numbers by which the answers name them
+follow("quiz", "change", (event) => {
+  document.body.classList.toggle("quiz", event.target.checked);
+  for (const card of filled.values()) card.close();
+  if (event.target.checked && !byId("numbers").checked) byId("numbers").click();
+});
 follow("hydrogens", "change", (event) => document.body.classList.toggle("bare", !event.target.checked));
 follow("theme", "click", () => {
   const root = document.documentElement;
   const preferred = matchMedia("(prefers-color-scheme: dark)").matches ? "dark" : "light";
   root.dataset.theme = (root.dataset.theme || preferred) === "dark" ? "light" : "dark";
 });
-// a printed page has all cards that its filters show
-addEventListener("beforeprint", () => records.forEach((_, place) => { if (!cards[place].hidden) fill(place); }));
+// a printed page has all cards that its filters show, and the answers of these if it is without letters
+addEventListener("beforeprint", () => {
+  records.forEach((_, place) => { if (!cards[place].hidden) fill(place); });
+  writeAnswers(byId("answers"), records.filter(isWanted));
+});
 byId("hydrogens").parentElement.hidden = !records.some((record) => record.isInSpace);
 showFilters();
 showFlagged();

@@ -3,14 +3,17 @@ import { MOST_DRAWN } from "./branches.mjs";
 import { asFile, button, element, save, shown, whileOver } from "./elements.mjs";
 import { chosenDecisions, pictureOf } from "./layout.mjs";
 import { RANKS, RULES } from "./rules.mjs";
+import { termRow, termsOf } from "./terms.mjs";
 import { linesOf, noteOf } from "./words.mjs";
 
 const MOST_SETS = 6;
 
-// `options` are the page's colours, the letters at nodes, a name for files, and for a unit with two ends their names
-// and the bond before the root.
+// `options` are the page's colours, the letters at nodes, a name for files, what the unit's own letter says of the
+// drawing, and for a unit with two ends their names and the bond before the root.
 export function fillPanel(panel, ends, options) {
+  if (options.sense) panel.append(element("p", "sense", options.sense));
   for (const [side, end] of ends.entries()) panel.append(endOfPanel(end, side, options));
+  panel.append(termRow(termsOf(ends, options)));
 }
 
 function endOfPanel(end, side, options) {

@@ -1,5 +1,5 @@
 // Comparison of branches, sphere by sphere, by one key. IUPAC 2013, P-92.1.4; the forms are those of
-// docs/DEFINITIONS.md, crate cip_rank.
+// crates/cip_rank/specs.
 
 // Numbers by which the nodes of each sphere are ordered, by depth: the earlier order and then a key at depth 0, and one
 // sphere further down at each next depth. A higher number is a higher node. Of a tree that isn't whole, a number counts

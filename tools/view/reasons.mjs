@@ -2,9 +2,10 @@
 import { atomName, labelsOf, unitName } from "./records.mjs";
 
 const REASONS = {
-  tie: "no letter: two of its ligands are alike",
+  tie: "no letter: two of its ligands are alike by Rules 1a to 5",
+  tieAtWedge: "no letter: two of its ligands are alike by Rules 1a to 5; a centre of C2 symmetry may still be one",
   over: "no letter: its digraph is larger than the bound on nodes",
-  NoMark: "no letter: no wedge is drawn at it (tools/undefined tells whether it needs one)",
+  NoMark: "no letter: no wedge is drawn at it (cip-undefined lists those that need one)",
   Either: "no letter: a wavy or crossed bond says that it is undecided",
   Coincident: "no letter: two ligands lie in one direction, or one lies at the unit or on its line",
   Contradictory: "no letter: what is drawn of it disagrees",
@@ -14,6 +15,7 @@ const STATES = {
   open: "undefined: its ligands differ, and no wedge shows its sense",
   dependent: "undefined: two ligands tie, and drawing another unit in them might tell them apart",
 };
+const OPEN_BOND = "undefined: its ligands differ, and it is drawn as undecided";
 const MARKED = new Set([1, 4, 6]);
 
 export function whyNot(record, { kinds, causes }) {
@@ -26,7 +28,10 @@ export function whyNot(record, { kinds, causes }) {
   return `Over the bound on nodes, so not labelled: ${names}.`;
 }
 
-export function wordsOf({ state, reason = "over" }) { return STATES[state] || REASONS[reason] || reason; }
+export function wordsOf({ unit, state, reason = "over" }) {
+  if (state === "open" && unit[0] === "b") return OPEN_BOND;
+  return STATES[state] || REASONS[reason] || reason;
+}
 
 // The units of a record without a letter: those at which something is drawn or that are undefined, and the others.
 export function unitsWithout(record) {
@@ -37,10 +42,12 @@ export function unitsWithout(record) {
   const found = record.without.filter(({ unit }) => !isOpen.has(unit))
     .map((unit) => (unit.reason === "NoMark" ? { ...unit, reason: states.get(unit.unit) || "NoMark" } : unit));
   return {
-    drawn: [...record.over, ...found.filter(isDrawn), ...record.open],
+    drawn: [...record.over, ...found.filter(isDrawn).map(atWedge), ...record.open],
     others: found.filter((unit) => !isDrawn(unit)),
   };
 }
+
+function atWedge(unit) { return unit.reason === "tie" && unit.unit[0] === "a" ? { ...unit, reason: "tieAtWedge" } : unit; }
 
 // The atoms at which a wedge, a hashed bond or a wavy one is narrow; in space these don't count.
 function narrowEnds(record) {
@@ -58,9 +65,24 @@ export function strayWedges(record, given) {
   return places.map((place) => strayText(record, place, given));
 }
 
+// The wide end of a wedge that is narrow at a place, if no wedge is drawn at it and it may need one, or -1.
+function wideEndWithout(record, place) {
+  const tied = new Set(record.tied.map(({ unit }) => unit));
+  const needing = [...record.open, ...record.without.filter(({ unit, reason }) => reason === "NoMark" && !tied.has(unit))];
+  const centres = new Set(needing.filter(({ unit }) => unit[0] === "a").map(({ ends }) => ends[0]));
+  const wedge = record.bonds.find(({ first, second, order, mark }) =>
+    first === place && order === 1 && MARKED.has(mark) && centres.has(second));
+  return wedge ? wedge.second : -1;
+}
+
 function strayText(record, place, given) {
   const name = atomName(record, String(place + 1));
-  if (!given.explain) return `The wedge at ${name} has no letter: cip explain tells why (tools/page --explain).`;
+  if (!given.explain) return `The wedge at ${name} has no letter: cip explain says why (cip-page --explain).`;
+  const turned = wideEndWithout(record, place);
+  if (turned >= 0) {
+    const centre = atomName(record, String(turned + 1));
+    return `The wedge at ${name} has no letter: it counts at ${name}, its narrow end. Turn it round for ${centre}.`;
+  }
   const isFlat = record.bonds.some(({ first, second, order }) => order > 1 && (first === place || second === place));
   const axis = given.axes ? " cip axes finds no axis there either." : " A biaryl axis is labelled by cip axes.";
   return `The wedge at ${name} has no letter: no unit that cip annotate labels stands there.${isFlat ? axis : ""}`;
