@@ -1,6 +1,10 @@
 """Makes the wheel of the module for pip, without any package that pip would have to fetch first.
 
-Source: PEP 517 (the call `build_wheel`), and the wheel's form, PEP 427.
+The wheel has the scripts that make a page, if it's made in the repository. With the setting `library` it also has the
+library, and with `proof` the page that says what was proved: `pip wheel ./python --config-settings library=FILE`, or
+`tools/package --wheel`.
+
+Source: PEP 517 (the call `build_wheel`), the wheel's form, PEP 427, and the names of systems, PEP 600.
 """
 import base64
 import hashlib
@@ -9,19 +13,24 @@ import re
 import zipfile
 
 HERE = os.path.dirname(os.path.abspath(__file__))
-FILES = ("cip/__init__.py", "cip/py.typed")
-WHEEL = "Wheel-Version: 1.0\nGenerator: cip\nRoot-Is-Purelib: true\nTag: py3-none-any\n"
-# the earliest that a zip file can tell, so that the same files make the same wheel
+TOOLS = os.path.join(HERE, os.pardir, "tools")
+WHEEL = "Wheel-Version: 1.0\nGenerator: cip\nRoot-Is-Purelib: {pure}\nTag: {tag}\n"
+# the library is of the one system for which the toolchain compiles
+TAG, TAG_WITH_LIBRARY = "py3-none-any", "py3-none-manylinux_2_{}_x86_64"
+GLIBC = re.compile(rb"GLIBC_2\.(\d+)")
+IMPORT = re.compile(rb"^import (\w+)$", re.MULTILINE)
+# the earliest that a zip file can hold, so that the same files make the same wheel
 TIME = (1980, 1, 1, 0, 0, 0)
+MODE = 0o100644
 
 
-def read(name):
-    with open(os.path.join(HERE, *name.split("/")), "rb") as file:
+def read(*path):
+    with open(os.path.join(HERE, *path), "rb") as file:
         return file.read()
 
 
 def version():
-    return re.search(rb'^__version__ = "(.*)"$', read(FILES[0]), re.MULTILINE)[1].decode()
+    return re.search(rb'^__version__ = "(.*)"$', read("cip", "__init__.py"), re.MULTILINE)[1].decode()
 
 
 def field(name):
@@ -36,19 +45,55 @@ def metadata():
 
 def row(name, content):
     """A row of RECORD: a file, the sum of what it holds, and its length."""
-    told = base64.urlsafe_b64encode(hashlib.sha256(content).digest()).rstrip(b"=").decode()
-    return f"{name},sha256={told},{len(content)}\n"
+    digest = base64.urlsafe_b64encode(hashlib.sha256(content).digest()).rstrip(b"=").decode()
+    return f"{name},sha256={digest},{len(content)}\n"
+
+
+def files_in(folder, *endings):
+    """The files of a folder whose names end so."""
+    return [name for name in sorted(os.listdir(folder)) if name.endswith(endings)]
+
+
+def with_imports(name):
+    """A script with the modules beside it that it needs, by their names."""
+    found = [name]
+    for one in found:
+        imported = [f"{module.decode()}.py" for module in IMPORT.findall(read(TOOLS, one))]
+        found += [other for other in imported if other not in found and os.path.exists(os.path.join(TOOLS, other))]
+    return sorted(found)
+
+
+def contents_of_page():
+    """What makes a page, by the places of the files in the wheel."""
+    if not os.path.exists(os.path.join(TOOLS, "page")):
+        return {}
+    view = [f"view/{name}" for name in files_in(os.path.join(TOOLS, "view"), ".css", ".mjs")]
+    return {f"cip/tools/{name}": read(TOOLS, name) for name in [*with_imports("page"), *view]}
+
+
+def tag_of(library):
+    """The systems on which a library can be loaded: those with the C library whose functions it asks for."""
+    return TAG_WITH_LIBRARY.format(max(map(int, GLIBC.findall(library))))
 
 
 def build_wheel(wheel_directory, config_settings=None, metadata_directory=None):
-    information = f"cip-{version()}.dist-info"
-    contents = {name: read(name) for name in FILES}
+    settings, information = config_settings or {}, f"cip-{version()}.dist-info"
+    contents = {f"cip/{name}": read("cip", name) for name in files_in(os.path.join(HERE, "cip"), ".py", ".typed")}
+    contents.update(contents_of_page())
+    tag = TAG
+    if settings.get("library"):
+        contents["cip/libcip.so.1"] = read(os.path.abspath(settings["library"]))
+        tag = tag_of(contents["cip/libcip.so.1"])
+    if settings.get("proof"):
+        contents[f"{information}/PROOF.md"] = read(os.path.abspath(settings["proof"]))
     contents[f"{information}/METADATA"] = metadata().encode()
-    contents[f"{information}/WHEEL"] = WHEEL.encode()
+    contents[f"{information}/WHEEL"] = WHEEL.format(pure=str(tag == TAG).lower(), tag=tag).encode()
     record = f"{information}/RECORD"
     contents[record] = ("".join(row(*item) for item in contents.items()) + f"{record},,\n").encode()
-    name = f"cip-{version()}-py3-none-any.whl"
-    with zipfile.ZipFile(os.path.join(wheel_directory, name), "w", zipfile.ZIP_DEFLATED) as wheel:
+    name = f"cip-{version()}-{tag}.whl"
+    with zipfile.ZipFile(os.path.join(wheel_directory, name), "w") as wheel:
         for inner, content in contents.items():
-            wheel.writestr(zipfile.ZipInfo(inner, TIME), content)
+            entry = zipfile.ZipInfo(inner, TIME)
+            entry.external_attr = MODE << 16
+            wheel.writestr(entry, content, zipfile.ZIP_DEFLATED)
     return name

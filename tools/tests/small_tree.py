@@ -13,7 +13,7 @@ STAND_IN = """#!/bin/sh
 echo 'cip: words refused' >&2
 exit 2
 """
-PARTS = ("tools", "installed", "docs", "python", "include", "VERSION", "cip")
+PARTS = ("tools", "installed", "docs", "python", "include", "examples", "VERSION", "CHANGELOG.md", "cip")
 
 
 def make_tree(folder):
