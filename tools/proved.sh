@@ -15,6 +15,14 @@ note_made() {
     fi
 }
 
+# Notes of a file how it was proved: the kit, and what its checker said last of each crate. The first line says of which
+# file and sources, so that a note of other ones doesn't count.
+note_proof() {
+    if ! is_old "$1"; then
+        printf '%s\n' "$(made_of "$1")" "$2" > "$1.proof"
+    fi
+}
+
 made_of() {
     echo "$(sources) $(sum_of "$1")"
 }

@@ -5,6 +5,7 @@ A crate whose library stands already, made from the same sources by the same kit
 import concurrent.futures
 import hashlib
 import os
+import re
 import shutil
 import subprocess
 import tempfile
@@ -18,6 +19,9 @@ MEMORY_OF_A_CHECK = 3 << 20     # in KiB, as /proc/meminfo tells
 FOLDER_IN_MEMORY = "/dev/shm"
 MOST_WRITTEN = 1 << 30          # in bytes, by a check
 PROVED_PARTS = ("src", "specs", "proofs")
+# what the checker says last of a crate, and how what is said of a crate begins in the log of a run
+VERDICT = re.compile(r"^logic=proved .*$", re.MULTILINE)
+HEAD = re.compile(r"^== (\w+)$", re.MULTILINE)
 
 
 class Kit:
@@ -47,7 +51,9 @@ class Crate:
         self.is_static = name in crate_table.static_libraries()
         self.library = self.at("out", "proved", name + ".rlib")
         self.note = self.at("out", "proved", "made-of")
+        self.said = self.at("out", "proved", "said")
         self.sum = self.sum_of()
+        self.last_said = ""
 
     def at(self, *inside):
         return os.path.join(self.folder, *inside)
@@ -84,13 +90,31 @@ class Crate:
         except FileNotFoundError:
             return False
 
-    def take(self):
-        """Takes the library that `rt ci` has just proved and left, where it did."""
+    def take(self, said=""):
+        """Takes the library that `rt ci` has just proved and left, where it did, and what it said of it."""
         left = self.at("out", "rlib", self.name + ".rlib")
         if os.path.isdir(left):
             self.clear()
             shutil.move(left, self.library)
             self.note_made()
+        self.keep(said)
+
+    def keep(self, said):
+        """Keeps what the checker said last of it, if these sources still are what it proved."""
+        found = VERDICT.findall(said)
+        if found and self.sum == self.sum_of():
+            os.makedirs(os.path.dirname(self.said), exist_ok=True)
+            with open(self.said, "w", encoding="utf-8") as note:
+                note.write(f"{self.sum} {found[-1]}\n")
+
+    def verdict(self):
+        """What the checker said last when it proved these sources; None if that isn't kept."""
+        try:
+            with open(self.said, encoding="utf-8") as note:
+                made_of, _, said = note.read().partition(" ")
+        except FileNotFoundError:
+            return None
+        return said.strip() if made_of == self.sum else None
 
     def clear(self):
         shutil.rmtree(os.path.dirname(self.library), ignore_errors=True)
@@ -128,6 +152,8 @@ class Crate:
         """Whether it is proved and what is made of it stands; what was said goes behind what the log has."""
         self.clear()
         done = self.passes(self.words(), log)
+        if done:
+            self.keep(self.last_said)
         if done and self.is_program:
             done = self.passes(self.link_words(), log)
         if done and not (self.is_program or self.is_static):
@@ -149,6 +175,7 @@ class Crate:
         # one write, since other crates' logs go into the same file
         log.write(f"== {self.name}\n{ran.stdout}")
         log.flush()
+        self.last_said = ran.stdout
         return ran.returncode == 0
 
 
@@ -165,6 +192,16 @@ def crates_of(kit, names):
     for name in names:
         add(name)
     return crates
+
+
+def said_in(log):
+    """What a log of `rt ci` says of each crate."""
+    begun = list(HEAD.finditer(log))
+    ends = [head.start() for head in begun[1:]] + [len(log)]
+    found = {}
+    for head, end in zip(begun, ends):
+        found[head[1]] = found.get(head[1], "") + log[head.end():end]
+    return found
 
 
 def folder_of_checks():

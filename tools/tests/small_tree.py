@@ -13,6 +13,7 @@ STAND_IN = """#!/bin/sh
 echo 'cip: words refused' >&2
 exit 2
 """
+SAID = "kit-0 logic 0123\nlow logic=proved functions=1\nhigh logic=proved functions=2\nkept"
 PARTS = ("tools", "installed", "docs", "python", "include", "examples", "VERSION", "CHANGELOG.md", "cip")
 
 
@@ -40,9 +41,9 @@ def put(path, text):
 
 
 def note(tree, what):
-    """Notes of the program or the library that it was made from the sources as they stand."""
-    line = f'top=$1; . "$top/tools/proved.sh"; note_made "${what}" "$(sources)"'
-    subprocess.run(["sh", "-c", line, "sh", tree], check=True)
+    """Notes of the program or the library that it was made from the sources as they stand, and what a checker said."""
+    line = f'top=$1; . "$top/tools/proved.sh"; note_made "${what}" "$(sources)"; note_proof "${what}" "$2"'
+    subprocess.run(["sh", "-c", line, "sh", tree, SAID], check=True)
 
 
 def files_below(folder):

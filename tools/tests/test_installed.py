@@ -44,6 +44,26 @@ class Installed(Tree):
                 self.assertEqual((status, complaint), (0, ""))
                 self.assertTrue(told.startswith(f"usage: {name} "), told[:60])
 
+    def test_each_command_has_a_man_page_that_has_its_options(self):
+        pages = os.path.join(self.prefix, "share", "man", "man1")
+        self.assertEqual(sorted(os.listdir(pages)), sorted(f"{name}.1" for name in os.listdir(
+            os.path.join(self.prefix, "bin"))))
+        table = self.page("cip-table")
+        for words in (".Nm cip-table\n.Nd makes a table", ".Op Fl -field Ar NAME\n", ".It Fl -csv\nCSV\n",
+                      "\n.Sh EXIT STATUS\nThe status is 0 if", "cip-names compares its letters"):
+            self.assertIn(words, table)
+        self.assertIn(".Op Ar WORD ...\n", self.page("cip-page"))
+
+    def page(self, name):
+        with open(os.path.join(self.prefix, "share", "man", "man1", f"{name}.1"), encoding="utf-8") as file:
+            return file.read()
+
+    @trying.needs("mandoc")
+    def test_the_man_pages_are_well_formed(self):
+        pages = os.path.join(self.prefix, "share", "man", "man1")
+        done = trying.ran("mandoc", "-T", "lint", "-W", "warning", *(os.path.join(pages, name) for name in os.listdir(pages)))
+        self.assertEqual((done.returncode, done.stdout), (0, b""))
+
     def test_what_stands_already_is_left_alone(self):
         told = [line for line in self.install(self.prefix).splitlines() if "library" not in line]
         self.assertEqual([line for line in told if not line.endswith("stands already")], [])

@@ -2,8 +2,10 @@
 import importlib.util
 import os
 import re
+import shutil
 import subprocess
 import sys
+import tarfile
 import unittest
 import zipfile
 
@@ -45,10 +47,10 @@ class Packing(Tree):
         object_of(folder, "liblibc_c", HEAP)
         note(cls.tree, "library")
 
-    def packed(self, *words, status=script.FINE, mask=0o022):
+    def packed(self, *words, status=script.FINE, tree=None, mask=0o022):
         clean = {name: value for name, value in os.environ.items()
                  if name not in ("PREFIX", "DESTDIR", "SOURCE_DATE_EPOCH", "DEBFULLNAME", "DEBEMAIL", "CIP_LIBRARY")}
-        done = trying.ran(os.path.join(self.tree, "tools", "package"), *words, cwd=self.room, env=clean,
+        done = trying.ran(os.path.join(tree or self.tree, "tools", "package"), *words, cwd=self.room, env=clean,
                           preexec_fn=lambda: os.umask(mask))
         self.assertEqual(done.returncode, status, done.stderr.decode())
         return done.stdout.decode() + done.stderr.decode()
@@ -94,6 +96,42 @@ class Packing(Tree):
         told = trying.ran("dpkg-deb", "--contents", package).stdout.decode()
         self.assertEqual(set(re.findall(r"^\S+ (\S+)", told, re.MULTILINE)), {"root/root"})
         self.assertIn(" ./usr/lib/libcip.so.1\n", told)
+
+    def test_all_that_is_handed_out_is_the_same_again_from_the_sources_in_it(self):
+        first, again = self.prefix, self.prefix + "-again"
+        self.packed("--all", first)
+        version = trying.text_of("VERSION").strip()
+        names = sorted(os.listdir(first))
+        self.assertEqual([name for name in names if not name.endswith((".deb", ".whl"))],
+                         ["PROOF.md", "SHA256SUMS", f"cip-{version}.tar.gz"])
+        self.assertEqual(trying.ran("sha256sum", "--check", "--quiet", "SHA256SUMS", cwd=first).returncode, 0)
+        tree = os.path.join(self.room, "unpacked")
+        with tarfile.open(os.path.join(first, f"cip-{version}.tar.gz")) as sources:
+            sources.extractall(tree)
+        tree = os.path.join(tree, f"cip-{version}")
+        self.assertEqual(trying.bytes_of(tree, "PROOF.md"), trying.bytes_of(first, "PROOF.md"))
+        for crate in ("cip", "cip_c"):
+            shutil.copytree(os.path.join(self.tree, "crates", crate, "out"), os.path.join(tree, "crates", crate, "out"))
+        self.packed("--all", again, tree=tree, mask=0o077)
+        for name in names:
+            with self.subTest(name):
+                self.assertTrue(script.are_same(os.path.join(first, name), os.path.join(again, name)))
+
+    def test_each_has_the_page_of_what_was_proved(self):
+        with open(os.path.join(self.tree, "crates", "cip", "out", "cip.made-of"), encoding="utf-8") as note:
+            sources, program = note.read().split()
+        page = trying.ran(os.path.join(self.tree, "tools", "proof")).stdout
+        for words in (sources, program, "`kit-0 logic 0123`", "low  logic=proved functions=1\n", "\nkept (proved in an ear"):
+            self.assertIn(words, page.decode())
+        with zipfile.ZipFile(self.made("--wheel")) as inside:
+            name, = [name for name in inside.namelist() if name.endswith("PROOF.md")]
+            self.assertEqual(inside.read(name), page)
+
+    def test_without_what_the_checker_said_nothing_is_made(self):
+        path = os.path.join(self.tree, "crates", "cip_c", "out", "libcip_c.a.proof")
+        os.rename(path, path + ".away")
+        self.addCleanup(os.rename, path + ".away", path)
+        self.assertIn("isn't kept beside it: tools/build library", self.packed(self.prefix, status=script.UNUSABLE))
 
     def test_without_what_is_proved_nothing_is_made(self):
         path = os.path.join(self.tree, "crates", "cip", "src", "main.rt")

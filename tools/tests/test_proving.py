@@ -121,6 +121,21 @@ class Libraries(unittest.TestCase):
             self.assertTrue(low.stands() and os.path.isdir(low.library))
             self.assertFalse(os.path.exists(left))
 
+    def test_what_the_checker_said_last_is_kept_for_these_sources(self):
+        said = proving.said_in("== low\nlogic=proved functions=1\nfn low: proved\nlogic=proved functions=2\n== high\nrt: no\n"
+                               "== low\nlogic=refused\n")
+        self.assertEqual(list(said), ["low", "high"])
+        with tempfile.TemporaryDirectory() as top, mock.patch.object(script, "TOP", top):
+            kit = repository(top)
+            kit.name = b"kit"
+            low, high = proving.crates_of(kit, ["high"]).values()
+            for crate in (low, high):
+                crate.take(said[crate.name])
+            self.assertEqual((low.verdict(), high.verdict()), ("logic=proved functions=2", None))
+            with open(os.path.join(top, "crates", "low", "src", "lib.rt"), "a", encoding="utf-8") as file:
+                file.write("// more\n")
+            self.assertIsNone(proving.crates_of(kit, ["low"])["low"].verdict())
+
     def test_words_name_the_libraries(self):
         with tempfile.TemporaryDirectory() as top, mock.patch.object(script, "TOP", top):
             kit = repository(top)
