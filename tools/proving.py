@@ -21,7 +21,7 @@ MOST_WRITTEN = 1 << 30          # in bytes, by a check
 PROVED_PARTS = ("src", "specs", "proofs")
 # what the checker says last of a crate, and how what is said of a crate begins in the log of a run
 VERDICT = re.compile(r"^logic=proved .*$", re.MULTILINE)
-HEAD = re.compile(r"^== (\w+)$", re.MULTILINE)
+HEAD = re.compile(r"^== (\w+)(.*)$", re.MULTILINE)
 
 
 class Kit:
@@ -195,13 +195,10 @@ def crates_of(kit, names):
 
 
 def said_in(log):
-    """What a log of `rt ci` says of each crate."""
-    begun = list(HEAD.finditer(log))
-    ends = [head.start() for head in begun[1:]] + [len(log)]
-    found = {}
-    for head, end in zip(begun, ends):
-        found[head[1]] = found.get(head[1], "") + log[head.end():end]
-    return found
+    """What a log of `rt ci` says of the proofs of each crate; parts about its tests and the like have a longer head."""
+    heads = list(HEAD.finditer(log))
+    ends = [head.start() for head in heads[1:]] + [len(log)]
+    return {head[1]: log[head.end():end] for head, end in zip(heads, ends) if not head[2]}
 
 
 def folder_of_checks():

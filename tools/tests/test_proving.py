@@ -122,8 +122,8 @@ class Libraries(unittest.TestCase):
             self.assertFalse(os.path.exists(left))
 
     def test_what_the_checker_said_last_is_kept_for_these_sources(self):
-        said = proving.said_in("== low\nlogic=proved functions=1\nfn low: proved\nlogic=proved functions=2\n== high\nrt: no\n"
-                               "== low\nlogic=refused\n")
+        said = proving.said_in("== low\nlogic=proved functions=1\nfn low: proved\nlogic=proved functions=2\n"
+                               "== low: its tests\nlogic=proved tests=1\n== high\nrt: no\n")
         self.assertEqual(list(said), ["low", "high"])
         with tempfile.TemporaryDirectory() as top, mock.patch.object(script, "TOP", top):
             kit = repository(top)
