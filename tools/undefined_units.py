@@ -1,4 +1,4 @@
-"""The undefined units of records by the module for Python, as lists of words that tools/undefined would write."""
+"""The undefined units of records by the module for Python, as lists of words that cip-undefined would write."""
 import script
 import sdf
 

@@ -1,5 +1,8 @@
 """What tools/install put somewhere: the program with its help, and the scripts."""
 import os
+import pty
+import re
+import subprocess
 
 import trying
 from small_tree import Tree
@@ -29,6 +32,15 @@ class Installed(Tree):
         for words in ([], ["mine.sdf"], ["annotate", "mine.sdf"], ["annotate", "--nodes=5"], ["set", "--record"]):
             with self.subTest(words):
                 self.assertEqual(self.called("cip", *words), (2, "", "cip: words refused\n" + HELP))
+
+    def test_a_value_out_of_range_leads_on_where_somebody_looks(self):
+        seen, terminal = pty.openpty()
+        with open(seen, "rb", buffering=0) as seen_file:
+            words = [os.path.join(self.prefix, "bin", "cip"), "annotate", "--workers", "17"]
+            status = subprocess.run(words, stdin=subprocess.DEVNULL, stderr=terminal, check=False).returncode
+            os.close(terminal)
+            told = seen_file.read(1000).decode().replace("\r\n", "\n")
+        self.assertEqual((status, told), (2, "cip: words refused\n" + HELP))
 
     def test_a_link_to_it_works(self):
         link = os.path.join(self.room, "link")
@@ -63,6 +75,13 @@ class Installed(Tree):
         pages = os.path.join(self.prefix, "share", "man", "man1")
         done = trying.ran("mandoc", "-T", "lint", "-W", "warning", *(os.path.join(pages, name) for name in os.listdir(pages)))
         self.assertEqual((done.returncode, done.stdout), (0, b""))
+
+    def test_scripts_and_their_modules_name_one_another_as_they_are_installed(self):
+        folder = os.path.join(self.prefix, "share", "cip", "tools")
+        for name in sorted(os.listdir(folder)):
+            if os.path.isfile(os.path.join(folder, name)) and name != "page":
+                with self.subTest(name), open(os.path.join(folder, name), encoding="utf-8") as file:
+                    self.assertEqual(re.findall(r"\btools/(?!build\b|install\b)\w+", file.read()), [])
 
     def test_what_stands_already_is_left_alone(self):
         told = [line for line in self.install(self.prefix).splitlines() if "library" not in line]
