@@ -1,4 +1,5 @@
 """What tools/install put somewhere: the program with its help, and the scripts."""
+import ast
 import os
 import pty
 import re
@@ -8,6 +9,17 @@ import trying
 from small_tree import Tree
 
 HELP = "cip: see cip --help, or man cip\n"
+
+
+def read_of_terminal(file):
+    """All that a terminal was written, which ends in an error of the system."""
+    pieces = []
+    try:
+        while piece := file.read(1000):
+            pieces.append(piece)
+    except OSError:
+        pass
+    return b"".join(pieces)
 
 
 class Installed(Tree):
@@ -39,7 +51,7 @@ class Installed(Tree):
             words = [os.path.join(self.prefix, "bin", "cip"), "annotate", "--workers", "17"]
             status = subprocess.run(words, stdin=subprocess.DEVNULL, stderr=terminal, check=False).returncode
             os.close(terminal)
-            told = seen_file.read(1000).decode().replace("\r\n", "\n")
+            told = read_of_terminal(seen_file).decode().replace("\r\n", "\n")
         self.assertEqual((status, told), (2, "cip: words refused\n" + HELP))
 
     def test_a_link_to_it_works(self):
@@ -82,6 +94,13 @@ class Installed(Tree):
             if os.path.isfile(os.path.join(folder, name)) and name != "page":
                 with self.subTest(name), open(os.path.join(folder, name), encoding="utf-8") as file:
                     self.assertEqual(re.findall(r"\btools/(?!build\b|install\b)\w+", file.read()), [])
+
+    def test_scripts_and_their_modules_have_the_syntax_of_python_3_8(self):
+        folder = os.path.join(self.prefix, "share", "cip", "tools")
+        for name in sorted(os.listdir(folder)):
+            if os.path.isfile(os.path.join(folder, name)):
+                with self.subTest(name), open(os.path.join(folder, name), encoding="utf-8") as file:
+                    ast.parse(file.read(), feature_version=(3, 8))
 
     def test_what_stands_already_is_left_alone(self):
         told = [line for line in self.install(self.prefix).splitlines() if "library" not in line]
