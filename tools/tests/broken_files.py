@@ -81,8 +81,8 @@ def changed(text, chance):
 
 
 def made(count, seed):
-    """Broken files of one to three records."""
+    """Broken files of one or two records."""
     kinds, chance = records(), random.Random(seed)
     for _ in range(count):
-        text = b"".join(annotated(chance.choice(kinds), chance) for _ in range(chance.randrange(1, 4)))
+        text = b"".join(annotated(chance.choice(kinds), chance) for _ in range(chance.randrange(1, 3)))
         yield changed(text, chance)

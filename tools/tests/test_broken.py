@@ -151,10 +151,14 @@ def of_resume(name, folder):
 
 
 def of_lists(name, folder):
-    """Broken lists of corrections beside a whole file."""
-    whole, chance = written(folder, "whole.sdf", record_with_item()), random.Random(SEED)
-    for _ in files:
-        yield b"", ("/bin/true", written(folder, "list", broken_files.changed(CORRECTIONS, chance)), whole)
+    """Broken lists of corrections beside a whole file, and a whole list beside broken files, by turns."""
+    whole, right = written(folder, "whole.sdf", record_with_item()), written(folder, "right", CORRECTIONS)
+    chance = random.Random(SEED)
+    for number, text in enumerate(files):
+        if number % 2:
+            yield b"", ("/bin/true", right, written(folder, "broken.sdf", text))
+        else:
+            yield b"", ("/bin/true", written(folder, "broken", broken_files.changed(CORRECTIONS, chance)), whole)
 
 
 def of_undefined(name, folder):
