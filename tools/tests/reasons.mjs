@@ -12,13 +12,14 @@ const part = (id) => JSON.parse(new RegExp(`id="${id}">([^<]*)</script>`).exec(p
 const { given } = part("settings");
 
 function told(record) {
-  const { drawn, others } = unitsWithout(record), molecule = finished(moleculeOf(record));
+  const { drawn, others } = unitsWithout(record, given), molecule = finished(moleculeOf(record));
   const notesOf = (unit) => finished(endsOf(molecule, unit, { limit: record.nodes })).flatMap((end) =>
     end.decisions.map((decision) => noteOf(end, decision)).filter(Boolean));
   return {
     drawn: drawn.map((unit) => [unit.unit, wordsOf(unit), ...notesOf(unit)]), others: others.map(({ unit }) => unit),
     groups: labelsOf(record).map(({ unit }) => record.groups.get(unit)?.isOpen ?? null),
-    wedges: strayWedges(record, given),
+    wedges: strayWedges(record, given), compared: [...record.others.values()].map(({ unit, other }) => [unit, other]),
+    number: record.number, unread: record.unread,
   };
 }
 

@@ -37,6 +37,7 @@ TELLINGS = {
     "axes": b"record 1\nt1-7 P 1a 2 order 2 6 | 8 12\nc2-5 none Either\n",
     "groups": b"record 1\nrac1 a2 R S\nabs a5 S R\nrel1 a3 - -\n",
     "undefined": b"record 1\na2 open 1a 2 order 3 4 1 H\na4 dependent\na5 tie\na6 over\n",
+    "compare": b"record\tunit\tletter\tother\tcompared\n1\ta4\tS\tR\tdifferent\n1\tb9-99\t\tE\titem alone\n",
 }
 CORRECTIONS = b"record atom letter\n1\t4\tR\n1,7,S\n2 10 r\n# remark\n1000000000 1 s\n"
 STATUSES = {script.FINE, script.DIFFERENT, script.WORDS, script.UNUSABLE}

@@ -50,12 +50,13 @@ export class Card {
   }
 
   lines() {
-    const { record, page } = this, { drawn, others } = unitsWithout(record), parts = [];
+    const { record, page } = this, { drawn, others } = unitsWithout(record, page.given), parts = [];
     if (isFlagged(record)) parts.push(element("p", "why", whyNot(record, page)));
     const lines = labelsOf(record).map((unit) => this.labelLine(unit));
     lines.push(...drawn.map((unit) => this.reasonLine(unit)));
     if (lines.length) parts.push(element("ul", "units", ...lines));
     for (const text of strayWedges(record, page.given)) parts.push(element("p", "undrawn", text));
+    for (const text of record.unread) parts.push(element("p", "undrawn", `Not read of the other program: ${text}`));
     if (!parts.length) parts.push(element("p", "undrawn", "No unit has a label."));
     if (others.length) parts.push(this.otherList(others));
     if (record.items.length) parts.push(itemList(record));
@@ -79,6 +80,8 @@ export class Card {
   unitLine(unit, badge, words) {
     const name = unitName(this.record, unit, this.page.kinds);
     const line = element("li", "unit", element("div", "head", badge, element("span", "", name)), ...words);
+    const compared = this.record.others.get(unit.unit);
+    if (compared) line.append(otherLine(compared));
     if (unit.order && unit.order[0].length) line.append(ranked(this.record, unit.order));
     line.tabIndex = 0;
     line.setAttribute("role", "button");
@@ -175,6 +178,10 @@ export class Card {
     line.click();
     line.click();
   }
+}
+
+function otherLine({ other }) {
+  return element("div", "rule", "other program: ", other ? letterBadge(other) : "no letter");
 }
 
 function ranked(record, order) {

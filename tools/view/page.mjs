@@ -11,12 +11,14 @@ const records = JSON.parse(document.getElementById("records").textContent).map(r
 const page = { kinds: settings.kinds, causes: settings.causes, given: settings.given };
 const chosen = { letters: new Set(), rules: new Set(), kinds: new Set(), words: "" };
 const cards = records.map(emptyCard);
+const places = new Map(cards.map((card, place) => [card, place]));
 const filled = new Map();
 
 const KINDS_OF_RECORDS = new Map([
   ["with undefined units", ({ open }) => open.length > 0],
   ["without a label", (record) => record.hasItem && !record.refused && !labelsOf(record).length],
   ["refused or over the bound", isFlagged],
+  ["other letters in the compared item", ({ others, unread }) => others.size > 0 || unread.length > 0],
 ]);
 
 function byId(id) { return document.getElementById(id); }
@@ -41,7 +43,7 @@ function showCards() {
     for (const { isIntersecting, target } of seen) {
       if (!isIntersecting) continue;
       watcher.unobserve(target);
-      fill(Number(target.id.slice(1)) - 1);
+      fill(places.get(target));
     }
   }, { rootMargin: "500px" });
   byId("cards").append(...cards);
@@ -49,11 +51,13 @@ function showCards() {
 }
 
 function showFlagged() {
-  const items = records.filter(isFlagged).map((record) => {
+  const flagged = [...records.keys()].filter((place) => isFlagged(records[place]));
+  const items = flagged.map((place) => {
+    const record = records[place];
     const link = element("a", "", `record ${record.number}${record.name ? ", " + record.name : ""}`);
     link.href = "#r" + record.number;
     // a card that a filter hides can't be gone to
-    link.addEventListener("click", () => { if (cards[record.number - 1].hidden) clearFilters(); });
+    link.addEventListener("click", () => { if (cards[place].hidden) clearFilters(); });
     return element("li", "", link, `: ${whyNot(record, page)}`);
   });
   if (!items.length) return;

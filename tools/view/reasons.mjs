@@ -5,6 +5,8 @@ const REASONS = {
   tie: "no letter: two of its ligands are alike by Rules 1a to 5",
   tieAtWedge: "no letter: two of its ligands are alike by Rules 1a to 5; a centre of C2 symmetry may still be one",
   over: "no letter: its digraph is larger than the bound on nodes",
+  unknown: "no letter: cip explain says why (cip-page --explain)",
+  notUnit: "no letter: no unit that cip annotate labels",
   NoMark: "no letter: no wedge is drawn at it (cip-undefined lists those that need one)",
   Either: "no letter: a wavy or crossed bond says that it is undecided",
   Coincident: "no letter: two ligands lie in one direction, or one lies at the unit or on its line",
@@ -33,18 +35,24 @@ export function wordsOf({ unit, state, reason = "over" }) {
   return STATES[state] || REASONS[reason] || reason;
 }
 
-// The units of a record without a letter: those at which something is drawn or that are undefined, and the others.
-export function unitsWithout(record) {
-  const marked = narrowEnds(record), isDrawn = ({ reason, ends }) =>
+// The units of a record without a letter: those at which something is drawn, that are undefined or to which another
+// program gives a letter, and the others.
+export function unitsWithout(record, given = {}) {
+  const marked = narrowEnds(record), isDrawn = ({ unit, reason, ends }) => record.others.has(unit) ||
     !["tie", "NoMark", "over"].includes(reason) || (reason !== "NoMark" && ends.some((end) => marked.has(end)));
   const isOpen = new Set(record.open.map(({ unit }) => unit));
   const states = new Map(record.tied.map(({ unit, state }) => [unit, state]));
   const found = record.without.filter(({ unit }) => !isOpen.has(unit))
     .map((unit) => (unit.reason === "NoMark" ? { ...unit, reason: states.get(unit.unit) || "NoMark" } : unit));
-  return {
-    drawn: [...record.over, ...found.filter(isDrawn).map(atWedge), ...record.open],
-    others: found.filter((unit) => !isDrawn(unit)),
-  };
+  const drawn = [...record.over, ...found.filter(isDrawn).map(atWedge), ...record.open];
+  return { drawn: [...drawn, ...ofOthers(record, drawn, given)], others: found.filter((unit) => !isDrawn(unit)) };
+}
+
+// The units to which another program alone gives a letter, but for those that are named already.
+function ofOthers(record, drawn, given) {
+  const named = new Set([...labelsOf(record), ...drawn].map(({ unit }) => unit));
+  const reason = given.explain ? "notUnit" : "unknown";
+  return [...record.others.values()].filter(({ unit }) => !named.has(unit)).map((unit) => ({ ...unit, reason }));
 }
 
 function atWedge(unit) { return unit.reason === "tie" && unit.unit[0] === "a" ? { ...unit, reason: "tieAtWedge" } : unit; }

@@ -6,12 +6,12 @@ export function isSmall(letter) { return letter.length > 1 || letter === letter.
 
 export function recordOf(told, place) {
   return {
-    number: place + 1, name: told.n || "", isInSpace: Boolean(told.z), items: told.i || [], refused: told.f,
+    number: told.r || place + 1, name: told.n || "", isInSpace: Boolean(told.z), items: told.i || [], refused: told.f,
     atoms: (told.a || []).map(atomOf), bonds: (told.b || []).map(bondOf), hasItem: !told.m,
     labels: told.l.map(labelOf), further: (told.x || []).map(labelOf), senses: (told.s || []).map(labelOf),
     over: (told.o || []).map((unit) => unitOf(unit, {})), without: (told.e || []).map(withoutOf),
     groups: new Map((told.g || []).map((group) => [group[1], groupOf(group)])), ...undefinedOf(told.u || []),
-    wording: told.w ? "2013" : "2018", nodes: told.k,
+    wording: told.w ? "2013" : "2018", nodes: told.k, ...comparedOf(told.c || [], (told.a || []).length),
   };
 }
 
@@ -41,6 +41,16 @@ function undefinedOf(told) {
   const units = told.map(([unit, state, rule, sphere, order]) => unitOf(unit, { state, rule, sphere, order }));
   return { open: units.filter(({ state }) => state === "open" || state === "dependent"),
     tied: units.filter(({ state }) => state === "tie" || state === "over") };
+}
+
+// Another program's letters where they aren't the same, by unit, and what of them has no place in a record of so many
+// atoms: an item that isn't read, or a unit of other atoms.
+function comparedOf(told, count) {
+  const units = told.filter(([unit]) => unit).map(([unit, other]) => unitOf(unit, { other }));
+  const isOutside = ({ ends }) => ends.some((end) => end >= count);
+  const items = told.filter(([unit]) => !unit).map(([, other]) => other);
+  const unread = [...items, ...units.filter(isOutside).map(({ unit }) => unit)];
+  return { others: new Map(units.filter((unit) => !isOutside(unit)).map((unit) => [unit.unit, unit])), unread };
 }
 
 // ---- Names
