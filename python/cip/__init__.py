@@ -207,11 +207,19 @@ class Labeller:
             return ctypes.string_at(self._text, length)
 
 
-def records(file: BinaryIO) -> Iterator[bytes]:
-    """The records of an SDfile that is open for bytes, one by one, each with its line `$$$$` where it has one.
+def records(file: Union[BinaryIO, str, "os.PathLike[str]"]) -> Iterator[bytes]:
+    """The records of an SDfile, by its path or open for bytes, one by one, each with its line `$$$$` where it has one.
 
     Blank lines behind the last one are no record. `Error` where a record is longer than 16 MiB.
     """
+    if not isinstance(file, (str, os.PathLike)):
+        yield from _records(file)
+        return
+    with open(file, "rb") as opened:
+        yield from _records(opened)
+
+
+def _records(file: BinaryIO) -> Iterator[bytes]:
     rest, searched = b"", 0
     while True:
         piece = file.read(_PIECE)
@@ -241,6 +249,8 @@ def library_version() -> str:
 # A record as bytes, of which there is one.
 def _one_record(record: Record) -> bytes:
     if isinstance(record, str):
+        if "\n" not in record and os.path.exists(record):
+            raise Error("the record is the name of a file: cip.records(path) gives its records one by one")
         given = record.encode()
     elif isinstance(record, (bytes, bytearray, memoryview)):
         given = bytes(record)
@@ -251,7 +261,7 @@ def _one_record(record: Record) -> bytes:
     if first >= 0 and given[first + 4:].strip(b" \r\n"):
         found = _TERMINATOR.search(given)
         if found and given[found.end():].strip(b" \t\r\n"):
-            raise Error('the text has several records: cip.records(open(path, "rb")) gives them one by one')
+            raise Error("the text has several records: cip.records(path) gives those of a file one by one")
     return given
 
 

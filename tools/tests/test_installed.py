@@ -91,7 +91,7 @@ class Installed(Tree):
     def test_scripts_and_their_modules_name_one_another_as_they_are_installed(self):
         folder = os.path.join(self.prefix, "share", "cip", "tools")
         for name in sorted(os.listdir(folder)):
-            if os.path.isfile(os.path.join(folder, name)) and name != "page":
+            if os.path.isfile(os.path.join(folder, name)):
                 with self.subTest(name), open(os.path.join(folder, name), encoding="utf-8") as file:
                     self.assertEqual(re.findall(r"\btools/(?!build\b|install\b)\w+", file.read()), [])
 

@@ -1,6 +1,7 @@
 """The module for Python over a library that answers the same to all: what it takes, and what it raises."""
 import io
 import os
+import pathlib
 import subprocess
 import sys
 import tempfile
@@ -137,6 +138,17 @@ class Module(unittest.TestCase):
         self.assertEqual(list(self.cip.records(io.BytesIO(b"".join(parts)))), parts)
         self.assertEqual(list(self.cip.records(io.BytesIO(parts[0] + b"\n \n"))), parts[:1])
         self.assertEqual(list(self.cip.records(io.BytesIO(b""))), [])
+
+    def test_the_records_of_a_path_are_those_of_its_file(self):
+        path = os.path.join(self.room.name, "mine.sdf")
+        with open(path, "wb") as file:
+            file.write(RECORD + END + b"cut")
+        for given in (path, pathlib.Path(path)):
+            self.assertEqual(list(self.cip.records(given)), [RECORD + END, b"cut"])
+        with self.assertRaisesRegex(self.cip.Error, "name of a file: cip.records"):
+            self.labeller.labels(path)
+        with self.assertRaises(OSError):
+            list(self.cip.records(path + "-2"))
 
     def test_a_file_that_is_open_for_text_is_told_so(self):
         with self.assertRaisesRegex(TypeError, "rb"):
