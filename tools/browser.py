@@ -69,16 +69,33 @@ class Browser:
         return answer["result"].get("value")
 
     def open(self, path, width=WIDTH, height=1000, dark=False):
+        """Opens a page of records; how many milliseconds it took until the first were drawn."""
+        self.look(width, height, dark)
+        self.ask("Page.navigate", url=Path(path).as_uri())
+        self.wait(OPENED)
+        return int(self.value("document.body.dataset.opened"))
+
+    def look(self, width=WIDTH, height=1000, dark=False):
+        """Sets the size of the window, and what the page is asked to look like."""
         self.ask("Emulation.setDeviceMetricsOverride", width=width, height=height, deviceScaleFactor=1, mobile=False)
         scheme = {"name": "prefers-color-scheme", "value": "dark" if dark else "light"}
         self.ask("Emulation.setEmulatedMedia", features=[scheme])
-        self.ask("Page.navigate", url=Path(path).as_uri())
-        end = time.monotonic() + SECONDS
+
+    def wait(self, expression, seconds=SECONDS):
+        """What an expression gives in the page once that isn't nothing."""
+        end = time.monotonic() + seconds
         while time.monotonic() < end:
-            if self.value(OPENED):
-                return int(self.value("document.body.dataset.opened"))
+            value = self.value(expression)
+            if value:
+                return value
             time.sleep(0.02)
-        raise sdf.Fault(f"{path} isn't drawn after {SECONDS} s")
+        raise sdf.Fault(f"the page has no {expression} after {seconds} s")
+
+    def hand_over(self, selector, path):
+        """Hands a file to an element of the page, as one that the user picks."""
+        root = self.ask("DOM.getDocument")["root"]["nodeId"]
+        node = self.ask("DOM.querySelector", nodeId=root, selector=selector)["nodeId"]
+        self.ask("DOM.setFileInputFiles", nodeId=node, files=[path])
 
     def picture(self, path):
         picture = self.ask("Page.captureScreenshot", format="png")

@@ -22,6 +22,11 @@ PROVED_PARTS = ("src", "specs", "proofs")
 # what the checker says last of a crate, and how what is said of a crate begins in the log of a run
 VERDICT = re.compile(r"^logic=proved .*$", re.MULTILINE)
 HEAD = re.compile(r"^== (\w+)(.*)$", re.MULTILINE)
+# The kit hands all of a program to its clang as LLVM's code, in a file of this name: this clang keeps a copy of it.
+KEEPING = """#!/bin/sh
+cp module.bc '{code}' || exit 1
+exec '{clang}' "$@"
+"""
 
 
 class Kit:
@@ -36,6 +41,20 @@ class Kit:
 
     def path(self, *inside):
         return os.path.join(self.folder, *inside)
+
+    def keeping_toolchain(self, room, code):
+        """A folder with the kit's tools for a compiler, whose clang keeps the code that it is given."""
+        folder = os.path.join(room, "toolchain")
+        os.makedirs(os.path.join(folder, "bin"))
+        shutil.copytree(self.path("toolchain", "lib"), os.path.join(folder, "lib"), symlinks=True)
+        for name in os.listdir(self.path("toolchain", "bin")):
+            os.symlink(os.path.realpath(self.path("toolchain", "bin", name)), os.path.join(folder, "bin", name))
+        clang = os.path.join(folder, "bin", "clang")
+        os.remove(clang)
+        with open(clang, "w", encoding="utf-8") as script_of_clang:
+            script_of_clang.write(KEEPING.format(code=code, clang=self.path("toolchain", "bin", "clang")))
+        os.chmod(clang, 0o755)
+        return folder
 
 
 class Crate:
@@ -52,6 +71,7 @@ class Crate:
         self.library = self.at("out", "proved", name + ".rlib")
         self.note = self.at("out", "proved", "made-of")
         self.said = self.at("out", "proved", "said")
+        self.code = self.at("out", name + ".bc")
         self.sum = self.sum_of()
         self.last_said = ""
 
@@ -126,8 +146,9 @@ class Crate:
             with open(self.note, "w", encoding="utf-8") as note:
                 note.write(self.sum)
 
-    def words(self):
-        """What proves and builds it, by one processor: more are done sooner, and take a third more in all."""
+    def words(self, toolchain=""):
+        """What proves and builds it, by one processor: more are done sooner, and take a third more in all. The
+        compiler is the kit's if no folder of another toolchain is given."""
         kit = self.kit
         words = [kit.path("bin", "rattle"), "build", "--crate-name", self.name,
                  "src/main.rt" if self.is_program else "src/lib.rt", "--links", self.name + "=", "--jobs", "1",
@@ -138,10 +159,10 @@ class Crate:
             words += ["--extern", f"{name}={libraries.get(name) or kit.path('rlibs', name + '.rlib')}"]
         for low in sorted(self.below, key=lambda low: low.name):
             words += ["-L", "dependency=" + os.path.dirname(low.library)]
-        return words + self.what_is_made()
+        return words + self.what_is_made(toolchain or self.kit.path("toolchain"))
 
-    def what_is_made(self):
-        compiled = ["--toolchain", self.kit.path("toolchain"), "--backend", "llvm"]
+    def what_is_made(self, toolchain):
+        compiled = ["--toolchain", toolchain, "--backend", "llvm"]
         if self.is_program:
             return [*compiled, "-o", os.path.join("out", self.name + ".o")]
         if self.is_static:
@@ -151,14 +172,21 @@ class Crate:
     def prove(self, log):
         """Whether it is proved and what is made of it stands; what was said goes behind what the log has."""
         self.clear()
+        if self.is_program or self.is_static:
+            return self.compile(log)
         done = self.passes(self.words(), log)
         if done:
             self.keep(self.last_said)
-        if done and self.is_program:
-            done = self.passes(self.link_words(), log)
-        if done and not (self.is_program or self.is_static):
             self.note_made()
         return done
+
+    def compile(self, log):
+        """Whether what is compiled of it stands, with its code beside it."""
+        with tempfile.TemporaryDirectory(prefix="cip-") as room:
+            done = self.passes(self.words(self.kit.keeping_toolchain(room, self.code)), log)
+        if done:
+            self.keep(self.last_said)
+        return done and (not self.is_program or self.passes(self.link_words(), log))
 
     def link_words(self):
         kit, made = self.kit, os.path.join("out", self.name)

@@ -14,7 +14,7 @@ echo 'cip: words refused' >&2
 exit 2
 """
 SAID = "kit-0 logic 0123\nlow logic=proved functions=1\nhigh logic=proved functions=2\nkept"
-PARTS = ("tools", "installed", "docs", "python", "include", "examples", "VERSION", "CHANGELOG.md", "cip")
+PARTS = ("tools", "installed", "docs", "python", "javascript", "include", "examples", "VERSION", "CHANGELOG.md", "cip")
 
 
 def make_tree(folder):

@@ -223,5 +223,8 @@ class Versions(unittest.TestCase):
     def test_of_the_head_of_changes(self):
         self.agrees(r"^\*\*(\d+)\*\* \(", "CHANGELOG.md")
 
+    def test_of_the_module_for_javascript(self):
+        self.agrees(r'^  "version": "(\d+)\.0\.0",$', "javascript", "package.json")
+
     def test_of_the_library(self):
         self.agrees(r"fn cip_version\(\) -> u32\n    ensures .*\n\{\n    (\d+)\n\}", "crates", "cip_c", "src", "exports.rt")

@@ -21,7 +21,8 @@ class Sources(trying.Checked):
 
     @trying.needs("node", "nodejs")
     def test_the_modules_of_the_page(self):
-        modules = [trying.path(name) for name in trying.in_folder("tools/view", ".mjs")]
+        modules = [trying.path(name) for folder in ("tools/view", "tools/web", "javascript")
+                   for name in trying.in_folder(folder, ".mjs")]
         self.finds_nothing("node", "--no-warnings", "--experimental-vm-modules", "--eval", READ_MODULES, *modules)
 
     @trying.needs("gcc")

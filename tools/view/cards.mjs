@@ -33,8 +33,8 @@ export function emptyCard(record) {
   return card;
 }
 
-// A card with all that belongs into it. `page` has the words for kinds of units and for causes, and what is given
-// beside the items.
+// A card with all that belongs into it. `page` has the words for kinds of units and for causes, what is given beside the
+// items, and if records can be changed what a card has for that.
 export class Card {
   constructor(card, record, page) {
     Object.assign(this, { card, record, page, molecule: null });
@@ -60,7 +60,7 @@ export class Card {
     if (!parts.length) parts.push(element("p", "undrawn", "No unit has a label."));
     if (others.length) parts.push(this.otherList(others));
     if (record.items.length) parts.push(itemList(record));
-    return parts;
+    return page.changesOf ? [...parts, ...page.changesOf(record)] : parts;
   }
 
   labelLine(unit) {

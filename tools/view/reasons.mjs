@@ -25,7 +25,7 @@ export function whyNot(record, { kinds, causes }) {
     const [line, cause] = record.refused;
     return `Refused at line ${line}: ${causes[cause] || "?"} (${cause}).`;
   }
-  if (!record.hasItem) return "It has no item CIP_LABELS.";
+  if (!record.hasItem) return record.fault ? `The program stopped: ${record.fault}.` : "It has no item CIP_LABELS.";
   const names = record.over.map((unit) => unitName(record, unit, kinds)).join(", ");
   return `Over the bound on nodes, so not labelled: ${names}.`;
 }

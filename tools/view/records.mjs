@@ -11,7 +11,8 @@ export function recordOf(told, place) {
     labels: told.l.map(labelOf), further: (told.x || []).map(labelOf), senses: (told.s || []).map(labelOf),
     over: (told.o || []).map((unit) => unitOf(unit, {})), without: (told.e || []).map(withoutOf),
     groups: new Map((told.g || []).map((group) => [group[1], groupOf(group)])), ...undefinedOf(told.u || []),
-    wording: told.w ? "2013" : "2018", nodes: told.k, ...comparedOf(told.c || [], (told.a || []).length),
+    wording: told.w ? "2013" : "2018", nodes: told.k, fault: told.q || "",
+    ...comparedOf(told.c || [], (told.a || []).length),
   };
 }
 

@@ -1,0 +1,58 @@
+// The page's modules under Node, without its window: node web.mjs WHAT WORD ..
+//   runs MODULE             runs of the program; a line of input has a file and words, divided by tabs
+//   entries MODULE FILE     what the page makes of the records of a file, a line of JSON for each
+//   readings FILE ..        what its readers make of the records of files, a line for each file: name, items, drawing
+//   parts SIZE FILE         the parts of a file that comes in pieces of some bytes: first record, length, sum
+import { createHash } from "node:crypto";
+import { readFileSync, writeSync } from "node:fs";
+import { createInterface } from "node:readline";
+import { drawn } from "../web/drawn.mjs";
+import { labelled } from "../web/labelling.mjs";
+import { filePartsOf } from "../web/parts.mjs";
+import { runModule } from "../web/program.mjs";
+import { drawingOf, itemsOf, nameOf, recordsOf, shown } from "../web/sdf.mjs";
+
+const [what, ...words] = process.argv.slice(2);
+
+function bytesOfFile(path) { return new Uint8Array(readFileSync(path)); }
+
+function moduleOf(path) { return new WebAssembly.Module(readFileSync(path)); }
+
+function put(bytes) { for (let at = 0; at < bytes.length;) at += writeSync(1, bytes, at); }
+
+function putJson(value) { put(new TextEncoder().encode(JSON.stringify(value) + "\n")); }
+
+async function runs(path) {
+  const module = moduleOf(path);
+  for await (const line of createInterface({ input: process.stdin })) {
+    const [file, ...given] = line.split("\t"), { status, output, errors } = runModule(module, given, bytesOfFile(file));
+    const said = new TextEncoder().encode(errors);
+    put(new TextEncoder().encode(`${status} ${output.length} ${said.length}\n`));
+    put(output);
+    put(said);
+  }
+}
+
+function entries(path, file) {
+  const part = { bytes: bytesOfFile(file), words: [], first: 0, isShown: true };
+  labelled(moduleOf(path), part).entries.forEach(putJson);
+}
+
+function readingOf(record) {
+  const drawing = drawingOf(record);
+  return { name: nameOf(record), items: itemsOf(record).map(({ name, values }) => [shown(name), values.map(shown)]),
+    drawing: drawing && drawing.atoms.length ? drawn(drawing) : null };
+}
+
+function readings(...files) { for (const file of files) putJson(recordsOf(bytesOfFile(file)).map(readingOf)); }
+
+async function parts(size, file) {
+  const bytes = bytesOfFile(file), step = Number(size);
+  function* pieces() { for (let at = 0; at < bytes.length; at += step) yield bytes.slice(at, at + step); }
+  for await (const part of filePartsOf(pieces())) {
+    const sum = createHash("sha256").update(part.bytes).digest("hex");
+    putJson([part.first, part.bytes.length, Boolean(part.isCut), sum]);
+  }
+}
+
+await { runs, entries, readings, parts }[what](...words);
