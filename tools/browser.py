@@ -1,6 +1,7 @@
 """A headless Chromium that scripts speak to."""
 import base64
 import contextlib
+import fcntl
 import json
 import os
 import subprocess
@@ -11,9 +12,32 @@ import sdf
 
 SECONDS = 60
 WIDTH = 1280
+ITS_OWN = (3, 4)
 SWITCHES = ("--headless=new", "--remote-debugging-pipe", "--disable-gpu", "--no-sandbox", "--hide-scrollbars",
             "--no-first-run")
 OPENED = "document.body && document.body.dataset.opened && document.querySelectorAll('.card .inside').length"
+
+
+def above_its_own(pipe):
+    """The same end of a pipe by a number that Chromium has no use for."""
+    made = fcntl.fcntl(pipe, fcntl.F_DUPFD_CLOEXEC, max(ITS_OWN) + 1)
+    os.close(pipe)
+    return made
+
+
+def as_its_own(pipes):
+    """Gives ends of pipes the numbers by which Chromium reads and writes."""
+    for pipe, number in zip(pipes, ITS_OWN):
+        os.dup2(pipe, number)
+
+
+@contextlib.contextmanager
+def closing_both(*pipes):
+    try:
+        yield pipes
+    finally:
+        for pipe in pipes:
+            os.close(pipe)
 
 
 class Browser:
@@ -22,12 +46,11 @@ class Browser:
     def __init__(self, path, folder):
         to_it, ours = os.pipe()
         theirs, from_it = os.pipe()
-        command = ["/bin/sh", "-c", f'exec "$@" 3<&{to_it} 4>&{from_it}', "sh", path, *SWITCHES,
-                   f"--user-data-dir={folder}", "about:blank"]
-        self.child = subprocess.Popen(command, pass_fds=(to_it, from_it), stdin=subprocess.DEVNULL,
-                                      stdout=subprocess.DEVNULL, stderr=subprocess.DEVNULL)
-        os.close(to_it)
-        os.close(from_it)
+        with closing_both(above_its_own(to_it), above_its_own(from_it)) as pipes:
+            self.child = subprocess.Popen([path, *SWITCHES, f"--user-data-dir={folder}", "about:blank"],
+                                          preexec_fn=lambda: as_its_own(pipes), close_fds=False,
+                                          stdin=subprocess.DEVNULL, stdout=subprocess.DEVNULL,
+                                          stderr=subprocess.DEVNULL)
         self.out, self.into = os.fdopen(ours, "wb", 0), os.fdopen(theirs, "rb", 0)
         self.rest, self.number, self.session, self.faults = b"", 0, None, []
         target = self.ask("Target.createTarget", url="about:blank")["targetId"]

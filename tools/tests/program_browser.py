@@ -189,7 +189,6 @@ class Page(unittest.TestCase):
         self.browser.value(f"""(() => {{
           const data = new DataTransfer();
           data.setData('text/plain', {molfile!r});
-          dispatchEvent(new ClipboardEvent('paste', {{ clipboardData: data }}));
           document.body.dispatchEvent(new ClipboardEvent('paste', {{ clipboardData: data, bubbles: true }}));
         }})()""")
         self.browser.wait(LABELLED)

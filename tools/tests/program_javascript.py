@@ -4,8 +4,8 @@ import os
 import tempfile
 import unittest
 
-import cip
 import narrowing
+import script
 import sdf
 import test_web
 import trying
@@ -34,12 +34,12 @@ def as_object(unit):
     return json.loads(json.dumps(found))
 
 
-def by_python(labeller, record):
+def by_python(labeller, refusal, record):
     try:
         labels = labeller.labels(record)
         said = {"labels": [as_object(label) for label in labels], "over": list(labels.over),
                 "undefined": [as_object(unit) for unit in labeller.undefined(record)]}
-    except cip.Refused as refused:
+    except refusal as refused:
         said = {"refused": [refused.line, refused.cause]}
     return {**said, "text": labeller.annotate(record).decode("latin-1"),
             "explain": labeller.explain(record).splitlines()[1:]}
@@ -53,11 +53,12 @@ class JavaScript(unittest.TestCase):
     @classmethod
     def setUpClass(cls):
         trying.installed_for(cls)
+        cls.cip = script.module()
 
     def is_alike(self, path):
         found = by_node(path)
-        with open(path, "rb") as file, cip.Labeller() as labeller:
-            wanted = [by_python(labeller, record) for record in sdf.records(file)]
+        with open(path, "rb") as file, self.cip.Labeller() as labeller:
+            wanted = [by_python(labeller, self.cip.Refused, record) for record in sdf.records(file)]
         self.assertEqual(len(found), len(wanted))
         for number, (one, other) in enumerate(zip(found, wanted), 1):
             self.assertEqual(one, other, f"record {number}")

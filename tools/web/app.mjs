@@ -178,8 +178,8 @@ addEventListener("paste", (event) => {
     take(event.clipboardData.files);
     return;
   }
-  const text = event.clipboardData.getData("text/plain");
-  if (!event.target.matches("input") && text) label(new Blob([text]), "pasted").catch(reportError);
+  const text = event.clipboardData.getData("text/plain"), isField = document.activeElement?.matches("input");
+  if (!isField && text) label(new Blob([text]), "pasted").catch(reportError);
 });
 follow("stop", "click", () => { if (current) current.pool.close(); });
 for (const id of ["nodes", "wording"]) {
