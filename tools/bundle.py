@@ -15,7 +15,7 @@ NAMED = re.compile(r"^(?:async )?(?:function\*? ?|class |const |let )(\w+)", re.
 
 
 def source(*inside):
-    """A file of the folder tools/view, or of one beside it."""
+    """A file of the folder `view`, or of one beside it."""
     with open(os.path.join(VIEW, *inside), encoding="utf-8") as file:
         return file.read()
 
