@@ -4,7 +4,8 @@ The wheel has the scripts that make a page, if it's made in the repository. With
 library, and with `proof` the page that says what was proved: `pip wheel ./python --config-settings library=FILE`, or
 `tools/package --wheel`.
 
-Source: PEP 517 (the call `build_wheel`), the wheel's form, PEP 427, and the names of systems, PEP 600.
+Source: PEP 517 (the call `build_wheel`), PEP 660 (`build_editable`), the wheel's form, PEP 427, and the names of
+systems, PEP 600.
 """
 import base64
 import hashlib
@@ -77,18 +78,31 @@ def tag_of(library):
 
 
 def build_wheel(wheel_directory, config_settings=None, metadata_directory=None):
-    settings, information = config_settings or {}, f"cip-{version()}.dist-info"
+    settings, tag = config_settings or {}, TAG
     contents = {f"cip/{name}": read("cip", name) for name in files_in(os.path.join(HERE, "cip"), ".py", ".typed")}
     contents.update(contents_of_page())
-    tag = TAG
     if settings.get("library"):
         contents["cip/libcip.so.1"] = read(os.path.abspath(settings["library"]))
         tag = tag_of(contents["cip/libcip.so.1"])
     if settings.get("proof"):
-        contents[f"{information}/PROOF.md"] = read(os.path.abspath(settings["proof"]))
-    contents[f"{information}/METADATA"] = metadata().encode()
-    contents[f"{information}/WHEEL"] = WHEEL.format(pure=str(tag == TAG).lower(), tag=tag).encode()
-    record = f"{information}/RECORD"
+        contents[f"{information()}/PROOF.md"] = read(os.path.abspath(settings["proof"]))
+    return written(wheel_directory, contents, tag)
+
+
+def build_editable(wheel_directory, config_settings=None, metadata_directory=None):
+    """A wheel by which Python reads the module in this folder, so that a change of it counts at once. PEP 660."""
+    return written(wheel_directory, {"cip.pth": f"{HERE}\n".encode()}, TAG)
+
+
+def information():
+    return f"cip-{version()}.dist-info"
+
+
+def written(wheel_directory, contents, tag):
+    """The name of a wheel with these contents and what a wheel says of itself, which is written into a folder."""
+    contents[f"{information()}/METADATA"] = metadata().encode()
+    contents[f"{information()}/WHEEL"] = WHEEL.format(pure=str(tag == TAG).lower(), tag=tag).encode()
+    record = f"{information()}/RECORD"
     contents[record] = ("".join(row(*item) for item in contents.items()) + f"{record},,\n").encode()
     name = f"cip-{version()}-{tag}.whl"
     with zipfile.ZipFile(os.path.join(wheel_directory, name), "w") as wheel:
