@@ -8,23 +8,27 @@
 
 A record is the text of one molfile (V2000 or V3000), or one record of an SDfile, as str or bytes; atoms count from 1
 in its order. `records` gives the records of a file one by one. The labels are those of the program `cip`, byte for
-byte.
+byte. `page` makes a page that a notebook shows, and `cip.rdkit.assign` labels a molecule of RDKit.
 
 The library is the file that the environment's CIP_LIBRARY names, or else `libcip.so.1` beside this file, in a `lib`
-above it, or where the system looks for libraries. This module is the one file, and needs nothing but Python 3.8 or
-later. A labeller may be used from any thread, by one at a time; threads that are to label at once have a labeller each.
+above it, or where the system looks for libraries. Nothing else is needed but Python 3.8 or later, and RDKit for
+`cip.rdkit`. A labeller may be used from any thread, by one at a time; threads that are to label at once have a labeller
+each.
 """
 import ctypes
+import html
 import operator
 import os
 import re
 import threading
 import weakref
 from dataclasses import dataclass
-from typing import Any, BinaryIO, Callable, Iterator, List, Optional, SupportsIndex, Tuple, Union, overload
+from typing import Any, BinaryIO, Callable, Iterable, Iterator, List, Optional, SupportsIndex, Tuple, Union, overload
 
-__all__ = ["NODES", "RULE_1B", "Error", "Label", "Labeller", "Labels", "NoMemory", "Refused", "Undefined",
-           "library_version", "records"]
+from cip.notebook import Page, page
+
+__all__ = ["NODES", "RULE_1B", "Error", "Label", "Labeller", "Labels", "NoMemory", "Page", "Refused", "Undefined",
+           "library_version", "page", "records"]
 __version__ = "14"
 
 Record = Union[str, bytes, bytearray, memoryview]
@@ -132,6 +136,14 @@ class Labels(List[Label]):
         part.settings, part.over = self.settings, self.over
         return part
 
+    def _repr_html_(self) -> str:
+        """A table, as notebooks show it."""
+        rows = [(label.unit, label.letter, label.rule, str(label.sphere), " | ".join(map(" ".join, label.order)))
+                for label in self]
+        rows += [(unit, "over", "", "", "") for unit in self.over]
+        lines = [_row("th", ("unit", "letter", "rule", "sphere", "ligands")), *(_row("td", row) for row in rows)]
+        return f"<table><caption>{html.escape(self.settings)}</caption>{''.join(lines)}</table>"
+
 
 class Labeller:
     """Memory in which records are labelled, one after the other.
@@ -183,7 +195,11 @@ class Labeller:
 
     def undefined(self, record: Record) -> List[Undefined]:
         """The units of which a record's drawing shows no sense; `Refused` where it isn't one that is read."""
-        return _undefined(self._written(self._library.cip_undefined, record).decode())
+        return _undefined(self._undefined_text(record))
+
+    # The lines of undefined units as the library writes them.
+    def _undefined_text(self, record: Record) -> str:
+        return self._written(self._library.cip_undefined, record).decode()
 
     def close(self) -> None:
         """Gives the memory back; a later call raises `Error`."""
@@ -271,6 +287,11 @@ def _whole(name: str, value: object) -> int:
         return operator.index(value)  # type: ignore[arg-type]
     except TypeError:
         raise TypeError(f"{name}: an int, not {type(value).__name__}") from None
+
+
+# A row of a table for a browser.
+def _row(kind: str, texts: Iterable[str]) -> str:
+    return "<tr>" + "".join(f"<{kind}>{html.escape(text)}</{kind}>" for text in texts) + "</tr>"
 
 
 # The labels that value lines tell.

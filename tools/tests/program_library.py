@@ -1,5 +1,8 @@
 """The library beside the program, record by record, where one stands that was proved from these sources."""
+import io
+import json
 import os
+import re
 import sys
 import unittest
 
@@ -30,6 +33,21 @@ class Library(unittest.TestCase):
         words = ("explain", "--nodes", "20", "--rule1b", "2013")
         given = trying.bytes_of("examples", "compounds.sdf")
         self.assertEqual(told.encode(), trying.ran(trying.program(), *words, given=given).stdout)
+
+    def test_a_page_has_what_the_program_says_of_each_record(self):
+        import cip
+
+        text = cip.page(self.records, title="<Compounds>")
+        self.assertIn("<title>&lt;Compounds&gt;</title>", text)
+        told = json.loads(re.search(r'id="records">(.*?)</script>', text, re.DOTALL)[1])
+        labelled = trying.annotated(trying.bytes_of("examples", "compounds.sdf"))
+        answers = [sdf.answer(record) for record in sdf.records(io.BytesIO(labelled))]
+        self.assertEqual([[label[:2] for label in one["l"]] for one in told],
+                         [[[label.unit, label.letter] for label in answer.labels] for answer in answers])
+        menthol = next(one for one in told if one["n"] == "menthol")
+        self.assertIn(["a2", "NoMark"], menthol["e"])
+        self.assertIn(["a2", "tie"], menthol["u"])
+        self.assertEqual(cip.page(self.records[0]), cip.page(self.records[:1]))
 
     def test_its_version_is_that_of_all(self):
         import cip

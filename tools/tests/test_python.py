@@ -2,6 +2,7 @@
 import io
 import os
 import pathlib
+import re
 import subprocess
 import sys
 import tempfile
@@ -81,6 +82,31 @@ class Module(unittest.TestCase):
         labels = self.labeller.labels(RECORD)
         self.assertEqual([label.unit for label in labels[1:]], ["b2-3"])
         self.assertEqual((labels[1:].settings, labels[1:].over), (labels.settings, labels.over))
+
+    def test_a_notebook_shows_labels_as_a_table(self):
+        told = self.labeller.labels(RECORD)._repr_html_()
+        self.assertEqual(re.findall("<t[hd]>(.*?)</t[hd]>", told), [
+            "unit", "letter", "rule", "sphere", "ligands", "a1", "S", "1a", "1", "4 3 2 5",
+            "b2-3", "E", "3", "1", "1 H | 6 H", "x1-3", "over", "", "", ""])
+        self.assertIn("<caption>cip 2 rule1b 2018 nodes 100000</caption>", told)
+
+    def test_a_notebook_shows_a_page_in_a_frame_that_it_can_not_leave(self):
+        told = self.cip.Page('<p class="one">')._repr_html_()
+        self.assertIn('srcdoc="&lt;p class=&quot;one&quot;&gt;" sandbox="allow-scripts allow-downloads"', told)
+
+    def test_a_page_of_records_that_are_not_labelled_is_an_error(self):
+        with self.assertRaisesRegex(self.cip.Error, "no item CIP_LABELS"):
+            self.cip.page(RECORD)
+
+    def test_records_of_a_page_come_one_by_one_with_their_ends(self):
+        from cip import notebook
+
+        parts = [RECORD + END, RECORD]
+        for given in (b"".join(parts), b"".join(parts).decode(), parts, [part.decode() for part in parts]):
+            self.assertEqual(list(notebook._each(given)), parts)
+        for record, closed in ((RECORD, RECORD + END), (RECORD + END, RECORD + END), (b"", b"\n$$$$\n"),
+                               (b"cut", b"cut\n$$$$\n"), (b"a\r\n$$$$  \r\n",) * 2, (b"$$$$", b"$$$$\n")):
+            self.assertEqual(notebook._closed(record), closed)
 
     def test_undefined_units_have_their_parts(self):
         tie, centre, bond, allene = self.labeller.undefined(RECORD)
