@@ -84,8 +84,9 @@ class Installed(Tree):
 
     @trying.needs("mandoc")
     def test_the_man_pages_are_well_formed(self):
-        pages = os.path.join(self.prefix, "share", "man", "man1")
-        done = trying.ran("mandoc", "-T", "lint", "-W", "warning", *(os.path.join(pages, name) for name in os.listdir(pages)))
+        folder = os.path.join(self.prefix, "share", "man", "man1")
+        pages = [os.path.join(folder, name) for name in os.listdir(folder)]
+        done = trying.ran("mandoc", "-T", "lint", "-W", "warning", *pages)
         self.assertEqual((done.returncode, done.stdout), (0, b""))
 
     def test_scripts_and_their_modules_name_one_another_as_they_are_installed(self):

@@ -58,7 +58,7 @@ class Packing(Tree):
 
     @classmethod
     def called(cls, *words, tree=None, mask=0o022):
-        """A run of tools/package by somebody whose new files have these rights, without a variable that names anything."""
+        """A run of tools/package by somebody whose new files have these rights, without a variable that it reads."""
         clean = {name: value for name, value in os.environ.items()
                  if name not in ("PREFIX", "DESTDIR", "SOURCE_DATE_EPOCH", "DEBFULLNAME", "DEBEMAIL", "CIP_LIBRARY")}
         return trying.ran(os.path.join(tree or cls.tree, "tools", "package"), *words, cwd=cls.room, env=clean,
@@ -135,7 +135,7 @@ class Packing(Tree):
     def test_each_has_the_page_of_what_was_proved(self):
         sources, program = trying.text_of(self.tree, "crates", "cip", "out", "cip.made-of").split()
         page = trying.text_of(self.all, "PROOF.md")
-        for words in (sources, program, "`kit-0 logic 0123`", "low  logic=proved functions=1\n", "\nkept (proved in an ear"):
+        for words in (sources, program, "`kit-0 logic 0123`", "low  logic=proved functions=1\n", "\nkept (proved in"):
             self.assertIn(words, page)
         with zipfile.ZipFile(self.wheel) as inside:
             self.assertEqual(inside.read(f"cip-{VERSION}.dist-info/PROOF.md").decode(), page)
