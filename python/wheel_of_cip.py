@@ -50,9 +50,9 @@ def row(name, content):
     return f"{name},sha256={digest},{len(content)}\n"
 
 
-def files_in(folder, *endings):
-    """The files of a folder whose names end so."""
-    return [name for name in sorted(os.listdir(folder)) if name.endswith(endings)]
+def files_in(folder):
+    """The names of the files of a folder."""
+    return [name for name in sorted(os.listdir(folder)) if os.path.isfile(os.path.join(folder, name))]
 
 
 def with_imports(name):
@@ -68,7 +68,7 @@ def contents_of_page():
     """What makes a page, by the places of the files in the wheel."""
     if not os.path.exists(os.path.join(TOOLS, "page")):
         return {}
-    view = [f"view/{name}" for name in files_in(os.path.join(TOOLS, "view"), ".css", ".mjs")]
+    view = [f"view/{name}" for name in files_in(os.path.join(TOOLS, "view"))]
     return {f"cip/tools/{name}": read(TOOLS, name) for name in [*with_imports("page"), *view]}
 
 
@@ -79,7 +79,7 @@ def tag_of(library):
 
 def build_wheel(wheel_directory, config_settings=None, metadata_directory=None):
     settings, tag = config_settings or {}, TAG
-    contents = {f"cip/{name}": read("cip", name) for name in files_in(os.path.join(HERE, "cip"), ".py", ".typed")}
+    contents = {f"cip/{name}": read("cip", name) for name in files_in(os.path.join(HERE, "cip"))}
     contents.update(contents_of_page())
     if settings.get("library"):
         contents["cip/libcip.so.1"] = read(os.path.abspath(settings["library"]))

@@ -86,6 +86,9 @@ class Packing(Tree):
         done = trying.ran(sys.executable, "-c", LABELS, cwd="/", env={**clean, "PYTHONPATH": self.prefix})
         self.assertEqual(done.stdout.decode().splitlines(),
                          ["[('a1', 'S'), ('b2-3', 'E')]", os.path.join(self.prefix, "cip", "__init__.py")])
+        page = os.path.join(self.prefix, "cip", "tools", "page")
+        done = trying.ran(sys.executable, page, given=trying.bytes_of("crates", "cip", "stdout"), cwd="/")
+        self.assertEqual((done.returncode, done.stderr), (0, b""))
 
     def test_a_package_for_debian_belongs_to_root_and_has_the_library(self):
         told = trying.ran("dpkg-deb", "--contents", self.deb).stdout.decode()
