@@ -18,12 +18,14 @@ import unittest.mock
 from typing import List
 
 import broken_files
+import bundle
 import script
 import trying
 
 FILES, SEED = 10_000, 15
 files: List[bytes] = []
-CONSTANT = ("source", "joined", "hash_of")
+# what is the same in each page
+CONSTANT = {name: functools.lru_cache(None)(getattr(bundle, name)) for name in ("source", "joined", "hash_of")}
 # scripts that read standard input, with words of which each file has some
 READERS = {
     "table": ((), ("--csv", "--field", "TITLE"), ("--json", "--compare", "old"), ("--compare", "TITLE"),
@@ -44,7 +46,8 @@ STATUSES = {script.FINE, script.DIFFERENT, script.WORDS, script.UNUSABLE}
 LAST_LINE = re.compile(r"^(?:tools/)?[a-z]+: [^\n]+\n\Z", re.MULTILINE)
 SECONDS = 5
 # texts whose length an expression may take twice or more
-LONG = (b">" + b"<" * 60_000, b"> <old>\n" + b"(" * 60_000, b"> <TITLE>\n" + b"(1R" * 60_000, b"> <old>\n" + b"[(1, 'R'), " * 20_000,
+LONG = (b">" + b"<" * 60_000, b"> <old>\n" + b"(" * 60_000, b"> <TITLE>\n" + b"(1R" * 60_000,
+        b"> <old>\n" + b"[(1, 'R'), " * 20_000,
         b"$$$$" + b" " * 60_000 + b"x", b"$" * 60_000, b"> <old>\n" + b"2 " * 60_000, b"M  END" + b" " * 60_000 + b"x",
         b"> <CIP_LABELS>\n" + broken_files.SETTINGS + b"\na1 S 1a 1 order" + b" 1" * 60_000 + b" x", b"\r" * 60_000,
         b"> <old>\n(" + b"a " * 60_000, b"> <TITLE>\n[" + b"1'" * 60_000, b"M  V30 " + b"(" * 60_000, b"\n" * 60_000)
@@ -61,8 +64,6 @@ class Run:
         names = {"__name__": "__main__", "__file__": path}
         with unittest.mock.patch.object(script, "run") as run:
             exec(code, names)
-        # what is the same in each page
-        names.update({name: functools.lru_cache(None)(names[name]) for name in CONSTANT if name in names})
         self.main = run.call_args[0][0]
 
     def status(self, given, words):
@@ -186,7 +187,7 @@ def tried(case):
     stub = types.SimpleNamespace(Labeller=lambda **_: Labeller(), Refused=Refused, Error=Refused)
     with tempfile.TemporaryDirectory() as folder, unittest.mock.patch.dict(sys.modules, cip=stub), \
             unittest.mock.patch.multiple(script.subprocess, Popen=Ended, run=set_by_turn), \
-            unittest.mock.patch.object(argparse, "_", str):
+            unittest.mock.patch.object(argparse, "_", str), unittest.mock.patch.multiple(bundle, **CONSTANT):
         for number, (given, words) in enumerate(CASES[case](name, folder)):
             try:
                 status, complaint = run.status(given, words)
