@@ -33,6 +33,7 @@ def object_of(folder, name, text):
     os.remove(made)
 
 
+PAGE = ("crates", "cip", "out", "cip.html")
 VERSION = trying.text_of("VERSION").strip()
 
 
@@ -50,6 +51,8 @@ class Packing(Tree):
         object_of(folder, "libcip_c", STUB)
         object_of(folder, "liblibc_c", HEAP)
         note(cls.tree, "library")
+        put(os.path.join(cls.tree, *PAGE), "<!DOCTYPE html>\n")
+        note(cls.tree, "web")
         cls.all = os.path.join(cls.room, "all")
         done = cls.called("--all", cls.all)
         assert done.returncode == 0, done.stderr.decode()
@@ -111,7 +114,7 @@ class Packing(Tree):
     def test_all_is_the_same_again_from_the_sources_in_it(self):
         names = sorted(os.listdir(self.all))
         self.assertEqual([name for name in names if not name.endswith((".deb", ".whl"))],
-                         ["PROOF.md", "SHA256SUMS", f"cip-{VERSION}.tar.gz"])
+                         ["PROOF.md", "SHA256SUMS", f"cip-{VERSION}.tar.gz", "cip.html"])
         with tarfile.open(os.path.join(self.all, f"cip-{VERSION}.tar.gz")) as sources:
             sources.extractall(self.room)
         tree = os.path.join(self.room, f"cip-{VERSION}")
@@ -122,6 +125,16 @@ class Packing(Tree):
         for name in names:
             with self.subTest(name):
                 self.assertTrue(script.are_same(os.path.join(self.all, name), os.path.join(self.prefix, name)))
+
+    def test_the_page_that_the_repository_keeps_will_do_for_its_own_sources_alone(self):
+        line = 'top=$1; . "$top/tools/proved.sh"; keep_page; rm "$web.made-of"'
+        self.assertEqual(trying.ran("sh", "-c", line, "sh", self.tree).returncode, 0)
+        self.addCleanup(note, self.tree, "web")
+        self.addCleanup(shutil.rmtree, os.path.join(self.tree, "page"))
+        self.ends_with(script.FINE, "--all", self.prefix)
+        self.assertTrue(script.are_same(os.path.join(self.prefix, "cip.html"), os.path.join(self.tree, *PAGE)))
+        put(os.path.join(self.tree, "page", "cip.html"), "<!DOCTYPE html><p>another\n")
+        self.assertIn("without cip.html", self.ends_with(script.FINE, "--all", self.prefix + "-2"))
 
     @trying.needs("git")
     def test_sources_that_are_not_committed_are_not_handed_out(self):
