@@ -20,6 +20,9 @@ class Page(str):
 
     __slots__ = ()
 
+    def __repr__(self) -> str:
+        return f"<cip.Page of {len(self):,} characters>"
+
     def _repr_html_(self) -> str:
         return (f'<iframe srcdoc="{html.escape(self)}" sandbox="allow-scripts allow-downloads" '
                 f'width="100%" height="{_POINTS_HIGH}" style="border: 0"></iframe>')

@@ -91,7 +91,9 @@ class Module(unittest.TestCase):
         self.assertIn("<caption>cip 2 rule1b 2018 nodes 100000</caption>", told)
 
     def test_a_notebook_shows_a_page_in_a_frame_that_it_can_not_leave(self):
-        told = self.cip.Page('<p class="one">')._repr_html_()
+        page = self.cip.Page('<p class="one">')
+        told = page._repr_html_()
+        self.assertEqual(repr(page), "<cip.Page of 15 characters>")
         self.assertIn('srcdoc="&lt;p class=&quot;one&quot;&gt;" sandbox="allow-scripts allow-downloads"', told)
 
     def test_a_page_of_records_that_are_not_labelled_is_an_error(self):
