@@ -39,7 +39,9 @@ def assign(molecule: Any, labeller: Optional[Labeller] = None) -> Labels:
 
     `Refused`, with all codes as they were, if `cip` doesn't read such molecules, for example one with a query atom.
     """
-    labels = _best(molecule, labeller or _usual())
+    if not isinstance(molecule, Chem.Mol):
+        raise TypeError(f"a molecule is one of RDKit, not {type(molecule).__name__}")
+    labels = _best(_sound(molecule), labeller or _usual())
     for part in (*molecule.GetAtoms(), *molecule.GetBonds()):
         part.ClearProp(_CODE)
     for label in labels:
@@ -57,6 +59,16 @@ def _usual() -> Labeller:
     if not hasattr(_of_thread, "labeller"):
         _of_thread.labeller = Labeller()
     return _of_thread.labeller  # type: ignore[no-any-return]
+
+
+# A copy of a molecule in which double bonds are undecided whose stereo doesn't say of which atoms; drawing them would end
+# the process.
+def _sound(molecule: Any) -> Any:
+    copy = Chem.Mol(molecule)
+    for bond in copy.GetBonds():
+        if bond.GetStereo() in _TOGETHER and len(bond.GetStereoAtoms()) != 2:
+            bond.SetStereo(Chem.BondStereo.STEREOANY)
+    return copy
 
 
 # The labels of the first drawing that shows all stereo of a molecule, or else of the one that shows most.

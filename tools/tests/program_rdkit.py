@@ -144,6 +144,17 @@ except cip.Refused as refused:
 """)
         self.assertEqual(told, [{}, [], "Symbol", {"a2": "R"}])
 
+    def test_what_is_no_molecule_is_told_so_and_a_bond_without_stereo_atoms_has_no_letter(self):
+        told = self.told("""
+molecule = Chem.MolFromSmiles("CC=CC")
+molecule.GetBondWithIdx(1).SetStereo(Chem.BondStereo.STEREOE)
+try:
+    cip.rdkit.assign(Chem.MolFromSmiles("no SMILES"))
+except TypeError as fault:
+    print(json.dumps([str(fault), assigned(molecule)]))
+""")
+        self.assertEqual(told, ["a molecule is one of RDKit, not NoneType", {}])
+
     def test_a_large_molecule_is_labelled(self):
         told = self.told('print(json.dumps(assigned(Chem.MolFromSmiles("F[C@H](Cl)" + "C" * 1000))))')
         self.assertEqual(len(told), 1)
