@@ -61,8 +61,8 @@ def _usual() -> Labeller:
     return _of_thread.labeller  # type: ignore[no-any-return]
 
 
-# A copy of a molecule in which double bonds are undecided whose stereo doesn't say of which atoms; drawing them would end
-# the process.
+# A copy of a molecule in which a double bond is undecided if its stereo doesn't say of which atoms. To draw it otherwise
+# would end the process.
 def _sound(molecule: Any) -> Any:
     copy = Chem.Mol(molecule)
     for bond in copy.GetBonds():
@@ -88,7 +88,7 @@ def _best(molecule: Any, labeller: Labeller) -> Labels:
 def _labelled(molecule: Any, drawing: Any, wanted: Set[str], labeller: Labeller) -> Tuple[Labels, Set[str]]:
     _open_what_is_not_shown(drawing)
     block, labels = _consistent(molecule, drawing, labeller)
-    found = {label.unit for label in labels if label.unit[0] in "ab"}
+    found = {label.unit for label in labels}
     if not found <= wanted or _wrong(molecule, labels):
         return Labels(), wanted
     lost = wanted - found

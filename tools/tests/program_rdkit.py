@@ -155,6 +155,18 @@ except TypeError as fault:
 """)
         self.assertEqual(told, ["a molecule is one of RDKit, not NoneType", {}])
 
+    def test_an_allene_has_no_letter_in_the_plane_or_in_space(self):
+        told = self.told("""
+molecule = Chem.AddHs(Chem.MolFromSmiles("CC=C=CC[C@H](O)F"))
+flat = text(assigned(molecule))
+AllChem.EmbedMolecule(molecule, randomSeed=1)
+solid = text(assigned(molecule))
+trans = Chem.AddHs(Chem.MolFromSmiles("C1CC/C=C/CCC1CC=C=CC"))
+AllChem.EmbedMolecule(trans, randomSeed=1)
+print(json.dumps([flat, solid, text(assigned(trans))]))
+""")
+        self.assertEqual(told, ["a6 R", "a6 R", ""])
+
     def test_a_large_molecule_is_labelled(self):
         told = self.told('print(json.dumps(assigned(Chem.MolFromSmiles("F[C@H](Cl)" + "C" * 1000))))')
         self.assertEqual(len(told), 1)
