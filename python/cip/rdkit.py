@@ -61,8 +61,8 @@ def _usual() -> Labeller:
     return _of_thread.labeller  # type: ignore[no-any-return]
 
 
-# A copy of a molecule in which a double bond is undecided if its stereo doesn't say of which atoms. Drawing it would end
-# the process otherwise.
+# A copy of a molecule in which a double bond is undecided if its stereo doesn't say of which atoms, since drawing it
+# would end the process.
 def _sound(molecule: Any) -> Any:
     copy = Chem.Mol(molecule)
     for bond in copy.GetBonds():
