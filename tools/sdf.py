@@ -232,15 +232,38 @@ def answer(record, number=None):
 
     A fault, which names the record where its number is given, where `cip annotate` of this version didn't write it.
     """
-    if LABEL_ITEM not in record:
+    values = label_values(record) if LABEL_ITEM in record else None
+    if values is None:
         return None
-    for item in items(record):
-        if item.name == LABEL_ITEM:
-            try:
-                return answer_of([text(line) for line in item.values])
-            except Fault as fault:
-                raise Fault(f"record {number}: {fault}") if number else fault
+    try:
+        return answer_of(list(map(text, values)))
+    except Fault as fault:
+        raise Fault(f"record {number}: {fault}") if number else fault
+
+
+def label_values(record):
+    """The value lines of the first label item, or None; the same as `items` finds, without a look at the others."""
+    first = molecule_end(record)
+    place = record.find(LABEL_ITEM, first)
+    while place >= 0:
+        begin, end = record.rfind(b"\n", 0, place) + 1, record.find(b"\n", place)
+        end = len(record) if end < 0 else end
+        if begin >= first and is_label_head(record[begin:end]):
+            return list(values_from(record, end + 1))
+        place = record.find(LABEL_ITEM, end)
     return None
+
+
+def values_from(record, place):
+    """The contents of the lines from a place on, up to a blank line, a label item or the terminator."""
+    while place < len(record):
+        end = record.find(b"\n", place)
+        is_ended, end = end >= 0, len(record) if end < 0 else end
+        line = record[place:end - 1 if is_ended and record[place:end].endswith(b"\r") else end]
+        place = end + 1
+        if not line.strip(b" \t") or is_label_head(line) or place >= len(record) and is_word(line, b"$$$$"):
+            return
+        yield line
 
 
 def answer_of(lines):

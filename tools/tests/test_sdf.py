@@ -1,11 +1,13 @@
 """sdf.py: records, lines and items as bytes."""
 import io
+import random
 import unittest
 
 import sdf
 
 RECORD = b"name\n\n\n  0  0  0  0  0  0            999 V2000\nM  END\n> <CIP_LABELS>\n%s\n\n$$$$\n"
 SETTINGS = b"cip 2 rule1b 2018 nodes 100000"
+LINES = (b"> <CIP_LABELS>", b"> <CIP_LABELS>\r", b"x<CIP_LABELS>", b"CIP_LABELS", b"", b"$$$$", b"M  END", b" ", b"> <a>", b"v")
 
 
 def records(text):
@@ -76,6 +78,14 @@ class Items(unittest.TestCase):
 
     def test_a_record_without_the_item_has_no_answer(self):
         self.assertIsNone(sdf.answer(b"a\nM  END\n> <other>\n1\n\n$$$$\n"))
+
+    def test_a_label_item_is_found_as_among_all_items(self):
+        chance = random.Random(5)
+        for _ in range(5000):
+            lines = (chance.choice(LINES) for _ in range(chance.randrange(1, 9)))
+            record = b"\n".join(lines) + chance.choice((b"", b"\n", b"\r\n"))
+            wanted = next((item.values for item in sdf.items(record) if item.name == sdf.LABEL_ITEM), None)
+            self.assertEqual(sdf.label_values(record), wanted, record)
 
     def test_an_item_of_version_1_is_a_fault_that_names_the_record(self):
         with self.assertRaisesRegex(sdf.Fault, "^record 7: .*'a1 S 1a 1'; annotate the file again$"):
