@@ -52,7 +52,8 @@ class Functions(unittest.TestCase):
     def test_that_of_the_module_gives_the_program_s_values(self):
         import cip
 
-        block = re.search(r"^```python\n(labeller = cip.*?)^```", trying.text_of("docs", "USE.md"), re.MULTILINE | re.DOTALL)
+        page = trying.text_of("docs", "COLLECTIONS.md")
+        block = re.search(r"^```python\n(labeller = cip.*?)^```", page, re.MULTILINE | re.DOTALL)
         names = {"cip": cip, "database": sqlite3.connect(":memory:")}
         exec(block[1], names)
         for record in self.records:
