@@ -62,6 +62,11 @@ class Pages(unittest.TestCase):
         done = self.page("--only", "refused", given=GIVEN[:2])
         self.assertEqual(json.loads(RECORDS.search(done.stdout)[1]), [])
 
+    def test_a_page_that_browsers_open_slowly_is_told(self):
+        given = [record("refused 4 Short")] + [record("none")] * 20_000
+        self.assertIn(b"page: a page of 20001 records, ", self.page(given=given).stderr)
+        self.assertEqual(self.page("--only", "refused", given=given).stderr, b"")
+
     def test_a_kind_of_which_nothing_is_known_is_refused(self):
         for words in (("--only", "different"), ("--only", "undefined"), ("--only", "wrong")):
             self.page(*words, status=script.WORDS)
