@@ -7,7 +7,7 @@ import os
 import subprocess
 import sys
 import tempfile
-from typing import Iterable, Iterator, Optional, Union
+from typing import Iterable, Optional, Union
 
 import cip
 
@@ -39,7 +39,7 @@ def page(records: Union[cip.Record, Iterable[cip.Record]], title: str = "Labels"
     with tempfile.TemporaryDirectory() as room:
         paths = {name: os.path.join(room, name) for name in ("labelled", "explain", "undefined")}
         _write(_each(records), labeller or cip.Labeller(), paths)
-        words = ["--title", title, "--explain", paths["explain"], "--undefined", paths["undefined"]]
+        words = [f"--title={title}", "--explain", paths["explain"], "--undefined", paths["undefined"]]
         with open(paths["labelled"], "rb") as labelled:
             done = subprocess.run([sys.executable, script, *words], stdin=labelled, stdout=subprocess.PIPE,
                                   stderr=subprocess.PIPE, check=False)
@@ -61,23 +61,22 @@ def _script() -> str:
     raise cip.Error("cip-page isn't beside this module: `tools/package --wheel` of cip's repository packs both")
 
 
-# The records that a caller gives.
-def _each(records: Union[cip.Record, Iterable[cip.Record]]) -> Iterator[bytes]:
-    if isinstance(records, str):
+# The records that a caller gives. What is none of them, as the name of a file, gets its fault from the labeller.
+def _each(records: Union[cip.Record, Iterable[cip.Record]]) -> Iterable[cip.Record]:
+    if isinstance(records, str) and "\n" in records:
         records = records.encode()
     if isinstance(records, (bytes, bytearray, memoryview)):
-        yield from cip.records(io.BytesIO(records))
-    else:
-        for record in records:
-            yield record.encode() if isinstance(record, str) else bytes(record)
+        return cip.records(io.BytesIO(records))
+    return [records] if isinstance(records, str) else records
 
 
 # Writes what the page is made of: the labelled records, why units have no label, and those that are undefined.
-def _write(records: Iterable[bytes], labeller: cip.Labeller, paths: dict[str, str]) -> None:
+def _write(records: Iterable[cip.Record], labeller: cip.Labeller, paths: dict[str, str]) -> None:
     with open(paths["labelled"], "wb") as labelled, open(paths["explain"], "w", encoding="utf-8") as explained, \
             open(paths["undefined"], "w", encoding="utf-8") as undefined:
         for number, record in enumerate(records, 1):
-            labelled.write(_closed(labeller.annotate(record)))
+            text = labeller.annotate(record)
+            labelled.write(_closed(text.encode() if isinstance(text, str) else text))
             explained.write(labeller.explain(record, number))
             undefined.write(f"record {number}\n{labeller._undefined_text(record)}")
 

@@ -97,14 +97,20 @@ class Module(unittest.TestCase):
         self.assertIn('srcdoc="&lt;p class=&quot;one&quot;&gt;" sandbox="allow-scripts allow-downloads"', told)
 
     def test_a_page_of_records_that_are_not_labelled_is_an_error(self):
-        with self.assertRaisesRegex(self.cip.Error, "no item CIP_LABELS"):
-            self.cip.page(RECORD)
+        for given in (RECORD, [RECORD.decode()]):
+            with self.subTest(given), self.assertRaisesRegex(self.cip.Error, "no item CIP_LABELS"):
+                self.cip.page(given, title="--title")
+
+    def test_what_is_no_record_makes_no_page(self):
+        for given, fault, words in (([None], TypeError, "MolToMolBlock"), (__file__, self.cip.Error, "name of a file")):
+            with self.subTest(given), self.assertRaisesRegex(fault, words):
+                self.cip.page(given)
 
     def test_records_of_a_page_come_one_by_one_with_their_ends(self):
         from cip import notebook
 
         parts = [RECORD + END, RECORD]
-        for given in (b"".join(parts), b"".join(parts).decode(), parts, [part.decode() for part in parts]):
+        for given in (b"".join(parts), b"".join(parts).decode(), parts, iter(parts)):
             self.assertEqual(list(notebook._each(given)), parts)
         for record, closed in ((RECORD, RECORD + END), (RECORD + END, RECORD + END), (b"", b"\n$$$$\n"),
                                (b"cut", b"cut\n$$$$\n"), (b"a\r\n$$$$  \r\n",) * 2, (b"$$$$", b"$$$$\n")):
