@@ -17,8 +17,8 @@ def record(name, lines=b"none", version=b"V2000", height=0.0):
     return MOLECULE % (name, version, height) + ITEM % lines + END
 
 
-def told(*records):
-    done = trying.script_ran("tools/refused", given=b"".join(records))
+def told(*records, words=()):
+    done = trying.script_ran("tools/refused", *words, given=b"".join(records))
     return done.returncode, done.stdout.decode(), done.stderr.decode()
 
 
@@ -47,6 +47,13 @@ class Refused(unittest.TestCase):
             status, text, complaint = told(begin + ITEM % b"refused 4 Version" + END)
             self.assertEqual((status, text), (script.UNUSABLE, ""))
             self.assertIn(f": {unpacker} FILE | cip annotate\n", complaint)
+
+    def test_all_jobs_tell_the_same(self):
+        many = [record(b"%d" % number, b"refused 31 Degree" if number % 7 else b"a1 over") for number in range(9000)]
+        for more in ((), (MOLECULE % (b"two", b"V2000", 0) + END,)):
+            one, other = (told(*many, *more, words=("--jobs", jobs)) for jobs in ("1", "3"))
+            self.assertEqual(one, other)
+            self.assertEqual(one[1].count("\n"), 9000)
 
     def test_a_record_without_the_item_is_a_fault(self):
         status, text, complaint = told(record(b"one"), MOLECULE % (b"two", b"V2000", 0) + END)
