@@ -50,6 +50,22 @@ def with_strange_word(text, chance):
     return put(text, found.start(), chance.choice(STRANGE), len(found[0])) if found else text
 
 
+def with_strange_line(text, chance):
+    lines = LINE.findall(text)
+    place = chance.randrange(len(lines))
+    return b"".join([*lines[:place], chance.choice(STRANGE) + b"\n", *lines[place:]])
+
+
+def with_strange_value(text, chance):
+    """A text with a strange line or word in a label item, if it has one."""
+    begin = text.find(SETTINGS)
+    end = text.find(b"\n\n", begin) + 1
+    if begin < 0 or not end:
+        return text
+    change = chance.choice((with_strange_line, with_strange_word))
+    return text[:begin] + change(text[begin:end], chance) + text[end:]
+
+
 def with_other_byte(text, chance):
     return put(text, chance.randrange(len(text) + 1), bytes([chance.randrange(256)]), 1)
 
@@ -70,7 +86,8 @@ def without_ends(text, chance):
     return text.replace(b"\n", chance.choice((b"\r\n", b"\r", b"\n\n", b" \n")), chance.randrange(40))
 
 
-CHANGES = (with_strange, with_strange, with_strange_word, with_strange_word, with_other_byte, cut, with_lines, without_ends)
+CHANGES = (with_strange, with_strange_word, with_strange_word, with_strange_line, with_strange_value, with_strange_value,
+           with_other_byte, cut, with_lines, without_ends)
 
 
 def changed(text, chance):
