@@ -110,6 +110,33 @@ class Labeller:
             raise Refused
         return [types.SimpleNamespace(unit="a1", state="tie")]
 
+    def values(self, record):
+        setting = broken_files.SETTINGS.decode()
+        return [setting, "refused 4 Version" if len(record) % 2 else "a1 S 1a 1 order 4 3 2 5"]
+
+    def close(self):
+        pass
+
+
+class Cluster:
+    """A cluster, and the client of it, by which each part is made at once."""
+
+    def __init__(self, *_, **__):
+        pass
+
+    def __enter__(self):
+        return self
+
+    def __exit__(self, *_):
+        pass
+
+    def scheduler_info(self):
+        return {"workers": {}}
+
+    def submit(self, function, *words, pure):
+        made = function(*words)
+        return types.SimpleNamespace(result=lambda: made)
+
 
 class Refused(Exception):
     line, cause = 4, "Version"
@@ -163,9 +190,10 @@ def of_lists(name, folder):
             yield b"", ("/bin/true", written(folder, "broken", broken_files.changed(CORRECTIONS, chance)), whole)
 
 
-def of_undefined(name, folder):
+def of_files(name, folder):
+    """Each broken file by its path, with an option of the script."""
     for text in files:
-        yield b"", ("--open", written(folder, "broken.sdf", text))
+        yield b"", ("--csv" if name == "cluster" else "--open", written(folder, "broken.sdf", text))
 
 
 def of_tellings(name, folder):
@@ -177,15 +205,16 @@ def of_tellings(name, folder):
 
 
 CASES = {**dict.fromkeys(READERS, of_readers), "unmirrored": of_pairs, "changes": of_pairs, "resume": of_resume,
-         "correct": of_lists, "undefined": of_undefined, "page beside tellings": of_tellings}
+         "correct": of_lists, "undefined": of_files, "cluster": of_files, "page beside tellings": of_tellings}
 
 
 def tried(case):
     """What went wrong of a script on all broken files: the number of a file, and why."""
     name = case.split()[0]
     run, wrong = Run(name), []
-    stub = types.SimpleNamespace(Labeller=lambda **_: Labeller(), Refused=Refused, Error=Refused)
-    with tempfile.TemporaryDirectory() as folder, unittest.mock.patch.dict(sys.modules, cip=stub), \
+    stubs = {"cip": types.SimpleNamespace(Labeller=lambda **_: Labeller(), Refused=Refused, Error=Refused),
+             "distributed": types.SimpleNamespace(Client=Cluster, LocalCluster=Cluster, __spec__="a stub")}
+    with tempfile.TemporaryDirectory() as folder, unittest.mock.patch.dict(sys.modules, stubs), \
             unittest.mock.patch.multiple(script.subprocess, Popen=Ended, run=set_by_turn), \
             unittest.mock.patch.object(argparse, "_", str), unittest.mock.patch.multiple(bundle, **CONSTANT):
         for number, (given, words) in enumerate(CASES[case](name, folder)):
