@@ -23,7 +23,7 @@ def table():
 
 
 def code_of(crate):
-    sources = trying.in_folder(f"crates/{crate}/src", ".rt")
+    sources = trying.below(f"crates/{crate}/src", ".rt")
     lines = "".join(trying.text_of(name) for name in sources).splitlines()
     return "\n".join(line for line in lines if not line.lstrip().startswith("//"))
 

@@ -12,6 +12,10 @@ RETIRED = {
     "wanted": "unresolved or requested", "let_go": "drop_distinct", "turns": "parity", "obey": "run_command",
     "errand": "task", "crew": "pool", "teller": "processor", "bench": "workspace", "memo": "cache",
 }
+# a mark is a wedge: crates that see no drawing have none
+WITHOUT_WEDGES = ("cip_rank", "cip_partition", "cip_branches", "cip_arena", "cip_ring", "cip_rules", "cip_constitution",
+                  "cip_aux", "cip_aux_rank", "cip_ranker", "cip_label", "cip_symmetry", "cip_tree", "gate_branches")
+MARKS = {"mark": "descriptor or flag", "marks": "descriptors or flags", "marked": "described or flagged"}
 NAME = re.compile(r"[A-Za-z_]\w*")
 TEXT = re.compile(r'b?"(?:\\.|[^"\\])*"')
 COMMENT = {".rt": re.compile(r"//.*"), ".antt": re.compile(r"(?:^|(?<=\s))--(?:\s.*|$)", re.MULTILINE)}
@@ -31,7 +35,14 @@ def code(crate):
 class Names(unittest.TestCase):
     def test_retired_words_are_no_names(self):
         for crate in crate_table.named():
-            for path, text in code(crate):
-                for name in sorted(set(NAME.findall(text)) & set(RETIRED)):
-                    with self.subTest(file=os.path.relpath(path, trying.TOP), name=name, now=RETIRED[name]):
-                        self.fail(f"{name} is {RETIRED[name]} now")
+            self.has_none_of(crate, RETIRED)
+
+    def test_a_mark_is_a_wedge(self):
+        for crate in WITHOUT_WEDGES:
+            self.has_none_of(crate, MARKS)
+
+    def has_none_of(self, crate, words):
+        for path, text in code(crate):
+            for name in sorted(set(NAME.findall(text)) & set(words)):
+                with self.subTest(file=os.path.relpath(path, trying.TOP), name=name, now=words[name]):
+                    self.fail(f"{name} is {words[name]} now")

@@ -98,7 +98,7 @@ class Unmirrored(unittest.TestCase):
 
 class Causes(unittest.TestCase):
     def test_each_cause_of_the_code_has_its_words(self):
-        code = trying.text_of("crates", "cip_mol", "src", "refusal.rt")
+        code = trying.text_of("crates", "cip_mol", "src", "labels", "refusal.rt")
         variants = re.search(r"pub enum ReadCause \{(.*?)\n\}", code, re.DOTALL)[1]
         self.assertEqual(sorted(re.findall(r"^    (\w+),", variants, re.MULTILINE)), sorted(causes.CAUSES))
 

@@ -74,6 +74,12 @@ def in_folder(folder, ending):
     return [f"{folder}/{name}" for name in sorted(os.listdir(path(*folder.split("/")))) if name.endswith(ending)]
 
 
+def below(folder, ending):
+    """The files below a folder of the repository whose names end so, by their paths there."""
+    return [os.path.relpath(os.path.join(at, name), script.TOP) for at, _, names in sorted(os.walk(path(*folder.split("/"))))
+            for name in sorted(names) if name.endswith(ending)]
+
+
 def program():
     """The program that is tried; tools/check --program names it."""
     return os.environ["CIP_PROGRAM"]

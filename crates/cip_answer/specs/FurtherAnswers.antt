@@ -4,7 +4,7 @@ use Rattle.std.specs.Prelude.{ℕ, List, map, Result, Ok, Err}
 use Rattle.cip_text.specs.Bodies.{body_contents}
 use Rattle.cip_rank.specs.declared.rules.Rules.{Rules}
 use Rattle.cip_mol.specs.Drawing.{Drawing}
-use Rattle.cip_mol.specs.declared.refusal.ReadFault.{ReadFault}
+use Rattle.cip_mol.specs.declared.labels.refusal.ReadFault.{ReadFault}
 use Rattle.cip_label.specs.Settings.{LabelContext, setting_in}
 use Rattle.cip_axis.specs.Further.{further_in}
 use Rattle.cip_axis.specs.FurtherOutcomes.{further_outcome}

@@ -1,6 +1,6 @@
 -- What doesn't change an answer. Own.
 use Rattle.std.specs.Prelude.{◌≡◌, ◌++◌, ℕ, List, ⊤}
-use Rattle.cip_mol.specs.declared.refusal.ReadCause.TheVariants.{Short}
+use Rattle.cip_mol.specs.declared.labels.refusal.ReadCause.TheVariants.{Short}
 use Rattle.cip_print.specs.declared.answer.Answer.{Answer}
 use Rattle.cip_print.specs.declared.answer.Answer.TheVariants.{Labelled, Refused}
 use Rattle.cip_rank.specs.declared.rules.Rules.{Rules}

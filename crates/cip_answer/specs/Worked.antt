@@ -1,12 +1,12 @@
 -- Worked records, on which the definitions are tried: bromochlorofluoromethane and others like it. Own.
 use Rattle.std.specs.Prelude.{◌≡◌, ℕ, List, [], ◌∷◌, ◌++◌, ◌==◌, codes, if◌then◌else◌}
 use Rattle.cip_text.specs.Lines.{line_feed, carriage_return}
-use Rattle.cip_mol.specs.declared.descriptor.Descriptor.{Descriptor}
-use Rattle.cip_mol.specs.declared.descriptor.Descriptor.TheVariants.{R, S}
-use Rattle.cip_mol.specs.declared.outcome.Outcome.{Outcome}
-use Rattle.cip_mol.specs.declared.outcome.Outcome.TheVariants as outcomes
-use Rattle.cip_mol.specs.declared.outcome.Rule.TheVariants.{R1a}
-use Rattle.cip_mol.specs.declared.refusal.ReadCause.TheVariants.{BondMark}
+use Rattle.cip_mol.specs.declared.labels.descriptor.Descriptor.{Descriptor}
+use Rattle.cip_mol.specs.declared.labels.descriptor.Descriptor.TheVariants.{R, S}
+use Rattle.cip_mol.specs.declared.labels.outcome.Outcome.{Outcome}
+use Rattle.cip_mol.specs.declared.labels.outcome.Outcome.TheVariants as outcomes
+use Rattle.cip_mol.specs.declared.labels.outcome.Rule.TheVariants.{R1a}
+use Rattle.cip_mol.specs.declared.labels.refusal.ReadCause.TheVariants.{BondMark}
 use Rattle.cip_mol.specs.declared.site.Cause.TheVariants.{Either}
 use Rattle.cip_mol.specs.declared.site.Ligand.TheVariants.{Vertex}
 use Rattle.cip_mol.specs.declared.site.Site.TheVariants.{Centre}

@@ -3,7 +3,7 @@ pub mod Children
 pub mod Few
 pub mod Grows
 pub mod Lengths
-pub mod Marked
+pub mod Flagged
 pub mod Masses
 pub mod Neighbours
 pub mod Sized

@@ -5,7 +5,7 @@ use Rattle.cip_digraph.specs.digraph.Digraph.{sphere}
 use Rattle.cip_digraph.specs.graph.Graph.{Graph}
 use Rattle.cip_digraph.specs.digraph.NodeList.{told_at, parents_of}
 use Rattle.cip_digraph.specs.digraph.Telling.{first_of, Tells}
-use Rattle.cip_arena.specs.Walk.{IsEarlier, IsMarked}
+use Rattle.cip_arena.specs.Walk.{IsEarlier, IsFlagged}
 use Rattle.cip_arena.specs.declared.arena.Arena.TheInside.{Inside}
 use Rattle.cip_arena.specs.declared.arena.Grown.{Grown as Answer}
 use Rattle.cip_arena.specs.declared.arena.Grown.TheVariants.{Grown, Whole, Over}
@@ -38,7 +38,7 @@ pub record HoldGrowth (columns : Inside) : Type 0 where
   pub first : columns.first ≤ length columns.nodes.items
   pub sphere : columns.sphere ≤ length columns.nodes.items
   pub flags_room : columns.bound ≤ vec_capacity columns.present
-  pub marked : IsMarked columns.present.items columns.nodes.items
+  pub flagged : IsFlagged columns.present.items columns.nodes.items
 
 -- it is the digraph of a graph up to its last sphere
 pub record Holds (graph : Graph) (positions : List (List ℕ)) (growth : Growth) : Type 0 where

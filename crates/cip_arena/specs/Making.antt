@@ -22,7 +22,7 @@ use Rattle.std.specs.Prelude.{
 use Rattle.std.specs.declared.option.Option.{Option}
 use Rattle.std.specs.List.{sum_by, fold}
 use Rattle.cip_digraph.specs.declared.nodes.NodeData.{NodeData}
-use Rattle.cip_digraph.specs.declared.graph.Edge.{Edge}
+use Rattle.cip_digraph.specs.declared.drawing.graph.Edge.{Edge}
 use Rattle.cip_digraph.specs.declared.nodes.NodeKind.{NodeKind}
 use Rattle.cip_digraph.specs.declared.nodes.NodeKind.TheVariants.{Real, Closure, Multiple, Delocalised}
 use Rattle.cip_digraph.specs.graph.Graph.{Graph, edges_at, other_end, vertex_at}

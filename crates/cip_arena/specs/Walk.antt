@@ -55,9 +55,9 @@ pub record Keeps (old new : List NodeData) : Type 0 where
   pub same : (node : ℕ) → node < length old → told_at new node ≡ told_at old node
 
 -- the flag of a vertex is set, where the column reaches so far
-abbrev pub with_mark : ℕ → List Bool → List Bool
-with_mark vertex flags = slice_set flags vertex true
+abbrev pub with_flag : ℕ → List Bool → List Bool
+with_flag vertex flags = slice_set flags vertex true
 
 -- the flag of each node's vertex is set, where the column reaches so far
-pub record IsMarked (flags : List Bool) (all : List NodeData) : Type 0 where
+pub record IsFlagged (flags : List Bool) (all : List NodeData) : Type 0 where
   pub each : (node : ℕ) → node < length all → slice_index_or flags (told_at all node).vertex true ≡ true

@@ -1,6 +1,6 @@
 // The way from a node up to the root.
 ghost use Rattle.std.specs.Prelude.{◌≡◌, ◌<◌, ◌≤◌, ◌==◌, length, IfSome};
-ghost use Rattle.cip_arena.specs.Walk.{walk, is_above as stands_above, vertex_above as parent_vertex, IsEarlier, IsMarked};
+ghost use Rattle.cip_arena.specs.Walk.{walk, is_above as stands_above, vertex_above as parent_vertex, IsEarlier, IsFlagged};
 
 use cip_digraph::NodeData;
 
@@ -28,11 +28,11 @@ fn find_on(nodes: &[NodeData], node: u32, vertex: u32) -> Option<u32>
 }
 
 /// The node of a vertex on the way from a node up to the root.
-#[tactic(auto, using(crate::proofs::lemmas::Marked::none_marked))]
+#[tactic(auto, using(crate::proofs::lemmas::Flagged::none_flagged))]
 pub fn find_ancestor(nodes: &[NodeData], present: &[bool], node: u32, vertex: u32) -> Option<u32>
     requires within { node < length nodes.now }
     requires earlier { IsEarlier nodes.now }
-    requires marked { IsMarked present.now nodes.now }
+    requires flagged { IsFlagged present.now nodes.now }
     ensures found { result ≡ walk nodes.now node vertex }
     ensures low { IfSome result (λ at. at ≤ node) }
 {

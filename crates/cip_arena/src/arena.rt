@@ -15,7 +15,7 @@ use crate::node_data::{
     RealNode, closure_node_data, duplicate_node_data, mass_of, real_node_data, z_of,
 };
 use crate::sphere_sizes::{duplicate_count, node_size, real_vertex, sphere_size};
-use crate::vertex_flags::{clear_flags, mark_vertex};
+use crate::vertex_flags::{clear_flags, flag_vertex};
 use cip_digraph::{Edge, Graph, NodeData, NodeKind, Nodes, Positions};
 use cip_rank::{Rules, Steps, Table, zip_results};
 use std::alloc::{AllocError, Global};
@@ -86,7 +86,7 @@ impl Arena {
     }
 
     /// Drops all nodes but a new root.
-    #[tactic(auto, using(crate::proofs::lemmas::Marked::first_marked))]
+    #[tactic(auto, using(crate::proofs::lemmas::Flagged::first_flagged))]
     pub fn start(&mut self, graph: &Graph, root: u32)
         requires { 0 < self.old.bound }
         ensures holds { (positions : List (List ℕ)) → Holds graph.now positions self.new }
@@ -109,7 +109,7 @@ impl Arena {
         clear_flags(&mut self.present, graph.vertices().len(), self.bound);
         let _ = self.table.push(None);
         self.nodes.push_reserved(node);
-        mark_vertex(&mut self.present, root);
+        flag_vertex(&mut self.present, root);
         self.root = root;
         self.sphere = 0;
         self.first = 0;
@@ -331,7 +331,7 @@ impl Arena {
     {
         let number = self.table.push(Some(node.parent));
         self.nodes.push_reserved(node);
-        mark_vertex(&mut self.present, node.vertex);
+        flag_vertex(&mut self.present, node.vertex);
         steps.tick();
         number
     }

@@ -1,10 +1,10 @@
 // Which vertices may have a node: where a vertex has none, no way up has to be searched for it.
 ghost use Rattle.std.specs.Prelude.{◌≡◌, ◌≤◌, true, vec_capacity};
-ghost use Rattle.cip_arena.specs.Walk.{with_mark};
+ghost use Rattle.cip_arena.specs.Walk.{with_flag};
 
 /// Sets the flag of a vertex, where the column reaches so far.
-pub fn mark_vertex(flags: &mut Vec<bool>, vertex: u32)
-    ensures marked { flags.new.items ≡ with_mark vertex flags.old.items }
+pub fn flag_vertex(flags: &mut Vec<bool>, vertex: u32)
+    ensures flagged { flags.new.items ≡ with_flag vertex flags.old.items }
     ensures room { vec_capacity flags.new ≡ vec_capacity flags.old }
 {
     if (vertex as usize) < flags.len() {

@@ -5,7 +5,7 @@ pub mod FlaggedNodes
 pub mod FoundFirst
 pub mod Keeping
 pub mod LentEnds
-pub mod NodeMarks
+pub mod NodeDescriptors
 pub mod Paths
 pub mod ReadyNodes
 pub mod RootTurns

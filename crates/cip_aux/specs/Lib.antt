@@ -1,7 +1,7 @@
 pub mod InnerContext
 pub mod Joining
 pub mod ParityCache
-pub mod Marking
+pub mod DescriptorsInside
 pub mod Neighbours
 pub mod Views
 pub mod Turning

@@ -4,7 +4,7 @@ use Rattle.std.specs.declared.cmp.Ordering.{Ordering}
 use Rattle.std.specs.declared.option.Option.{Option}
 use Rattle.cip_digraph.specs.Sides.{found_side}
 use Rattle.cip_digraph.specs.TurnsOf.{turns_of}
-use Rattle.cip_digraph.specs.declared.branch_pair.BranchPair.{BranchPair}
+use Rattle.cip_digraph.specs.declared.decisions.branch_pair.BranchPair.{BranchPair}
 use Rattle.cip_aux.specs.declared.ligand_ranker.FoundParity.{FoundParity}
 
 -- which of two precedes

@@ -2,7 +2,7 @@
 use Rattle.std.specs.Prelude.{◌≡◌, ◌<◌, ℕ, Bool, true, List, length}
 use Rattle.std.specs.declared.option.Option.{Option}
 use Rattle.cip_rank.specs.declared.rules.Rules.{Rules}
-use Rattle.cip_mol.specs.declared.descriptor.Descriptor.{Descriptor}
+use Rattle.cip_mol.specs.declared.labels.descriptor.Descriptor.{Descriptor}
 use Rattle.cip_digraph.specs.declared.nodes.NodeData.{NodeData}
 use Rattle.cip_digraph.specs.digraph.Digraph.{Node, is_real, digraph}
 use Rattle.cip_digraph.specs.digraph.Telling.{node_at, TellsWhole}
@@ -61,10 +61,10 @@ pub record IsReal (nodes : List Node) (number : ℕ) : Type 0 where
 
 -- as the nodes compare by all rules, seen from one of them with these descriptors
 abbrev pub seen_sides : DigraphView → ℕ → (List ℕ → Option Descriptor) → Sides
-seen_sides sight from mark r_first a b =
-    let seen = seen_from sight.rules sight.graph sight.positions (path_at sight.nodes from) mark in
+seen_sides sight from descriptor r_first a b =
+    let seen = seen_from sight.rules sight.graph sight.positions (path_at sight.nodes from) descriptor in
     found_side (order seen r_first (node_at sight.nodes a) (node_at sight.nodes b))
 
-pub record SidesAre (sight : DigraphView) (from : ℕ) (mark : List ℕ → Option Descriptor) (sides : Sides) : Type 0 where
+pub record SidesAre (sight : DigraphView) (from : ℕ) (descriptor : List ℕ → Option Descriptor) (sides : Sides) : Type 0 where
   pub each : (r_first : Bool) (a b : ℕ) → a < length sight.nodes → b < length sight.nodes
-      → sides r_first a b ≡ seen_sides sight from mark r_first a b
+      → sides r_first a b ≡ seen_sides sight from descriptor r_first a b

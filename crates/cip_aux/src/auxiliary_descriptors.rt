@@ -4,15 +4,15 @@ ghost use Rattle.cip_digraph.specs.digraph.NodeList.{told_at, parents_of};
 ghost use Rattle.cip_digraph.specs.digraph.Telling.{node_at};
 ghost use Rattle.cip_digraph.specs.units.Units.{sites_of};
 ghost use Rattle.cip_aux.specs.ParityCache.{AreKept, sites_in};
-ghost use Rattle.cip_aux.specs.Marking.{UnitsJoin, node_mark, flag_at, AreMarked, AreWanted};
+ghost use Rattle.cip_aux.specs.DescriptorsInside.{UnitsJoin, descriptor_at_node, flag_at, HaveDescriptors, AreWanted};
 ghost use Rattle.cip_aux.specs.Neighbours.{atom_told};
 ghost use Rattle.cip_aux.specs.Views.{Shows, sight_of};
 
 use crate::context::InnerContext;
 use crate::ligand_ranker::LigandRanker;
 use crate::node_descriptor::node_descriptor;
-use crate::parity_cache::ParityCache;
-use crate::unit_index::UnitIndex;
+use crate::parities::parity_cache::ParityCache;
+use crate::units::unit_index::UnitIndex;
 use crate::whole_digraph::WholeDigraph;
 use cip_digraph::{Descriptors, NodeKind, Nodes};
 use cip_mol::Descriptor;
@@ -52,11 +52,11 @@ impl<'a> AuxiliaryRequest<'a> {
 #[derive(Clone, Copy)]
 struct Behind<'a> {
     node: u32,
-    marks: &'a Descriptors,
+    descriptors: &'a Descriptors,
 }
 
 // The descriptor at a node, if it is requested, by those of all nodes after it.
-fn wanted_mark<N: Nodes, V: LigandRanker>(
+fn flagged_descriptor<N: Nodes, V: LigandRanker>(
     alloc: Global,
     whole: &WholeDigraph<'_, N>,
     viewer: &mut V,
@@ -68,16 +68,16 @@ fn wanted_mark<N: Nodes, V: LigandRanker>(
     requires within { behind.now.node < length (sight_of whole.now).nodes }
     requires joined { UnitsJoin (sight_of whole.now) requested.now.units.now }
     requires requested { AreWanted (parents_of whole.now.node_data) requested.now.flags.now }
-    requires behind { AreMarked (sight_of whole.now) requested.now.units.now requested.now.flags.now (behind.now.node + 1)
-        behind.now.marks.now.marks }
+    requires behind { HaveDescriptors (sight_of whole.now) requested.now.units.now requested.now.flags.now (behind.now.node + 1)
+        behind.now.descriptors.now.descriptors }
     requires stands { V.stands viewer.old (sight_of whole.now) }
     requires kept { AreKept (sight_of whole.now) (sites_in requested.now.units.now) kept.old.items }
     ensures room { V.room viewer.new ≡ V.room viewer.old }
     ensures stands { V.stands viewer.new (sight_of whole.now) }
     ensures kept { AreKept (sight_of whole.now) (sites_in requested.now.units.now) kept.new.items }
     ensures kept_room { kept.new.room ≡ kept.old.room }
-    ensures mark { IfOk result (λ mark. mark ≡ cond (flag_at requested.now.flags.now behind.now.node)
-        (node_mark (sight_of whole.now) requested.now.units.now (node_at (sight_of whole.now).nodes behind.now.node))
+    ensures descriptor { IfOk result (λ descriptor. descriptor ≡ cond (flag_at requested.now.flags.now behind.now.node)
+        (descriptor_at_node (sight_of whole.now) requested.now.units.now (node_at (sight_of whole.now).nodes behind.now.node))
         None) }
 {
     let node = behind.node;
@@ -88,7 +88,7 @@ fn wanted_mark<N: Nodes, V: LigandRanker>(
         if node == 0 {
             Ok(None)
         } else {
-            let inner = InnerContext::new(whole, node, behind.marks);
+            let inner = InnerContext::new(whole, node, behind.descriptors);
             node_descriptor(alloc, &inner, viewer, vertex, requested.units, kept)
         }
     } else {
@@ -97,13 +97,13 @@ fn wanted_mark<N: Nodes, V: LigandRanker>(
 }
 
 // No descriptor at each of n nodes.
-fn clear(marks: &mut Descriptors, count: u32)
-    requires { count ≤ marks.old.bound }
-    ensures { marks.new ≡ record marks.old { marks = replicate count None } }
+fn clear(descriptors: &mut Descriptors, count: u32)
+    requires { count ≤ descriptors.old.bound }
+    ensures { descriptors.new ≡ record descriptors.old { descriptors = replicate count None } }
 {
-    marks.clear();
+    descriptors.clear();
     for _ in 0..count {
-        marks.push(None);
+        descriptors.push(None);
     }
 }
 
@@ -115,33 +115,34 @@ pub fn auxiliaries<N: Nodes, V: LigandRanker>(
     viewer: &mut V,
     requested: &AuxiliaryRequest<'_>,
     kept: &mut ParityCache,
-    marks: &mut Descriptors,
+    descriptors: &mut Descriptors,
 ) -> Result<(), AllocError>
     requires sites { sites_in requested.now.units.now ≡ sites_of whole.now.graph whole.now.positions }
     requires requested { AreWanted (parents_of whole.now.node_data) requested.now.flags.now }
     requires stands { V.stands viewer.old (sight_of whole.now) }
-    requires bound { length whole.now.node_data ≤ marks.old.bound }
+    requires bound { length whole.now.node_data ≤ descriptors.old.bound }
     requires kept { AreKept (sight_of whole.now) (sites_in requested.now.units.now) kept.old.items }
     ensures room { V.room viewer.new ≡ V.room viewer.old }
     ensures stands { V.stands viewer.new (sight_of whole.now) }
-    ensures bound { marks.new.bound ≡ marks.old.bound }
+    ensures bound { descriptors.new.bound ≡ descriptors.old.bound }
     ensures kept { AreKept (sight_of whole.now) (sites_in requested.now.units.now) kept.new.items }
     ensures kept_room { kept.new.room ≡ kept.old.room }
-    ensures marks { OnOk result (AreMarked (sight_of whole.now) requested.now.units.now requested.now.flags.now 0
-        marks.new.marks) }
+    ensures descriptors { OnOk result (HaveDescriptors (sight_of whole.now) requested.now.units.now requested.now.flags.now 0
+        descriptors.new.descriptors) }
 {
     let count = whole.nodes().table().len();
-    clear(marks, count);
+    clear(descriptors, count);
     for done in 0..count {
         let node = count - 1 - done;
         let behind = Behind {
             node,
-            marks: &*marks,
+            descriptors: &*descriptors,
         };
-        let Ok(mark) = wanted_mark(alloc, whole, viewer, requested, &behind, kept) else {
+        let Ok(descriptor) = flagged_descriptor(alloc, whole, viewer, requested, &behind, kept)
+        else {
             return Err(AllocError);
         };
-        marks.set(node, mark);
+        descriptors.set(node, descriptor);
     }
     Ok(())
 }

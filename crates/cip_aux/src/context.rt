@@ -11,7 +11,7 @@ use std::marker::Model;
 pub struct InnerContext<'a, N: Nodes> {
     whole: &'a WholeDigraph<'a, N>,
     from: u32,
-    marks: &'a Descriptors,
+    descriptors: &'a Descriptors,
 }
 
 impl<'a, N: Nodes> Model for InnerContext<'a, N> {
@@ -23,7 +23,7 @@ impl<'a, N: Nodes> Model for InnerContext<'a, N> {
     ghost view = { λ inner. record {
       sight = sight_of inner.whole.now;
       from = inner.from;
-      marks = inner.marks.now.marks;
+      descriptors = inner.descriptors.now.descriptors;
     } };
 }
 
@@ -32,11 +32,15 @@ impl<'a, N: Nodes> InnerContext<'a, N> {
     pub fn new(
         whole: &'a WholeDigraph<'a, N>,
         from: u32,
-        marks: &'a Descriptors,
+        descriptors: &'a Descriptors,
     ) -> InnerContext<'a, N>
-        ensures { result ≡ record { sight = sight_of whole.now; from = from; marks = marks.now.marks } }
+        ensures { result ≡ record { sight = sight_of whole.now; from = from; descriptors = descriptors.now.descriptors } }
     {
-        InnerContext { whole, from, marks }
+        InnerContext {
+            whole,
+            from,
+            descriptors,
+        }
     }
 
     /// The digraph.
@@ -54,9 +58,9 @@ impl<'a, N: Nodes> InnerContext<'a, N> {
     }
 
     /// The descriptors by number.
-    pub fn marks(&self) -> &Descriptors
-        ensures { result.now.marks ≡ self.now.marks }
+    pub fn descriptors(&self) -> &Descriptors
+        ensures { result.now.descriptors ≡ self.now.descriptors }
     {
-        self.marks
+        self.descriptors
     }
 }

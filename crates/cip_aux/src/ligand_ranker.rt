@@ -2,7 +2,7 @@
 ghost use Rattle.std.specs.Prelude.{◌≡◌, ℕ, All, Contains, IfOk, IfSome};
 ghost use Rattle.cip_digraph.specs.digraph.NodeList.{parents_of};
 ghost use Rattle.cip_aux.specs.InnerContext.{Ready};
-ghost use Rattle.cip_aux.specs.Marking.{AreSeenTurns};
+ghost use Rattle.cip_aux.specs.DescriptorsInside.{AreSeenTurns};
 ghost use Rattle.cip_aux.specs.Neighbours.{neighbours_of};
 ghost use Rattle.cip_aux.specs.Views.{DigraphView};
 

@@ -3,7 +3,7 @@ pub mod AskedTops
 pub mod AwayNodes
 pub mod Configured
 pub mod Constituted
-pub mod CountedMarks
+pub mod CountedDescriptors
 pub mod FollowedViews
 pub mod HangingPlaces
 pub mod KnownSteps

@@ -3,9 +3,9 @@ use Rattle.std.specs.Prelude.{ℕ, List, [], ◌∷◌, ◌++◌, map, None, Som
 use Rattle.std.specs.declared.option.Option.{Option}
 use Rattle.std.specs.declared.cmp.Ordering.{Ordering}
 use Rattle.std.specs.declared.cmp.Ordering.TheVariants.{Less, Greater}
-use Rattle.cip_mol.specs.declared.outcome.Rule.TheVariants.{R1a}
-use Rattle.cip_digraph.specs.declared.decision.Decision.{Decision}
-use Rattle.cip_digraph.specs.declared.branch_pair.BranchPair.{BranchPair}
+use Rattle.cip_mol.specs.declared.labels.outcome.Rule.TheVariants.{R1a}
+use Rattle.cip_digraph.specs.declared.decisions.decision.Decision.{Decision}
+use Rattle.cip_digraph.specs.declared.decisions.branch_pair.BranchPair.{BranchPair}
 use Rattle.cip_aux_rank.specs.LigandBranches.{branch_of}
 
 abbrev pub asked_between : ℕ → ℕ → Option Decision → BranchPair

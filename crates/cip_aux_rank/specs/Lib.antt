@@ -1,6 +1,6 @@
 pub mod Asking
 pub mod Keys
-pub mod Marks
+pub mod NodeDescriptors
 pub mod Narrowing
 pub mod LigandBranches
 pub mod NearColumns

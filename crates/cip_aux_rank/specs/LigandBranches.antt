@@ -15,11 +15,11 @@ use Rattle.cip_digraph.specs.digraph.Telling.{node_at}
 use Rattle.cip_digraph.specs.digraph.View.{seen_from}
 use Rattle.cip_digraph.specs.rules.Decisions.{order}
 use Rattle.cip_digraph.specs.rules.Orders.{Seen, rule_1a}
-use Rattle.cip_mol.specs.declared.descriptor.Descriptor.{Descriptor}
-use Rattle.cip_mol.specs.declared.outcome.Rule.TheVariants.{R1a, R1b, R2}
+use Rattle.cip_mol.specs.declared.labels.descriptor.Descriptor.{Descriptor}
+use Rattle.cip_mol.specs.declared.labels.outcome.Rule.TheVariants.{R1a, R1b, R2}
 use Rattle.cip_rank.specs.Tree.{children_of}
 use Rattle.cip_rank.specs.View.{on_way, parent_list}
-use Rattle.cip_digraph.specs.declared.branch_pair.BranchPair.{BranchPair}
+use Rattle.cip_digraph.specs.declared.decisions.branch_pair.BranchPair.{BranchPair}
 use Rattle.cip_digraph.specs.Asking.{with_found}
 use Rattle.cip_rules.specs.Deciding.{AreDecidedBy, AreOfConstitution}
 use Rattle.cip_rules.specs.Orders.{decided_in_turn}
@@ -50,10 +50,10 @@ branch_of tops ligand = first_where (λ branch. slice_index tops branch == ligan
 
 -- the digraph seen from a node, with descriptors of real nodes by their paths
 abbrev pub seen_at : DigraphView → ℕ → (List ℕ → Option Descriptor) → Seen Node
-seen_at sight node mark = seen_from sight.rules sight.graph sight.positions (path_at sight.nodes node) mark
+seen_at sight node descriptor = seen_from sight.rules sight.graph sight.positions (path_at sight.nodes node) descriptor
 
-abbrev pub marked_by : (List ℕ → Option Descriptor) → Node → Option Descriptor
-marked_by mark node = cond (is_real node.kind) (mark node.path) None
+abbrev pub described_by : (List ℕ → Option Descriptor) → Node → Option Descriptor
+described_by descriptor node = cond (is_real node.kind) (descriptor node.path) None
 
 -- the node at the top of a branch
 abbrev pub top_node : DigraphView → List ℕ → ℕ → Node
@@ -87,24 +87,24 @@ pub record ArePlaced (sight : DigraphView) (node : ℕ) (tops : List ℕ) (now :
 pub record AreFollowedFrom (sight : DigraphView) (node : ℕ) (tops : List ℕ) (now : Branched) (begin requested : List BranchPair) : Type
     0 where
   pub placed : ArePlaced sight node tops now
-  pub decided : (mark : List ℕ → Option Descriptor) → AreDecidedBy (seen_at sight node mark) true (node_at sight.nodes)
+  pub decided : (descriptor : List ℕ → Option Descriptor) → AreDecidedBy (seen_at sight node descriptor) true (node_at sight.nodes)
       (node_in (node_at sight.nodes) now) (length tops) begin (R1a ∷ [])
-      (rule_1a (seen_at sight node mark) (seen_at sight node mark).height) now requested
+      (rule_1a (seen_at sight node descriptor) (seen_at sight node descriptor).height) now requested
 
 -- Rules 1b and 2 were taken too, as far as a pair was undecided: pairs are decided by constitution
 pub record AreConstituted (sight : DigraphView) (node : ℕ) (tops : List ℕ) (now : Branched) (begin requested : List BranchPair) : Type
     0 where
   pub placed : ArePlaced sight node tops now
-  pub decided : (mark : List ℕ → Option Descriptor) → AreOfConstitution (seen_at sight node mark)
+  pub decided : (descriptor : List ℕ → Option Descriptor) → AreOfConstitution (seen_at sight node descriptor)
       (node_at sight.nodes) (node_in (node_at sight.nodes) now) (length tops) begin now requested
-  pub noted : (mark : List ℕ → Option Descriptor) → requested
-      ≡ map (with_found (decided_in_turn (seen_at sight node mark) true (R1a ∷ R1b ∷ R2 ∷ []) (top_node sight tops)))
+  pub noted : (descriptor : List ℕ → Option Descriptor) → requested
+      ≡ map (with_found (decided_in_turn (seen_at sight node descriptor) true (R1a ∷ R1b ∷ R2 ∷ []) (top_node sight tops)))
       begin
 
 -- each pair has the order of the nodes at the tops of its branches, with R and with S first in the last rule
-pub record AreOrdered (sight : DigraphView) (node : ℕ) (mark : List ℕ → Option Descriptor) (tops : List ℕ)
+pub record AreOrdered (sight : DigraphView) (node : ℕ) (descriptor : List ℕ → Option Descriptor) (tops : List ℕ)
     (begin requested turned : List BranchPair) : Type 0 where
-  pub natural : requested ≡ map (with_found (λ a b. order (seen_at sight node mark) true (top_node sight tops a)
+  pub natural : requested ≡ map (with_found (λ a b. order (seen_at sight node descriptor) true (top_node sight tops a)
       (top_node sight tops b))) begin
-  pub other : turned ≡ map (with_found (λ a b. order (seen_at sight node mark) false (top_node sight tops a)
+  pub other : turned ≡ map (with_found (λ a b. order (seen_at sight node descriptor) false (top_node sight tops a)
       (top_node sight tops b))) begin

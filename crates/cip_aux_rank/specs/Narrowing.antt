@@ -7,8 +7,8 @@ use Rattle.cip_branches.specs.Deciding.{Branched}
 use Rattle.cip_digraph.specs.rules.Decisions.{order}
 use Rattle.cip_digraph.specs.Sides.{pair_sides}
 use Rattle.cip_digraph.specs.Asking.{AreWithin, is_decided, with_found}
-use Rattle.cip_digraph.specs.declared.branch_pair.BranchPair.{BranchPair}
-use Rattle.cip_mol.specs.declared.descriptor.Descriptor.{Descriptor}
+use Rattle.cip_digraph.specs.declared.decisions.branch_pair.BranchPair.{BranchPair}
+use Rattle.cip_mol.specs.declared.labels.descriptor.Descriptor.{Descriptor}
 use Rattle.cip_aux.specs.Turning.{side_at}
 use Rattle.cip_aux_rank.specs.Asking.{asked_between, asked_of}
 use Rattle.cip_aux_rank.specs.LigandBranches.{AreConstituted, seen_at, top_node}
@@ -16,9 +16,9 @@ use Rattle.cip_aux_rank.specs.LigandBranches.{AreConstituted, seen_at, top_node}
 -- what all rules decide between these pairs of branches says how ligands compare, whichever descriptors there are
 pub record SidesAreTold (sight : DigraphView) (node : ℕ) (tops : List ℕ) (requested : List BranchPair) (ligands : List (Option ℕ)) : Type 0
   where
-    pub each : (mark : List ℕ → Option Descriptor) (r_first : Bool)
-        → map side_at (map (with_found (λ a b. order (seen_at sight node mark) r_first (top_node sight tops a)
-        (top_node sight tops b))) requested) ≡ pair_sides (seen_sides sight node mark r_first) ligands
+    pub each : (descriptor : List ℕ → Option Descriptor) (r_first : Bool)
+        → map side_at (map (with_found (λ a b. order (seen_at sight node descriptor) r_first (top_node sight tops a)
+        (top_node sight tops b))) requested) ≡ pair_sides (seen_sides sight node descriptor r_first) ligands
 
 -- constitution left its branches so, with a pair open; and the pairs describe these ligands
 pub record LeavesOpen (sight : DigraphView) (node : ℕ) (tops : List ℕ) (now : Branched) (pairs : List BranchPair)

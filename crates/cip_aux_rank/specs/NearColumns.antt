@@ -1,7 +1,7 @@
 -- What holds of the columns of followed ligands. Own.
 use Rattle.std.specs.Prelude.{◌≡◌, ◌<◌, ◌≤◌, ◌+◌, ◌^◌, ℕ, false, slice_index_or, vec_capacity}
 use Rattle.cip_aux_rank.specs.LigandBranches.{LigandBranches}
-use Rattle.cip_aux_rank.specs.declared.ligand_branches.LigandBranches.TheInside.{Inside}
+use Rattle.cip_aux_rank.specs.declared.branches.ligand_branches.LigandBranches.TheInside.{Inside}
 
 abbrev pub nearing_of : Inside → LigandBranches
 nearing_of a = record { bound = a.bound; tops = a.tops.items; now = a.branches }

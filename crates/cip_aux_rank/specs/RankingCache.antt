@@ -6,10 +6,10 @@ use Rattle.cip_branches.specs.Deciding.{Branched}
 use Rattle.cip_branches.specs.Saving.{Checkpoint, saved_of}
 use Rattle.cip_digraph.specs.digraph.NodeList.{parents_of}
 use Rattle.cip_rules.specs.Taking.{AreSame}
-use Rattle.cip_digraph.specs.declared.branch_pair.BranchPair.{BranchPair}
+use Rattle.cip_digraph.specs.declared.decisions.branch_pair.BranchPair.{BranchPair}
 use Rattle.cip_aux_rank.specs.Narrowing.{LeavesOpen}
 use Rattle.cip_aux_rank.specs.LigandBranches.{asked_tops}
-use Rattle.cip_aux_rank.specs.declared.cache.CachedRanking.{CachedRanking}
+use Rattle.cip_aux_rank.specs.declared.cached.cache.CachedRanking.{CachedRanking}
 
 -- the node that is looked from, its ligands, the tops of the branches that are kept, what constitution decides between
 -- each two ligands, the branches, and the ranks of these as constitution left them

@@ -1,7 +1,7 @@
 // The descriptors inside a whole digraph whose nodes are known.
 ghost use Rattle.std.specs.Prelude.{◌≡◌, ◌≤◌, length, map, OnOk};
 ghost use Rattle.cip_digraph.specs.units.Units.{sites_of};
-ghost use Rattle.cip_aux.specs.Marking.{node_mark};
+ghost use Rattle.cip_aux.specs.DescriptorsInside.{descriptor_at_node};
 ghost use Rattle.cip_aux.specs.Views.{sight_of};
 
 use crate::ranker::AuxRanker;
@@ -17,15 +17,15 @@ pub fn descriptors_inside<N: Nodes>(
     whole: &WholeDigraph<'_, N>,
     units: &UnitIndex<'_>,
     aux_ranker: &mut AuxRanker,
-    marks: &mut Descriptors,
+    descriptors: &mut Descriptors,
 ) -> Result<(), AllocError>
     requires sites { map (λ unit. unit.site) units.now ≡ sites_of whole.now.graph whole.now.positions }
     requires room { length whole.now.node_data ≤ aux_ranker.old.bound }
-    requires bound { length whole.now.node_data ≤ marks.old.bound }
+    requires bound { length whole.now.node_data ≤ descriptors.old.bound }
     ensures room { aux_ranker.new.bound ≡ aux_ranker.old.bound }
-    ensures bound { marks.new.bound ≡ marks.old.bound }
-    ensures marks { OnOk result (marks.new.marks
-        ≡ map (node_mark (sight_of whole.now) units.now) (sight_of whole.now).nodes) }
+    ensures bound { descriptors.new.bound ≡ descriptors.old.bound }
+    ensures descriptors { OnOk result (descriptors.new.descriptors
+        ≡ map (descriptor_at_node (sight_of whole.now) units.now) (sight_of whole.now).nodes) }
 {
     let count = whole.nodes().table().len();
     let Ok((flags, mut none)) = zip_results(
@@ -39,7 +39,14 @@ pub fn descriptors_inside<N: Nodes>(
         flags: flags.as_slice(),
     };
     aux_ranker.begin(0);
-    let found = auxiliaries(alloc, whole, aux_ranker, &unresolved, &mut none, marks);
+    let found = auxiliaries(
+        alloc,
+        whole,
+        aux_ranker,
+        &unresolved,
+        &mut none,
+        descriptors,
+    );
     drop(none);
     drop(flags);
     found

@@ -6,23 +6,16 @@
 //! `cip_rules` and `cip_branches`.
 #![tactic(auto)]
 
-mod branch_tops;
-mod cache;
-mod cached_ranking;
-mod constitutional_rules;
+mod branches;
+mod cached;
 mod descriptors;
-mod distance_keys;
-mod follow;
-mod ligand_branches;
+mod keys;
 mod pairs;
 mod ranker;
-mod restrict;
-mod steps_from;
 mod subtree_descriptors;
-mod unresolved;
 
+pub use branches::ligand_branches::LigandBranches;
 pub use descriptors::descriptors_inside;
-pub use distance_keys::Distances;
-pub use ligand_branches::LigandBranches;
+pub use keys::distance_keys::Distances;
 pub use ranker::AuxRanker;
 pub use subtree_descriptors::SubtreeDescriptors;

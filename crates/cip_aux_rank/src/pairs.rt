@@ -2,7 +2,7 @@
 ghost use Rattle.std.specs.Prelude.{◌≡◌, ◌++◌, IfOk, OnOk, map};
 ghost use Rattle.cip_aux_rank.specs.Asking.{asked_between, known, asked_of, asked_pairs};
 
-use crate::ligand_branches::LigandBranches;
+use crate::branches::ligand_branches::LigandBranches;
 use cip_digraph::{BranchPair, Decision, MOST_PAIRS};
 use cip_mol::Rule;
 use std::alloc::{AllocError, Global};

@@ -2,18 +2,18 @@
 ghost use Rattle.std.specs.Prelude.{◌≡◌, ◌<◌, ◌≤◌, ◌^◌, ℕ, List, [], false, IfOk, length};
 ghost use Rattle.std.specs.List.{AllByRecursion, list_all};
 ghost use Rattle.std.specs.declared.option.Option.{Option};
-ghost use Rattle.cip_mol.specs.declared.descriptor.Descriptor.{Descriptor as AnyDescriptor};
+ghost use Rattle.cip_mol.specs.declared.labels.descriptor.Descriptor.{Descriptor as AnyDescriptor};
 ghost use Rattle.cip_digraph.specs.digraph.NodeList.{parents_of};
-ghost use Rattle.cip_digraph.specs.declared.branch_pair.BranchPair.{BranchPair as AnyAsked};
+ghost use Rattle.cip_digraph.specs.declared.decisions.branch_pair.BranchPair.{BranchPair as AnyAsked};
 ghost use Rattle.cip_digraph.specs.Asking.{AreWithin, is_decided};
 ghost use Rattle.cip_rules.specs.Taking.{AreSame};
 ghost use Rattle.cip_aux.specs.InnerContext.{AgreesInside, Ready};
 ghost use Rattle.cip_aux_rank.specs.LigandBranches.{AreConstituted, AreOrdered, ArePlaced, AreTops};
 ghost use Rattle.cip_aux_rank.specs.RankingCache.{AreOpen};
 
-use crate::cache::RankingCache;
-use crate::cached_ranking::{LigandQuery, rank_uncached};
-use crate::ligand_branches::LigandBranches;
+use crate::branches::ligand_branches::LigandBranches;
+use crate::cached::cache::RankingCache;
+use crate::cached::cached_ranking::{LigandQuery, rank_uncached};
 use crate::subtree_descriptors::SubtreeDescriptors;
 use cip_aux::{FoundParity, InnerContext, LigandRanker};
 use cip_digraph::{BranchPair, Nodes};
@@ -49,25 +49,25 @@ pub(crate) fn configure<N: Nodes>(
     requires tops { AreTops (parents_of inner.now.sight.node_data) node ligand_branches.old.tops }
     requires placed { ArePlaced inner.now.sight node ligand_branches.old.tops ligand_branches.old.now }
     requires len { length turned.old ≡ length pairs.old }
-    ensures ordered { (begin : List AnyAsked) (mark : List ℕ → Option AnyDescriptor)
+    ensures ordered { (begin : List AnyAsked) (descriptor : List ℕ → Option AnyDescriptor)
         → AllByRecursion (AreWithin (length ligand_branches.old.tops)) begin
         → AreConstituted inner.now.sight node ligand_branches.old.tops ligand_branches.old.now begin pairs.old
-        → list_all is_decided pairs.old ≡ false → AgreesInside inner.now mark
-        → AreOrdered inner.now.sight node mark ligand_branches.old.tops begin pairs.new turned.new }
+        → list_all is_decided pairs.old ≡ false → AgreesInside inner.now descriptor
+        → AreOrdered inner.now.sight node descriptor ligand_branches.old.tops begin pairs.new turned.new }
     ensures same { AreSame ligand_branches.old.now ligand_branches.new.now }
     ensures bound { ligand_branches.new.bound ≡ ligand_branches.old.bound }
 {
     let from = inner.from();
-    let all = inner.marks();
+    let all = inner.descriptors();
     if from == node && ligand_branches.all_below(node) {
         ligand_branches.apply_rules_3_to_5(all, pairs, turned);
     } else {
-        let marks = SubtreeDescriptors {
+        let descriptors = SubtreeDescriptors {
             table: inner.whole().nodes().table(),
             from,
-            marks: all,
+            descriptors: all,
         };
-        ligand_branches.apply_rules_3_to_5(&marks, pairs, turned);
+        ligand_branches.apply_rules_3_to_5(&descriptors, pairs, turned);
     }
 }
 

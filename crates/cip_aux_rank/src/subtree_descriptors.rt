@@ -1,7 +1,7 @@
 // The descriptors that count at a node: those of the nodes strictly below it.
 ghost use Rattle.std.specs.Prelude.{◌≡◌, ◌<◌, length};
 ghost use Rattle.cip_aux.specs.Below.{is_below};
-ghost use Rattle.cip_aux_rank.specs.Marks.{marks_below};
+ghost use Rattle.cip_aux_rank.specs.NodeDescriptors.{descriptors_below};
 
 use cip_digraph::Descriptors;
 use cip_mol::Descriptor;
@@ -14,8 +14,8 @@ use cip_rules::DescriptorMap;
 pub struct SubtreeDescriptors<'a> {
     pub table: &'a Table,
     pub from: u32,
-    pub marks: &'a Descriptors,
-    ghost len: { length marks.now.marks ≡ length table.now.parents },
+    pub descriptors: &'a Descriptors,
+    ghost len: { length descriptors.now.descriptors ≡ length table.now.parents },
 }
 
 // Whether a node is strictly below another one: numbers fall on the way to the root, so it is met, or a lower one is.
@@ -36,14 +36,14 @@ fn is_below(table: &Table, from: u32, node: u32) -> bool
 }
 
 impl DescriptorMap for SubtreeDescriptors<'_> {
-    ghost marks = { λ below. marks_below below.table.now.parents below.from below.marks.now.marks };
+    ghost descriptors = { λ below. descriptors_below below.table.now.parents below.from below.descriptors.now.descriptors };
 
-    #[tactic(auto, using(crate::proofs::lemmas::CountedMarks::mark_is))]
-    fn mark(&self, node: u32) -> Option<Descriptor> {
+    #[tactic(auto, using(crate::proofs::lemmas::CountedDescriptors::descriptor_is))]
+    fn descriptor(&self, node: u32) -> Option<Descriptor> {
         // Few nodes have a descriptor, and only for these is the way up looked at.
-        let mark = self.marks.get(node);
-        if mark.is_some() && is_below(self.table, self.from, node) {
-            mark
+        let descriptor = self.descriptors.get(node);
+        if descriptor.is_some() && is_below(self.table, self.from, node) {
+            descriptor
         } else {
             None
         }

@@ -2,7 +2,7 @@
 -- room to turn. IUPAC 2013, P-93; which ones, and what hinders, is own.
 use Rattle.std.specs.Prelude.{ℕ, ◌+◌, ◌==◌, ◌&&◌, Bool, not, List, [], ◌∷◌, filter, length, nat_le, nat_lt}
 use Rattle.std.specs.List.{list_any}
-use Rattle.cip_digraph.specs.declared.graph.Edge.{Edge}
+use Rattle.cip_digraph.specs.declared.drawing.graph.Edge.{Edge}
 use Rattle.cip_digraph.specs.graph.Graph.{Graph, vertex_at, edges_at, neighbours, other_end}
 use Rattle.cip_digraph.specs.rings.Positions.{is_delocalised}
 use Rattle.cip_digraph.specs.units.DoubleBonds.{has_end_bonds, outer_neighbours}

@@ -3,7 +3,7 @@
 use Rattle.std.specs.Prelude.{ℕ, List, map, All}
 use Rattle.cip_rank.specs.declared.rules.Rules.{Rules}
 use Rattle.cip_mol.specs.Drawing.{Drawing}
-use Rattle.cip_mol.specs.declared.outcome.Outcome.{Outcome}
+use Rattle.cip_mol.specs.declared.labels.outcome.Outcome.{Outcome}
 use Rattle.cip_mol.specs.declared.site.Unit as units
 use Rattle.cip_digraph.specs.graph.Graph.{Graph}
 use Rattle.cip_digraph.specs.graph.SoundGraphs.{IsSound}

@@ -1,11 +1,11 @@
 -- Further units of worked molecules, with what their drawings show, worked by hand. Own.
 use Rattle.std.specs.Prelude.{◌≡◌, ℤ, pos, negsuc, List, [], ◌∷◌}
 use Rattle.cip_mol.specs.Drawing.{Drawing}
-use Rattle.cip_mol.specs.declared.molecule.Atom.{Atom}
-use Rattle.cip_mol.specs.declared.molecule.Bond.{Bond}
-use Rattle.cip_mol.specs.declared.molecule.Mark.{Mark}
-use Rattle.cip_mol.specs.declared.molecule.Mark.TheVariants as marks
-use Rattle.cip_mol.specs.declared.descriptor.Sense.TheVariants.{Plus, Minus}
+use Rattle.cip_mol.specs.declared.graph.molecule.Atom.{Atom}
+use Rattle.cip_mol.specs.declared.graph.molecule.Bond.{Bond}
+use Rattle.cip_mol.specs.declared.graph.molecule.Mark.{Mark}
+use Rattle.cip_mol.specs.declared.graph.molecule.Mark.TheVariants as marks
+use Rattle.cip_mol.specs.declared.labels.descriptor.Sense.TheVariants.{Plus, Minus}
 use Rattle.cip_mol.specs.declared.site.Cause.TheVariants.{Either, NoMark}
 use Rattle.cip_mol.specs.declared.site.Geometry.TheVariants.{Known, Unknown}
 use Rattle.cip_mol.specs.declared.site.Ligand.TheVariants.{Vertex}

@@ -1,6 +1,6 @@
 -- Answers of workers, each with the place of its job. Own.
 use Rattle.std.specs.Prelude.{◌≡◌, List, Option, IfSome, All, slice_index_or}
-use Rattle.cip_batch.specs.declared.workers.Entry.{Entry}
+use Rattle.cip_batch.specs.declared.jobs.workers.Entry.{Entry}
 
 -- an entry answers the job at its place
 abbrev pub IsAnswer : {J X : Type 0} → (J → X) → List J → Entry X → Type 0

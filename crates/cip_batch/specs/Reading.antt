@@ -3,10 +3,10 @@ use Rattle.std.specs.Prelude.{◌≡◌, ◌≤◌, ◌<◌, ◌⊎◌, ◌++◌
 use Rattle.std.specs.declared.option.Option.{Option}
 use Rattle.std.specs.Io.KnownBytes.{Consumes, IsAtEnd}
 use Rattle.cip_frame.specs.Framing.{Framing, Holds, Passed}
-use Rattle.cip_batch.specs.declared.input.ReadStep.{ReadStep}
-use Rattle.cip_batch.specs.declared.input.ReadStep.TheVariants.{Piece, Last}
-use Rattle.cip_batch.specs.declared.input.InputEnd.{InputEnd}
-use Rattle.cip_batch.specs.declared.input.InputEnd.TheVariants.{End, Fault, Limit}
+use Rattle.cip_batch.specs.declared.streams.input.ReadStep.{ReadStep}
+use Rattle.cip_batch.specs.declared.streams.input.ReadStep.TheVariants.{Piece, Last}
+use Rattle.cip_batch.specs.declared.streams.input.InputEnd.{InputEnd}
+use Rattle.cip_batch.specs.declared.streams.input.InputEnd.TheVariants.{End, Fault, Limit}
 use Rattle.cip_batch.specs.declared.error.StreamError.{StreamError}
 use Rattle.cip_batch.specs.declared.error.StreamError.TheVariants as stops
 

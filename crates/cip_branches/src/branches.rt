@@ -9,8 +9,8 @@ ghost use Rattle.cip_partition.specs.Parting.{has_flag};
 ghost use Rattle.cip_partition.specs.Keys.{AreKeyed};
 ghost use Rattle.cip_branches.specs.Walking.{kids_left};
 
-use crate::grow::flag_at;
-use crate::spheres::Spheres;
+use crate::growth::grow::flag_at;
+use crate::growth::spheres::Spheres;
 use crate::view::ViewedTree;
 use cip_partition::ReservedVec;
 use cip_rank::{Keyed, zip_ok, zip_results};

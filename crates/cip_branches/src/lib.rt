@@ -8,22 +8,15 @@
 #![tactic(auto)]
 
 mod branches;
-mod checkpoint;
-mod copies;
-mod follow;
 mod generic;
-mod grow;
-mod next_rule;
-mod pass;
-mod place_count;
-mod refine;
-mod spheres;
-mod split;
+mod growth;
+mod kept;
+mod ranking;
 mod unresolved;
 mod view;
 
 pub use branches::Branches;
-pub use checkpoint::Checkpoint;
 pub use generic::NodeKeys;
-pub use spheres::Spheres;
+pub use growth::spheres::Spheres;
+pub use kept::checkpoint::Checkpoint;
 pub use view::ViewedTree;

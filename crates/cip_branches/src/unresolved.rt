@@ -3,8 +3,8 @@ ghost use Rattle.std.specs.Prelude.{◌≡◌, ◌<◌, ◌≤◌, true, false, 
 ghost use Rattle.cip_branches.specs.Closing.{TiesWith, IsOpen, FlagOpen};
 ghost use Rattle.cip_branches.specs.Ruled.{WantsFewer};
 
-use crate::grow::flag_at;
-use crate::spheres::Spheres;
+use crate::growth::grow::flag_at;
+use crate::growth::spheres::Spheres;
 
 impl Spheres {
     // Whether the top of another unresolved branch has the same number.

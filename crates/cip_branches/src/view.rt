@@ -4,8 +4,8 @@ ghost use Rattle.cip_rank.specs.Tree.{children_of};
 ghost use Rattle.cip_branches.specs.ViewedTree.{kept_off, kids_around};
 ghost use Rattle.cip_branches.specs.SphereColumns.{with_nodes};
 
-use crate::grow::flag_at;
-use crate::spheres::Spheres;
+use crate::growth::grow::flag_at;
+use crate::growth::spheres::Spheres;
 use cip_rank::Table;
 
 /// A tree, and flags of the nodes on the way from its root to the one that it is seen from. Without flags it is seen

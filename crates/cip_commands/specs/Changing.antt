@@ -4,7 +4,7 @@ use Rattle.std.specs.declared.option.Option.{Option}
 use Rattle.cip_edit.specs.Answers.{mirror_answer}
 use Rattle.cip_edit.specs.declared.mirror_answer.MirrorAnswer.{MirrorAnswer}
 use Rattle.cip_edit.specs.declared.mirror_answer.MirrorAnswer.TheVariants as mirrors
-use Rattle.cip_mol.specs.declared.centre_letter.CentreLetter.{CentreLetter}
+use Rattle.cip_mol.specs.declared.labels.centre_letter.CentreLetter.{CentreLetter}
 use Rattle.cip_rank.specs.declared.rules.Rules.{Rules}
 use Rattle.cip_edit.specs.SetAnswers.{set_answer}
 use Rattle.cip_edit.specs.declared.set_answer.SetAnswer.{SetAnswer}

@@ -4,7 +4,7 @@ use Rattle.cip_answer.specs.AxesTexts.{are_axes_flagged, axes_of}
 use Rattle.cip_stereogroups.specs.Texts as groups
 use Rattle.cip_item.specs.Parts.{without_label_items}
 use Rattle.cip_item.specs.Putting.{with_item}
-use Rattle.cip_mol.specs.declared.centre_letter.CentreLetter.{CentreLetter}
+use Rattle.cip_mol.specs.declared.labels.centre_letter.CentreLetter.{CentreLetter}
 use Rattle.cip_print.specs.declared.answer.Answer.{Answer}
 use Rattle.cip_print.specs.Explaining as telling
 use Rattle.cip_print.specs.Values.{values_of}

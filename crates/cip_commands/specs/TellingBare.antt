@@ -3,7 +3,7 @@ use Rattle.std.specs.Prelude.{◌==◌, ℕ, List, if◌then◌else◌}
 use Rattle.cip_answer.specs.AxesTexts.{axes_without_items, is_flagged_without_items}
 use Rattle.cip_stereogroups.specs.Texts as groups
 use Rattle.cip_edit.specs.Answers as mirrors
-use Rattle.cip_mol.specs.declared.centre_letter.CentreLetter.{CentreLetter}
+use Rattle.cip_mol.specs.declared.labels.centre_letter.CentreLetter.{CentreLetter}
 use Rattle.cip_print.specs.declared.answer.Answer.{Answer}
 use Rattle.cip_print.specs.Explaining as telling
 use Rattle.cip_answer.specs.Answers.{answer_without_items, is_flagged}

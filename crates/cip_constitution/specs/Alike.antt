@@ -4,8 +4,8 @@ use Rattle.std.specs.List.{list_any}
 use Rattle.cip_rank.specs.declared.rules.Rules.{Rules}
 use Rattle.cip_branches.specs.Deciding.{Branched}
 use Rattle.cip_rules.specs.Taking.{TakesRule}
-use Rattle.cip_mol.specs.declared.outcome.Rule.{Rule}
-use Rattle.cip_mol.specs.declared.outcome.Rule.TheVariants.{R1b, R2}
+use Rattle.cip_mol.specs.declared.labels.outcome.Rule.{Rule}
+use Rattle.cip_mol.specs.declared.labels.outcome.Rule.TheVariants.{R1b, R2}
 use Rattle.cip_digraph.specs.declared.nodes.NodeData.{NodeData}
 use Rattle.cip_digraph.specs.digraph.NodeList.{distance_told}
 use Rattle.cip_digraph.specs.rules.Keys.{lower_precedes}

@@ -9,8 +9,8 @@ use Rattle.cip_branches.specs.Standing.{node_in}
 use Rattle.cip_partition.specs.Keys.{AreKeyed}
 use Rattle.cip_partition.specs.Parting.{has_flag}
 use Rattle.cip_rank.specs.declared.rules.Rules.{Rules}
-use Rattle.cip_mol.specs.declared.descriptor.Descriptor.{Descriptor}
-use Rattle.cip_mol.specs.declared.outcome.Rule.TheVariants.{R3}
+use Rattle.cip_mol.specs.declared.labels.descriptor.Descriptor.{Descriptor}
+use Rattle.cip_mol.specs.declared.labels.outcome.Rule.TheVariants.{R3}
 use Rattle.cip_mol.specs.declared.site.Ligand.TheVariants.{Vertex}
 use Rattle.cip_digraph.specs.digraph.Digraph.{Node, digraph, real_node, sphere}
 use Rattle.cip_digraph.specs.digraph.Telling.{node_at}
@@ -20,10 +20,10 @@ use Rattle.cip_digraph.specs.graph.SoundGraphs.{IsSound}
 use Rattle.cip_digraph.specs.rules.Auxiliary.{ligand_node}
 use Rattle.cip_digraph.specs.rules.Decisions.{order}
 use Rattle.cip_digraph.specs.rules.Orders.{Seen, rule_2}
-use Rattle.cip_digraph.specs.declared.branch_pair.BranchPair.{BranchPair}
+use Rattle.cip_digraph.specs.declared.decisions.branch_pair.BranchPair.{BranchPair}
 use Rattle.cip_digraph.specs.Asking.{AreWithin, with_found}
 use Rattle.cip_rules.specs.Deciding.{AreDecidedBy, AreOfConstitution}
-use Rattle.cip_rules.specs.DescriptorMap.{AreMarksOf}
+use Rattle.cip_rules.specs.DescriptorMap.{AreDescriptorsOf}
 use Rattle.cip_rules.specs.Orders.{rules_before}
 use Rattle.cip_constitution.specs.Following.{Trying, Follows, named}
 use Rattle.cip_constitution.specs.Noting.{Notes, asked_by}
@@ -65,17 +65,17 @@ module _ (rules : Rules) (graph : Graph) (positions : List (List ℕ)) (growth :
     pub names : (number : ℕ) → number < length growth.nodes
         → named graph positions growth.root growth.bound number
         ≡ node_at (digraph graph positions growth.root growth.sphere) number
-    pub decided : (mark : List ℕ → Option Descriptor)
-        → AreOfConstitution (seen_with mark) (named graph positions growth.root growth.bound) (node_of now) count
+    pub decided : (descriptor : List ℕ → Option Descriptor)
+        → AreOfConstitution (seen_with descriptor) (named graph positions growth.root growth.bound) (node_of now) count
         (map (asked_by branch) pairs) now requested
 
 -- By these descriptors of nodes, pairs that constitution left open are decided by all rules, with R and with S first in the
 -- last one.
-pub record AreOrdered (old : Trying) (marks : List (Option Descriptor)) (natural turned : List BranchPair) : Type 0 where
+pub record AreOrdered (old : Trying) (descriptors : List (Option Descriptor)) (natural turned : List BranchPair) : Type 0 where
   pub each : (seen : Seen Node) (named node : ℕ → Node) (count : ℕ) (begin : List BranchPair)
       → AllByRecursion (AreWithin count) begin
       → AreDecidedBy seen true named node count begin (rules_before R3) (rule_2 seen seen.height) old.branched old.noted
-      → AreMarksOf named seen.mark marks old.branched
+      → AreDescriptorsOf named seen.descriptor descriptors old.branched
       → (natural ≡ map (with_found (λ a b. order seen true (node a) (node b))) begin)
       × (turned ≡ map (with_found (λ a b. order seen false (node a) (node b))) begin)
 

@@ -7,7 +7,7 @@ use Rattle.cip_digraph.specs.graph.Graph.{Graph}
 use Rattle.cip_digraph.specs.rules.Keys.{atomic_key}
 use Rattle.cip_digraph.specs.rules.Orders.{all_tie}
 use Rattle.cip_digraph.specs.digraph.Telling.{node_at, first_of}
-use Rattle.cip_digraph.specs.declared.branch_pair.BranchPair.{BranchPair}
+use Rattle.cip_digraph.specs.declared.decisions.branch_pair.BranchPair.{BranchPair}
 use Rattle.cip_constitution.specs.declared.pairs.VertexPair.{VertexPair}
 
 -- what settling keeps: branches, each two ligands, and what is decided between these

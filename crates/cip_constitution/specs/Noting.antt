@@ -2,7 +2,7 @@
 use Rattle.std.specs.Prelude.{◌≡◌, ◌<◌, ◌-◌, ℕ, suc, pos, List, [], ◌∷◌, None, length, map}
 use Rattle.std.specs.declared.cmp.Ordering.{Ordering}
 use Rattle.cip_rank.specs.Comparison.{comparison}
-use Rattle.cip_mol.specs.declared.outcome.Rule.TheVariants.{R1a}
+use Rattle.cip_mol.specs.declared.labels.outcome.Rule.TheVariants.{R1a}
 use Rattle.cip_mol.specs.declared.site.Ligand.TheVariants.{Vertex}
 use Rattle.cip_digraph.specs.declared.nodes.NodeData.{NodeData}
 use Rattle.cip_digraph.specs.digraph.Digraph.{Node, real_node, children, digraph}
@@ -11,7 +11,7 @@ use Rattle.cip_digraph.specs.graph.Graph.{Graph}
 use Rattle.cip_digraph.specs.rules.Auxiliary.{ligand_node}
 use Rattle.cip_digraph.specs.rules.Keys.{atomic_key}
 use Rattle.cip_digraph.specs.rules.Orders.{all_tie}
-use Rattle.cip_digraph.specs.declared.branch_pair.BranchPair.{BranchPair}
+use Rattle.cip_digraph.specs.declared.decisions.branch_pair.BranchPair.{BranchPair}
 use Rattle.cip_digraph.specs.Asking.{with_found}
 use Rattle.cip_rules.specs.Orders.{found_below}
 use Rattle.cip_constitution.specs.Following.{named}

@@ -11,8 +11,8 @@ use Rattle.cip_digraph.specs.units.Ends.{End, end_at}
 use Rattle.cip_digraph.specs.graph.Graph.{Graph}
 use Rattle.cip_digraph.specs.outcome.Outcomes.{is_in_unit, end_root, settled_in, cost}
 use Rattle.cip_digraph.specs.units.Ranked.{some_pair}
-use Rattle.cip_constitution.specs.declared.settling.Settled.{Settled}
-use Rattle.cip_constitution.specs.declared.settling.Settled.TheVariants.{Ordered, Tied, Whole, Over}
+use Rattle.cip_constitution.specs.declared.steps.settling.Settled.{Settled}
+use Rattle.cip_constitution.specs.declared.steps.settling.Settled.TheVariants.{Ordered, Tied, Whole, Over}
 
 -- what the ligands of a root are asked about
 pub record RootContext : Type 0 where

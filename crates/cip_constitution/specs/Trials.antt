@@ -6,8 +6,8 @@ use Rattle.cip_branches.specs.Deciding.{Branched}
 use Rattle.cip_partition.specs.Keys.{AreKeyed}
 use Rattle.cip_digraph.specs.digraph.Digraph.{sphere}
 use Rattle.cip_digraph.specs.graph.SoundGraphs.{IsSound}
-use Rattle.cip_digraph.specs.declared.branch_pair.BranchPair.{BranchPair}
-use Rattle.cip_constitution.specs.declared.branch_ends.TieTest.{TieTest}
+use Rattle.cip_digraph.specs.declared.decisions.branch_pair.BranchPair.{BranchPair}
+use Rattle.cip_constitution.specs.declared.ties.branch_ends.TieTest.{TieTest}
 use Rattle.cip_constitution.specs.declared.pairs.VertexPair.{VertexPair}
 use Rattle.cip_constitution.specs.declared.context.RootContext as given
 use Rattle.cip_constitution.specs.Alike.{is_closed_ligand, alike_told}

@@ -6,22 +6,14 @@
 //! `cip_arena` and `cip_rules`.
 #![tactic(auto)]
 
-mod branch_ends;
-mod checkpoint;
-mod closed_branches;
-mod constitutional_rules;
 mod context;
-mod distinct;
-mod early_tie;
-mod early_tie_candidates;
-mod following;
-mod later_rules;
 mod ligand_nodes;
 mod pairs;
-mod recording;
-mod settling;
+mod rules;
+mod steps;
+mod ties;
 mod work;
 
 pub use pairs::VertexPair;
-pub use settling::{Settled, settle};
+pub use steps::settling::{Settled, settle};
 pub use work::Work;

@@ -5,10 +5,10 @@ use Rattle.cip_text.specs.declared.numbers.NumberFault.{NumberFault}
 use Rattle.cip_mol.specs.Bonds.{cause_of}
 use Rattle.cip_mol.specs.Causes.{read_cause}
 use Rattle.cip_mol.specs.Connections.{Connections}
-use Rattle.cip_mol.specs.declared.molecule.Bond.{Bond}
+use Rattle.cip_mol.specs.declared.graph.molecule.Bond.{Bond}
 use Rattle.cip_mol.specs.declared.faults.BondCause.{BondCause}
-use Rattle.cip_mol.specs.declared.refusal.ReadCause.{ReadCause}
-use Rattle.cip_mol.specs.declared.refusal.ReadCause.TheVariants.{Coordinate}
+use Rattle.cip_mol.specs.declared.labels.refusal.ReadCause.{ReadCause}
+use Rattle.cip_mol.specs.declared.labels.refusal.ReadCause.TheVariants.{Coordinate}
 
 abbrev pub guard : ReadCause → Bool → Result (Unit {0}) ReadCause
 guard cause test = if test then Ok tt else Err cause

@@ -1,7 +1,7 @@
 -- What the grammars of both versions keep. Own.
 use Rattle.std.specs.Prelude.{◌≡◌, ◌≤◌, ◌<◌, List, ℕ, ◌+◌, length, take, Result, Err}
-use Rattle.cip_mol.specs.declared.refusal.ReadFault.{ReadFault}
-use Rattle.cip_mol.specs.declared.refusal.ReadCause.TheVariants.{Short}
+use Rattle.cip_mol.specs.declared.labels.refusal.ReadFault.{ReadFault}
+use Rattle.cip_mol.specs.declared.labels.refusal.ReadCause.TheVariants.{Short}
 
 -- what is read of the lines of a record, or a fault
 abbrev pub Reader : Type 0 → Type 0

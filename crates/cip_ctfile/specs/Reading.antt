@@ -1,11 +1,11 @@
 -- Reading in turn: fields of a line, lines of a record, rows of a block. Own.
 use Rattle.std.specs.Prelude.{ℕ, zero, suc, List, [], ◌∷◌, ◌++◌, ◌+◌, length, slice_get, Some, None, Result, Ok, Err}
 use Rattle.std.specs.declared.option.Option.{Option}
-use Rattle.cip_mol.specs.declared.refusal.ReadCause.{ReadCause}
-use Rattle.cip_mol.specs.declared.refusal.ReadCause.TheVariants.{Short}
-use Rattle.cip_mol.specs.declared.refusal.ReadFault.{ReadFault}
-use Rattle.cip_mol.specs.declared.refusal.ReadRefusal.{ReadRefusal}
-use Rattle.cip_mol.specs.declared.refusal.ReadRefusal.TheVariants as refusals
+use Rattle.cip_mol.specs.declared.labels.refusal.ReadCause.{ReadCause}
+use Rattle.cip_mol.specs.declared.labels.refusal.ReadCause.TheVariants.{Short}
+use Rattle.cip_mol.specs.declared.labels.refusal.ReadFault.{ReadFault}
+use Rattle.cip_mol.specs.declared.labels.refusal.ReadRefusal.{ReadRefusal}
+use Rattle.cip_mol.specs.declared.labels.refusal.ReadRefusal.TheVariants as refusals
 use Rattle.cip_ctfile.specs.Refusals.{FailsBy, GivesBy}
 
 -- what follows is read only where nothing before it was refused

@@ -1,6 +1,6 @@
 // The lines of faults.
 ghost use Rattle.std.specs.Prelude.{◌≡◌, ◌<◌, ◌+◌, ◌-◌, ◌^◌, length};
-ghost use Rattle.cip_mol.specs.declared.refusal.ReadCause.TheVariants.{Short};
+ghost use Rattle.cip_mol.specs.declared.labels.refusal.ReadCause.TheVariants.{Short};
 ghost use Rattle.cip_ctfile.specs.Reading.{numbered};
 
 use cip_mol::{ReadCause, ReadFault};

@@ -7,7 +7,7 @@ pub mod RanksTurn
 pub mod UnitAtoms
 pub mod bonds
 pub mod lists
-pub mod marks
+pub mod descriptors
 pub mod numbered
 pub mod orders
 pub mod reflected

@@ -3,9 +3,9 @@ pub mod Falls
 pub mod Laws
 pub mod LentEnds
 pub mod Lettered
-pub mod MarkColumns
-pub mod Marking
-pub mod Marks
+pub mod DescriptorColumns
+pub mod UnitFlags
+pub mod NodeDescriptors
 pub mod Sides
 pub mod TurnsOf
 pub mod digraph

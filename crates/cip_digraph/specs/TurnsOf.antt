@@ -6,7 +6,7 @@ use Rattle.std.specs.declared.option.Option.{Option}
 use Rattle.cip_mol.specs.FlatCentres.{inversions}
 use Rattle.cip_digraph.specs.units.Descriptors.{is_odd}
 use Rattle.cip_digraph.specs.units.Ranked.{Root, has_tie, ranks, turned_ranks}
-use Rattle.cip_digraph.specs.declared.parity.Parity.{Parity}
+use Rattle.cip_digraph.specs.declared.decisions.parity.Parity.{Parity}
 use Rattle.cip_digraph.specs.Falls.{differ}
 use Rattle.cip_digraph.specs.Sides.{is_tied, is_below}
 

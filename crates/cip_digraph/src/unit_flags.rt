@@ -1,10 +1,10 @@
-// The atoms of units, marked by vertex.
+// The atoms of units, flagged by vertex.
 ghost use Rattle.std.specs.Prelude.{◌≡◌, ◌<◌, ◌≤◌, ◌==◌, ◌++◌, ◌∷◌, [], ℕ, false, IfOk, length, replicate, flat_map};
 ghost use Rattle.std.specs.Prelude.{vec_capacity};
 ghost use Rattle.std.specs.List.{list_any};
 ghost use Rattle.cip_digraph.specs.rings.Alternating.{is_in};
 ghost use Rattle.cip_digraph.specs.units.Ends.{atoms_of};
-ghost use Rattle.cip_digraph.specs.Marking.{with_mark, with_marks};
+ghost use Rattle.cip_digraph.specs.UnitFlags.{with_flag, with_flags};
 
 use cip_mol::{Site, Unit};
 use std::alloc::{AllocError, Global};
@@ -23,23 +23,23 @@ impl<'a> Model for FlaggedUnits<'a> {
 
     ghost Value = { List AnyUnit };
 
-    ghost view = { λ marked. marked.units.now };
+    ghost view = { λ flagged. flagged.units.now };
 
-    ghost use Rattle.cip_digraph.specs.Marking.{HoldMarks};
+    ghost use Rattle.cip_digraph.specs.UnitFlags.{HoldUnitFlags};
 
-    ghost invariant = { HoldMarks };
+    ghost invariant = { HoldUnitFlags };
 }
 
 impl<'a> FlaggedUnits<'a> {
-    /// Marks the atoms of units among n vertices.
+    /// Flags the atoms of units among n vertices.
     pub fn of(alloc: Global, units: &'a [Unit], count: u32) -> Result<FlaggedUnits<'a>, AllocError>
-        ensures { IfOk result (λ marked. marked ≡ units.now) }
+        ensures { IfOk result (λ flagged. flagged ≡ units.now) }
     {
         let Ok(mut flags) = Vec::with_capacity(alloc, count as usize) else {
             return Err(AllocError);
         };
         clear_flags(&mut flags, count);
-        mark_units(units, &mut flags);
+        flag_units(units, &mut flags);
         Ok(FlaggedUnits { units, flags })
     }
 
@@ -74,8 +74,8 @@ fn clear_flags(flags: &mut Vec<bool>, count: u32)
 }
 
 // Sets the flag of a vertex, if there is one.
-fn mark_vertex(vertex: u32, flags: &mut Vec<bool>)
-    ensures { flags.new.items ≡ with_mark vertex flags.old.items }
+fn flag_vertex(vertex: u32, flags: &mut Vec<bool>)
+    ensures { flags.new.items ≡ with_flag vertex flags.old.items }
 {
     if (vertex as usize) < flags.len() {
         flags[vertex as usize] = true;
@@ -83,29 +83,29 @@ fn mark_vertex(vertex: u32, flags: &mut Vec<bool>)
 }
 
 // Sets the flags of the atoms of a site.
-fn mark_site(site: &Site, flags: &mut Vec<bool>)
-    ensures { flags.new.items ≡ with_marks (atoms_of site.now) flags.old.items }
+fn flag_site(site: &Site, flags: &mut Vec<bool>)
+    ensures { flags.new.items ≡ with_flags (atoms_of site.now) flags.old.items }
 {
     match site {
-        Site::Centre { at, .. } => mark_vertex(*at, flags),
+        Site::Centre { at, .. } => flag_vertex(*at, flags),
         Site::Bond { a, b, .. } => {
-            mark_vertex(*a, flags);
-            mark_vertex(*b, flags);
+            flag_vertex(*a, flags);
+            flag_vertex(*b, flags);
         }
         Site::Axis { a, middle, b, .. } => {
-            mark_vertex(*a, flags);
-            mark_vertex(*b, flags);
-            mark_vertex(*middle, flags);
+            flag_vertex(*a, flags);
+            flag_vertex(*b, flags);
+            flag_vertex(*middle, flags);
         }
     }
 }
 
-// Marks the atoms of one unit after the other.
-fn mark_units(units: &[Unit], flags: &mut Vec<bool>)
-    ensures { flags.new.items ≡ with_marks (flat_map (λ unit. atoms_of unit.site) units.now) flags.old.items }
+// Flags the atoms of one unit after the other.
+fn flag_units(units: &[Unit], flags: &mut Vec<bool>)
+    ensures { flags.new.items ≡ with_flags (flat_map (λ unit. atoms_of unit.site) units.now) flags.old.items }
 {
     for unit in units {
-        mark_site(&unit.site, flags);
+        flag_site(&unit.site, flags);
     }
 }
 

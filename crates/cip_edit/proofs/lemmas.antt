@@ -16,7 +16,7 @@ pub mod Grammar
 pub mod JoinedAlike
 pub mod Lengths
 pub mod LoneMarks
-pub mod MarksBeside
+pub mod DescriptorsBeside
 pub mod MirrorReads
 pub mod Mirrored
 pub mod NoLonger

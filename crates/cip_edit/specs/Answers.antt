@@ -4,8 +4,8 @@ use Rattle.std.specs.List.{list_any}
 use Rattle.cip_text.specs.Bodies.{body_contents}
 use Rattle.cip_mol.specs.Drawing.{Drawing}
 use Rattle.cip_mol.specs.Reflection.{reflected}
-use Rattle.cip_mol.specs.declared.molecule.Atom.{Atom}
-use Rattle.cip_mol.specs.declared.refusal.ReadFault.{ReadFault}
+use Rattle.cip_mol.specs.declared.graph.molecule.Atom.{Atom}
+use Rattle.cip_mol.specs.declared.labels.refusal.ReadFault.{ReadFault}
 use Rattle.cip_item.specs.Parts.{without_label_items, has_label_item}
 use Rattle.cip_v2000.specs.Version.{is_v3000}
 use Rattle.cip_molfile.specs.Molecules.{read_molecule}

@@ -6,9 +6,9 @@ use Rattle.cip_rank.specs.declared.rules.Rules.{Rules}
 use Rattle.cip_mol.specs.Bonds as bonds
 use Rattle.cip_mol.specs.Drawing.{Drawing}
 use Rattle.cip_mol.specs.Points.{is_spatial}
-use Rattle.cip_mol.specs.declared.descriptor.Sense.{Sense}
-use Rattle.cip_mol.specs.declared.molecule.Bond.{Bond}
-use Rattle.cip_mol.specs.declared.molecule.Mark.TheVariants.{Up, Down}
+use Rattle.cip_mol.specs.declared.labels.descriptor.Sense.{Sense}
+use Rattle.cip_mol.specs.declared.graph.molecule.Bond.{Bond}
+use Rattle.cip_mol.specs.declared.graph.molecule.Mark.TheVariants.{Up, Down}
 use Rattle.cip_mol.specs.declared.site.Geometry.{Geometry}
 use Rattle.cip_mol.specs.declared.site.Geometry.TheVariants.{Known}
 use Rattle.cip_mol.specs.declared.site.Ligand.{Ligand}
@@ -25,7 +25,7 @@ use Rattle.cip_edit.specs.FoundCentres.{centre_unit, cost_at, outcome_as, shown_
 use Rattle.cip_edit.specs.Remarked.{AreRemarked}
 use Rattle.cip_edit.specs.Marking.{with_mark, directions, chosen, has_centre}
 use Rattle.cip_edit.specs.SetLetters.{mark_for_letter, IsGiven}
-use Rattle.cip_mol.specs.declared.centre_letter.CentreLetter.{CentreLetter}
+use Rattle.cip_mol.specs.declared.labels.centre_letter.CentreLetter.{CentreLetter}
 use Rattle.cip_edit.specs.declared.request.MarkedCentre.{MarkedCentre}
 use Rattle.cip_edit.specs.TurnedLetters.{turned_outcome}
 use Rattle.cip_edit.specs.UnitsBeside.{AreSameBeside}

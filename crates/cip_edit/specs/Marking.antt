@@ -8,9 +8,9 @@ use Rattle.cip_mol.specs.DrawnLigands.{drawn}
 use Rattle.cip_mol.specs.Geometry.{geometry_of}
 use Rattle.cip_mol.specs.Marks.{is_narrow_at, joins}
 use Rattle.cip_mol.specs.Points.{flat_steps, is_spatial}
-use Rattle.cip_mol.specs.declared.molecule.Bond as molecules
-use Rattle.cip_mol.specs.declared.molecule.Mark.{Mark}
-use Rattle.cip_mol.specs.declared.molecule.Mark.TheVariants.{Plain, Up, Down, Either}
+use Rattle.cip_mol.specs.declared.graph.molecule.Bond as molecules
+use Rattle.cip_mol.specs.declared.graph.molecule.Mark.{Mark}
+use Rattle.cip_mol.specs.declared.graph.molecule.Mark.TheVariants.{Plain, Up, Down, Either}
 use Rattle.cip_mol.specs.declared.site.Cause.TheVariants.{Coincident, Reentrant}
 use Rattle.cip_mol.specs.declared.site.Geometry.{Geometry}
 use Rattle.cip_mol.specs.declared.site.Geometry.TheVariants.{Unknown}

@@ -1,7 +1,7 @@
 -- Bonds that are drawn alike but for marks with their narrow end at one atom. Own.
 use Rattle.std.specs.Prelude.{◌≡◌, ◌⊎◌, ℕ, List, true}
 use Rattle.cip_rank.specs.Matching.{InPairs}
-use Rattle.cip_mol.specs.declared.molecule.Bond.{Bond}
+use Rattle.cip_mol.specs.declared.graph.molecule.Bond.{Bond}
 use Rattle.cip_mol.specs.Marks.{is_narrow_at}
 
 -- in the same direction, with another mark at most where its narrow end is the atom

@@ -3,14 +3,14 @@ use Rattle.std.specs.Prelude.{◌≡◌, ℕ, ℤ, pos, negsuc, false, true, [],
 use Rattle.std.specs.declared.result.Result.{Result}
 use Rattle.cip_rank.specs.declared.rules.Rules.TheVariants.{Wording2013}
 use Rattle.cip_mol.specs.Drawing.{Drawing}
-use Rattle.cip_mol.specs.declared.molecule.Atom.{Atom}
-use Rattle.cip_mol.specs.declared.molecule.Bond.{Bond}
-use Rattle.cip_mol.specs.declared.molecule.Mark.{Mark}
-use Rattle.cip_mol.specs.declared.molecule.Mark.TheVariants.{Up, Down}
+use Rattle.cip_mol.specs.declared.graph.molecule.Atom.{Atom}
+use Rattle.cip_mol.specs.declared.graph.molecule.Bond.{Bond}
+use Rattle.cip_mol.specs.declared.graph.molecule.Mark.{Mark}
+use Rattle.cip_mol.specs.declared.graph.molecule.Mark.TheVariants.{Up, Down}
 use Rattle.cip_digraph.specs.worked.Molecules.{any_atom, carbon, oxygen, fluorine, chlorine, bromine, single, double}
 use Rattle.cip_edit.specs.SetLetters.{mark_for_letter}
-use Rattle.cip_mol.specs.declared.centre_letter.CentreLetter.{CentreLetter}
-use Rattle.cip_mol.specs.declared.centre_letter.CentreLetter.TheVariants.{R, S, SmallR}
+use Rattle.cip_mol.specs.declared.labels.centre_letter.CentreLetter.{CentreLetter}
+use Rattle.cip_mol.specs.declared.labels.centre_letter.CentreLetter.TheVariants.{R, S, SmallR}
 use Rattle.cip_edit.specs.declared.request.CentreRefusal.{CentreRefusal}
 use Rattle.cip_edit.specs.declared.request.CentreRefusal.TheVariants as refusals
 use Rattle.cip_edit.specs.declared.request.MarkedCentre.{MarkedCentre}

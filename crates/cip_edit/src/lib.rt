@@ -6,25 +6,19 @@
 //! keep their bytes. Uses the reader of `cip_v2000` and the labeller of `cip_label`.
 #![tactic(auto)]
 
-mod atom_edits;
-mod bond_edits;
-mod columns;
-mod eligible_bond;
-mod find_centre;
-mod line_edits;
-mod mark_choice;
-mod marks;
+mod centres;
+mod lines;
 mod mirror;
 mod mirror_answer;
 mod request;
 mod set_answer;
 mod set_letter;
 
-pub use bond_edits::{changed_record, changes_are_read};
-pub use columns::with_columns;
-pub use line_edits::{LineEdit, edit_record};
-pub use mark_choice::mark_for_letter;
-pub use marks::with_mark;
+pub use centres::mark_choice::mark_for_letter;
+pub use centres::marks::with_mark;
+pub use lines::bond_edits::{changed_record, changes_are_read};
+pub use lines::columns::with_columns;
+pub use lines::line_edits::{LineEdit, edit_record};
 pub use mirror::mirror_lines;
 pub use mirror_answer::{MirrorAnswer, MirrorRefusal};
 pub use request::{CentreRefusal, LetterRequest, MarkedCentre};

@@ -4,8 +4,8 @@ ghost use Rattle.std.specs.List.{list_any};
 ghost use Rattle.cip_edit.specs.Answers.{answer_drawn, answer_without_items, is_too_high, IsFew};
 ghost use Rattle.cip_edit.specs.Mirror.{mirrored_record};
 
-use crate::atom_edits::Mirror;
 use crate::edit_record;
+use crate::lines::atom_edits::Mirror;
 use crate::mirror_answer::{MirrorAnswer, MirrorRefusal};
 use cip_mol::{Atom, Molecule, ReadRefusal};
 use cip_molfile::read_molecule;

@@ -6,9 +6,9 @@ ghost use Rattle.cip_edit.specs.SetLetters.{mark_for_letter};
 ghost use Rattle.cip_edit.specs.Changed.{changed_record};
 ghost use Rattle.cip_edit.specs.SetAnswers.{refusal_of, set_drawn, set_marked, set_without_items, IsFew};
 
-use crate::bond_edits::changed_record;
-use crate::mark_choice::mark_for_letter;
-use crate::marks::with_mark;
+use crate::centres::mark_choice::mark_for_letter;
+use crate::centres::marks::with_mark;
+use crate::lines::bond_edits::changed_record;
 use crate::request::{CentreRefusal, LetterRequest, MarkedCentre};
 use crate::set_answer::{SetAnswer, SetRefusal};
 use cip_label::{Labeller, RootRanker};

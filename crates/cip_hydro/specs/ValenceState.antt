@@ -2,7 +2,7 @@
 use Rattle.std.specs.Prelude.{◌<◌, ◌≢◌, ℕ, Bool, false, ◌&&◌, ◌||◌, not, List, map, length, nat_le, slice_index_or}
 use Rattle.std.specs.List.{range_with_len}
 use Rattle.cip_mol.specs.Drawing.{Drawing}
-use Rattle.cip_mol.specs.declared.molecule.Bond.{Bond}
+use Rattle.cip_mol.specs.declared.graph.molecule.Bond.{Bond}
 use Rattle.cip_digraph.specs.graph.Hydrogens.{hydrogens_of}
 use Rattle.cip_digraph.specs.graph.LonePairs.{lone_pair_of}
 use Rattle.cip_digraph.specs.graph.Neglected.{neglects_at}

@@ -22,7 +22,7 @@ pub fn hydrogens(atom: &Atom, orders: u32) -> u32
             orders + radical_electrons(atom.radical),
         ),
         15 => 0,
-        mark => u32::from(mark).saturating_sub(orders),
+        stated => u32::from(stated).saturating_sub(orders),
     }
 }
 

@@ -1,15 +1,15 @@
 -- The ranked ligands of a root, and the outcome of a unit by its ranked roots. Own.
 use Rattle.std.specs.Prelude.{◌≤◌, ◌+◌, length, ℕ, Bool, true, false, List, [], ◌∷◌, ◌++◌, Some, nat_lt, if◌then◌else◌}
 use Rattle.std.specs.declared.cmp.Ordering.TheVariants.{Equal}
-use Rattle.cip_mol.specs.declared.descriptor.Sense.{Sense}
-use Rattle.cip_mol.specs.declared.outcome.Outcome.{Outcome}
-use Rattle.cip_mol.specs.declared.outcome.Outcome.TheVariants as outcomes
+use Rattle.cip_mol.specs.declared.labels.descriptor.Sense.{Sense}
+use Rattle.cip_mol.specs.declared.labels.outcome.Outcome.{Outcome}
+use Rattle.cip_mol.specs.declared.labels.outcome.Outcome.TheVariants as outcomes
 use Rattle.cip_mol.specs.declared.site.Site.{Site}
 use Rattle.cip_digraph.specs.units.Descriptors.{reason_needed}
 use Rattle.cip_digraph.specs.units.Ends.{End}
 use Rattle.cip_digraph.specs.units.Ranked as digraphs
 use Rattle.cip_digraph.specs.units.Ranked.{Root, has_tie, later_reason, ranks, turned_ranks}
-use Rattle.cip_digraph.specs.declared.parity.Parity.{Parity}
+use Rattle.cip_digraph.specs.declared.decisions.parity.Parity.{Parity}
 use Rattle.cip_digraph.specs.Lettered.{letter_in}
 use Rattle.cip_digraph.specs.TurnsOf.{places_turns, together}
 use Rattle.cip_label.specs.declared.reason.Reason.{Reason}

@@ -2,8 +2,8 @@
 use Rattle.std.specs.Prelude.{◌≡◌, ℕ, List, map}
 use Rattle.cip_rank.specs.declared.rules.Rules.{Rules}
 use Rattle.cip_mol.specs.Drawing.{Drawing}
-use Rattle.cip_mol.specs.declared.descriptor.Sense.{Sense}
-use Rattle.cip_mol.specs.declared.outcome.Outcome.{Outcome}
+use Rattle.cip_mol.specs.declared.labels.descriptor.Sense.{Sense}
+use Rattle.cip_mol.specs.declared.labels.outcome.Outcome.{Outcome}
 use Rattle.cip_mol.specs.declared.site.Site.{Site}
 use Rattle.cip_mol.specs.declared.site.Unit as units
 use Rattle.cip_digraph.specs.digraph.Digraph.{Node}

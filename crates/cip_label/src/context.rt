@@ -75,7 +75,7 @@ impl<'a> LabelContext<'a> {
         self.positions
     }
 
-    /// Its units, with their atoms marked.
+    /// Its units, with their atoms flagged.
     pub fn units(&self) -> &FlaggedUnits<'a>
         ensures value { result.now ≡ self.now.units }
         ensures proper { IsProper self.now }

@@ -1,6 +1,6 @@
 // What is found of the digraph of a root.
 ghost use Rattle.std.specs.Prelude.{◌≡◌, ◌<◌, ◌≤◌, ◌^◌, ◌∷◌, [], ℕ, Bool, IfOk, Option};
-ghost use Rattle.cip_digraph.specs.declared.decision.Decision as decisions;
+ghost use Rattle.cip_digraph.specs.declared.decisions.decision.Decision as decisions;
 ghost use Rattle.cip_digraph.specs.units.Ends.{end_at};
 ghost use Rattle.cip_label.specs.Fitting.{IsFit};
 ghost use Rattle.cip_label.specs.BranchComparison.{RankedAs};

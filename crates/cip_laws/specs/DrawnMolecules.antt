@@ -1,10 +1,10 @@
 -- Molecules with what their drawings show, in ten-thousandths of an ångström. Own.
 use Rattle.std.specs.Prelude.{ℤ, pos, negsuc, [], ◌∷◌}
 use Rattle.cip_mol.specs.Drawing.{Drawing}
-use Rattle.cip_mol.specs.declared.molecule.Atom.{Atom}
-use Rattle.cip_mol.specs.declared.molecule.Bond.{Bond}
-use Rattle.cip_mol.specs.declared.molecule.Mark.{Mark}
-use Rattle.cip_mol.specs.declared.molecule.Mark.TheVariants.{Up, Down}
+use Rattle.cip_mol.specs.declared.graph.molecule.Atom.{Atom}
+use Rattle.cip_mol.specs.declared.graph.molecule.Bond.{Bond}
+use Rattle.cip_mol.specs.declared.graph.molecule.Mark.{Mark}
+use Rattle.cip_mol.specs.declared.graph.molecule.Mark.TheVariants.{Up, Down}
 use Rattle.cip_digraph.specs.worked.Molecules.{any_atom, carbon, oxygen, fluorine, chlorine, bromine, single, double}
 
 abbrev pub at : ℤ → ℤ → Atom → Atom

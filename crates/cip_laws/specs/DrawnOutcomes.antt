@@ -4,8 +4,8 @@ use Rattle.std.specs.declared.option.Option.{Option}
 use Rattle.cip_rank.specs.declared.rules.Rules.{Rules}
 use Rattle.cip_mol.specs.Drawing.{Drawing}
 use Rattle.cip_mol.specs.Geometry.{geometry_of}
-use Rattle.cip_mol.specs.declared.descriptor.Descriptor.{Descriptor}
-use Rattle.cip_mol.specs.declared.outcome.Outcome.{Outcome}
+use Rattle.cip_mol.specs.declared.labels.descriptor.Descriptor.{Descriptor}
+use Rattle.cip_mol.specs.declared.labels.outcome.Outcome.{Outcome}
 use Rattle.cip_mol.specs.declared.site.Unit as units
 use Rattle.cip_digraph.specs.digraph.Digraph.{Node}
 use Rattle.cip_digraph.specs.digraph.View.{seen_from}
@@ -31,11 +31,11 @@ costs_in rules drawing unit =
     map (cost rules (graph_of drawing) (positions_of (graph_of drawing)) (units_in drawing)) (ends_of unit.site)
 
 -- the descriptor at the real node of a path in the digraph of any root
-abbrev pub mark_in : Rules → Drawing → List ℕ → Option Descriptor
-mark_in rules drawing path =
+abbrev pub descriptor_in : Rules → Drawing → List ℕ → Option Descriptor
+descriptor_in rules drawing path =
     auxiliary rules (graph_of drawing) (positions_of (graph_of drawing)) (units_in drawing) path
 
 -- the whole digraph of a vertex, with the descriptors that are in it
 abbrev pub digraph_in : Rules → Drawing → ℕ → Seen Node
 digraph_in rules drawing root =
-    seen_from rules (graph_of drawing) (positions_of (graph_of drawing)) (root ∷ []) (mark_in rules drawing)
+    seen_from rules (graph_of drawing) (positions_of (graph_of drawing)) (root ∷ []) (descriptor_in rules drawing)

@@ -4,15 +4,15 @@ use Rattle.std.specs.Prelude.{◌≡◌, ℕ, List, map}
 use Rattle.cip_rank.specs.declared.rules.Rules.{Rules}
 use Rattle.cip_mol.specs.Drawing.{Drawing}
 use Rattle.cip_mol.specs.Reflection.{reflected}
-use Rattle.cip_mol.specs.declared.outcome.Label as labels
-use Rattle.cip_mol.specs.declared.outcome.Outcome.{Outcome}
-use Rattle.cip_mol.specs.declared.outcome.Outcome.TheVariants.{Label, Tie, Over, NoGeometry}
+use Rattle.cip_mol.specs.declared.labels.outcome.Label as labels
+use Rattle.cip_mol.specs.declared.labels.outcome.Outcome.{Outcome}
+use Rattle.cip_mol.specs.declared.labels.outcome.Outcome.TheVariants.{Label, Tie, Over, NoGeometry}
 use Rattle.cip_mol.specs.declared.site.Unit as units
 use Rattle.cip_digraph.specs.graph.DrawnGraph.{graph_of}
 use Rattle.cip_digraph.specs.graph.Graph.{Graph}
 use Rattle.cip_digraph.specs.outcome.Outcomes.{outcome_of}
-use Rattle.cip_digraph.specs.rules.Exchange.{exchanged, exchanged_mark, reflected_unit}
-use Rattle.cip_laws.specs.DrawnOutcomes.{units_in, outcome_in, costs_in, mark_in}
+use Rattle.cip_digraph.specs.rules.Exchange.{exchanged, exchanged_descriptor, reflected_unit}
+use Rattle.cip_laws.specs.DrawnOutcomes.{units_in, outcome_in, costs_in, descriptor_in}
 
 -- the rank order isn't spoken of, since Rule 5 turns some pairs
 pub record IsMirrorLabel (one other : labels.Label) : Type 0 where
@@ -39,8 +39,8 @@ ReflectionMirrorsOutcomes =
 pub record ReflectsDrawing (drawing : Drawing) : Type 0 where
   pub graph : graph_of (reflected drawing) ≡ graph_of drawing
   pub all_units : units_in (reflected drawing) ≡ map reflected_unit (units_in drawing)
-  pub marks : (rules : Rules) (path : List ℕ) →
-      mark_in rules (reflected drawing) path ≡ exchanged_mark (mark_in rules drawing path)
+  pub descriptors : (rules : Rules) (path : List ℕ) →
+      descriptor_in rules (reflected drawing) path ≡ exchanged_descriptor (descriptor_in rules drawing path)
   pub costs : (rules : Rules) (unit : units.Unit) →
       costs_in rules (reflected drawing) (reflected_unit unit) ≡ costs_in rules drawing unit
   pub outcomes : (rules : Rules) (bound : ℕ) (unit : units.Unit) →

@@ -4,10 +4,10 @@ use Rattle.cip_rank.specs.declared.rules.Rules.TheVariants.{Wording2018}
 use Rattle.cip_mol.specs.Drawing.{Drawing}
 use Rattle.cip_mol.specs.Reflection.{reflected}
 use Rattle.cip_mol.specs.RenumberedDrawing.{renumbered}
-use Rattle.cip_mol.specs.declared.descriptor.Descriptor.TheVariants.{M, P, Z}
-use Rattle.cip_mol.specs.declared.molecule.Mark.TheVariants as marks
-use Rattle.cip_mol.specs.declared.outcome.Outcome.{Outcome}
-use Rattle.cip_mol.specs.declared.outcome.Rule.TheVariants.{R1a}
+use Rattle.cip_mol.specs.declared.labels.descriptor.Descriptor.TheVariants.{M, P, Z}
+use Rattle.cip_mol.specs.declared.graph.molecule.Mark.TheVariants as marks
+use Rattle.cip_mol.specs.declared.labels.outcome.Outcome.{Outcome}
+use Rattle.cip_mol.specs.declared.labels.outcome.Rule.TheVariants.{R1a}
 use Rattle.cip_digraph.specs.worked.WorkedLabels.{labelled}
 use Rattle.cip_axis.specs.Further.{further_in}
 use Rattle.cip_axis.specs.FurtherOutcomes.{further_outcome_in}

@@ -3,11 +3,11 @@
 use Rattle.std.specs.Prelude.{◌≡◌, ℕ, pos, negsuc, [], ◌∷◌, map, slice_index_or}
 use Rattle.cip_rank.specs.declared.rules.Rules.TheVariants.{Wording2018}
 use Rattle.cip_mol.specs.Drawing.{Drawing}
-use Rattle.cip_mol.specs.declared.molecule.Atom.{Atom}
-use Rattle.cip_mol.specs.declared.molecule.Bond.{Bond}
-use Rattle.cip_mol.specs.declared.molecule.Mark.TheVariants.{Up}
-use Rattle.cip_mol.specs.declared.descriptor.Descriptor.TheVariants.{R}
-use Rattle.cip_mol.specs.declared.outcome.Rule.TheVariants.{R1a}
+use Rattle.cip_mol.specs.declared.graph.molecule.Atom.{Atom}
+use Rattle.cip_mol.specs.declared.graph.molecule.Bond.{Bond}
+use Rattle.cip_mol.specs.declared.graph.molecule.Mark.TheVariants.{Up}
+use Rattle.cip_mol.specs.declared.labels.descriptor.Descriptor.TheVariants.{R}
+use Rattle.cip_mol.specs.declared.labels.outcome.Rule.TheVariants.{R1a}
 use Rattle.cip_digraph.specs.worked.Molecules.{carbon, fluorine, chlorine, bromine, single}
 use Rattle.cip_digraph.specs.graph.Renumbering.{IsRenumbering}
 use Rattle.cip_digraph.specs.worked.WorkedLabels.{labelled}

@@ -2,7 +2,7 @@
 use Rattle.std.specs.Prelude.{◌≡◌, ◌<◌, ℕ, Bool, false, cond, List, [], ◌∷◌, Some, None, filter, length, map, not, slice_index_or, slice_set, ◌==◌, ◌||◌, ◌&&◌}
 use Rattle.std.specs.List.{list_any}
 use Rattle.std.specs.declared.option.Option.{Option}
-use Rattle.cip_digraph.specs.declared.graph.Edge.{Edge}
+use Rattle.cip_digraph.specs.declared.drawing.graph.Edge.{Edge}
 use Rattle.cip_digraph.specs.rings.Alternating.{closes_ring, goes_on, is_alternating, is_in, partner, reaches, singles}
 use Rattle.cip_digraph.specs.rings.Positions.{listed_positions, positions_at}
 use Rattle.cip_digraph.specs.graph.Graph.{Graph, other_end, touches}

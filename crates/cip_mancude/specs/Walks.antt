@@ -2,7 +2,7 @@
 use Rattle.std.specs.Prelude.{ℕ, cond, ◌&&◌, ◌==◌, List, [], ◌∷◌, filter, flat_map, map}
 use Rattle.cip_digraph.specs.rings.Alternating.{is_alternating, partner, singles}
 use Rattle.cip_digraph.specs.graph.Graph.{Graph, other_end}
-use Rattle.cip_digraph.specs.declared.graph.Edge.{Edge}
+use Rattle.cip_digraph.specs.declared.drawing.graph.Edge.{Edge}
 
 abbrev pub onward_of : Graph → ℕ → List ℕ
 onward_of graph next =

@@ -1,6 +1,6 @@
 -- Bonds that join the same atoms. Own, after CTfile Formats: which end comes first matters for a mark alone.
 use Rattle.std.specs.Prelude.{◌≡◌, ◌⊎◌, List, [], ◌∷◌}
-use Rattle.cip_mol.specs.declared.molecule.Bond.{Bond}
+use Rattle.cip_mol.specs.declared.graph.molecule.Bond.{Bond}
 
 -- of the same order, in either direction
 pub record JoinsAlike (one other : Bond) : Type 0 where

@@ -2,7 +2,7 @@
 ghost use Rattle.std.specs.Prelude.{◌≡◌};
 ghost use Rattle.cip_mol.specs.Ends.{as_site, between_in, between_of};
 
-use crate::ligands::Ligands;
+use crate::lists::ligands::Ligands;
 use crate::site::Site;
 
 /// An end of a unit: a centre, or an atom at an end of a bond or an axis, with the ligands that are ranked there.

@@ -3,7 +3,7 @@ ghost use Rattle.std.specs.Prelude.{◌≡◌, All, map, IfOk};
 ghost use Rattle.cip_mol.specs.Ranges.{IsAtom, IsPlace};
 ghost use Rattle.cip_mol.specs.Reflection.{exchanged, mirrored_atom, mirrored_bond, reflected};
 
-use crate::molecule::{Atom, Bond, Mark, Molecule};
+use crate::graph::molecule::{Atom, Bond, Mark, Molecule};
 use std::alloc::{AllocError, Global};
 
 impl Molecule {

@@ -4,7 +4,7 @@ ghost use Rattle.cip_mol.specs.Bonds.{IsSound};
 ghost use Rattle.cip_mol.specs.Permutations.{ArePlaces};
 ghost use Rattle.cip_mol.specs.RenumberedDrawing.{place_of, placed, renamed, renumbered};
 
-use crate::molecule::{Bond, Molecule};
+use crate::graph::molecule::{Bond, Molecule};
 use std::alloc::{AllocError, Global};
 
 impl Molecule {

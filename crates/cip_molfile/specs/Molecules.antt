@@ -1,7 +1,7 @@
 -- The molecule of a record, in either version of molfiles. CTfile Formats.
 use Rattle.std.specs.Prelude.{ℕ, List, Result, if◌then◌else◌}
 use Rattle.cip_mol.specs.Drawing.{Drawing}
-use Rattle.cip_mol.specs.declared.refusal.ReadFault.{ReadFault}
+use Rattle.cip_mol.specs.declared.labels.refusal.ReadFault.{ReadFault}
 use Rattle.cip_v2000.specs.Grammar as v2000
 use Rattle.cip_v2000.specs.Version.{is_v3000}
 use Rattle.cip_v3000.specs.Grammar as v3000

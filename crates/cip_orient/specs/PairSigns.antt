@@ -2,7 +2,7 @@
 use Rattle.std.specs.Prelude.{List}
 use Rattle.cip_num.specs.declared.plane.Sign.{Sign}
 use Rattle.cip_num.specs.declared.plane.Vec3.{Vec3}
-use Rattle.cip_mol.specs.declared.molecule.Atom.{Atom}
+use Rattle.cip_mol.specs.declared.graph.molecule.Atom.{Atom}
 use Rattle.cip_mol.specs.declared.site.Geometry.{Geometry}
 use Rattle.cip_mol.specs.Geometry.{sides, twist}
 use Rattle.cip_mol.specs.Pairs.{by_pairs}

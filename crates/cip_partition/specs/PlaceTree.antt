@@ -1,7 +1,7 @@
 -- Of each place its node, the branch that it is in, its parent, and the range of places in which its children are. Own.
 use Rattle.std.specs.Prelude.{◌≡◌, ◌<◌, ◌≤◌, ◌+◌, ◌^◌, ◌++◌, ◌∷◌, ℕ, List, [], length, map, slice_index, slice_set}
 use Rattle.cip_partition.specs.ReservedList.{ReservedList}
-use Rattle.cip_partition.specs.declared.place.Place.{Place}
+use Rattle.cip_partition.specs.declared.places.place.Place.{Place}
 
 pub record PlaceTree : Type 0 where
   pub room : ℕ

@@ -3,7 +3,7 @@ use Rattle.std.specs.Prelude.{◌+◌, ◌-◌, ◌++◌, ◌∷◌, ℕ, Bool, 
 use Rattle.std.specs.List.{range_with_len}
 use Rattle.cip_partition.specs.PlaceTree.{PlaceTree}
 use Rattle.cip_partition.specs.Ranked.{Ranked}
-use Rattle.cip_partition.specs.declared.place.Place.{Place}
+use Rattle.cip_partition.specs.declared.places.place.Place.{Place}
 
 -- a number below a count, moved on; any other one after all
 abbrev pub moved_on : ℕ → ℕ → ℕ → ℕ

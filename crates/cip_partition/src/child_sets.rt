@@ -6,7 +6,7 @@ ghost use Rattle.cip_partition.specs.Kids.{kids_of, HoldKidSets, KnowTheirKids};
 ghost use Rattle.cip_partition.specs.Rows.{number_in};
 
 use crate::partition::Partition;
-use crate::place_tree::PlaceTree;
+use crate::places::place_tree::PlaceTree;
 use cip_rank::child_sets::{compare_sets, write_sorted};
 use cip_rank::sorting::NodeOrder;
 use std::cmp::Ordering;

@@ -2,29 +2,23 @@
 //!
 //! `Partition` has the places of nodes in rows; the number of a place is the row at which its class begins. `PlaceTree`
 //! has their parents and children. `split_classes` splits classes by keys, `refine_sphere` refines a sphere by the
-//! numbers of the next one, and `mark_dirty_parents` flags the classes in which a child has a new number. Nothing
+//! numbers of the next one, and `flag_dirty_parents` flags the classes in which a child has a new number. Nothing
 //! allocates but `reserve`. Uses the sorting of `cip_rank`.
 #![tactic(auto)]
 
-mod by_keys;
 mod child_sets;
-mod copies;
-mod dirty;
 mod partition;
-mod place;
-mod place_tree;
-mod refine;
+mod places;
 mod reserved_vec;
-mod split;
-mod split_class;
+mod splits;
 mod uniform;
 
-pub use by_keys::ByKeys;
-pub use dirty::{clear_flags, mark_dirty_parents, set_flag_if};
 pub use partition::Partition;
-pub use place::Place;
-pub use place_tree::PlaceTree;
-pub use refine::refine_sphere;
+pub use places::place::Place;
+pub use places::place_tree::PlaceTree;
 pub use reserved_vec::ReservedVec;
-pub use split::split_classes;
+pub use splits::by_keys::ByKeys;
+pub use splits::dirty::{clear_flags, flag_dirty_parents, set_flag_if};
+pub use splits::refine::refine_sphere;
+pub use splits::split::split_classes;
 pub use uniform::is_uniform;

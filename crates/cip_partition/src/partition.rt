@@ -4,7 +4,7 @@ ghost use Rattle.cip_partition.specs.Ranked.{with_row};
 ghost use Rattle.cip_partition.specs.Parting.{PartsRows, EndsClass, is_class_start};
 
 use crate::reserved_vec::ReservedVec;
-use crate::split_class::split_rows;
+use crate::splits::split_class::split_rows;
 use cip_rank::sorting::NodeOrder;
 use std::alloc::{AllocError, Global};
 use std::marker::Model;

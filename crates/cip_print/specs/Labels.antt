@@ -2,7 +2,7 @@
 -- on. Own.
 use Rattle.std.specs.Prelude.{ℕ, List, [], ◌∷◌, ◌++◌, codes, decimal, length, take, drop, nat_lt, slice_get, Some, None, if◌then◌else◌}
 use Rattle.std.specs.declared.option.Option.{Option}
-use Rattle.cip_mol.specs.declared.outcome.Label.{Label}
+use Rattle.cip_mol.specs.declared.labels.outcome.Label.{Label}
 use Rattle.cip_mol.specs.declared.site.Ligand.{Ligand}
 use Rattle.cip_mol.specs.declared.site.Ligand.TheVariants.{Vertex, LonePair}
 use Rattle.cip_mol.specs.declared.site.Site.{Site}

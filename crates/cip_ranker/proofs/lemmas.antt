@@ -13,7 +13,7 @@ pub mod PairedStanding
 pub mod PutKeys
 pub mod Ready
 pub mod RootLow
-pub mod RootMarks
+pub mod RootDescriptors
 pub mod RootNodes
 pub mod SameSites
 pub mod SettledRoots

@@ -9,22 +9,22 @@ use Rattle.cip_constitution.specs.FollowedOut.{AreConstituted}
 use Rattle.cip_constitution.specs.Following.{Trying}
 use Rattle.cip_constitution.specs.Pairs.{pairs_of}
 use Rattle.cip_constitution.specs.Settling.{SettledAs}
-use Rattle.cip_constitution.specs.declared.settling.Settled.TheVariants.{Whole}
+use Rattle.cip_constitution.specs.declared.steps.settling.Settled.TheVariants.{Whole}
 use Rattle.cip_label.specs.Settings.{LabelContext, StandAtSites, setting_of}
 use Rattle.cip_label.specs.BranchComparison.{RankedAs}
 use Rattle.cip_label.specs.declared.root_ranker.Ranking.{Ranking}
 use Rattle.cip_label.specs.declared.root_ranker.Ranking.TheVariants.{Known}
 use Rattle.cip_digraph.specs.Asking.{is_decided}
-use Rattle.cip_digraph.specs.declared.branch_pair.BranchPair.{BranchPair}
+use Rattle.cip_digraph.specs.declared.decisions.branch_pair.BranchPair.{BranchPair}
 use Rattle.cip_mol.specs.declared.site.Ligand.{Ligand}
 use Rattle.cip_mol.specs.declared.site.Unit as units
 use Rattle.cip_ranker.specs.Desks.{settled_by}
 use Rattle.cip_ranker.specs.Rooting.{HasRoom, HaveTurns}
 use Rattle.cip_ranker.specs.Standing.{both_as, standing_of}
 use Rattle.cip_ranker.specs.declared.workspace.Workspace.{Workspace}
-use Rattle.cip_ranker.specs.declared.cache_key.CacheKey.{CacheKey}
-use Rattle.cip_ranker.specs.declared.cache.CachedResult.{CachedResult}
-use Rattle.cip_ranker.specs.declared.cache.CachedResult.TheVariants.{Final, Open}
+use Rattle.cip_ranker.specs.declared.caches.cache_key.CacheKey.{CacheKey}
+use Rattle.cip_ranker.specs.declared.caches.cache.CachedResult.{CachedResult}
+use Rattle.cip_ranker.specs.declared.caches.cache.CachedResult.TheVariants.{Final, Open}
 use Rattle.cip_ranker.specs.declared.whole_digraph.RankTables.{RankTables}
 
 -- a root as it is asked about, but for the senses of units

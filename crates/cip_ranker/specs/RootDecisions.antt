@@ -4,18 +4,18 @@ use Rattle.std.specs.Cmp.Lexicographic.{slice_cmp}
 use Rattle.std.specs.Ordering.{nat_cmp}
 use Rattle.std.specs.declared.option.Option.{Option}
 use Rattle.cip_rank.specs.Comparison.{insert_down, sorted_down}
-use Rattle.cip_mol.specs.declared.outcome.Rule.TheVariants.{R1a}
+use Rattle.cip_mol.specs.declared.labels.outcome.Rule.TheVariants.{R1a}
 use Rattle.cip_mol.specs.declared.site.Ligand.{Ligand}
 use Rattle.cip_mol.specs.declared.site.Ligand.TheVariants.{Vertex, LonePair}
-use Rattle.cip_digraph.specs.declared.decision.Decision.{Decision}
-use Rattle.cip_digraph.specs.declared.graph.Edge.{Edge}
+use Rattle.cip_digraph.specs.declared.decisions.decision.Decision.{Decision}
+use Rattle.cip_digraph.specs.declared.drawing.graph.Edge.{Edge}
 use Rattle.cip_digraph.specs.digraph.Digraph.{real_node, children}
 use Rattle.cip_digraph.specs.graph.Graph.{Graph, other_end, vertex_at}
 use Rattle.cip_digraph.specs.rings.Positions.{is_delocalised, mean_key}
 use Rattle.cip_digraph.specs.rules.Decisions.{or_else}
 use Rattle.cip_digraph.specs.rules.Keys.{atomic_key}
 use Rattle.cip_digraph.specs.Asking.{decided, differing}
-use Rattle.cip_digraph.specs.declared.branch_pair.BranchPair.{BranchPair}
+use Rattle.cip_digraph.specs.declared.decisions.branch_pair.BranchPair.{BranchPair}
 
 -- keys put one after the other into keys that descend
 abbrev pub put_all : List ℕ → List ℕ → List ℕ

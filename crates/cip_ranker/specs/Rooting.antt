@@ -12,8 +12,8 @@ use Rattle.cip_digraph.specs.units.Units.{sites_of}
 use Rattle.cip_aux_rank.specs.RankingCache.{AreOpen}
 use Rattle.cip_label.specs.Fitting.{IsFit}
 use Rattle.cip_label.specs.Settings.{LabelContext}
-use Rattle.cip_rules.specs.DescriptorMap.{AreMarksOf}
-use Rattle.cip_mol.specs.declared.descriptor.Descriptor.{Descriptor}
+use Rattle.cip_rules.specs.DescriptorMap.{AreDescriptorsOf}
+use Rattle.cip_mol.specs.declared.labels.descriptor.Descriptor.{Descriptor}
 use Rattle.cip_mol.specs.declared.site.Ligand.{Ligand}
 use Rattle.cip_ranker.specs.declared.whole_digraph.RankTables.{RankTables}
 
@@ -38,21 +38,21 @@ whole_at setting arena = record {
 -- there is room for n nodes
 pub record HasRoom (bound : ℕ) (tables : RankTables) : Type 0 where
   pub aux_ranker : bound ≤ tables.aux_ranker.bound
-  pub marks : bound ≤ tables.marks.bound
+  pub descriptors : bound ≤ tables.descriptors.bound
   pub readings : bound ≤ tables.readings.bound
   pub parities : bound ≤ tables.parities.room
   pub aside : bound ≤ tables.aside.ranks.room
 
 -- the descriptors of a digraph
-abbrev pub mark_in : LabelContext → List ℕ → Option Descriptor
-mark_in setting = auxiliary setting.rules setting.graph setting.positions setting.units
+abbrev pub descriptor_in : LabelContext → List ℕ → Option Descriptor
+descriptor_in setting = auxiliary setting.rules setting.graph setting.positions setting.units
 
 -- descriptors are those of the nodes in branches that are unresolved, and each node has an entry
-pub record HaveMarks (setting : LabelContext) (arena : Growth) (now : Branched) (marks : List (Option Descriptor)) : Type 0
+pub record HoldDescriptors (setting : LabelContext) (arena : Growth) (now : Branched) (descriptors : List (Option Descriptor)) : Type 0
   where
-    pub len : length marks ≡ length arena.nodes
-    pub each : AreMarksOf (named setting.graph setting.positions arena.root arena.bound)
-        (seen_with setting.rules setting.graph setting.positions arena (mark_in setting)).mark marks now
+    pub len : length descriptors ≡ length arena.nodes
+    pub each : AreDescriptorsOf (named setting.graph setting.positions arena.root arena.bound)
+        (seen_with setting.rules setting.graph setting.positions arena (descriptor_in setting)).descriptor descriptors now
 
 -- what is kept of the nodes inside is that of the units at the sites of the graph, and tied rankings are rankings in it
 abbrev pub HaveTurns : LabelContext → Growth → RankTables → Type 0

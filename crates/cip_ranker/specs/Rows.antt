@@ -1,7 +1,7 @@
 -- Branches in a row: their nodes, and the keys below all of these in a row of their own. Own.
 use Rattle.std.specs.Prelude.{ℕ, ◌+◌, List, [], ◌∷◌, drop, take}
 use Rattle.cip_ranker.specs.RootDecisions.{Branch}
-use Rattle.cip_ranker.specs.declared.two_sphere_branches.BranchTop.{BranchTop}
+use Rattle.cip_ranker.specs.declared.two_sphere.two_sphere_branches.BranchTop.{BranchTop}
 
 -- how many keys are below all of them
 abbrev pub count_below : List BranchTop → ℕ

@@ -1,13 +1,13 @@
 -- How the branches at each two neighbours of a root compare. Own.
 use Rattle.std.specs.Prelude.{◌≡◌, ℕ, ◌==◌, ◌&&◌, Bool, true, false, cond, List, [], ◌∷◌, None}
 use Rattle.std.specs.declared.option.Option.{Option}
-use Rattle.cip_digraph.specs.declared.decision.Decision.{Decision}
-use Rattle.cip_mol.specs.declared.descriptor.Descriptor.{Descriptor}
+use Rattle.cip_digraph.specs.declared.decisions.decision.Decision.{Decision}
+use Rattle.cip_mol.specs.declared.labels.descriptor.Descriptor.{Descriptor}
 use Rattle.cip_label.specs.BranchComparison.{reversed}
 use Rattle.cip_constitution.specs.FollowedOut.{AreOrdered}
 use Rattle.cip_constitution.specs.Following.{Trying}
 use Rattle.cip_constitution.specs.declared.pairs.VertexPair.{VertexPair}
-use Rattle.cip_digraph.specs.declared.branch_pair.BranchPair.{BranchPair}
+use Rattle.cip_digraph.specs.declared.decisions.branch_pair.BranchPair.{BranchPair}
 
 -- what is decided between neighbours, by their vertices, with R first and with S first
 pub record Standing : Type 0 where
@@ -43,9 +43,9 @@ by_vertices (pair ∷ pairs) (one ∷ requested) =
     record { first = pair.a; second = pair.b; decision = one.decision } ∷ by_vertices pairs requested
 
 -- pairs that constitution left open compare as all rules decide
-pub record StandsOrdered (old : Trying) (marks : List (Option Descriptor)) (standing : Standing) : Type 0 where
+pub record StandsOrdered (old : Trying) (descriptors : List (Option Descriptor)) (standing : Standing) : Type 0 where
   pub first : List BranchPair
   pub second : List BranchPair
-  pub ordered : AreOrdered old marks first second
+  pub ordered : AreOrdered old descriptors first second
   pub natural : standing.natural ≡ by_vertices old.pairs first
   pub turned : standing.turned ≡ by_vertices old.pairs second

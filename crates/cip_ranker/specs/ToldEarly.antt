@@ -1,16 +1,16 @@
 -- Ligands of a root that two spheres distinguish by Rule 1a, and what is decided between each two of them. Own.
 use Rattle.std.specs.Prelude.{ℕ, ◌&&◌, Bool, List, [], ◌∷◌, length, map, nat_le}
 use Rattle.std.specs.declared.option.Option.{Option}
-use Rattle.cip_mol.specs.declared.outcome.Rule.TheVariants.{R1a}
+use Rattle.cip_mol.specs.declared.labels.outcome.Rule.TheVariants.{R1a}
 use Rattle.cip_mol.specs.declared.site.Ligand.{Ligand}
-use Rattle.cip_digraph.specs.declared.decision.Decision.{Decision}
+use Rattle.cip_digraph.specs.declared.decisions.decision.Decision.{Decision}
 use Rattle.cip_digraph.specs.digraph.Digraph.{digraph, real_node}
 use Rattle.cip_digraph.specs.rules.EarlyOrder.{differ_within}
 use Rattle.cip_digraph.specs.units.Ends.{end_at}
 use Rattle.cip_label.specs.Settings.{LabelContext}
 use Rattle.cip_digraph.specs.Asking.{with_found}
 use Rattle.cip_rules.specs.Orders.{found_below}
-use Rattle.cip_digraph.specs.declared.branch_pair.BranchPair.{BranchPair}
+use Rattle.cip_digraph.specs.declared.decisions.branch_pair.BranchPair.{BranchPair}
 use Rattle.cip_constitution.specs.Noting.{asked_by, by_atoms}
 use Rattle.cip_constitution.specs.Pairs.{pairs_of}
 

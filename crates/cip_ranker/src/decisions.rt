@@ -74,12 +74,12 @@ impl RootDecisions {
         &mut self,
         work: &mut Work,
         readings: &mut Rule4bWorkspace,
-        marks: &Descriptors,
+        descriptors: &Descriptors,
     ) -> Result<(), AllocError>
         requires followed { AreFollowed work.old.branched }
-        requires keyed { AreKeyed (length marks.now.marks) work.old.branched.layers.place_tree }
+        requires keyed { AreKeyed (length descriptors.now.descriptors) work.old.branched.layers.place_tree }
         requires room { length work.old.branched.layers.place_tree.place_parents ≤ readings.old.bound }
-        ensures ordered { OnOk result (StandsOrdered work.old marks.now.marks self.new) }
+        ensures ordered { OnOk result (StandsOrdered work.old descriptors.now.descriptors self.new) }
         ensures same { OnOk result (AreSame work.old.branched work.new.branched) }
         ensures pairs { OnOk result (work.new.pairs ≡ work.old.pairs) }
         ensures len { OnOk result (length work.new.noted ≡ length work.old.noted) }
@@ -90,7 +90,7 @@ impl RootDecisions {
         let Ok(()) = copy(work.noted(), &mut self.numbered) else {
             return Err(AllocError);
         };
-        work.apply_rules_3_to_5(readings, marks, self.numbered.as_mut_slice());
+        work.apply_rules_3_to_5(readings, descriptors, self.numbered.as_mut_slice());
         let Ok(()) = name(work.pairs(), self.numbered.as_slice(), &mut self.turned) else {
             return Err(AllocError);
         };

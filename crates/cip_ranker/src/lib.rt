@@ -6,21 +6,13 @@
 //! `cip_record` and `cip_c` name these types. Uses `cip_constitution`, `cip_aux` and `cip_aux_rank`.
 #![tactic(auto)]
 
-mod cache;
-mod cache_key;
-mod cached;
+mod caches;
 mod checkpoint;
-mod child_keys;
 mod decisions;
 mod grown_root;
-mod rank_two_spheres;
 mod ranker;
 mod root;
-mod two_sphere_branches;
-mod two_sphere_pairs;
-mod two_sphere_size;
-mod two_spheres;
-mod uncached;
+mod two_sphere;
 mod whole_digraph;
 mod workspace;
 

@@ -2,8 +2,8 @@
 ghost use Rattle.cip_ranker.specs.Standing.{standing_of};
 
 use crate::decisions::RootDecisions;
-use crate::rank_two_spheres::rank_by_two_spheres;
-use crate::two_spheres::{RootQuery, TwoSphereRanker};
+use crate::two_sphere::rank_two_spheres::rank_by_two_spheres;
+use crate::two_sphere::two_spheres::{RootQuery, TwoSphereRanker};
 use crate::workspace::{Workspace, rank_by_digraph};
 use cip_digraph::Decision;
 use cip_label::{LabelContext, Labeller, Ranking, RootRanker};

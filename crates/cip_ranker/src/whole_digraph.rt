@@ -11,10 +11,10 @@ ghost use Rattle.cip_digraph.specs.Asking.{is_decided};
 ghost use Rattle.cip_rules.specs.Taking.{AreSame};
 ghost use Rattle.cip_ranker.specs.Desks.{settled_by};
 ghost use Rattle.cip_ranker.specs.Keeping.{FoundAs, kept_of, ranking_in};
-ghost use Rattle.cip_ranker.specs.Rooting.{HasRoom, IsRooted, HaveMarks, HaveTurns};
+ghost use Rattle.cip_ranker.specs.Rooting.{HasRoom, IsRooted, HoldDescriptors, HaveTurns};
 ghost use Rattle.cip_ranker.specs.Standing.{standing_of};
 
-use crate::cache::CachedResult;
+use crate::caches::cache::CachedResult;
 use crate::checkpoint::RootCheckpoint;
 use crate::decisions::{RootDecisions, copy, store_decisions};
 use crate::grown_root::{GrownRoot, whole_digraph};
@@ -39,7 +39,7 @@ pub struct RankTables {
     // rankings from the nodes inside
     pub aux_ranker: AuxRanker,
     // the descriptors of these
-    pub marks: Descriptors,
+    pub descriptors: Descriptors,
     // both readings of the root's branches
     pub readings: Rule4bWorkspace,
     // what constitution decided of the units at nodes inside
@@ -65,7 +65,7 @@ impl RankTables {
         let Ok(tables) = zip_results(read, kept) else {
             return Err(AllocError);
         };
-        let Ok((((marks, readings), (parities, aside)), aux_ranker)) = zip_ok(
+        let Ok((((descriptors, readings), (parities, aside)), aux_ranker)) = zip_ok(
             tables,
             AuxRanker::reserve(alloc, nodes),
         ) else {
@@ -73,7 +73,7 @@ impl RankTables {
         };
         Ok(RankTables {
             aux_ranker,
-            marks,
+            descriptors,
             readings,
             parities,
             aside,
@@ -96,7 +96,7 @@ pub fn is_worth_caching(arena: &Arena, setting: &LabelContext<'_>, found: Cached
 }
 
 // Finds the descriptors inside those branches that are still unresolved, at all nodes in them and below.
-fn find_marks(
+fn find_descriptors(
     alloc: Global,
     rooted: &GrownRoot<'_, '_>,
     work: &Work,
@@ -109,8 +109,8 @@ fn find_marks(
         rooted.now.setting.now.positions rooted.now.arena.now work.now.pairs work.now.branched work.now.noted }
     requires room { HasRoom rooted.now.arena.now.bound tables.old }
     requires parities { HaveTurns rooted.now.setting.now rooted.now.arena.now tables.old }
-    ensures marks { OnOk result (HaveMarks rooted.now.setting.now rooted.now.arena.now work.now.branched
-        tables.new.marks.marks) }
+    ensures descriptors { OnOk result (HoldDescriptors rooted.now.setting.now rooted.now.arena.now work.now.branched
+        tables.new.descriptors.descriptors) }
     ensures room { HasRoom rooted.now.arena.now.bound tables.new }
     ensures parities { HaveTurns rooted.now.setting.now rooted.now.arena.now tables.new }
     ensures aside { tables.new.aside ≡ tables.old.aside }
@@ -135,7 +135,7 @@ fn find_marks(
         &mut tables.aux_ranker,
         &unresolved,
         &mut tables.parities,
-        &mut tables.marks,
+        &mut tables.descriptors,
     )
 }
 
@@ -166,10 +166,10 @@ pub fn rank_by_all_rules(
     ensures parities { HaveTurns rooted.now.setting.now rooted.now.arena.now tables.new }
     ensures aside { tables.new.aside ≡ tables.old.aside }
 {
-    let Ok(()) = find_marks(alloc, rooted, work, tables) else {
+    let Ok(()) = find_descriptors(alloc, rooted, work, tables) else {
         return Err(AllocError);
     };
-    branches.apply_rules_3_to_5(work, &mut tables.readings, &tables.marks)
+    branches.apply_rules_3_to_5(work, &mut tables.readings, &tables.descriptors)
 }
 
 // Nothing is kept of the nodes inside, and no ranking is tied; where the nodes are many both will be.

@@ -7,11 +7,11 @@ ghost use Rattle.cip_label.specs.Steps.{Rises};
 ghost use Rattle.cip_ranker.specs.Keeping.{IsReady};
 ghost use Rattle.cip_ranker.specs.Standing.{standing_of};
 
-use crate::cache::{CachedResult, RootCache};
-use crate::cached::rank_cached;
+use crate::caches::cache::{CachedResult, RootCache};
+use crate::caches::cached::rank_cached;
+use crate::caches::uncached::rank_uncached;
 use crate::decisions::RootDecisions;
-use crate::two_spheres::RootQuery;
-use crate::uncached::rank_uncached;
+use crate::two_sphere::two_spheres::RootQuery;
 use crate::whole_digraph::{RankTables, is_worth_caching};
 use cip_arena::Arena;
 use cip_constitution::Work;

@@ -1,7 +1,7 @@
 -- The neighbours along some edges at a vertex that aren't along a bond. Own.
 use Rattle.std.specs.Prelude.{ℕ, List, not, ◌==◌, ◌&&◌, ◌||◌, filter, map}
 use Rattle.cip_digraph.specs.graph.Graph.{other_end}
-use Rattle.cip_digraph.specs.declared.graph.Edge.{Edge}
+use Rattle.cip_digraph.specs.declared.drawing.graph.Edge.{Edge}
 
 abbrev pub aside_along : ℕ → ℕ → ℕ → List Edge → List ℕ
 aside_along a b vertex edges =

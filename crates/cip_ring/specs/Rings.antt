@@ -3,7 +3,7 @@ use Rattle.std.specs.Prelude.{◌≡◌, ◌≤◌, ◌+◌, ℕ, false, Some, N
 use Rattle.std.specs.declared.option.Option.{Option}
 use Rattle.cip_digraph.specs.graph.Graph.{Graph}
 use Rattle.cip_digraph.specs.rings.RingsThrough.{IsRingThrough}
-use Rattle.cip_digraph.specs.declared.graph.Edge.{Edge}
+use Rattle.cip_digraph.specs.declared.drawing.graph.Edge.{Edge}
 
 abbrev pub edge_at : Graph → ℕ → Edge
 edge_at graph edge = slice_index_or graph.edges edge (record { a = 0; b = 0; order = 0; counted = false })

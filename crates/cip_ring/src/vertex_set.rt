@@ -1,8 +1,8 @@
-// A set of vertices that keeps the order in which they came, and a column of marks by which it is asked.
+// A set of vertices that keeps the order in which they came, and a column of flags by which it is asked.
 ghost use Rattle.std.specs.Prelude.{◌≡◌, ◌<◌, ◌∷◌, [], cond, IfOk, OnOk, length, slice_index, slice_set};
 ghost use Rattle.cip_digraph.specs.rings.Alternating.{is_in};
 ghost use Rattle.cip_digraph.specs.rings.SmallRings.{with_new};
-ghost use Rattle.cip_ring.specs.Marks.{AreMarks};
+ghost use Rattle.cip_ring.specs.VertexFlags.{AreFlags};
 
 use std::alloc::{AllocError, Global};
 use std::marker::Model;
@@ -11,33 +11,33 @@ use std::marker::Model;
 const USUAL_VERTICES: usize = 32;
 
 /// Vertices in the order in which they were added, none twice. Contracts see the list of them. It is asked in one step
-/// about a vertex that its marks reach, and emptied at the cost of what it holds, so it can serve many searches.
+/// about a vertex that its flags reach, and emptied at the cost of what it holds, so it can serve many searches.
 #[derive(Drop)]
 pub struct VertexSet {
     vertices: Vec<u32>,
-    marks: Vec<bool>,
+    flags: Vec<bool>,
 }
 
 impl Model for VertexSet {
     ghost use Rattle.std.specs.Prelude.{ℕ, List};
-    ghost use Rattle.cip_ring.specs.Marks.{AreMarks};
+    ghost use Rattle.cip_ring.specs.VertexFlags.{AreFlags};
 
     ghost Value = { List ℕ };
 
     ghost view = { λ set. set.vertices.items };
 
-    ghost invariant = { λ set. AreMarks set.vertices.items set.marks.items };
+    ghost invariant = { λ set. AreFlags set.vertices.items set.flags.items };
 }
 
 impl VertexSet {
-    /// No vertex, with marks for those below a number.
-    pub fn new(alloc: Global, marks: usize) -> Result<VertexSet, AllocError>
+    /// No vertex, with flags for those below a number.
+    pub fn new(alloc: Global, flags: usize) -> Result<VertexSet, AllocError>
         ensures { IfOk result (λ set. set ≡ []) }
     {
-        match vec![in alloc; false; marks] {
-            Ok(marks) => Ok(VertexSet {
+        match vec![in alloc; false; flags] {
+            Ok(flags) => Ok(VertexSet {
                 vertices: Vec::new(alloc),
-                marks,
+                flags,
             }),
             Err(fault) => Err(fault),
         }
@@ -62,8 +62,8 @@ impl VertexSet {
     pub fn contains(&self, vertex: u32) -> bool
         ensures { result ≡ is_in vertex self.now }
     {
-        match self.marks.get(vertex as usize) {
-            Some(mark) => *mark,
+        match self.flags.get(vertex as usize) {
+            Some(flag) => *flag,
             None => self.vertices.contains(&vertex),
         }
     }
@@ -76,7 +76,7 @@ impl VertexSet {
             let Ok(()) = self.vertices.push(vertex) else {
                 return Err(AllocError);
             };
-            set_mark(&mut self.marks, vertex, true);
+            set_flag(&mut self.flags, vertex, true);
         }
         Ok(())
     }
@@ -92,25 +92,25 @@ impl VertexSet {
     pub fn clear(&mut self)
         ensures { self.new ≡ [] }
     {
-        unmark(&mut self.marks, &self.vertices);
+        clear_flags(&mut self.flags, &self.vertices);
         self.vertices.clear();
     }
 }
 
-// Sets the mark of a vertex, where it has one.
-fn set_mark(marks: &mut Vec<bool>, vertex: u32, mark: bool)
-    ensures { marks.new.items ≡ slice_set marks.old.items vertex mark }
+// Sets the flag of a vertex, where it has one.
+fn set_flag(flags: &mut Vec<bool>, vertex: u32, flag: bool)
+    ensures { flags.new.items ≡ slice_set flags.old.items vertex flag }
 {
-    if (vertex as usize) < marks.len() {
-        marks[vertex as usize] = mark;
+    if (vertex as usize) < flags.len() {
+        flags[vertex as usize] = flag;
     }
 }
 
-fn unmark(marks: &mut Vec<bool>, vertices: &[u32])
-    requires { AreMarks vertices.now marks.old.items }
-    ensures { AreMarks [] marks.new.items }
+fn clear_flags(flags: &mut Vec<bool>, vertices: &[u32])
+    requires { AreFlags vertices.now flags.old.items }
+    ensures { AreFlags [] flags.new.items }
 {
     for vertex in vertices {
-        set_mark(marks, *vertex, false);
+        set_flag(flags, *vertex, false);
     }
 }

@@ -3,8 +3,8 @@ pub mod FirstNone
 pub mod FoundAmong
 pub mod FoundRules
 pub mod FoundWithin
-pub mod MarkedKeys
-pub mod MarkedPlaces
+pub mod DescriptorKeys
+pub mod DescriptorPlaces
 pub mod MovedOrders
 pub mod NodeKeys
 pub mod Noted
@@ -17,4 +17,4 @@ pub mod RulesReady
 pub mod TakenNone
 pub mod TakenSteps
 pub mod TwinsAside
-pub mod UnmarkedBranches
+pub mod BranchesWithoutDescriptors

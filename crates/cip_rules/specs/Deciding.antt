@@ -2,13 +2,13 @@
 use Rattle.std.specs.Prelude.{◌≡◌, ◌≤◌, ℕ, Bool, true, false, List, length, map}
 use Rattle.std.specs.List.{list_all}
 use Rattle.std.specs.declared.cmp.Ordering.{Ordering}
-use Rattle.cip_mol.specs.declared.outcome.Rule.{Rule}
-use Rattle.cip_mol.specs.declared.outcome.Rule.TheVariants.{R3}
+use Rattle.cip_mol.specs.declared.labels.outcome.Rule.{Rule}
+use Rattle.cip_mol.specs.declared.labels.outcome.Rule.TheVariants.{R3}
 use Rattle.cip_digraph.specs.rules.Orders.{Seen}
 use Rattle.cip_branches.specs.Deciding.{Branched}
 use Rattle.cip_branches.specs.Standing.{node_in, WantedIn, StandsBy}
 use Rattle.cip_branches.specs.Views.{IsEnded}
-use Rattle.cip_digraph.specs.declared.branch_pair.BranchPair.{BranchPair}
+use Rattle.cip_digraph.specs.declared.decisions.branch_pair.BranchPair.{BranchPair}
 use Rattle.cip_digraph.specs.Asking.{is_decided, with_found}
 use Rattle.cip_rules.specs.Orders.{decided_in_turn, order_before, rules_before}
 

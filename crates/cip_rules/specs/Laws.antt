@@ -1,15 +1,15 @@
 -- What holds of all rules that are taken over branches. Own.
 use Rattle.std.specs.Prelude.{◌≡◌, ◌≤◌, ◌+◌, ◌++◌, ◌∷◌, [], ℕ, ℤ, Bool, true, false, List, length, map}
 use Rattle.std.specs.List.{AllByRecursion, list_all}
-use Rattle.cip_mol.specs.declared.outcome.Rule.{Rule}
-use Rattle.cip_mol.specs.declared.outcome.Rule.TheVariants.{R1a}
+use Rattle.cip_mol.specs.declared.labels.outcome.Rule.{Rule}
+use Rattle.cip_mol.specs.declared.labels.outcome.Rule.TheVariants.{R1a}
 use Rattle.cip_digraph.specs.digraph.Digraph.{Node}
 use Rattle.cip_digraph.specs.rules.Decisions.{rules_in_turn, order}
 use Rattle.cip_digraph.specs.rules.Orders.{Seen, all_tie, rule_1a}
 use Rattle.cip_branches.specs.Deciding.{Branched, AreDecided}
 use Rattle.cip_branches.specs.Standing.{node_in, WantedIn, AreKeysOf}
 use Rattle.cip_branches.specs.Views.{IsEnded}
-use Rattle.cip_digraph.specs.declared.branch_pair.BranchPair.{BranchPair}
+use Rattle.cip_digraph.specs.declared.decisions.branch_pair.BranchPair.{BranchPair}
 use Rattle.cip_digraph.specs.Asking.{AreWithin, is_decided, with_found}
 use Rattle.cip_rules.specs.Orders.{is_keyed}
 use Rattle.cip_rules.specs.Deciding.{AreDecidedBy}

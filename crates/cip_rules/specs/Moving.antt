@@ -11,4 +11,4 @@ pub record Moves {N M : Type 0} (image : N → M) (IsTold : N → Type 0) (seen 
   pub atomic : (n : N) → IsTold n → their.atomic (image n) ≡ seen.atomic n
   pub distance : (n : N) → IsTold n → their.distance (image n) ≡ seen.distance n
   pub mass : (n : N) → IsTold n → their.mass (image n) ≡ seen.mass n
-  pub mark : (n : N) → IsTold n → their.mark (image n) ≡ seen.mark n
+  pub descriptor : (n : N) → IsTold n → their.descriptor (image n) ≡ seen.descriptor n

@@ -2,12 +2,12 @@
 use Rattle.std.specs.Prelude.{ℕ, ℤ, pos, Bool, true, false, List, [], ◌∷◌}
 use Rattle.std.specs.declared.option.Option.{Option}
 use Rattle.std.specs.declared.cmp.Ordering.{Ordering}
-use Rattle.cip_mol.specs.declared.descriptor.Descriptor.{Descriptor}
-use Rattle.cip_mol.specs.declared.outcome.Rule.{Rule}
-use Rattle.cip_mol.specs.declared.outcome.Rule.TheVariants.{R1a, R1b, R2, R3, R4a, R4b, R4c, R5}
-use Rattle.cip_digraph.specs.declared.decision.Decision.{Decision}
+use Rattle.cip_mol.specs.declared.labels.descriptor.Descriptor.{Descriptor}
+use Rattle.cip_mol.specs.declared.labels.outcome.Rule.{Rule}
+use Rattle.cip_mol.specs.declared.labels.outcome.Rule.TheVariants.{R1a, R1b, R2, R3, R4a, R4b, R4c, R5}
+use Rattle.cip_digraph.specs.declared.decisions.decision.Decision.{Decision}
 use Rattle.cip_digraph.specs.rules.Decisions.{first_difference, difference_by, first_decision}
-use Rattle.cip_digraph.specs.rules.Kinds.{marked, geometric_key, chirality_key, small_key, capital_key}
+use Rattle.cip_digraph.specs.rules.Kinds.{key_or_zero, geometric_key, chirality_key, small_key, capital_key}
 use Rattle.cip_digraph.specs.rules.Orders.{Seen, all_tie, rule_1a, rule_1b, rule_2, rule_3, rule_4a, rule_4c, rule_5}
 use Rattle.cip_digraph.specs.Asking.{decided}
 
@@ -17,15 +17,15 @@ found_below rule compare node depths a b =
     decided rule (first_difference (λ depth. compare depth (node a) (node b)) 0 depths)
 
 -- What a descriptor counts for, or none, in a rule that looks at them; Rule 4b isn't one of keys.
-abbrev pub mark_key : Bool → Rule → Option Descriptor → ℤ
-mark_key r_first R1a mark = pos 0
-mark_key r_first R1b mark = pos 0
-mark_key r_first R2 mark = pos 0
-mark_key r_first R3 mark = marked geometric_key mark
-mark_key r_first R4a mark = marked chirality_key mark
-mark_key r_first R4b mark = pos 0
-mark_key r_first R4c mark = marked small_key mark
-mark_key r_first R5 mark = marked (capital_key r_first) mark
+abbrev pub key_of_descriptor : Bool → Rule → Option Descriptor → ℤ
+key_of_descriptor r_first R1a descriptor = pos 0
+key_of_descriptor r_first R1b descriptor = pos 0
+key_of_descriptor r_first R2 descriptor = pos 0
+key_of_descriptor r_first R3 descriptor = key_or_zero geometric_key descriptor
+key_of_descriptor r_first R4a descriptor = key_or_zero chirality_key descriptor
+key_of_descriptor r_first R4b descriptor = pos 0
+key_of_descriptor r_first R4c descriptor = key_or_zero small_key descriptor
+key_of_descriptor r_first R5 descriptor = key_or_zero (capital_key r_first) descriptor
 
 module _ {N : Type 0} (seen : Seen N) (r_first : Bool) where
   -- the key of a node by a rule
@@ -33,11 +33,11 @@ module _ {N : Type 0} (seen : Seen N) (r_first : Bool) where
   key_by R1a node = seen.atomic node
   key_by R1b node = seen.distance node
   key_by R2 node = seen.mass node
-  key_by R3 node = mark_key r_first R3 (seen.mark node)
-  key_by R4a node = mark_key r_first R4a (seen.mark node)
-  key_by R4b node = mark_key r_first R4b (seen.mark node)
-  key_by R4c node = mark_key r_first R4c (seen.mark node)
-  key_by R5 node = mark_key r_first R5 (seen.mark node)
+  key_by R3 node = key_of_descriptor r_first R3 (seen.descriptor node)
+  key_by R4a node = key_of_descriptor r_first R4a (seen.descriptor node)
+  key_by R4b node = key_of_descriptor r_first R4b (seen.descriptor node)
+  key_by R4c node = key_of_descriptor r_first R4c (seen.descriptor node)
+  key_by R5 node = key_of_descriptor r_first R5 (seen.descriptor node)
 
   abbrev pub order_before : Rule → N → N → Ordering
   order_before R1a = all_tie

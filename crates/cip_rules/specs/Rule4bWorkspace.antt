@@ -4,17 +4,17 @@ use Rattle.std.specs.declared.option.Option.{Option}
 use Rattle.std.specs.List.{list_all, range_with_len, slice_index_or}
 use Rattle.std.specs.Ordering.{is_lt}
 use Rattle.std.specs.declared.cmp.Ordering.TheVariants.{Equal}
-use Rattle.cip_mol.specs.declared.descriptor.Descriptor.{Descriptor}
-use Rattle.cip_mol.specs.declared.outcome.Rule.TheVariants.{R4b}
-use Rattle.cip_digraph.specs.declared.decision.Decision.{Decision}
-use Rattle.cip_digraph.specs.rules.Kinds.{KindR, KindS, marked, like_key}
+use Rattle.cip_mol.specs.declared.labels.descriptor.Descriptor.{Descriptor}
+use Rattle.cip_mol.specs.declared.labels.outcome.Rule.TheVariants.{R4b}
+use Rattle.cip_digraph.specs.declared.decisions.decision.Decision.{Decision}
+use Rattle.cip_digraph.specs.rules.Kinds.{KindR, KindS, key_or_zero, like_key}
 use Rattle.cip_branches.specs.Deciding.{Branched, AreFollowed}
 use Rattle.cip_partition.specs.Parting.{has_flag}
 use Rattle.cip_partition.specs.ReservedList.{ReservedList}
 use Rattle.cip_branches.specs.Saving.{Checkpoint, saved_of}
 use Rattle.cip_branches.specs.Taking.{KeepsPlaces}
 use Rattle.cip_branches.specs.Twins.{twins_of}
-use Rattle.cip_digraph.specs.declared.branch_pair.BranchPair.{BranchPair}
+use Rattle.cip_digraph.specs.declared.decisions.branch_pair.BranchPair.{BranchPair}
 use Rattle.cip_digraph.specs.Asking.{is_decided}
 use Rattle.cip_rules.specs.Taking.{TakesRule}
 
@@ -72,13 +72,13 @@ between place pairs = record pairs { first = place pairs.first; second = place p
 
 -- at the copy of a place, what is like S
 abbrev pub reading_key : List (Option Descriptor) → List ℕ → ℕ → ℕ → ℤ
-reading_key marks nodes count place =
-    marked (like_key (cond (nat_le count place) KindS KindR))
-    (slice_index_or marks (slice_index nodes (base_of count place)) None)
+reading_key descriptors nodes count place =
+    key_or_zero (like_key (cond (nat_le count place) KindS KindR))
+    (slice_index_or descriptors (slice_index nodes (base_of count place)) None)
 
 abbrev pub reading_keys : List (Option Descriptor) → Branched → List ℤ
-reading_keys marks from =
-    map (reading_key marks from.layers.place_tree.nodes (length from.layers.place_tree.place_parents))
+reading_keys descriptors from =
+    map (reading_key descriptors from.layers.place_tree.nodes (length from.layers.place_tree.place_parents))
     (range_with_len 0 (length from.layers.place_tree.place_parents + length from.layers.place_tree.place_parents))
 
 -- ranks that were set aside are those of before, over whose places a rule was taken
@@ -112,10 +112,10 @@ pub record ComparesReadings (from begin : Branched) (keys : List ℤ) (sides pai
   pub named : new ≡ map (between (base_of (length from.layers.place_tree.place_parents))) lower
 
 -- First it is asked which reading of each branch is the higher one; then they are compared.
-pub record TakesReadings (from : Branched) (marks : List (Option Descriptor)) (pairs new : List BranchPair) : Type 0 where
+pub record TakesReadings (from : Branched) (descriptors : List (Option Descriptor)) (pairs new : List BranchPair) : Type 0 where
   pub room : ℕ
   pub sides : List BranchPair
   pub sides_now : Branched
-  pub sides_taken : TakesRule (twins_of room from) (reading_keys marks from) R4b (map (side_of from)
+  pub sides_taken : TakesRule (twins_of room from) (reading_keys descriptors from) R4b (map (side_of from)
       (range_with_len 0 (length from.unresolved))) sides_now sides
-  pub compared : ComparesReadings from (twins_of room from) (reading_keys marks from) sides pairs new
+  pub compared : ComparesReadings from (twins_of room from) (reading_keys descriptors from) sides pairs new

@@ -1,13 +1,13 @@
 // Rules 1b and 2 in turn, after Rule 1a.
 ghost use Rattle.std.specs.Prelude.{◌≡◌, ◌∷◌, [], ℕ, true, List};
 ghost use Rattle.std.specs.List.{list_all, AllByRecursion};
-ghost use Rattle.cip_mol.specs.declared.outcome.Rule.TheVariants.{R1a};
+ghost use Rattle.cip_mol.specs.declared.labels.outcome.Rule.TheVariants.{R1a};
 ghost use Rattle.cip_digraph.specs.digraph.Digraph.{Node};
 ghost use Rattle.cip_digraph.specs.rules.Orders.{Seen, rule_1a};
 ghost use Rattle.cip_branches.specs.Deciding.{AreFollowed};
 ghost use Rattle.cip_partition.specs.Keys.{AreKeyed};
 ghost use Rattle.cip_branches.specs.Standing.{AreKeysOf};
-ghost use Rattle.cip_digraph.specs.declared.branch_pair.BranchPair.{BranchPair as AnyAsked};
+ghost use Rattle.cip_digraph.specs.declared.decisions.branch_pair.BranchPair.{BranchPair as AnyAsked};
 ghost use Rattle.cip_digraph.specs.Asking.{AreWithin, is_decided};
 ghost use Rattle.cip_rules.specs.Deciding.{AreDecidedBy, AreOfConstitution};
 ghost use Rattle.cip_rules.specs.Taking.{WantsNoMore};

@@ -2,7 +2,7 @@
 ghost use Rattle.std.specs.Prelude.{◌≡◌, ◌≤◌, ◌+◌, ◌^◌, ℕ, false, length, map, true};
 ghost use Rattle.std.specs.Cmp.{IsTotalOrder};
 ghost use Rattle.std.specs.List.{AllByRecursion};
-ghost use Rattle.cip_mol.specs.declared.outcome.Rule.TheVariants.{R4b};
+ghost use Rattle.cip_mol.specs.declared.labels.outcome.Rule.TheVariants.{R4b};
 ghost use Rattle.cip_digraph.specs.rules.Orders.{Seen, rule_4a};
 ghost use Rattle.cip_rank.specs.Comparison.{comparison};
 ghost use Rattle.cip_partition.specs.Keys.{AreKeyed};
@@ -10,11 +10,11 @@ ghost use Rattle.cip_branches.specs.Deciding.{AreFollowed};
 ghost use Rattle.cip_branches.specs.Standing.{node_in, AreKeysOf, StandsBy, WantedIn};
 ghost use Rattle.cip_branches.specs.Views.{IsEnded};
 ghost use Rattle.cip_digraph.specs.Asking.{AreWithin, with_found};
-ghost use Rattle.cip_rules.specs.DescriptorMap.{AreMarksOf};
+ghost use Rattle.cip_rules.specs.DescriptorMap.{AreDescriptorsOf};
 ghost use Rattle.cip_rules.specs.Orders.{decided_by, found_below};
 
 use crate::apply::apply_rule;
-use crate::descriptor_map::DescriptorMap;
+use crate::descriptor_rules::descriptor_map::DescriptorMap;
 use crate::rule_4b::{Rule4bWorkspace, take_both};
 use cip_branches::{Branches, NodeKeys};
 use cip_digraph::BranchPair;
@@ -61,22 +61,22 @@ pub trait NodeDescriptors: DescriptorMap {
 pub fn apply_rule_4b_to_nodes<M: NodeDescriptors>(
     branches: &Branches,
     readings: &mut Rule4bWorkspace,
-    marks: &M,
+    descriptors: &M,
     pairs: &mut [BranchPair],
 )
     requires followed { AreFollowed branches.now }
-    requires keyed { AreKeyed (length (M.marks marks.now)) branches.now.layers.place_tree }
+    requires keyed { AreKeyed (length (M.descriptors descriptors.now)) branches.now.layers.place_tree }
     requires room { length branches.now.layers.place_tree.place_parents ≤ readings.old.bound }
-    requires same { AreMarksOf (M.named marks.now) (M.seen marks.now).mark (M.marks marks.now) branches.now }
-    requires stands { StandsBy (M.seen marks.now).children (M.named marks.now)
-        (rule_4a (M.seen marks.now) (M.seen marks.now).height) branches.now }
-    requires ended { IsEnded (M.seen marks.now).children (node_in (M.named marks.now) branches.now)
+    requires same { AreDescriptorsOf (M.named descriptors.now) (M.seen descriptors.now).descriptor (M.descriptors descriptors.now) branches.now }
+    requires stands { StandsBy (M.seen descriptors.now).children (M.named descriptors.now)
+        (rule_4a (M.seen descriptors.now) (M.seen descriptors.now).height) branches.now }
+    requires ended { IsEnded (M.seen descriptors.now).children (node_in (M.named descriptors.now) branches.now)
         (WantedIn branches.now) branches.now.last }
-    requires tall { branches.now.last ≤ (M.seen marks.now).height }
+    requires tall { branches.now.last ≤ (M.seen descriptors.now).height }
     requires within { AllByRecursion (AreWithin (length branches.now.unresolved)) pairs.old }
-    ensures found { pairs.new ≡ map (with_found (decided_by (M.seen marks.now) true R4b
-        (node_in (M.named marks.now) branches.now))) pairs.old }
+    ensures found { pairs.new ≡ map (with_found (decided_by (M.seen descriptors.now) true R4b
+        (node_in (M.named descriptors.now) branches.now))) pairs.old }
     ensures bound { readings.new.bound ≡ readings.old.bound }
 {
-    take_both(branches, readings, marks, pairs);
+    take_both(branches, readings, descriptors, pairs);
 }

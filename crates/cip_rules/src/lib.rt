@@ -7,16 +7,12 @@
 //! `cip_digraph`.
 #![tactic(auto)]
 
-mod any_descriptor;
 mod apply;
 mod configuration;
 mod constitution;
-mod descriptor_keys;
-mod descriptor_map;
-mod descriptor_values;
+mod descriptor_rules;
 mod generic;
 mod keys;
-mod no_descriptors;
 mod recording;
 mod rule_4b;
 mod rule_5;
@@ -24,14 +20,14 @@ mod rule_5;
 pub use apply::apply_rule;
 pub use configuration::decide_configuration;
 pub use constitution::decide_constitution;
-pub use descriptor_keys::{DescriptorKeys, descriptor_value};
-pub use descriptor_map::DescriptorMap;
-pub use descriptor_values::{
+pub use descriptor_rules::descriptor_keys::{DescriptorKeys, descriptor_value};
+pub use descriptor_rules::descriptor_map::DescriptorMap;
+pub use descriptor_rules::descriptor_values::{
     compare_values, reference_value, rule_3_value, rule_4a_value, rule_4c_value, rule_5_value,
 };
+pub use descriptor_rules::no_descriptors::has_no_descriptors;
 pub use generic::{NodeDescriptors, apply_rule_4b_to_nodes, apply_rule_to_nodes};
 pub use keys::{ByAtom, ByDistance, ByMass};
-pub use no_descriptors::has_no_descriptors;
 pub use recording::record_decisions;
 pub use rule_4b::{Rule4bWorkspace, apply_rule_4b};
 pub use rule_5::apply_rule_5_both_ways;

@@ -1,27 +1,27 @@
 // Rule 4b, taken over both readings of branches.
 ghost use Rattle.std.specs.Prelude.{◌≡◌, ◌<◌, ◌≤◌, ◌+◌, ◌^◌, [], ℕ, Bool, false, IfOk, List, length, map, pos, true};
 ghost use Rattle.std.specs.List.{AllByRecursion, list_all, range_with_len};
-ghost use Rattle.cip_mol.specs.declared.outcome.Rule.{Rule as AnyRule};
-ghost use Rattle.cip_mol.specs.declared.outcome.Rule.TheVariants.{R4b};
+ghost use Rattle.cip_mol.specs.declared.labels.outcome.Rule.{Rule as AnyRule};
+ghost use Rattle.cip_mol.specs.declared.labels.outcome.Rule.TheVariants.{R4b};
 ghost use Rattle.cip_digraph.specs.digraph.Digraph.{Node};
 ghost use Rattle.cip_digraph.specs.rules.Orders.{Seen, rule_4a};
 ghost use Rattle.cip_branches.specs.Deciding.{AreFollowed};
 ghost use Rattle.cip_partition.specs.Parting.{has_flag};
 ghost use Rattle.cip_partition.specs.Keys.{AreKeyed};
 ghost use Rattle.cip_branches.specs.Twins.{twins_of, MayDouble};
-ghost use Rattle.cip_digraph.specs.declared.branch_pair.BranchPair.{BranchPair as AnyAsked};
+ghost use Rattle.cip_digraph.specs.declared.decisions.branch_pair.BranchPair.{BranchPair as AnyAsked};
 ghost use Rattle.cip_digraph.specs.Asking.{AreWithin, is_decided, with_found};
 ghost use Rattle.cip_rules.specs.Deciding.{AreDecidedBy};
-ghost use Rattle.cip_rules.specs.DescriptorMap.{AreMarksOf};
+ghost use Rattle.cip_rules.specs.DescriptorMap.{AreDescriptorsOf};
 ghost use Rattle.cip_rules.specs.Orders.{decided_by};
 ghost use Rattle.cip_rules.specs.Rule4bWorkspace.{twin_of, side_of, s_higher, base_of, reading_of, read_as, between};
 ghost use Rattle.cip_rules.specs.Rule4bWorkspace.{reading_key, reading_keys, AreTwinsAside, ComparesReadings, TakesReadings};
 ghost use Rattle.cip_rules.specs.Taking.{TakesRule};
 
-use crate::any_descriptor::any_descriptor_counts;
 use crate::apply::apply_rule;
-use crate::descriptor_map::DescriptorMap;
-use crate::descriptor_values::{compare_values, reference_value};
+use crate::descriptor_rules::any_descriptor::any_descriptor_counts;
+use crate::descriptor_rules::descriptor_map::DescriptorMap;
+use crate::descriptor_rules::descriptor_values::{compare_values, reference_value};
 use crate::recording::record_decisions;
 use cip_branches::{Branches, Checkpoint};
 use cip_digraph::{BranchPair, Decision, all_decided};
@@ -97,30 +97,34 @@ fn base_of(count: u32, reading: u32) -> u32
 }
 
 // What is like the reference at a place, or at the copy of one.
-fn reading_value<M: DescriptorMap>(branches: &Branches, marks: &M, place: u32) -> u8
-    requires keyed { AreKeyed (length (M.marks marks.now)) branches.now.layers.place_tree }
+fn reading_value<M: DescriptorMap>(branches: &Branches, descriptors: &M, place: u32) -> u8
+    requires keyed { AreKeyed (length (M.descriptors descriptors.now)) branches.now.layers.place_tree }
     requires place { place < length branches.now.layers.place_tree.place_parents + length branches.now.layers.place_tree.place_parents }
-    ensures { pos result ≡ reading_key (M.marks marks.now) branches.now.layers.place_tree.nodes
+    ensures { pos result ≡ reading_key (M.descriptors descriptors.now) branches.now.layers.place_tree.nodes
         (length branches.now.layers.place_tree.place_parents) place }
 {
     let count = branches.len();
     let node = branches.node(base_of(count, place));
-    reference_value(marks.mark(node), count <= place)
+    reference_value(descriptors.descriptor(node), count <= place)
 }
 
 // The same at all of them.
-fn write_values<M: DescriptorMap>(branches: &Branches, marks: &M, values: &mut ReservedVec<u8>)
-    requires keyed { AreKeyed (length (M.marks marks.now)) branches.now.layers.place_tree }
+fn write_values<M: DescriptorMap>(
+    branches: &Branches,
+    descriptors: &M,
+    values: &mut ReservedVec<u8>,
+)
+    requires keyed { AreKeyed (length (M.descriptors descriptors.now)) branches.now.layers.place_tree }
     requires few { length branches.now.layers.place_tree.place_parents + length branches.now.layers.place_tree.place_parents < 2 ^ 32 }
     requires room { length branches.now.layers.place_tree.place_parents + length branches.now.layers.place_tree.place_parents ≤ values.old.room }
     ensures len { length values.new.items ≡ length branches.now.layers.place_tree.place_parents + length branches.now.layers.place_tree.place_parents }
-    ensures values { map pos values.new.items ≡ reading_keys (M.marks marks.now) branches.now }
+    ensures values { map pos values.new.items ≡ reading_keys (M.descriptors descriptors.now) branches.now }
     ensures room { values.new.room ≡ values.old.room }
 {
     values.clear();
     let count = branches.len();
     for place in 0..count + count {
-        values.push(reading_value(branches, marks, place));
+        values.push(reading_value(branches, descriptors, place));
     }
 }
 
@@ -129,16 +133,16 @@ fn write_values<M: DescriptorMap>(branches: &Branches, marks: &M, values: &mut R
 #[derive(Drop)]
 struct ReadingKeys<'a, M: DescriptorMap> {
     branches: &'a Branches,
-    marks: &'a M,
+    descriptors: &'a M,
     values: &'a [u8],
     ghost len: { length values.now ≡ length branches.now.layers.place_tree.place_parents + length branches.now.layers.place_tree.place_parents },
-    ghost node_data: { map pos values.now ≡ reading_keys (M.marks marks.now) branches.now },
+    ghost node_data: { map pos values.now ≡ reading_keys (M.descriptors descriptors.now) branches.now },
 }
 
 impl<M: DescriptorMap> Keyed for ReadingKeys<'_, M> {
     ghost nodes = { λ keys. length keys.branches.now.layers.place_tree.place_parents + length keys.branches.now.layers.place_tree.place_parents };
 
-    ghost key = { λ keys. reading_keys (M.marks keys.marks.now) keys.branches.now };
+    ghost key = { λ keys. reading_keys (M.descriptors keys.descriptors.now) keys.branches.now };
 
     fn compare(&self, a: u32, b: u32) -> Ordering {
         compare_values(self.values[a as usize], self.values[b as usize])
@@ -378,7 +382,7 @@ fn take_with<M: DescriptorMap>(
     requires saved_room { length keys.now.branches.now.layers.place_tree.place_parents + length keys.now.branches.now.layers.place_tree.place_parents
         ≤ saved.old.room }
     requires sides_room { length keys.now.branches.now.unresolved ≤ sides.old.room }
-    ensures taken { TakesReadings keys.now.branches.now (M.marks keys.now.marks.now) pairs.old pairs.new }
+    ensures taken { TakesReadings keys.now.branches.now (M.descriptors keys.now.descriptors.now) pairs.old pairs.new }
     ensures room { twins.new.layers.place_tree.room ≡ twins.old.layers.place_tree.room }
     ensures saved_room { saved.new.room ≡ saved.old.room }
     ensures sides_room { sides.new.room ≡ sides.old.room }
@@ -397,23 +401,23 @@ fn take_with<M: DescriptorMap>(
 pub fn apply_rule_4b<M: DescriptorMap>(
     branches: &Branches,
     readings: &mut Rule4bWorkspace,
-    marks: &M,
+    descriptors: &M,
     pairs: &mut [BranchPair],
 )
     requires followed { AreFollowed branches.now }
-    requires keyed { AreKeyed (length (M.marks marks.now)) branches.now.layers.place_tree }
+    requires keyed { AreKeyed (length (M.descriptors descriptors.now)) branches.now.layers.place_tree }
     requires room { length branches.now.layers.place_tree.place_parents ≤ readings.old.bound }
     ensures found { (seen : Seen Node) (named node : ℕ → Node) (count : ℕ) (begin : List AnyAsked)
         (rules : List AnyRule) → AllByRecursion (AreWithin count) begin
         → AreDecidedBy seen true named node count begin rules (rule_4a seen seen.height) branches.now pairs.old
-        → AreMarksOf named seen.mark (M.marks marks.now) branches.now
+        → AreDescriptorsOf named seen.descriptor (M.descriptors descriptors.now) branches.now
         → pairs.new ≡ map (with_found (decided_by seen true R4b node)) pairs.old }
     ensures bound { readings.new.bound ≡ readings.old.bound }
 {
     // Counting the places says that branches can be doubled.
     let _places = branches.count();
-    if any_descriptor_counts(branches, marks, Rule::R5) {
-        take_both(branches, readings, marks, pairs);
+    if any_descriptor_counts(branches, descriptors, Rule::R5) {
+        take_both(branches, readings, descriptors, pairs);
     } else {
         record_decisions(branches, Rule::R4b, 0, pairs);
     }
@@ -423,14 +427,14 @@ pub fn apply_rule_4b<M: DescriptorMap>(
 pub(crate) fn take_both<M: DescriptorMap>(
     branches: &Branches,
     readings: &mut Rule4bWorkspace,
-    marks: &M,
+    descriptors: &M,
     pairs: &mut [BranchPair],
 )
     requires followed { AreFollowed branches.now }
-    requires keyed { AreKeyed (length (M.marks marks.now)) branches.now.layers.place_tree }
+    requires keyed { AreKeyed (length (M.descriptors descriptors.now)) branches.now.layers.place_tree }
     requires room { length branches.now.layers.place_tree.place_parents ≤ readings.old.bound }
     ensures none { length branches.now.layers.place_tree.place_parents ≡ 0 → pairs.new ≡ pairs.old }
-    ensures taken { 0 < length branches.now.layers.place_tree.place_parents → TakesReadings branches.now (M.marks marks.now) pairs.old
+    ensures taken { 0 < length branches.now.layers.place_tree.place_parents → TakesReadings branches.now (M.descriptors descriptors.now) pairs.old
         pairs.new }
     ensures may { 0 < length branches.now.layers.place_tree.place_parents → MayDouble branches.now }
     ensures tops { length branches.now.unresolved ≤ length branches.now.layers.place_tree.place_parents }
@@ -438,10 +442,10 @@ pub(crate) fn take_both<M: DescriptorMap>(
 {
     if branches.len() > 0 {
         let _branches = branches.branch_count();
-        write_values(branches, marks, &mut readings.values);
+        write_values(branches, descriptors, &mut readings.values);
         let keys = ReadingKeys {
             branches,
-            marks,
+            descriptors,
             values: readings.values.as_slice(),
         };
         take_with(

@@ -1,6 +1,6 @@
 // Rule 5, taken both ways from the same numbers.
 ghost use Rattle.std.specs.Prelude.{◌≡◌, ◌≤◌, length};
-ghost use Rattle.cip_mol.specs.declared.outcome.Rule.TheVariants.{R5};
+ghost use Rattle.cip_mol.specs.declared.labels.outcome.Rule.TheVariants.{R5};
 ghost use Rattle.cip_branches.specs.Deciding.{AreFollowed};
 ghost use Rattle.cip_partition.specs.Keys.{AreKeyed};
 ghost use Rattle.cip_rules.specs.Taking.{TakesOnce, TakesRule};

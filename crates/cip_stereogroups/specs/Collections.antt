@@ -4,7 +4,7 @@
 use Rattle.std.specs.Prelude.{◌≡◌, ℕ, List, [], ◌∷◌, false, not, Some, None, Result, Ok, Err, if◌then◌else◌}
 use Rattle.std.specs.declared.option.Option.{Option}
 use Rattle.cip_ctfile.specs.Reading.{◌>>=◌}
-use Rattle.cip_v3000.specs.declared.block_lines.BlockLine.TheVariants.{BeginCollection, EndCollection, EndTable}
+use Rattle.cip_v3000.specs.declared.lines.block_lines.BlockLine.TheVariants.{BeginCollection, EndCollection, EndTable}
 use Rattle.cip_v3000.specs.Frames.{is_frame}
 use Rattle.cip_v3000.specs.Grammar.{words_in}
 use Rattle.cip_v3000.specs.JoinedLines.{LogicalLine}

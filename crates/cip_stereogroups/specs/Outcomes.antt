@@ -4,7 +4,7 @@ use Rattle.std.specs.Prelude.{◌≡◌, ℕ, List, [], ◌∷◌, Bool, map, fl
 use Rattle.std.specs.declared.option.Option.{Option}
 use Rattle.std.specs.List.{find}
 use Rattle.std.specs.Option.{option_map}
-use Rattle.cip_mol.specs.declared.outcome.Outcome.{Outcome}
+use Rattle.cip_mol.specs.declared.labels.outcome.Outcome.{Outcome}
 use Rattle.cip_mol.specs.declared.site.Unit as units
 use Rattle.cip_digraph.specs.units.Inverted.{is_centre_among, inverted}
 use Rattle.cip_label.specs.Settings.{LabelContext, outcome_in}

@@ -1,7 +1,7 @@
 -- What is written for a record that is refused, or whose groups are, in memory. Own.
 use Rattle.std.specs.Prelude.{◌≡◌, true}
-use Rattle.cip_mol.specs.declared.refusal.ReadRefusal.{ReadRefusal}
-use Rattle.cip_mol.specs.declared.refusal.ReadRefusal.TheVariants as refusals
+use Rattle.cip_mol.specs.declared.labels.refusal.ReadRefusal.{ReadRefusal}
+use Rattle.cip_mol.specs.declared.labels.refusal.ReadRefusal.TheVariants as refusals
 use Rattle.cip_stereogroups.specs.declared.faults.GroupRefusal.{GroupRefusal}
 use Rattle.cip_stereogroups.specs.declared.faults.GroupRefusal.TheVariants as group_refusals
 use Rattle.cip_stereogroups.specs.declared.group_text.GroupText.{GroupText}

@@ -2,7 +2,7 @@
 ghost use Rattle.std.specs.Prelude.{◌≡◌, ◌≤◌, IfOk, Ok, Some, length, map, if◌then◌else◌};
 ghost use Rattle.std.specs.Result.{result_map_both};
 ghost use Rattle.cip_text.specs.Slices.{texts};
-ghost use Rattle.cip_v3000.specs.declared.block_lines.BlockLine.TheVariants.{EndTable};
+ghost use Rattle.cip_v3000.specs.declared.lines.block_lines.BlockLine.TheVariants.{EndTable};
 ghost use Rattle.cip_v3000.specs.Frames.{is_frame};
 ghost use Rattle.cip_v3000.specs.Grammar.{words_in};
 ghost use Rattle.cip_v3000.specs.Joining.{seen};
@@ -10,9 +10,9 @@ ghost use Rattle.cip_v3000.specs.Tables.{seen_table};
 ghost use Rattle.cip_stereogroups.specs.Collections.{with_atoms, with_kind, with_words, with_joined, groups_from, groups_of};
 ghost use Rattle.cip_stereogroups.specs.Reading.{Gives};
 
-use crate::atom_index::AtomIndex;
-use crate::atom_lists::{atoms_of, names_of, take_all};
-use crate::atom_set::AtomSet;
+use crate::atoms::atom_index::AtomIndex;
+use crate::atoms::atom_lists::{atoms_of, names_of, take_all};
+use crate::atoms::atom_set::AtomSet;
 use crate::faults::{GroupCause, GroupRefusal, refused};
 use crate::groups::{Groups, NamedGroups};
 use crate::kinds::{GroupKind, kind_of};

@@ -6,9 +6,7 @@
 //! labeller of `cip_label`.
 #![tactic(auto)]
 
-mod atom_index;
-mod atom_lists;
-mod atom_set;
+mod atoms;
 mod centre_index;
 mod collection_blocks;
 mod faults;

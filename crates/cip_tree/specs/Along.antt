@@ -1,6 +1,6 @@
 -- What hangs below the real node at the end of a path, by that path. Own.
 use Rattle.std.specs.Prelude.{ℕ, ◌-◌, ◌==◌, ◌&&◌, Bool, cond, List, [], ◌∷◌, ◌++◌, drop, replicate, slice_index}
-use Rattle.cip_digraph.specs.declared.graph.Edge.{Edge}
+use Rattle.cip_digraph.specs.declared.drawing.graph.Edge.{Edge}
 use Rattle.cip_digraph.specs.declared.nodes.NodeKind.TheVariants.{Closure, Multiple, Delocalised}
 use Rattle.cip_digraph.specs.digraph.Digraph.{Node, duplicate, begins_with}
 use Rattle.cip_digraph.specs.digraph.View.{real_at}

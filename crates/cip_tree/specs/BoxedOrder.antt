@@ -2,9 +2,9 @@
 use Rattle.std.specs.Prelude.{ℕ, ◌+◌, pos, true, None, Some, [], ◌∷◌, slice_index_or}
 use Rattle.std.specs.declared.option.Option.{Option}
 use Rattle.cip_rank.specs.declared.rules.Rules.{Rules}
-use Rattle.cip_mol.specs.declared.outcome.Rule.{Rule}
-use Rattle.cip_mol.specs.declared.outcome.Rule.TheVariants.{R1a, R1b, R2}
-use Rattle.cip_digraph.specs.declared.decision.Decision.{Decision}
+use Rattle.cip_mol.specs.declared.labels.outcome.Rule.{Rule}
+use Rattle.cip_mol.specs.declared.labels.outcome.Rule.TheVariants.{R1a, R1b, R2}
+use Rattle.cip_digraph.specs.declared.decisions.decision.Decision.{Decision}
 use Rattle.cip_digraph.specs.rules.Decisions.{Difference, difference_by, first_decision}
 use Rattle.cip_digraph.specs.rules.Keys.{lower_precedes}
 use Rattle.cip_digraph.specs.rules.Orders.{Seen}
@@ -17,7 +17,7 @@ seen_in rules tree = record {
   atomic = λ branch. pos branch.label.atomic;
   distance = λ branch. lower_precedes (distance rules branch.label);
   mass = λ branch. pos branch.label.mass;
-  mark = λ branch. None;
+  descriptor = λ branch. None;
 }
 
 -- what a rule decides where it finds this difference

@@ -6,7 +6,7 @@ use Rattle.std.proofs.Common.{ap, ◌∙◌}
 use Rattle.cip_tree.specs.Branches.{Label, Branches, none, more, Branch}
 use Rattle.cip_tree.specs.FlatTree.{Placed}
 
--- a label for each branch, with what is below it and then what is after it, and a mark where branches end
+-- a label for each branch, with what is below it and then what is after it, and nothing where branches end
 abbrev pub written : Branches → List (Option Label) → List (Option Label)
 written none rest = None ∷ rest
 written (more label below others) rest = Some label ∷ written below (written others rest)
@@ -18,8 +18,8 @@ joined label (below ∷ others ∷ rest) = more label below others ∷ rest
 
 abbrev pub read : List (Option Label) → List Branches
 read [] = []
-read (None ∷ marks) = none ∷ read marks
-read (Some label ∷ marks) = joined label (read marks)
+read (None ∷ others) = none ∷ read others
+read (Some label ∷ others) = joined label (read others)
 
 abbrev pub first : List Branches → Branches
 first [] = none
@@ -34,7 +34,7 @@ abbrev pub branch_code : Coded Label → Coded Branch
 branch_code label_code =
     code_by (Label × List (Option Label)) (coded× label_code (coded_list (coded_option label_code)))
     (λ branch. (branch.label, written branch.below []))
-    (λ marks. record { label = marks.0; below = first (read marks.1) })
+    (λ both. record { label = both.0; below = first (read both.1) })
     (λ branch. ap (λ bs. record { label = branch.label; below = first bs }) (read_written branch.below []))
 
 abbrev pub placed_code : Coded Label → Coded Placed

@@ -4,7 +4,7 @@ use Rattle.cip_item.specs.Parts.{without_label_items}
 use Rattle.cip_text.specs.Bodies.{body_contents}
 use Rattle.cip_rank.specs.declared.rules.Rules.{Rules}
 use Rattle.cip_mol.specs.Drawing.{Drawing}
-use Rattle.cip_mol.specs.declared.refusal.ReadFault.{ReadFault}
+use Rattle.cip_mol.specs.declared.labels.refusal.ReadFault.{ReadFault}
 use Rattle.cip_label.specs.Settings.{LabelContext, setting_in}
 use Rattle.cip_molfile.specs.Molecules.{read_molecule}
 use Rattle.cip_undefined.specs.Ties.{told_units}

@@ -1,9 +1,9 @@
 -- An undefined unit is open, ties or is over whichever sense is shown. Own.
 use Rattle.std.specs.Prelude.{◌≡◌, ℕ}
-use Rattle.cip_mol.specs.declared.descriptor.Descriptor.TheVariants.{R}
-use Rattle.cip_mol.specs.declared.descriptor.Sense.{Sense}
-use Rattle.cip_mol.specs.declared.outcome.Outcome.{Outcome}
-use Rattle.cip_mol.specs.declared.outcome.Outcome.TheVariants.{Label, Tie, Over, NoGeometry}
+use Rattle.cip_mol.specs.declared.labels.descriptor.Descriptor.TheVariants.{R}
+use Rattle.cip_mol.specs.declared.labels.descriptor.Sense.{Sense}
+use Rattle.cip_mol.specs.declared.labels.outcome.Outcome.{Outcome}
+use Rattle.cip_mol.specs.declared.labels.outcome.Outcome.TheVariants.{Label, Tie, Over, NoGeometry}
 use Rattle.cip_mol.specs.declared.site.Site.{Site}
 use Rattle.cip_label.specs.Settings.{LabelContext, known_in}
 use Rattle.cip_undefined.specs.UndefinedUnits.{open_outcome}

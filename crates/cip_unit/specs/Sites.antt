@@ -14,8 +14,8 @@ use Rattle.cip_digraph.specs.units.DoubleBonds.{bond_site, bond_sites, is_bond_e
 use Rattle.cip_digraph.specs.graph.Graph.{Graph, edges_at, other_end, vertex_at}
 use Rattle.cip_digraph.specs.rings.Positions.{is_delocalised}
 use Rattle.cip_digraph.specs.units.Units.{centre_site}
-use Rattle.cip_digraph.specs.declared.graph.Edge.{Edge}
-use Rattle.cip_digraph.specs.declared.graph.Vertex.{Vertex}
+use Rattle.cip_digraph.specs.declared.drawing.graph.Edge.{Edge}
+use Rattle.cip_digraph.specs.declared.drawing.graph.Vertex.{Vertex}
 
 -- the units of some sites, with what a drawing shows of each
 abbrev pub units_at : Drawing → List Site → List units.Unit

@@ -8,8 +8,8 @@ use Rattle.cip_elem.specs.Symbols.{element_of}
 use Rattle.cip_elem.specs.Masses.{reference_mass_of}
 use Rattle.cip_elem.specs.declared.symbols.Element.{Element}
 use Rattle.cip_mol.specs.Ranges.{IsAtom}
-use Rattle.cip_mol.specs.declared.refusal.ReadCause.{ReadCause}
-use Rattle.cip_mol.specs.declared.refusal.ReadCause.TheVariants.{Symbol, AtomField}
+use Rattle.cip_mol.specs.declared.labels.refusal.ReadCause.{ReadCause}
+use Rattle.cip_mol.specs.declared.labels.refusal.ReadCause.TheVariants.{Symbol, AtomField}
 use Rattle.cip_v2000.specs.declared.atoms.AtomLine.{AtomLine}
 use Rattle.cip_ctfile.specs.Causes.{coordinate}
 use Rattle.cip_ctfile.specs.Fields.{number_in, signed_in}

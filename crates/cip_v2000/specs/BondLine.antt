@@ -4,11 +4,11 @@ use Rattle.std.specs.declared.option.Option.{Option}
 use Rattle.std.specs.Option.{ok_or}
 use Rattle.cip_text.specs.Columns.{field}
 use Rattle.cip_mol.specs.Bonds.{cause_of}
-use Rattle.cip_mol.specs.declared.molecule.Bond.{Bond}
-use Rattle.cip_mol.specs.declared.molecule.Mark.{Mark}
-use Rattle.cip_mol.specs.declared.molecule.Mark.TheVariants.{Plain, Up, Down, Either}
-use Rattle.cip_mol.specs.declared.refusal.ReadCause.{ReadCause}
-use Rattle.cip_mol.specs.declared.refusal.ReadCause.TheVariants.{BondEnd, BondType, BondMark}
+use Rattle.cip_mol.specs.declared.graph.molecule.Bond.{Bond}
+use Rattle.cip_mol.specs.declared.graph.molecule.Mark.{Mark}
+use Rattle.cip_mol.specs.declared.graph.molecule.Mark.TheVariants.{Plain, Up, Down, Either}
+use Rattle.cip_mol.specs.declared.labels.refusal.ReadCause.{ReadCause}
+use Rattle.cip_mol.specs.declared.labels.refusal.ReadCause.TheVariants.{BondEnd, BondType, BondMark}
 use Rattle.cip_ctfile.specs.Causes.{order_of, unless_refused}
 use Rattle.cip_ctfile.specs.Fields.{number_in, one_based_index}
 use Rattle.cip_ctfile.specs.Reading.{◌>>=◌}

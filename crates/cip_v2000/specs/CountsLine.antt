@@ -2,8 +2,8 @@
 use Rattle.std.specs.Prelude.{ℕ, List, Result, Ok}
 use Rattle.std.specs.Option.{ok_or}
 use Rattle.cip_text.specs.Columns.{field}
-use Rattle.cip_mol.specs.declared.refusal.ReadCause.{ReadCause}
-use Rattle.cip_mol.specs.declared.refusal.ReadCause.TheVariants.{Version, Counts}
+use Rattle.cip_mol.specs.declared.labels.refusal.ReadCause.{ReadCause}
+use Rattle.cip_mol.specs.declared.labels.refusal.ReadCause.TheVariants.{Version, Counts}
 use Rattle.cip_v2000.specs.declared.counts.CountsLine.{CountsLine}
 use Rattle.cip_ctfile.specs.Causes.{guard}
 use Rattle.cip_ctfile.specs.Fields.{number_in}

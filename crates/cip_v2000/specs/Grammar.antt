@@ -3,9 +3,9 @@
 use Rattle.std.specs.Prelude.{ℕ, List, [], ◌∷◌, ◌+◌, length, drop, Result, Ok, Err, if◌then◌else◌}
 use Rattle.cip_text.specs.Kinds.{is_molecule_end}
 use Rattle.cip_mol.specs.Drawing.{Drawing}
-use Rattle.cip_mol.specs.declared.molecule.Bond.{Bond}
-use Rattle.cip_mol.specs.declared.refusal.ReadCause.TheVariants.{Short, Property}
-use Rattle.cip_mol.specs.declared.refusal.ReadFault.{ReadFault}
+use Rattle.cip_mol.specs.declared.graph.molecule.Bond.{Bond}
+use Rattle.cip_mol.specs.declared.labels.refusal.ReadCause.TheVariants.{Short, Property}
+use Rattle.cip_mol.specs.declared.labels.refusal.ReadFault.{ReadFault}
 use Rattle.cip_v2000.specs.declared.atoms.AtomLine.{AtomLine}
 use Rattle.cip_v2000.specs.declared.atom_properties.Pair.{Pair}
 use Rattle.cip_v2000.specs.declared.counts.CountsLine.{CountsLine}

@@ -4,7 +4,7 @@ use Rattle.std.specs.Prelude.{ℕ, List, [], ◌∷◌, ◌+◌, ◌*◌, Some, 
 use Rattle.std.specs.declared.option.Option.{Option}
 use Rattle.std.specs.Option.{ok_or, option_map}
 use Rattle.std.specs.Str.{bytes_eq}
-use Rattle.cip_mol.specs.declared.refusal.ReadFault.{ReadFault}
+use Rattle.cip_mol.specs.declared.labels.refusal.ReadFault.{ReadFault}
 use Rattle.cip_v2000.specs.declared.properties.Property.{Property}
 use Rattle.cip_v2000.specs.declared.properties.Property.TheVariants as property
 use Rattle.cip_v2000.specs.declared.atom_properties.AtomProperty.{AtomProperty}

@@ -3,7 +3,7 @@
 use Rattle.std.specs.Prelude.{◌≤◌, unsigned_abs, pos, List, Bool, true, false, not, Some, None, map, fold, slice_get, slice_set, if◌then◌else◌}
 use Rattle.std.specs.declared.option.Option.{Option}
 use Rattle.std.specs.List.{list_any}
-use Rattle.cip_mol.specs.declared.molecule.Atom.{Atom}
+use Rattle.cip_mol.specs.declared.graph.molecule.Atom.{Atom}
 use Rattle.cip_v2000.specs.declared.atoms.AtomLine.{AtomLine}
 use Rattle.cip_v2000.specs.declared.atom_properties.AtomProperty.{AtomProperty}
 use Rattle.cip_v2000.specs.declared.atom_properties.AtomProperty.TheVariants.{Charge, Radical, Isotope}

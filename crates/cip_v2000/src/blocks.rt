@@ -1,6 +1,6 @@
 // The blocks of a molfile.
 ghost use Rattle.std.specs.Prelude.{◌≡◌, ◌≤◌, ◌<◌, ◌+◌, ◌^◌, ◌-◌, [], All, length, slice_get, IfErr, IfOk, Some, None};
-ghost use Rattle.cip_mol.specs.declared.refusal.ReadCause.TheVariants.{Short};
+ghost use Rattle.cip_mol.specs.declared.labels.refusal.ReadCause.TheVariants.{Short};
 ghost use Rattle.cip_text.specs.Slices.{texts};
 ghost use Rattle.cip_mol.specs.Ranges.{IsBond};
 ghost use Rattle.cip_v2000.specs.AtomLine.{atom_of, IsAtomLine};

@@ -10,9 +10,9 @@ use Rattle.cip_text.specs.declared.numbers.NumberFault.TheVariants.{Empty, NotAN
 use Rattle.cip_elem.specs.Symbols.{element_of}
 use Rattle.cip_num.specs.declared.plane.Vec3.{Vec3}
 use Rattle.cip_mol.specs.Ranges.{IsAtom}
-use Rattle.cip_mol.specs.declared.molecule.Atom.{Atom}
-use Rattle.cip_mol.specs.declared.refusal.ReadCause.{ReadCause}
-use Rattle.cip_mol.specs.declared.refusal.ReadCause.TheVariants.{Symbol, Frame, Index, KeyValue}
+use Rattle.cip_mol.specs.declared.graph.molecule.Atom.{Atom}
+use Rattle.cip_mol.specs.declared.labels.refusal.ReadCause.{ReadCause}
+use Rattle.cip_mol.specs.declared.labels.refusal.ReadCause.TheVariants.{Symbol, Frame, Index, KeyValue}
 use Rattle.cip_ctfile.specs.Causes.{guard, coordinate}
 use Rattle.cip_ctfile.specs.Fields.{parse_number}
 use Rattle.cip_ctfile.specs.Reading.{◌>>=◌}

@@ -8,11 +8,11 @@ use Rattle.std.specs.Str.{bytes_eq}
 use Rattle.cip_mol.specs.Bonds.{cause_of}
 use Rattle.cip_mol.specs.Connections.{Connections}
 use Rattle.cip_mol.specs.Ranges.{IsBond}
-use Rattle.cip_mol.specs.declared.molecule.Bond.{Bond}
-use Rattle.cip_mol.specs.declared.molecule.Mark.{Mark}
-use Rattle.cip_mol.specs.declared.molecule.Mark.TheVariants.{Plain, Up, Down, Either}
-use Rattle.cip_mol.specs.declared.refusal.ReadCause.{ReadCause}
-use Rattle.cip_mol.specs.declared.refusal.ReadCause.TheVariants.{BondEnd, BondType, BondMark, Frame, KeyValue}
+use Rattle.cip_mol.specs.declared.graph.molecule.Bond.{Bond}
+use Rattle.cip_mol.specs.declared.graph.molecule.Mark.{Mark}
+use Rattle.cip_mol.specs.declared.graph.molecule.Mark.TheVariants.{Plain, Up, Down, Either}
+use Rattle.cip_mol.specs.declared.labels.refusal.ReadCause.{ReadCause}
+use Rattle.cip_mol.specs.declared.labels.refusal.ReadCause.TheVariants.{BondEnd, BondType, BondMark, Frame, KeyValue}
 use Rattle.cip_ctfile.specs.Causes.{guard, order_of, unless_refused, IsFree}
 use Rattle.cip_ctfile.specs.Fields.{parse_number}
 use Rattle.cip_ctfile.specs.Reading.{◌>>=◌}

@@ -3,12 +3,12 @@ use Rattle.std.specs.Prelude.{◌≤◌, ℕ, List, [], ◌∷◌, Bool, false, 
 use Rattle.std.specs.declared.option.Option.{Option}
 use Rattle.std.specs.Option.{ok_or}
 use Rattle.std.specs.Str.{bytes_eq}
-use Rattle.cip_mol.specs.declared.refusal.ReadCause.{ReadCause}
-use Rattle.cip_mol.specs.declared.refusal.ReadCause.TheVariants.{Counts, Frame}
+use Rattle.cip_mol.specs.declared.labels.refusal.ReadCause.{ReadCause}
+use Rattle.cip_mol.specs.declared.labels.refusal.ReadCause.TheVariants.{Counts, Frame}
 use Rattle.cip_ctfile.specs.Causes.{guard}
 use Rattle.cip_ctfile.specs.Fields.{parse_number}
 use Rattle.cip_ctfile.specs.Reading.{◌>>=◌}
-use Rattle.cip_v3000.specs.declared.counts.CountsLine.{CountsLine}
+use Rattle.cip_v3000.specs.declared.values.counts.CountsLine.{CountsLine}
 
 abbrev pub is_counts : List (List ℕ) → Bool
 is_counts [] = false

@@ -5,18 +5,18 @@ use Rattle.std.specs.declared.option.Option.{Option}
 use Rattle.std.specs.List.{list_any}
 use Rattle.cip_text.specs.Kinds.{is_molecule_end}
 use Rattle.cip_mol.specs.Drawing.{Drawing}
-use Rattle.cip_mol.specs.declared.molecule.Atom.{Atom}
-use Rattle.cip_mol.specs.declared.molecule.Bond.{Bond}
-use Rattle.cip_mol.specs.declared.refusal.ReadCause.{ReadCause}
-use Rattle.cip_mol.specs.declared.refusal.ReadCause.TheVariants.{Short, Frame}
-use Rattle.cip_mol.specs.declared.refusal.ReadFault.{ReadFault}
+use Rattle.cip_mol.specs.declared.graph.molecule.Atom.{Atom}
+use Rattle.cip_mol.specs.declared.graph.molecule.Bond.{Bond}
+use Rattle.cip_mol.specs.declared.labels.refusal.ReadCause.{ReadCause}
+use Rattle.cip_mol.specs.declared.labels.refusal.ReadCause.TheVariants.{Short, Frame}
+use Rattle.cip_mol.specs.declared.labels.refusal.ReadFault.{ReadFault}
 use Rattle.cip_ctfile.specs.Causes.{guard}
 use Rattle.cip_ctfile.specs.Reading.{◌>>=◌, numbered, through}
 use Rattle.cip_v3000.specs.AtomLine.{atom_of}
 use Rattle.cip_v3000.specs.BondLine.{bond_of}
 use Rattle.cip_v3000.specs.CountsLine.{counts_of}
-use Rattle.cip_v3000.specs.declared.block_lines.BlockLine.{BlockLine}
-use Rattle.cip_v3000.specs.declared.block_lines.BlockLine.TheVariants.{BeginTable, BeginAtoms, EndAtoms, BeginBonds, EndBonds, EndTable}
+use Rattle.cip_v3000.specs.declared.lines.block_lines.BlockLine.{BlockLine}
+use Rattle.cip_v3000.specs.declared.lines.block_lines.BlockLine.TheVariants.{BeginTable, BeginAtoms, EndAtoms, BeginBonds, EndBonds, EndTable}
 use Rattle.cip_v3000.specs.Frames.{is_frame}
 use Rattle.cip_v3000.specs.JoinedLines.{LogicalLine, JoinedLines, text_of, next_number, logical_lines}
 use Rattle.cip_v3000.specs.Words.{words_of}

@@ -4,8 +4,8 @@ use Rattle.std.specs.Prelude.{ℕ, List, Bool, not, nat_eq, [], ◌∷◌, ◌++
 use Rattle.std.specs.List.{ends_with, flat_map}
 use Rattle.std.specs.Str.{bytes_eq}
 use Rattle.cip_text.specs.Columns.{trim_end_spaces}
-use Rattle.cip_mol.specs.declared.refusal.ReadCause.TheVariants.{Short, Frame}
-use Rattle.cip_mol.specs.declared.refusal.ReadFault.{ReadFault}
+use Rattle.cip_mol.specs.declared.labels.refusal.ReadCause.TheVariants.{Short, Frame}
+use Rattle.cip_mol.specs.declared.labels.refusal.ReadFault.{ReadFault}
 
 abbrev pub begins_v30 : List ℕ → Bool
 begins_v30 line = bytes_eq (take 7 line) (codes "M  V30 ")

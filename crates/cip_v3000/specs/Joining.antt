@@ -2,11 +2,11 @@
 use Rattle.std.specs.Prelude.{ℕ, List, ◌<◌, ◌++◌, ◌+◌, ◌-◌, ◌^◌, length, take, drop, map}
 use Rattle.std.specs.Borrow.{Bor}
 use Rattle.cip_text.specs.Slices.{texts}
-use Rattle.cip_mol.specs.declared.refusal.ReadFault.{ReadFault}
-use Rattle.cip_v3000.specs.declared.continuation.LogicalLine as declared_line
-use Rattle.cip_v3000.specs.declared.continuation.JoinedLines as declared_lines
-use Rattle.cip_v3000.specs.declared.continuation.Text.{Text}
-use Rattle.cip_v3000.specs.declared.continuation.Text.TheVariants.{Whole, Joined}
+use Rattle.cip_mol.specs.declared.labels.refusal.ReadFault.{ReadFault}
+use Rattle.cip_v3000.specs.declared.lines.continuation.LogicalLine as declared_line
+use Rattle.cip_v3000.specs.declared.lines.continuation.JoinedLines as declared_lines
+use Rattle.cip_v3000.specs.declared.lines.continuation.Text.{Text}
+use Rattle.cip_v3000.specs.declared.lines.continuation.Text.TheVariants.{Whole, Joined}
 use Rattle.cip_v3000.specs.JoinedLines.{LogicalLine, JoinedLines, next_number, joined_from}
 
 abbrev pub seen : declared_line.LogicalLine → LogicalLine

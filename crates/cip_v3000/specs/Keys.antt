@@ -3,12 +3,12 @@
 use Rattle.std.specs.Prelude.{◌≤◌, ℕ, ℤ, pos, negsuc, unsigned_abs, List, Result, Ok, codes, if◌then◌else◌}
 use Rattle.std.specs.Option.{ok_or}
 use Rattle.std.specs.Str.{bytes_eq}
-use Rattle.cip_mol.specs.declared.refusal.ReadCause.{ReadCause}
-use Rattle.cip_mol.specs.declared.refusal.ReadCause.TheVariants.{KeyValue}
+use Rattle.cip_mol.specs.declared.labels.refusal.ReadCause.{ReadCause}
+use Rattle.cip_mol.specs.declared.labels.refusal.ReadCause.TheVariants.{KeyValue}
 use Rattle.cip_ctfile.specs.Fields.{parse_number, parse_signed}
 use Rattle.cip_ctfile.specs.Reading.{◌>>=◌}
 use Rattle.cip_ctfile.specs.Turns.{over}
-use Rattle.cip_v3000.specs.declared.keys.AtomKeys.{AtomKeys}
+use Rattle.cip_v3000.specs.declared.values.keys.AtomKeys.{AtomKeys}
 use Rattle.cip_v3000.specs.Words.{keyed}
 
 -- VAL=-1 says that there is no valence, which the mark 15 says

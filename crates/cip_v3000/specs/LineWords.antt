@@ -8,7 +8,7 @@ use Rattle.cip_v3000.specs.declared.atoms.AtomWords.{AtomWords}
 use Rattle.cip_v3000.specs.declared.bonds.BondWords.{BondWords}
 use Rattle.cip_num.specs.declared.plane.Vec3.{Vec3}
 use Rattle.cip_mol.specs.Ranges.{IsPlace}
-use Rattle.cip_mol.specs.declared.refusal.ReadCause.{ReadCause}
+use Rattle.cip_mol.specs.declared.labels.refusal.ReadCause.{ReadCause}
 use Rattle.cip_ctfile.specs.Fields.{parse_number}
 use Rattle.cip_v3000.specs.AtomLine.{word_at, point_of}
 use Rattle.cip_v3000.specs.Words.{words_of}

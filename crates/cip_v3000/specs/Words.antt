@@ -2,8 +2,8 @@
 -- is own.
 use Rattle.std.specs.Prelude.{ℕ, List, [], ◌∷◌, ◌++◌, ◌+◌, ◌==◌, ◌&&◌, Bool, true, false, length, take, drop, position, Some, None, if◌then◌else◌}
 use Rattle.std.specs.declared.option.Option.{Option}
-use Rattle.cip_v3000.specs.declared.word_splitter.QuoteState.{QuoteState}
-use Rattle.cip_v3000.specs.declared.word_splitter.QuoteState.TheVariants.{Plain, Bracket, Quote}
+use Rattle.cip_v3000.specs.declared.lines.word_splitter.QuoteState.{QuoteState}
+use Rattle.cip_v3000.specs.declared.lines.word_splitter.QuoteState.TheVariants.{Plain, Bracket, Quote}
 
 -- what a byte after this one is in; a quote in brackets and a bracket between quotes are plain text
 abbrev pub after : QuoteState → ℕ → QuoteState

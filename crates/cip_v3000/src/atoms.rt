@@ -7,9 +7,9 @@ ghost use Rattle.cip_v3000.specs.LineWords.{AreAtomWords};
 ghost use Rattle.cip_v3000.specs.Words.{words_of};
 
 use crate::atom_indices::{AtomIndices, GREATEST, new_index};
-use crate::keys::{AtomKeys, atom_keys};
-use crate::numbers::{next_number, next_point};
-use crate::word_splitter::next_word;
+use crate::lines::word_splitter::next_word;
+use crate::values::keys::{AtomKeys, atom_keys};
+use crate::values::numbers::{next_number, next_point};
 use cip_elem::number_of;
 use cip_mol::{Atom, ReadCause};
 use cip_num::Vec3;

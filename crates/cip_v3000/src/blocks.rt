@@ -8,9 +8,9 @@ ghost use Rattle.cip_v3000.specs.Grammar.{atom_block, atom_row, bond_row, bond_r
 ghost use Rattle.cip_v3000.specs.Joining.{seen, seen_all, IsNumbered};
 
 use crate::atom_indices::AtomIndices;
-use crate::block_lines::BlockLine;
-use crate::continuation::{JoinedLines, LogicalLine};
-use crate::rows::{atom_line, bond_line, expect_block_line, is_framed};
+use crate::lines::block_lines::BlockLine;
+use crate::lines::continuation::{JoinedLines, LogicalLine};
+use crate::lines::rows::{atom_line, bond_line, expect_block_line, is_framed};
 use cip_ctfile::missing_line_fault;
 use cip_mol::{Atom, BondList, ReadFault, ReadRefusal};
 use cip_text::is_molecule_end;

@@ -1,7 +1,7 @@
 // Bond lines.
 ghost use Rattle.std.specs.Prelude.{◌≡◌, ◌≤◌, ◌<◌, false, length, nat_lt, IfOk, IfSome, IsNone};
 ghost use Rattle.cip_mol.specs.Ranges.{IsBond};
-ghost use Rattle.cip_mol.specs.declared.molecule.Mark.TheVariants.{Plain};
+ghost use Rattle.cip_mol.specs.declared.graph.molecule.Mark.TheVariants.{Plain};
 ghost use Rattle.cip_ctfile.specs.Fields.{parse_number};
 ghost use Rattle.cip_v3000.specs.BondLine.{mark_of, with_mark, place_of, bond_by, bond_of, IsBondLine, IsMark};
 ghost use Rattle.cip_v3000.specs.LineWords.{AreBondWords};
@@ -9,8 +9,8 @@ ghost use Rattle.cip_v3000.specs.Words.{words_of};
 ghost use Rattle.cip_ctfile.specs.Turns.{over};
 
 use crate::atom_indices::{AtomIndices, GREATEST, new_index};
-use crate::numbers::next_number;
-use crate::word_splitter::{key_and_value, next_word};
+use crate::lines::word_splitter::{key_and_value, next_word};
+use crate::values::numbers::next_number;
 use cip_ctfile::{check_bond, order, parse_number};
 use cip_mol::{Bond, BondList, Mark, ReadCause};
 

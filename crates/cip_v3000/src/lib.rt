@@ -8,20 +8,15 @@
 
 mod atom_indices;
 mod atoms;
-mod block_lines;
 mod blocks;
 mod bonds;
-mod continuation;
-mod counts;
-mod keys;
-mod numbers;
+mod lines;
 mod reading;
-mod rows;
 mod table;
-mod word_splitter;
+mod values;
 
-pub use block_lines::{BlockLine, is_frame};
-pub use continuation::{LogicalLine, Text, text_of};
+pub use lines::block_lines::{BlockLine, is_frame};
+pub use lines::continuation::{LogicalLine, Text, text_of};
+pub use lines::word_splitter::words;
 pub use reading::{read, read_lines};
 pub use table::{Table, read_table};
-pub use word_splitter::words;

@@ -43,13 +43,13 @@ pub fn push_readings(
     requires followed { AreFollowed branches.now }
     requires keyed { AreKeyed (length case.now.keys.now) branches.now.layers.place_tree }
 {
-    let Ok(marks) = descriptors(alloc, letters) else {
+    let Ok(descriptors) = descriptors(alloc, letters) else {
         return out.miss();
     };
-    if marks.len() as usize != case.keys.len() || branches.len() > ROOM {
+    if descriptors.len() as usize != case.keys.len() || branches.len() > ROOM {
         return out.push_str("out of range");
     }
-    match decided(alloc, branches, &marks) {
+    match decided(alloc, branches, &descriptors) {
         Ok(decision) => push_decision(out, decision),
         Err(_) => out.miss(),
     }
@@ -58,10 +58,10 @@ pub fn push_readings(
 fn decided(
     alloc: Global,
     branches: &Branches,
-    marks: &Descriptors,
+    descriptors: &Descriptors,
 ) -> Result<Option<Decision>, AllocError>
     requires followed { AreFollowed branches.now }
-    requires keyed { AreKeyed (length marks.now.marks) branches.now.layers.place_tree }
+    requires keyed { AreKeyed (length descriptors.now.descriptors) branches.now.layers.place_tree }
     requires fits { length branches.now.layers.place_tree.place_parents ≤ ROOM }
 {
     let mut readings = Rule4bWorkspace::reserve(alloc, ROOM)?;
@@ -70,7 +70,7 @@ fn decided(
         second: 1,
         decision: None,
     }];
-    apply_rule_4b(branches, &mut readings, marks, &mut request);
+    apply_rule_4b(branches, &mut readings, descriptors, &mut request);
     // proof: dropped by a call; at the end of scope it takes a minute to prove
     drop(readings);
     Ok(request[0].decision)

@@ -2,9 +2,9 @@
 ghost use Rattle.std.specs.Thread.{IsSync};
 
 use crate::batches::{dealt, long_jobs_told, meeting_jobs_told};
-use crate::memory::{adapters, joined, sink, sources};
-use crate::pieces::cut;
 use crate::runs::{flow, long_record, meet, steady};
+use crate::stream_parts::memory::{adapters, joined, sink, sources};
+use crate::stream_parts::pieces::cut;
 use crate::streams::stream;
 use gate_tables::{Caller, Row, Text};
 use std::alloc::Global;

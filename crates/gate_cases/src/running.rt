@@ -2,7 +2,7 @@
 ghost use Rattle.std.specs.Prelude.{◌<◌};
 
 use crate::case::Case;
-use crate::watched::Watched;
+use crate::threads::watched::Watched;
 use cip_io::{MemSink, MemSource};
 use cip_run::{Limits, Open, run_limits};
 use std::alloc::{AllocError, Global};

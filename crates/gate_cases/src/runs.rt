@@ -1,7 +1,7 @@
 // Whole runs over copies of one record.
 ghost use Rattle.std.specs.Prelude.{◌≢◌, None};
 
-use crate::meeting::Meeting;
+use crate::threads::meeting::Meeting;
 use cip_io::{Failed, MemSink, MemSource, Sink, Source, SteadySource};
 use cip_run::{LIMITS, Open, run, run_limits};
 use gate_tables::{Row, Text, words};

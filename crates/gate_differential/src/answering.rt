@@ -3,9 +3,9 @@
 ghost use Rattle.std.specs.Prelude.{◌≡◌, ◌<◌};
 
 use crate::boxes::{child_keys, two_stand};
-use crate::growing::{settled, spheres};
-use crate::inside::inside;
-use crate::units::units_told;
+use crate::digraphs::growing::{settled, spheres};
+use crate::digraphs::inside::inside;
+use crate::molecule_rows::units::units_told;
 use cip_rank::Steps;
 use gate_tables::{Caller, Row, Text};
 use std::alloc::Global;

@@ -2,9 +2,9 @@
 ghost use Rattle.std.specs.Prelude.{◌<◌, ◌^◌};
 ghost use Rattle.cip_tree.specs.Branches.{node_count};
 
-use crate::deciding::decide_plain;
-use crate::molecules::Drawn;
-use crate::written::written;
+use crate::digraphs::deciding::decide_plain;
+use crate::molecule_rows::molecules::Drawn;
+use crate::molecule_rows::written::written;
 use cip_digraph::{Decision, Nodes};
 use cip_rank::Rules;
 use cip_tree::{Flat, PlainTree, plain_tree};

@@ -8,18 +8,10 @@
 mod answering;
 mod boxes;
 mod counts;
-mod deciding;
-mod growing;
-mod inside;
-mod molecules;
-mod nodes;
+mod digraphs;
+mod molecule_rows;
 mod records;
-mod roots;
-mod settled;
 mod tables;
-mod twice;
-mod units;
-mod written;
 
 pub use answering::Worked;
 pub use records::compare_records;

@@ -2,8 +2,8 @@
 ghost use Rattle.std.specs.Prelude.{◌≡◌, ◌<◌};
 
 use crate::counts::Counts;
-use crate::molecules::{Drawn, read_drawn, title};
-use crate::roots::compare_roots;
+use crate::digraphs::roots::compare_roots;
+use crate::molecule_rows::molecules::{Drawn, read_drawn, title};
 use cip_frame::Framer;
 use cip_make::record;
 use cip_rank::Steps;

@@ -1,13 +1,13 @@
 // What each call answers.
 use crate::calls::{Call, call_named};
 use crate::changing::{letter_set, marked, mirrored, not_mirrored};
+use crate::drawn::molfiles::{first_atom, refusal_of_v2000, refusal_of_v3000, second_atom};
+use crate::drawn::records::changed_record;
 use crate::further::{axes_told, group_told, groups_told, undefined_told};
 use crate::images::images_told;
 use crate::inverted::inverted_told;
 use crate::labelled::labels;
-use crate::molfiles::{first_atom, refusal_of_v2000, refusal_of_v3000, second_atom};
 use crate::printing::{explained, lines_of, tally};
-use crate::records::changed_record;
 use gate_tables::{Caller, Row, Text};
 use std::alloc::Global;
 use std::rt::Files;

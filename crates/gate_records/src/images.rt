@@ -2,7 +2,7 @@
 ghost use Rattle.std.specs.Prelude.{◌≡◌, ◌<◌, ◌-◌, ◌^◌, IfSome, length};
 ghost use Rattle.cip_digraph.specs.rings.Positions.{positions_of};
 
-use crate::molfiles::read_v2000;
+use crate::drawn::molfiles::read_v2000;
 use cip_label::{LabelContext, Labeller, RootRanker};
 use cip_mol::{Label, Molecule, Outcome};
 use cip_molfile::Structure;

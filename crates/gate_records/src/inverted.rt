@@ -1,5 +1,5 @@
 // Centres that are turned.
-use crate::molfiles::read_v2000;
+use crate::drawn::molfiles::read_v2000;
 use cip_digraph::Units;
 use cip_mol::{Geometry, Molecule, Sense, Unit};
 use cip_molfile::Structure;

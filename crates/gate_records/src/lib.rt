@@ -5,15 +5,13 @@
 #![tactic(auto)]
 
 mod answering;
-mod built;
 mod calls;
 mod changing;
+mod drawn;
 mod further;
 mod images;
 mod inverted;
 mod labelled;
-mod molfiles;
 mod printing;
-mod records;
 
 pub use answering::Records;

@@ -2,7 +2,7 @@
 ghost use Rattle.std.specs.Prelude.{◌≡◌, ◌<◌, ◌+◌, ◌^◌, OnOk, true};
 ghost use Rattle.cip_print.specs.Values.{HasRoom};
 
-use crate::built::built;
+use crate::drawn::built::built;
 use cip_print::{Answer, Tally, explain_text, item_values};
 use cip_rank::Rules;
 use gate_tables::{Row, Text};

@@ -4,13 +4,13 @@ use crate::carbons::{fault, lattice, renumbered};
 use crate::command_lines::{asked_by_no_words, help_lines, requested};
 use crate::directions::{around, sign_of_side, sign_of_volume};
 use crate::elements::{element, masses, valences_told};
-use crate::making::Caller;
-use crate::row::Row;
-use crate::senses::sense;
-use crate::text::Text;
-use crate::texts::{
+use crate::output::text::Text;
+use crate::output::texts::{
     contents, decimal, field, halves, items, kind, labelled, listed, place, prepared, whole,
 };
+use crate::rows::making::Caller;
+use crate::rows::row::Row;
+use crate::senses::sense;
 use std::alloc::Global;
 use std::io;
 use std::rt::Files;

@@ -3,9 +3,9 @@ ghost use Rattle.std.specs.Prelude.{◌≡◌, ◌<◌, ◌≤◌, All, IfOk, If
 ghost use Rattle.cip_mol.specs.Ranges.{IsAtom};
 
 use crate::drawings::{bonds, carbon};
-use crate::lists::{Line, lines};
-use crate::row::Row;
-use crate::text::Text;
+use crate::output::text::Text;
+use crate::rows::lists::{Line, lines};
+use crate::rows::row::Row;
 use cip_mol::{Atom, MolFault, Molecule};
 use std::alloc::{AllocError, Global};
 

@@ -2,8 +2,8 @@
 ghost use Rattle.std.specs.Prelude.{IfSome};
 ghost use Rattle.cip_words.specs.Settings.{AreWithin};
 
-use crate::row::words;
-use crate::text::Text;
+use crate::output::text::Text;
+use crate::rows::row::words;
 use cip_mol::CentreLetter;
 use cip_rank::Rules;
 use cip_words::{Action, Labelling, Series, Settings, Task, help_text, read_words};

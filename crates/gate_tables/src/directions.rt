@@ -3,9 +3,9 @@ ghost use Rattle.std.specs.Prelude.{All, IsTrue};
 ghost use Rattle.cip_num.specs.Plane.{IsSmall};
 ghost use Rattle.cip_num.specs.Space.{IsSmall3};
 
-use crate::lists::{Point, points};
-use crate::row::Row;
-use crate::text::Text;
+use crate::output::text::Text;
+use crate::rows::lists::{Point, points};
+use crate::rows::row::Row;
 use cip_num::{Sign, Vec2, Vec3, circular, same_side, volume};
 use std::alloc::{AllocError, Global};
 

@@ -2,7 +2,7 @@
 ghost use Rattle.std.specs.Prelude.{◌≡◌, All, IfOk, IsTrue, length};
 ghost use Rattle.cip_mol.specs.Ranges.{IsAtom, IsBond, IsPlace};
 
-use crate::lists::{Line, Point};
+use crate::rows::lists::{Line, Point};
 use cip_mol::{Atom, Bond, Mark};
 use cip_num::Vec3;
 use std::alloc::{AllocError, Global};

@@ -27,5 +27,5 @@ pub fn masses(out: &mut Text) {
     write!(out, " {:?} {:?} {:?}", outer(15), outer(34), outer(8))
 }
 
-use crate::row::Row;
-use crate::text::Text;
+use crate::output::text::Text;
+use crate::rows::row::Row;

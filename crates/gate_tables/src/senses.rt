@@ -5,9 +5,9 @@ ghost use Rattle.cip_mol.specs.Ranges.{IsAtom};
 ghost use Rattle.cip_mol.specs.Sites.{IsSite};
 
 use crate::drawings::{bonds, carbon};
-use crate::lists::{Line, Point, lines, numbers, points};
-use crate::row::Row;
-use crate::text::Text;
+use crate::output::text::Text;
+use crate::rows::lists::{Line, Point, lines, numbers, points};
+use crate::rows::row::Row;
 use cip_mol::{Atom, Cause, Geometry, Ligand, Ligands, Molecule, Sense, Site};
 use cip_orient::{drawn_atoms, orient};
 use std::alloc::{AllocError, Global};

@@ -1,7 +1,7 @@
 -- No more edges meet at a vertex than a graph has.
 use Rattle.std.proofs.Common.{◌≤◌, ℕ, Bool, true, false, cond, List, [], ◌∷◌, length, arith}
 use Rattle.std.specs.Prelude.{filter}
-use Rattle.cip_digraph.specs.declared.graph.Edge.{Edge}
+use Rattle.cip_digraph.specs.declared.drawing.graph.Edge.{Edge}
 use Rattle.cip_digraph.specs.graph.Graph.{Graph, touches, edges_at}
 use Rattle.cip_digraph.proofs.lemmas.rows.Rooms.{sorted_long}
 

@@ -3,7 +3,7 @@ use Rattle.std.proofs.Common.{◌≡◌, ◌+◌, ◌-◌, ◌≤◌, ◌<◌, �
 use Rattle.std.proofs.lemmas.Bool.{cases_lt}
 use Rattle.cip_digraph.specs.declared.nodes.NodeData.{NodeData}
 use Rattle.cip_digraph.specs.graph.Graph.{Graph}
-use Rattle.cip_digraph.specs.declared.graph.Edge.{Edge}
+use Rattle.cip_digraph.specs.declared.drawing.graph.Edge.{Edge}
 use Rattle.cip_digraph.specs.graph.Graph.{edges_at, other_end}
 use Rattle.std.specs.declared.option.Option.{Option}
 use Rattle.cip_digraph.specs.digraph.NodeList.{told_at}

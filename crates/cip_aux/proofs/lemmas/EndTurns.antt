@@ -7,9 +7,9 @@ use Rattle.cip_digraph.specs.rules.Auxiliary.{nearer_first, root_at, roots_at}
 use Rattle.cip_digraph.specs.units.Ends.{end_at}
 use Rattle.cip_digraph.specs.digraph.NodeList.{parents_of}
 use Rattle.cip_digraph.specs.digraph.Telling.{node_at}
-use Rattle.cip_digraph.specs.declared.parity.Parity.{Parity}
+use Rattle.cip_digraph.specs.declared.decisions.parity.Parity.{Parity}
 use Rattle.cip_aux.specs.InnerContext.{InnerContext, Ready}
-use Rattle.cip_aux.specs.Marking.{AreRootTurns, AreEndTurns}
+use Rattle.cip_aux.specs.DescriptorsInside.{AreRootTurns, AreEndTurns}
 use Rattle.cip_aux.specs.Neighbours.{shape_at}
 use Rattle.cip_digraph.specs.TurnsOf.{both_turns, root_turns, roots_turns}
 use Rattle.std.specs.Prelude.{option_to_list}
@@ -29,7 +29,7 @@ module _ (inner : InnerContext) (node : ℕ) (r : Ready inner node) (between : O
   -- the node of the far end is ready too
   pub far_ready : (c : ℕ) → Some c
       ≡ far_number (shape_at inner.sight.node_data) (parents_of inner.sight.node_data) node between far → Ready inner c
-  far_ready c e = record { shows = r.shows; real = (far_is c e).real; marks = r.marks }
+  far_ready c e = record { shows = r.shows; real = (far_is c e).real; descriptors = r.descriptors }
 
   -- without a node for it there are no turns
   pub no_far : (nearer others : List Ligand) (at : ℕ)
@@ -41,7 +41,7 @@ module _ (inner : InnerContext) (node : ℕ) (r : Ready inner node) (between : O
       (sym (e ∙ far_same inner.sight r.shows node between far)) in
       record {
         each =
-            λ mark counts. sym (none_are inner.sight.rules inner.sight.graph inner.sight.positions mark
+            λ descriptor counts. sym (none_are inner.sight.rules inner.sight.graph inner.sight.positions descriptor
             (path_at inner.sight.nodes node) (option_to_list between) (end_at at nearer) (end_at far others) none);
       }
 
@@ -53,16 +53,16 @@ module _ (inner : InnerContext) (node : ℕ) (r : Ready inner node) (between : O
   both_ends nearer others at c a b one other e first second =
       let found = far_is c e in
       record {
-        each = λ mark counts.
-            let both = counts_both inner a b mark counts in
-            ap (λ t. both_turns t other) (first.each mark both.0)
+        each = λ descriptor counts.
+            let both = counts_both inner a b descriptor counts in
+            ap (λ t. both_turns t other) (first.each descriptor both.0)
             ∙ ap (both_turns (root_turns
-            (root_at inner.sight.rules inner.sight.graph inner.sight.positions mark (path_at inner.sight.nodes node)
+            (root_at inner.sight.rules inner.sight.graph inner.sight.positions descriptor (path_at inner.sight.nodes node)
             nearer)))
-            (second.each mark both.1 ∙ ap
-            (λ path. root_turns (root_at inner.sight.rules inner.sight.graph inner.sight.positions mark path others))
+            (second.each descriptor both.1 ∙ ap
+            (λ path. root_turns (root_at inner.sight.rules inner.sight.graph inner.sight.positions descriptor path others))
             found.path)
-            ∙ sym (both_are inner.sight.rules inner.sight.graph inner.sight.positions mark
+            ∙ sym (both_are inner.sight.rules inner.sight.graph inner.sight.positions descriptor
             (path_at inner.sight.nodes node) (option_to_list between) (end_at at nearer) (end_at far others) found.new);
       }
 
@@ -75,11 +75,11 @@ module _ (inner : InnerContext) (node : ℕ) (r : Ready inner node) (between : O
   near_ties nearer others at c b None none e first =
       let found = far_is c e in
       record {
-        each = λ mark counts.
+        each = λ descriptor counts.
             ap (λ t. both_turns t (root_turns
-            (root_at inner.sight.rules inner.sight.graph inner.sight.positions mark
-            (far ∷ option_to_list between ++ path_at inner.sight.nodes node) others))) (first.each mark counts)
-            ∙ sym (both_are inner.sight.rules inner.sight.graph inner.sight.positions mark
+            (root_at inner.sight.rules inner.sight.graph inner.sight.positions descriptor
+            (far ∷ option_to_list between ++ path_at inner.sight.nodes node) others))) (first.each descriptor counts)
+            ∙ sym (both_are inner.sight.rules inner.sight.graph inner.sight.positions descriptor
             (path_at inner.sight.nodes node) (option_to_list between) (end_at at nearer) (end_at far others) found.new);
       }
 
@@ -89,9 +89,9 @@ pub centre_is : (inner : InnerContext) (node at vertex : ℕ) (b : Bool) (ligand
     → AreEndTurns inner inner.from b [] (nearer_first vertex (end_at at ligands ∷ [])) parities
 centre_is inner node at vertex b ligands parities here same are =
     subst (λ n. AreEndTurns inner n b [] (nearer_first vertex (end_at at ligands ∷ [])) parities) same (record {
-      each = λ mark counts.
-          are.each mark counts
-          ∙ ap (λ ends. roots_turns (roots_at inner.sight.rules inner.sight.graph inner.sight.positions mark
+      each = λ descriptor counts.
+          are.each descriptor counts
+          ∙ ap (λ ends. roots_turns (roots_at inner.sight.rules inner.sight.graph inner.sight.positions descriptor
           (path_at inner.sight.nodes node) [] ends))
           (sym (ap (λ b. cond b (end_at at ligands ∷ []) []) (eq-eqb at vertex here)));
     })

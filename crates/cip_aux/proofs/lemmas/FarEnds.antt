@@ -7,7 +7,7 @@ use Rattle.cip_rank.specs.Tree.{children_of}
 use Rattle.cip_rank.proofs.lemmas.Children.{IsChild, children_are}
 use Rattle.cip_digraph.specs.rings.Alternating.{is_in}
 use Rattle.cip_digraph.specs.digraph.Digraph.{Node, is_real, real_node, begins_with, neighbour_child, bond_children, edge_children, real_children, children}
-use Rattle.cip_digraph.specs.declared.graph.Edge.{Edge}
+use Rattle.cip_digraph.specs.declared.drawing.graph.Edge.{Edge}
 use Rattle.cip_digraph.specs.graph.Graph.{Graph, edges_at, other_end, neighbours}
 use Rattle.cip_digraph.specs.digraph.NodeList.{told_at, parents_of}
 use Rattle.cip_digraph.specs.digraph.Telling.{node_at}

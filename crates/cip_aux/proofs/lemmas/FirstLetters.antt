@@ -3,7 +3,7 @@ use Rattle.std.proofs.Common.{◌≡◌, ℕ, Bool, true, false, ◌==◌, ◌||
 use Rattle.std.specs.List.{list_any}
 use Rattle.std.specs.declared.option.Option.{Option}
 use Rattle.std.proofs.lemmas.Bool.{or_parts}
-use Rattle.cip_mol.specs.declared.descriptor.Descriptor.{Descriptor}
+use Rattle.cip_mol.specs.declared.labels.descriptor.Descriptor.{Descriptor}
 use Rattle.cip_mol.specs.declared.site.Geometry.{Geometry}
 use Rattle.cip_mol.specs.declared.site.Geometry.TheVariants.{Known, Unknown}
 use Rattle.cip_mol.specs.declared.site.Site.{Site}
@@ -14,7 +14,7 @@ use Rattle.cip_digraph.specs.units.Ends.{End, ends_of}
 use Rattle.cip_aux.specs.Views.{DigraphView}
 use Rattle.cip_aux.specs.UnitIndex.{ends_at}
 
-module _ (sight : DigraphView) (vertex : ℕ) (up : List ℕ) (mark : List ℕ → Option Descriptor) where
+module _ (sight : DigraphView) (vertex : ℕ) (up : List ℕ) (descriptor : List ℕ → Option Descriptor) where
   none_nearer : (ends : List End) → list_any (λ end. end.at == vertex) ends ≡ false → nearer_first vertex ends ≡ []
   none_nearer [] e = refl
   none_nearer (end ∷ []) e = rw (or_parts (end.at == vertex) false e).0 refl
@@ -25,16 +25,16 @@ module _ (sight : DigraphView) (vertex : ℕ) (up : List ℕ) (mark : List ℕ �
       rw (first.0, second.0) refl
 
   unit_none : (site : Site) (geometry : Geometry) → ends_at vertex (record { site = site; geometry = geometry }) ≡ false
-      → unit_letter sight.rules sight.graph sight.positions (record { site = site; geometry = geometry }) vertex up mark
+      → unit_letter sight.rules sight.graph sight.positions (record { site = site; geometry = geometry }) vertex up descriptor
       ≡ None
   unit_none site (Known sense) e =
       ap (λ ends. letter_at sight.rules sight.graph sight.positions site sense
-      (roots_at sight.rules sight.graph sight.positions mark (vertex ∷ up) (between_of site) ends))
+      (roots_at sight.rules sight.graph sight.positions descriptor (vertex ∷ up) (between_of site) ends))
       (none_nearer (ends_of site) e)
   unit_none site (Unknown cause) e = refl
 
   abbrev first_of : List units.Unit → Option Descriptor
-  first_of all = first_letter sight.rules sight.graph sight.positions all vertex up mark
+  first_of all = first_letter sight.rules sight.graph sight.positions all vertex up descriptor
 
   abbrev or_first : List units.Unit → Option Descriptor → Option Descriptor
   or_first others letter =
@@ -48,6 +48,6 @@ module _ (sight : DigraphView) (vertex : ℕ) (up : List ℕ) (mark : List ℕ �
           → first_of (cond b (unit ∷ filter (ends_at vertex) others) (filter (ends_at vertex) others))
           ≡ first_of (unit ∷ others)
       by true e rest =
-          ap (λ later. elim (unit_letter sight.rules sight.graph sight.positions unit vertex up mark) as
+          ap (λ later. elim (unit_letter sight.rules sight.graph sight.positions unit vertex up descriptor) as
           (λ _. Option Descriptor) [ None ↦ later | Some found ↦ Some found ]) rest
       by false e rest = rest ∙ sym (ap (or_first others) (unit_none unit.site unit.geometry e))

@@ -3,7 +3,7 @@ use Rattle.std.proofs.Common.{◌≡◌, ◌<◌, ℕ, Bool, true, false, List, 
 use Rattle.std.specs.List.{slice_set}
 use Rattle.std.proofs.lemmas.Bool.{cases_eq}
 use Rattle.std.proofs.lemmas.List.{get_or-set_same, get_or-set_other, length-set}
-use Rattle.cip_aux.specs.Marking.{flag_at}
+use Rattle.cip_aux.specs.DescriptorsInside.{flag_at}
 
 -- a flag that is set stays so
 pub set_stays : (flags : List Bool) (node n : ℕ) (b : Bool) → node < length flags → flag_at flags n ≡ true

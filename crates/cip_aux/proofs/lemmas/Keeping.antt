@@ -3,23 +3,23 @@ use Rattle.std.proofs.Common.{◌≡◌, ℕ, zero, suc, ◌==◌, ◌&&◌, ◌
 use Rattle.std.specs.declared.option.Option.{Option}
 use Rattle.cip_mol.specs.Ends.{as_site, between_in, between_of}
 use Rattle.cip_mol.specs.declared.ends.Ends.{Ends}
-use Rattle.cip_mol.specs.declared.descriptor.Descriptor.{Descriptor}
+use Rattle.cip_mol.specs.declared.labels.descriptor.Descriptor.{Descriptor}
 use Rattle.cip_mol.specs.declared.site.Site.{Site}
 use Rattle.cip_mol.specs.declared.site.Unit as units
 use Rattle.cip_digraph.specs.digraph.Telling.{node_at}
 use Rattle.cip_digraph.specs.rules.Auxiliary.{nearer_first, roots_at}
 use Rattle.cip_digraph.specs.units.Ends.{End, ends_of}
-use Rattle.cip_digraph.specs.declared.parity.Parity.{Parity}
+use Rattle.cip_digraph.specs.declared.decisions.parity.Parity.{Parity}
 use Rattle.cip_digraph.specs.LentEnds.{ends_in}
 use Rattle.cip_digraph.specs.TurnsOf.{roots_turns}
 use Rattle.cip_digraph.proofs.lemmas.LentEnds.{ends_are}
 use Rattle.cip_partition.specs.ReservedList.{ReservedList}
 use Rattle.cip_aux.specs.InnerContext.{InnerContext, AgreesInside, Counts}
 use Rattle.cip_aux.specs.ParityCache.{AreConstant, AreKept, if_of, kept_at, site_at, sites_in}
-use Rattle.cip_aux.specs.Marking.{AreEndTurns}
+use Rattle.cip_aux.specs.DescriptorsInside.{AreEndTurns}
 use Rattle.cip_aux.specs.Views.{DigraphView, path_at}
 use Rattle.cip_aux.specs.UnitIndex.{unit_at}
-use Rattle.cip_aux.specs.declared.parity_cache.CachedParity.{CachedParity}
+use Rattle.cip_aux.specs.declared.parities.parity_cache.CachedParity.{CachedParity}
 
 -- no entries
 pub none_kept : (sight : DigraphView) (sites : List Site) → AreKept sight sites []
@@ -95,14 +95,14 @@ site_is (unit ∷ all) (suc place) = site_is all place
 
 module _ (inner : InnerContext) where
   -- descriptors that agree count in any case
-  pub agrees_count : (b : Bool) (mark : List ℕ → Option Descriptor) → AgreesInside inner mark → Counts b inner mark
-  agrees_count true mark agrees = tt
-  agrees_count false mark agrees = agrees
+  pub agrees_count : (b : Bool) (descriptor : List ℕ → Option Descriptor) → AgreesInside inner descriptor → Counts b inner descriptor
+  agrees_count true descriptor agrees = tt
+  agrees_count false descriptor agrees = agrees
 
-  pub counts_both : (a b : Bool) (mark : List ℕ → Option Descriptor) → Counts (a && b) inner mark
-      → Counts a inner mark × Counts b inner mark
-  counts_both true b mark counts = (tt, counts)
-  counts_both false b mark counts = (counts, agrees_count b mark counts)
+  pub counts_both : (a b : Bool) (descriptor : List ℕ → Option Descriptor) → Counts (a && b) inner descriptor
+      → Counts a inner descriptor × Counts b inner descriptor
+  counts_both true b descriptor counts = (tt, counts)
+  counts_both false b descriptor counts = (counts, agrees_count b descriptor counts)
 
   module _ (vertex : ℕ) (site : Site) (parities : Option Parity)
       (here : vertex ≡ (node_at inner.sight.nodes inner.from).vertex) where
@@ -110,16 +110,16 @@ module _ (inner : InnerContext) where
     TurnsBy b = AreEndTurns inner inner.from b (between_of site) (nearer_first vertex (ends_of site)) parities
 
     abbrev at_vertex : (List ℕ → Option Descriptor) → ℕ → Option Parity
-    at_vertex mark v =
-        roots_turns (roots_at inner.sight.rules inner.sight.graph inner.sight.positions mark
+    at_vertex descriptor v =
+        roots_turns (roots_at inner.sight.rules inner.sight.graph inner.sight.positions descriptor
         (path_at inner.sight.nodes inner.from) (between_of site) (nearer_first v (ends_of site)))
 
     -- what constitution decided of a unit
     pub constant_by : TurnsBy true → AreConstant inner.sight inner.from site parities
-    constant_by node_data = record { each = λ mark. node_data.each mark tt ∙ ap (at_vertex mark) here }
+    constant_by node_data = record { each = λ descriptor. node_data.each descriptor tt ∙ ap (at_vertex descriptor) here }
 
     pub constant_is : AreConstant inner.sight inner.from site parities → TurnsBy false
-    constant_is node_data = record { each = λ mark agrees. node_data.each mark ∙ ap (at_vertex mark) (sym here) }
+    constant_is node_data = record { each = λ descriptor agrees. node_data.each descriptor ∙ ap (at_vertex descriptor) (sym here) }
 
   -- the turns of ends that are lent are those of the site
   pub lent_turns : (vertex : ℕ) (b : Bool) (parities : Option Parity) (lent : Ends) (site : Site) → as_site lent ≡ site

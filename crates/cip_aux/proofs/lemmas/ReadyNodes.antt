@@ -8,7 +8,7 @@ use Rattle.cip_mol.specs.declared.site.Ligand.TheVariants.{Vertex, LonePair}
 use Rattle.cip_digraph.specs.digraph.NodeList.{parents_of}
 use Rattle.cip_digraph.specs.rules.Auxiliary.{stands_for}
 use Rattle.cip_aux.specs.InnerContext.{InnerContext, Ready}
-use Rattle.cip_aux.specs.Marking.{AreRootTurns, AreSeenTurns}
+use Rattle.cip_aux.specs.DescriptorsInside.{AreRootTurns, AreSeenTurns}
 use Rattle.cip_aux.specs.Neighbours.{ligand_number, neighbours_of, shape_at}
 use Rattle.cip_aux.specs.Views.{seen_sides}
 use Rattle.cip_aux.specs.declared.ligand_ranker.FoundParity.{FoundParity}
@@ -44,7 +44,7 @@ module _ (inner : InnerContext) (node : ℕ) (r : Ready inner node) where
   pub ready_turns : (ligands : List Ligand) (found : FoundParity) → AreSeenTurns inner node (numbers_of ligands) found
       → AreRootTurns inner node found.by_constitution ligands found.parities
   ready_turns ligands found seen = record {
-    each = λ mark counts. seen.each mark counts
-        ∙ root_is inner.sight r.shows mark (seen_sides inner.sight node mark) node r.real
+    each = λ descriptor counts. seen.each descriptor counts
+        ∙ root_is inner.sight r.shows descriptor (seen_sides inner.sight node descriptor) node r.real
         (record { each = λ r_first a b la lb. refl }) ligands;
   }

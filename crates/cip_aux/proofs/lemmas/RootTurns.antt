@@ -2,13 +2,13 @@
 use Rattle.std.proofs.Common.{◌≡◌, ℕ, zero, suc, ◌<◌, Bool, true, false, cond, List, [], ◌∷◌, map, length, refl, sym, ap, ◌∙◌, arith, None, Some, IfSome}
 use Rattle.std.specs.List.{AllByRecursion}
 use Rattle.std.specs.declared.option.Option.{Option}
-use Rattle.cip_mol.specs.declared.descriptor.Descriptor.{Descriptor}
+use Rattle.cip_mol.specs.declared.labels.descriptor.Descriptor.{Descriptor}
 use Rattle.cip_mol.specs.declared.site.Ligand.{Ligand}
 use Rattle.cip_mol.specs.declared.site.Ligand.TheVariants.{Vertex, LonePair}
 use Rattle.cip_rank.specs.Tree.{children_of}
 use Rattle.cip_rank.proofs.lemmas.Children.{IsChild, children_are}
 use Rattle.cip_digraph.specs.rules.Auxiliary.{stands_for, ligand_node, root_at}
-use Rattle.cip_digraph.specs.declared.decision.Decision.{Decision}
+use Rattle.cip_digraph.specs.declared.decisions.decision.Decision.{Decision}
 use Rattle.cip_digraph.specs.rules.Decisions.{order}
 use Rattle.cip_digraph.specs.digraph.Digraph.{Node}
 use Rattle.cip_digraph.specs.digraph.NodeList.{told_at, parents_of}
@@ -125,13 +125,13 @@ module _ (sight : DigraphView) (s : Shows sight) where
           ∙ ap found_side (fronts (compare r_first) (node x) (node y))
 
   -- the turns by number of a root in a view
-  pub root_is : (mark : List ℕ → Option Descriptor) (sides : Sides) (n : ℕ) → IsReal sight.nodes n
-      → SidesAre sight n mark sides → (ligands : List Ligand)
+  pub root_is : (descriptor : List ℕ → Option Descriptor) (sides : Sides) (n : ℕ) → IsReal sight.nodes n
+      → SidesAre sight n descriptor sides → (ligands : List Ligand)
       → let numbers = map (ligand_number (shape_at sight.node_data) (parents_of sight.node_data) n) ligands in
       turns_of (pair_sides (sides true) numbers) (pair_sides (sides false) numbers)
-      ≡ root_turns (root_at sight.rules sight.graph sight.positions mark (path_at sight.nodes n) ligands)
-  root_is mark sides n r are ligands =
-      let seen = seen_from sight.rules sight.graph sight.positions (path_at sight.nodes n) mark in
+      ≡ root_turns (root_at sight.rules sight.graph sight.positions descriptor (path_at sight.nodes n) ligands)
+  root_is descriptor sides n r are ligands =
+      let seen = seen_from sight.rules sight.graph sight.positions (path_at sight.nodes n) descriptor in
       let side = λ (r_first : Bool) (x y : Ligand). number_side (sides r_first) (number n r x) (number n r y) in
       (λ i. turns_of (two_mapped (number n r) (number_side (sides true)) ligands i)
       (two_mapped (number n r) (number_side (sides false)) ligands i))

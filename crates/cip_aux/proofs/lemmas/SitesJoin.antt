@@ -5,7 +5,7 @@ use Rattle.std.proofs.lemmas.Bool.{or_cases, eq-eqb, ne_eqb, or_left, or_right}
 use Rattle.std.proofs.lemmas.List.Elements.{All-from_recursion}
 use Rattle.cip_mol.specs.declared.site.Site.{Site}
 use Rattle.cip_mol.specs.declared.site.Unit as units
-use Rattle.cip_digraph.specs.declared.graph.Edge.{Edge}
+use Rattle.cip_digraph.specs.declared.drawing.graph.Edge.{Edge}
 use Rattle.cip_digraph.specs.units.Allenes.{doubles, axis_site, is_axis_unit, axis_sites}
 use Rattle.cip_digraph.specs.rings.Alternating.{is_in}
 use Rattle.cip_digraph.specs.units.DoubleBonds.{bond_site, is_bond_unit, bond_sites}
@@ -15,7 +15,7 @@ use Rattle.cip_digraph.specs.units.Units.{centre_site, sites_of}
 use Rattle.cip_digraph.specs.units.Centres.{is_centre}
 use Rattle.cip_digraph.proofs.lemmas.lists.Elements.{all_by, all_append, all_flat, all_filtered, all_mapped, by_recursion, all_both}
 use Rattle.cip_digraph.proofs.lemmas.bonds.Neighbours.{sorted_all}
-use Rattle.cip_aux.specs.Marking.{UnitsJoin}
+use Rattle.cip_aux.specs.DescriptorsInside.{UnitsJoin}
 use Rattle.cip_aux.specs.Views.{DigraphView}
 use Rattle.cip_aux.specs.Joining.{EndsJoin}
 

@@ -3,7 +3,7 @@ use Rattle.std.proofs.Common.{◌≡◌, ℕ, zero, suc, ◌<◌, ◌==◌, Bool
 use Rattle.std.specs.Prelude.{None}
 use Rattle.std.specs.declared.option.Option.{Option}
 use Rattle.std.proofs.lemmas.Bool.{or_cases}
-use Rattle.cip_mol.specs.declared.descriptor.Descriptor.{Descriptor}
+use Rattle.cip_mol.specs.declared.labels.descriptor.Descriptor.{Descriptor}
 use Rattle.cip_mol.specs.declared.site.Unit as units
 use Rattle.cip_digraph.specs.digraph.Digraph.{is_real}
 use Rattle.cip_digraph.specs.digraph.NodeList.{parents_of}
@@ -11,8 +11,8 @@ use Rattle.cip_digraph.specs.digraph.Telling.{node_at}
 use Rattle.cip_digraph.specs.rules.Auxiliary.{inside, auxiliary}
 use Rattle.cip_aux.specs.Below.{is_below}
 use Rattle.cip_aux.proofs.lemmas.BelowNodes.{inside_is, below_behind, next_below}
-use Rattle.cip_aux.specs.InnerContext.{InnerContext, AgreesInside, mark_at}
-use Rattle.cip_aux.specs.Marking.{flag_at, AreInner, AreWanted}
+use Rattle.cip_aux.specs.InnerContext.{InnerContext, AgreesInside, descriptor_at}
+use Rattle.cip_aux.specs.DescriptorsInside.{flag_at, AreInner, AreWanted}
 use Rattle.cip_aux.specs.Views.{DigraphView, Shows, path_at, IsReal}
 use Rattle.cip_aux.proofs.lemmas.Paths.{within_parents, earlier}
 
@@ -54,35 +54,35 @@ when_is false found = refl
 
 -- descriptors of the nodes below one of them are those strictly inside its subtree
 module _ (inner : InnerContext) (s : Shows inner.sight) (r : IsReal inner.sight.nodes inner.from) (all : List units.Unit) where
-  abbrev mark : List ℕ → Option Descriptor
-  mark = auxiliary inner.sight.rules inner.sight.graph inner.sight.positions all
+  abbrev descriptor : List ℕ → Option Descriptor
+  descriptor = auxiliary inner.sight.rules inner.sight.graph inner.sight.positions all
 
   by_kind : AreInner inner all → (n : ℕ) → n < length inner.sight.nodes
       → (b : Bool) → is_real (node_at inner.sight.nodes n).kind ≡ b
       → (d : Bool) → is_below (parents_of inner.sight.node_data) inner.from n ≡ d
-      → cond d (mark_at inner.marks n) None
-      ≡ cond b (inside mark (path_at inner.sight.nodes inner.from) (path_at inner.sight.nodes n)) None
+      → cond d (descriptor_at inner.descriptors n) None
+      ≡ cond b (inside descriptor (path_at inner.sight.nodes inner.from) (path_at inner.sight.nodes n)) None
   by_kind are n lt true real d e =
       by d e
-      ∙ sym (when_is d (mark (path_at inner.sight.nodes n)))
-      ∙ sym (ap (λ t. when t (mark (path_at inner.sight.nodes n)))
+      ∙ sym (when_is d (descriptor (path_at inner.sight.nodes n)))
+      ∙ sym (ap (λ t. when t (descriptor (path_at inner.sight.nodes n)))
       (inside_is inner.sight.graph inner.sight.positions inner.sight.root inner.sight.nodes
       (parents_of inner.sight.node_data)
       s.node_data.whole s.sound inner.from (within_parents inner.sight s inner.from r.within) r.real n
       (within_parents inner.sight s n lt) real ∙ e))
     where
       by : (d : Bool) → is_below (parents_of inner.sight.node_data) inner.from n ≡ d
-          → cond d (mark_at inner.marks n) None ≡ cond d (mark (path_at inner.sight.nodes n)) None
-      by true e = are.each n lt e ∙ ap (λ b. cond b (mark (path_at inner.sight.nodes n)) None) real
+          → cond d (descriptor_at inner.descriptors n) None ≡ cond d (descriptor (path_at inner.sight.nodes n)) None
+      by true e = are.each n lt e ∙ ap (λ b. cond b (descriptor (path_at inner.sight.nodes n)) None) real
       by false e = refl
   by_kind are n lt false other d e = by d e
     where
       by : (d : Bool) → is_below (parents_of inner.sight.node_data) inner.from n ≡ d
-          → ◌≡◌ {A = Option Descriptor} (cond d (mark_at inner.marks n) None) None
-      by true e = are.each n lt e ∙ ap (λ b. cond b (mark (path_at inner.sight.nodes n)) None) other
+          → ◌≡◌ {A = Option Descriptor} (cond d (descriptor_at inner.descriptors n) None) None
+      by true e = are.each n lt e ∙ ap (λ b. cond b (descriptor (path_at inner.sight.nodes n)) None) other
       by false e = refl
 
-  pub agrees : AreInner inner all → AgreesInside inner (inside mark (path_at inner.sight.nodes inner.from))
+  pub agrees : AreInner inner all → AgreesInside inner (inside descriptor (path_at inner.sight.nodes inner.from))
   agrees are = record {
     each = λ n lt. by_kind are n lt (is_real (node_at inner.sight.nodes n).kind) refl
         (is_below (parents_of inner.sight.node_data) inner.from n) refl;

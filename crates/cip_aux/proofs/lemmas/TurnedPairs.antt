@@ -3,13 +3,13 @@ use Rattle.std.proofs.Common.{◌≡◌, ◌∙◌, ◌||◌, ◌&&◌, Bool, tr
 use Rattle.std.specs.List.{list_all, list_any}
 use Rattle.std.specs.Option.{is_some}
 use Rattle.std.specs.declared.option.Option.{Option}
-use Rattle.cip_digraph.specs.declared.decision.Decision.{Decision}
+use Rattle.cip_digraph.specs.declared.decisions.decision.Decision.{Decision}
 use Rattle.cip_digraph.specs.units.Descriptors.{is_odd}
-use Rattle.cip_digraph.specs.declared.parity.Parity.{Parity}
+use Rattle.cip_digraph.specs.declared.decisions.parity.Parity.{Parity}
 use Rattle.cip_digraph.specs.Sides.{found_side, is_below, is_tied}
 use Rattle.cip_digraph.specs.TurnsOf.{turns_of}
 use Rattle.cip_digraph.specs.Asking.{is_decided}
-use Rattle.cip_digraph.specs.declared.branch_pair.BranchPair.{BranchPair}
+use Rattle.cip_digraph.specs.declared.decisions.branch_pair.BranchPair.{BranchPair}
 use Rattle.cip_aux.specs.Turning.{side_at}
 
 tied_pairs : (pairs : List BranchPair) → list_any is_tied (map side_at pairs) ≡ not (list_all is_decided pairs)

@@ -12,9 +12,9 @@ use Rattle.cip_rank.specs.View.{parent_list}
 use Rattle.cip_digraph.specs.digraph.Digraph.{Node}
 use Rattle.cip_digraph.specs.rules.Decisions.{order}
 use Rattle.cip_digraph.specs.rules.Orders.{Seen}
-use Rattle.cip_digraph.specs.declared.decision.Decision.{Decision}
+use Rattle.cip_digraph.specs.declared.decisions.decision.Decision.{Decision}
 use Rattle.cip_digraph.proofs.lemmas.lists.Elements.{all_append, by_recursion}
-use Rattle.cip_digraph.specs.declared.branch_pair.BranchPair.{BranchPair}
+use Rattle.cip_digraph.specs.declared.decisions.branch_pair.BranchPair.{BranchPair}
 use Rattle.cip_digraph.specs.Asking.{AreWithin, with_found}
 use Rattle.cip_aux.specs.Neighbours.{first_where, neighbours_of, parent_of}
 use Rattle.cip_digraph.specs.Sides.{found_side, number_side, pair_sides}

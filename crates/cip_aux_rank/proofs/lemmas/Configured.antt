@@ -11,60 +11,60 @@ use Rattle.cip_partition.specs.Parting.{has_flag}
 use Rattle.cip_branches.specs.Deciding.{Branched}
 use Rattle.cip_partition.specs.Keys.{AreKeyed}
 use Rattle.cip_branches.specs.Standing.{node_in, WantedIn}
-use Rattle.cip_mol.specs.declared.descriptor.Descriptor.{Descriptor}
+use Rattle.cip_mol.specs.declared.labels.descriptor.Descriptor.{Descriptor}
 use Rattle.cip_digraph.specs.digraph.NodeList.{parents_of}
 use Rattle.cip_digraph.specs.digraph.Telling.{node_at}
 use Rattle.cip_digraph.specs.rules.Decisions.{order}
-use Rattle.cip_digraph.specs.declared.branch_pair.BranchPair.{BranchPair}
+use Rattle.cip_digraph.specs.declared.decisions.branch_pair.BranchPair.{BranchPair}
 use Rattle.cip_digraph.specs.Asking.{AreWithin, with_found}
-use Rattle.cip_rules.specs.DescriptorMap.{AreMarksOf}
+use Rattle.cip_rules.specs.DescriptorMap.{AreDescriptorsOf}
 use Rattle.cip_digraph.proofs.lemmas.lists.Elements.{all_by}
 use Rattle.cip_aux.specs.Below.{is_below}
 use Rattle.cip_aux.proofs.lemmas.WholeTold.{parents_len}
 use Rattle.cip_aux.specs.InnerContext.{InnerContext, AgreesInside, Ready}
 use Rattle.cip_aux.specs.Views.{DigraphView}
-use Rattle.cip_aux_rank.specs.Marks.{marks_below}
-use Rattle.cip_aux_rank.specs.LigandBranches.{AreTops, ArePlaced, AreOrdered, marked_by, seen_at}
+use Rattle.cip_aux_rank.specs.NodeDescriptors.{descriptors_below}
+use Rattle.cip_aux_rank.specs.LigandBranches.{AreTops, ArePlaced, AreOrdered, described_by, seen_at}
 use Rattle.cip_aux_rank.proofs.lemmas.Constituted.{by_tops, place_low}
-use Rattle.cip_aux_rank.proofs.lemmas.CountedMarks.{below_behind, mark_is, marks_len}
+use Rattle.cip_aux_rank.proofs.lemmas.CountedDescriptors.{below_behind, descriptor_is, descriptors_len}
 use Rattle.cip_aux_rank.proofs.lemmas.HangingPlaces.{way_low, way_parent}
 
 -- pairs have the order of the branches' nodes, and these are at the tops
 pub ordered_by : (sight : DigraphView) (node : ℕ) (tops : List ℕ) (begin : List BranchPair)
     → AllByRecursion (AreWithin (length tops)) begin → (now : Branched) → ArePlaced sight node tops now
-    → (mark : List ℕ → Option Descriptor) (requested turned : List BranchPair)
-    → (requested ≡ map (with_found (λ a b. order (seen_at sight node mark) true (node_in (node_at sight.nodes) now a)
+    → (descriptor : List ℕ → Option Descriptor) (requested turned : List BranchPair)
+    → (requested ≡ map (with_found (λ a b. order (seen_at sight node descriptor) true (node_in (node_at sight.nodes) now a)
     (node_in (node_at sight.nodes) now b))) begin)
-    × (turned ≡ map (with_found (λ a b. order (seen_at sight node mark) false (node_in (node_at sight.nodes) now a)
+    × (turned ≡ map (with_found (λ a b. order (seen_at sight node descriptor) false (node_in (node_at sight.nodes) now a)
     (node_in (node_at sight.nodes) now b))) begin)
-    → AreOrdered sight node mark tops begin requested turned
-ordered_by sight node tops begin within now placed mark requested turned both = record {
-  natural = both.0 ∙ by_tops sight node tops begin within now placed (order (seen_at sight node mark) true);
-  other = both.1 ∙ by_tops sight node tops begin within now placed (order (seen_at sight node mark) false);
+    → AreOrdered sight node descriptor tops begin requested turned
+ordered_by sight node tops begin within now placed descriptor requested turned both = record {
+  natural = both.0 ∙ by_tops sight node tops begin within now placed (order (seen_at sight node descriptor) true);
+  other = both.1 ∙ by_tops sight node tops begin within now placed (order (seen_at sight node descriptor) false);
 }
 
 module _ (inner : InnerContext) (node : ℕ) (r : Ready inner node) (tops : List ℕ) (now : Branched)
     (placed : ArePlaced inner.sight node tops now) where
   abbrev counted : List (Option Descriptor)
-  counted = marks_below (parents_of inner.sight.node_data) inner.from inner.marks
+  counted = descriptors_below (parents_of inner.sight.node_data) inner.from inner.descriptors
 
   told_len : length counted ≡ length inner.sight.node_data
-  told_len = marks_len (parents_of inner.sight.node_data) inner.from inner.marks ∙ parents_len inner.sight.node_data
+  told_len = descriptors_len (parents_of inner.sight.node_data) inner.from inner.descriptors ∙ parents_len inner.sight.node_data
 
   pub counted_keyed : AreKeyed (length counted) now.layers.place_tree
   counted_keyed = subst (λ n. AreKeyed n now.layers.place_tree) (sym told_len) placed.keyed
 
   -- the descriptors that count are those of the nodes at all places
-  pub counted_are : (mark : List ℕ → Option Descriptor) → AgreesInside inner mark
-      → AreMarksOf (node_at inner.sight.nodes) (marked_by mark) counted now
-  counted_are mark agrees = record {
+  pub counted_are : (descriptor : List ℕ → Option Descriptor) → AgreesInside inner descriptor
+      → AreDescriptorsOf (node_at inner.sight.nodes) (described_by descriptor) counted now
+  counted_are descriptor agrees = record {
     within = λ t place p. counted_keyed.each place (place_low now placed.followed t place p.at);
     each = λ t place p.
         let number = slice_index now.layers.place_tree.nodes place in
         let low = counted_keyed.each place (place_low now placed.followed t place p.at) in
-        let few = marks_len (parents_of inner.sight.node_data) inner.from inner.marks in
+        let few = descriptors_len (parents_of inner.sight.node_data) inner.from inner.descriptors in
         let len = r.shows.node_data.len in
-        mark_is (parents_of inner.sight.node_data) inner.from inner.marks number low
+        descriptor_is (parents_of inner.sight.node_data) inner.from inner.descriptors number low
         ∙ agrees.each number (omega (arith, low, few, len));
   }
 
@@ -125,22 +125,22 @@ module _ (inner : InnerContext) (node : ℕ) (r : Ready inner node) (tops : List
       ap (on_way ps n) (from_is ∙ sym child.parent) ∙ way_parent ps tree n top few child.behind way in
       below_behind ps tree inner.from n few (omega (arith, from_is, more, high)) ∙ parent_place
 
-  pub marks_keyed : AreKeyed (length inner.marks) now.layers.place_tree
-  marks_keyed =
+  pub descriptors_keyed : AreKeyed (length inner.descriptors) now.layers.place_tree
+  descriptors_keyed =
       let len = r.shows.node_data.len in
-      let many = r.marks in
-      let same : length inner.sight.node_data ≡ length inner.marks =
+      let many = r.descriptors in
+      let same : length inner.sight.node_data ≡ length inner.descriptors =
       omega (arith, len, many, parents_len inner.sight.node_data) in
       subst (λ n. AreKeyed n now.layers.place_tree) same placed.keyed
 
-  pub marks_are : (mark : List ℕ → Option Descriptor) → AgreesInside inner mark
-      → AreMarksOf (node_at inner.sight.nodes) (marked_by mark) inner.marks now
-  marks_are mark agrees = record {
-    within = λ t place p. marks_keyed.each place (place_low now placed.followed t place p.at);
+  pub descriptors_are : (descriptor : List ℕ → Option Descriptor) → AgreesInside inner descriptor
+      → AreDescriptorsOf (node_at inner.sight.nodes) (described_by descriptor) inner.descriptors now
+  descriptors_are descriptor agrees = record {
+    within = λ t place p. descriptors_keyed.each place (place_low now placed.followed t place p.at);
     each = λ t place p.
         let n = slice_index now.layers.place_tree.nodes place in
-        let low = marks_keyed.each place (place_low now placed.followed t place p.at) in
-        let many = r.marks in
-        sym (ap (λ b. cond b (slice_index_or inner.marks n None) None) (is_inside t place p))
+        let low = descriptors_keyed.each place (place_low now placed.followed t place p.at) in
+        let many = r.descriptors in
+        sym (ap (λ b. cond b (slice_index_or inner.descriptors n None) None) (is_inside t place p))
         ∙ agrees.each n (omega (arith, low, many));
   }

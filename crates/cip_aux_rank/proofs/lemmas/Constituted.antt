@@ -3,9 +3,9 @@ use Rattle.std.proofs.Common.{◌≡◌, ◌<◌, ◌≤◌, ◌∷◌, ℕ, pos
 use Rattle.std.specs.declared.option.Option.{Option}
 use Rattle.std.specs.List.{AllByRecursion, list_all}
 use Rattle.std.proofs.lemmas.Bool.{cases_order}
-use Rattle.cip_mol.specs.declared.descriptor.Descriptor.{Descriptor}
-use Rattle.cip_mol.specs.declared.outcome.Rule.TheVariants.{R1a, R1b, R2, R3}
-use Rattle.cip_digraph.specs.declared.decision.Decision.{Decision}
+use Rattle.cip_mol.specs.declared.labels.descriptor.Descriptor.{Descriptor}
+use Rattle.cip_mol.specs.declared.labels.outcome.Rule.TheVariants.{R1a, R1b, R2, R3}
+use Rattle.cip_digraph.specs.declared.decisions.decision.Decision.{Decision}
 use Rattle.cip_digraph.specs.digraph.Digraph.{Node}
 use Rattle.cip_digraph.specs.digraph.NodeList.{parents_of}
 use Rattle.cip_digraph.specs.digraph.Telling.{node_at}
@@ -17,7 +17,7 @@ use Rattle.cip_branches.specs.Standing.{node_in, WantedIn, AreKeysOf}
 use Rattle.cip_branches.specs.Turning.{in_sphere}
 use Rattle.cip_rank.specs.View.{on_way}
 use Rattle.cip_aux.proofs.lemmas.WholeTold.{parents_len}
-use Rattle.cip_digraph.specs.declared.branch_pair.BranchPair.{BranchPair}
+use Rattle.cip_digraph.specs.declared.decisions.branch_pair.BranchPair.{BranchPair}
 use Rattle.cip_digraph.specs.Asking.{AreWithin, is_decided, with_found}
 use Rattle.cip_rules.specs.Deciding.{AreOfConstitution}
 use Rattle.cip_rules.specs.Taking.{WantsNoMore}
@@ -61,39 +61,39 @@ module _ (sight : DigraphView) (node : ℕ) (tops : List ℕ) (begin : List Bran
       ∙ ap (λ n. find (top_node sight tops one.first) (named n)) (placed.top one.second w.1)) begin within
 
   constituted_by : (now : Branched) (requested : List BranchPair) → ArePlaced sight node tops now
-      → ((mark : List ℕ → Option Descriptor) → AreOfConstitution (seen_at sight node mark) named (node_in named now)
+      → ((descriptor : List ℕ → Option Descriptor) → AreOfConstitution (seen_at sight node descriptor) named (node_in named now)
       (length tops) begin now requested) → AreConstituted sight node tops now begin requested
   constituted_by now requested placed decided = record {
     placed = placed;
     decided = decided;
-    noted = λ mark. (decided mark).noted
-        ∙ by_tops now placed (λ m n. first_decision (difference_by (seen_at sight node mark) true m n)
+    noted = λ descriptor. (decided descriptor).noted
+        ∙ by_tops now placed (λ m n. first_decision (difference_by (seen_at sight node descriptor) true m n)
         (R1a ∷ R1b ∷ R2 ∷ []));
   }
 
   module _ (old : Branched) (requested : List BranchPair) (followed : AreFollowedFrom sight node tops old begin requested) where
     -- Rule 1a decided all pairs
     pub constituted_early : list_all is_decided requested ≡ true → AreConstituted sight node tops old begin requested
-    constituted_early done = constituted_by old requested followed.placed (λ mark.
-        ready_early (seen_at sight node mark) true named (node_in named old) (length tops) begin within R1b R3
+    constituted_early done = constituted_by old requested followed.placed (λ descriptor.
+        ready_early (seen_at sight node descriptor) true named (node_in named old) (length tops) begin within R1b R3
         (R1b ∷ R2 ∷ []) refl old requested (record {
-          noted = (followed.decided mark).noted;
-          stands = λ undone. followed.decided mark;
+          noted = (followed.decided descriptor).noted;
+          stands = λ undone. followed.decided descriptor;
         }) done)
 
-    module _ (shows : Shows sight) (mark : List ℕ → Option Descriptor) where
+    module _ (shows : Shows sight) (descriptor : List ℕ → Option Descriptor) where
       told_len : length sight.nodes ≡ length sight.node_data
       told_len = shows.node_data.len ∙ parents_len sight.node_data
 
       node_low : (t place : ℕ) → WantedIn old t place → slice_index old.layers.place_tree.nodes place < length sight.node_data
       node_low t place p = followed.placed.keyed.each place (place_low old followed.placed.followed t place p.at)
 
-      pub distances_are : AreKeysOf named (seen_at sight node mark).distance (distance_keys sight node) old
+      pub distances_are : AreKeysOf named (seen_at sight node descriptor).distance (distance_keys sight node) old
       distances_are = record {
         each = λ t place p. distance_key_is sight node (slice_index old.layers.place_tree.nodes place) (node_low t place p);
       }
 
-      pub masses_are : AreKeysOf named (seen_at sight node mark).mass (mass_keys sight.node_data) old
+      pub masses_are : AreKeysOf named (seen_at sight node descriptor).mass (mass_keys sight.node_data) old
       masses_are = record {
         each = λ t place p.
             let number = slice_index old.layers.place_tree.nodes place in
@@ -105,7 +105,7 @@ module _ (sight : DigraphView) (node : ℕ) (tops : List ℕ) (begin : List Bran
     -- Rules 1b and 2 decided what was open
     pub constituted_next : (now : Branched) (new : List BranchPair) → AreFollowed now → now.layers.place_tree ≡ old.layers.place_tree
         → WantsNoMore old now
-        → ((mark : List ℕ → Option Descriptor) → AreOfConstitution (seen_at sight node mark) named (node_in named old)
+        → ((descriptor : List ℕ → Option Descriptor) → AreOfConstitution (seen_at sight node descriptor) named (node_in named old)
         (length tops) begin now new) → AreConstituted sight node tops now begin new
     constituted_next now new stands place_tree fewer decided =
         let before = followed.placed in
@@ -124,5 +124,5 @@ module _ (sight : DigraphView) (node : ℕ) (tops : List ℕ) (begin : List Bran
                 (slice_index tops (slice_index n.branches place)) ≡ true) (sym place_tree)
                 (before.hang.each t place (fewer.each t place p));
           };
-        }) (λ mark. subst (λ (k : PlaceTree). AreOfConstitution (seen_at sight node mark) named
-        (λ a. named (slice_index k.nodes a)) (length tops) begin now new) (sym place_tree) (decided mark))
+        }) (λ descriptor. subst (λ (k : PlaceTree). AreOfConstitution (seen_at sight node descriptor) named
+        (λ a. named (slice_index k.nodes a)) (length tops) begin now new) (sym place_tree) (decided descriptor))

@@ -34,11 +34,11 @@ use Rattle.cip_digraph.specs.digraph.NodeList.{parents_of}
 use Rattle.cip_digraph.specs.digraph.Telling.{node_at}
 use Rattle.cip_digraph.specs.digraph.View.{real_at, view_children, height_below, seen_from}
 use Rattle.cip_digraph.specs.rules.Keys.{atomic_key}
-use Rattle.cip_digraph.specs.declared.decision.Decision.{Decision}
+use Rattle.cip_digraph.specs.declared.decisions.decision.Decision.{Decision}
 use Rattle.cip_digraph.specs.rules.Decisions.{first_difference}
 use Rattle.cip_digraph.specs.rules.Orders.{all_tie, rule_1a}
-use Rattle.cip_mol.specs.declared.descriptor.Descriptor.{Descriptor}
-use Rattle.cip_mol.specs.declared.outcome.Rule.TheVariants.{R1a}
+use Rattle.cip_mol.specs.declared.labels.descriptor.Descriptor.{Descriptor}
+use Rattle.cip_mol.specs.declared.labels.outcome.Rule.TheVariants.{R1a}
 use Rattle.cip_digraph.proofs.lemmas.orders.Exchanged.{all_tie_total}
 use Rattle.cip_rules.specs.NodeKeys.{atomic_keys}
 use Rattle.cip_rules.proofs.lemmas.NodeKeys.{keys_at}
@@ -48,7 +48,7 @@ use Rattle.cip_aux_rank.specs.LigandBranches.{AreTops, AreFollowedFrom, seen_at,
 use Rattle.cip_aux_rank.proofs.lemmas.AwayNodes.{IsAway, away_below, height_away}
 use Rattle.cip_aux_rank.proofs.lemmas.Constituted.{place_low}
 use Rattle.cip_aux_rank.proofs.lemmas.HangingPlaces.{hanging}
-use Rattle.cip_digraph.specs.declared.branch_pair.BranchPair.{BranchPair}
+use Rattle.cip_digraph.specs.declared.decisions.branch_pair.BranchPair.{BranchPair}
 use Rattle.cip_digraph.specs.Asking.{AreWithin, decided, found_between, with_found}
 use Rattle.cip_rules.specs.Orders.{found_below}
 use Rattle.cip_rules.proofs.lemmas.FoundRules.{noted_next}
@@ -376,11 +376,11 @@ module _ (sight : DigraphView) (shows : Shows sight) (from : ℕ) (real : IsReal
             absurd (omega (arith, low, high, most));
       }
 
-      node_noted : (mark : List ℕ → Option Descriptor) → IsNoted sight from tops (old.last + 1) begin requested
-          → requested ≡ map (with_found (found_below R1a (rule_1a (seen_at sight from mark)) (node_in named old)
+      node_noted : (descriptor : List ℕ → Option Descriptor) → IsNoted sight from tops (old.last + 1) begin requested
+          → requested ≡ map (with_found (found_below R1a (rule_1a (seen_at sight from descriptor)) (node_in named old)
           (old.last + 1))) begin
       unfolding rule_1a
-      node_noted mark noted =
+      node_noted descriptor noted =
           let found : ℕ → ℕ → ℕ → ℕ → Option Decision = λ m n a b. decided R1a (first_difference (λ depth.
           comparison next all_tie key depth (named m) (named n)) 0 (old.last + 1)) in
           noted ∙ same_found (found_below R1a (comparison next all_tie key) (top_node sight tops) (old.last + 1))
@@ -405,6 +405,6 @@ module _ (sight : DigraphView) (shows : Shows sight) (from : ℕ) (real : IsReal
           hang = hanging parents tree from inside way on tops (key_at keys) old was.numbered was.count was.top
               (λ t place p. node_low place (place_low old was.followed t place p.at));
         };
-        decided = λ mark. first_decides (seen_at sight from mark) true named (node_in named old) (length tops) begin
-            within_all old was.decided (ends over) was.high (λ a. refl) was.count requested (node_noted mark noted);
+        decided = λ descriptor. first_decides (seen_at sight from descriptor) true named (node_in named old) (length tops) begin
+            within_all old was.decided (ends over) was.high (λ a. refl) was.count requested (node_noted descriptor noted);
       }

@@ -8,20 +8,20 @@ use Rattle.std.proofs.lemmas.List.Elements.{All-contains, All-contains_itself, A
 use Rattle.cip_branches.specs.Deciding.{Branched}
 use Rattle.cip_rank.specs.Tree.{children_of}
 use Rattle.cip_rank.specs.View.{parent_list}
-use Rattle.cip_mol.specs.declared.descriptor.Descriptor.{Descriptor}
-use Rattle.cip_mol.specs.declared.outcome.Rule.TheVariants.{R1a, R1b, R2, R3, R4a, R4b, R4c, R5}
-use Rattle.cip_digraph.specs.declared.decision.Decision.{Decision}
+use Rattle.cip_mol.specs.declared.labels.descriptor.Descriptor.{Descriptor}
+use Rattle.cip_mol.specs.declared.labels.outcome.Rule.TheVariants.{R1a, R1b, R2, R3, R4a, R4b, R4c, R5}
+use Rattle.cip_digraph.specs.declared.decisions.decision.Decision.{Decision}
 use Rattle.cip_digraph.specs.digraph.Digraph.{Node}
 use Rattle.cip_digraph.specs.digraph.NodeList.{parents_of}
 use Rattle.cip_digraph.specs.digraph.Telling.{node_at}
 use Rattle.cip_digraph.specs.rules.Decisions.{difference_by, first_decision, order}
 use Rattle.cip_digraph.specs.Sides.{found_side}
-use Rattle.cip_digraph.specs.declared.branch_pair.BranchPair.{BranchPair}
+use Rattle.cip_digraph.specs.declared.decisions.branch_pair.BranchPair.{BranchPair}
 use Rattle.cip_digraph.specs.Asking.{AreWithin, is_decided, kept_or, with_found}
 use Rattle.cip_rules.specs.Orders.{decided_in_turn}
 use Rattle.cip_rules.proofs.lemmas.FoundWithin.{all_within}
 use Rattle.cip_rules.proofs.lemmas.RulesGoOn.{order_told}
-use Rattle.cip_rules.proofs.lemmas.UnmarkedBranches.{kept_both}
+use Rattle.cip_rules.proofs.lemmas.BranchesWithoutDescriptors.{kept_both}
 use Rattle.cip_aux.specs.Neighbours.{neighbours_of}
 use Rattle.cip_aux.specs.Views.{DigraphView}
 use Rattle.cip_aux.specs.Turning.{side_at}
@@ -40,7 +40,7 @@ first_left sight node ligands next tops are some now pairs is undone = record {
   requested = asked_pairs tops ligands;
   within = pairs_within tops some ligands;
   tell = record {
-    each = λ mark r_first. pairs_found tops (node_at sight.nodes) (seen_at sight node mark) r_first ligands
+    each = λ descriptor r_first. pairs_found tops (node_at sight.nodes) (seen_at sight node descriptor) r_first ligands
         (subst (λ (ns : List ℕ). AllByRecursion (λ ligand. IfSome ligand (Contains ns)) ligands) (sym are)
         (tops_of (parents_of sight.node_data) node ligands next));
   };
@@ -169,15 +169,15 @@ module _ (parents : List ℕ) (node : ℕ) (tops : List ℕ) (ligands : List (Op
 
 -- pairs
 
-module _ (sight : DigraphView) (node : ℕ) (tops others : List ℕ) (mark : List ℕ → Option Descriptor) where
+module _ (sight : DigraphView) (node : ℕ) (tops others : List ℕ) (descriptor : List ℕ → Option Descriptor) where
   abbrev named : ℕ → Node
   named = node_at sight.nodes
 
   abbrev decide : List ℕ → ℕ → ℕ → Option Decision
-  decide ns = decided_in_turn (seen_at sight node mark) true (R1a ∷ R1b ∷ R2 ∷ []) (top_node sight ns)
+  decide ns = decided_in_turn (seen_at sight node descriptor) true (R1a ∷ R1b ∷ R2 ∷ []) (top_node sight ns)
 
   abbrev ordered : Bool → List ℕ → ℕ → ℕ → Option Decision
-  ordered r_first ns a b = order (seen_at sight node mark) r_first (top_node sight ns a) (top_node sight ns b)
+  ordered r_first ns a b = order (seen_at sight node descriptor) r_first (top_node sight ns a) (top_node sight ns b)
 
   -- by the nodes at their tops
   abbrev Stays : (List ℕ → ℕ → ℕ → Option Decision) → BranchPair → Type 0
@@ -189,12 +189,12 @@ module _ (sight : DigraphView) (node : ℕ) (tops others : List ℕ) (mark : Lis
 
   decide_stays : (requested : BranchPair) → HasBoth requested → Stays decide requested
   decide_stays requested has = λ i. first_decision
-      (difference_by (seen_at sight node mark) true
+      (difference_by (seen_at sight node descriptor) true
       (named (branch_top others (slice_index tops requested.first) has.0 i))
       (named (branch_top others (slice_index tops requested.second) has.1 i))) (R1a ∷ R1b ∷ R2 ∷ [])
 
   ordered_stays : (r_first : Bool) (requested : BranchPair) → HasBoth requested → Stays (ordered r_first) requested
-  ordered_stays r_first requested has = λ i. order (seen_at sight node mark) r_first
+  ordered_stays r_first requested has = λ i. order (seen_at sight node descriptor) r_first
       (named (branch_top others (slice_index tops requested.first) has.0 i))
       (named (branch_top others (slice_index tops requested.second) has.1 i))
 
@@ -203,7 +203,7 @@ module _ (sight : DigraphView) (node : ℕ) (tops others : List ℕ) (mark : Lis
       → kept_or requested.decision (decide tops requested.first requested.second) ≡ Some found
       → kept_or requested.decision (ordered r_first tops requested.first requested.second) ≡ Some found
   node_data r_first requested within found e =
-      let same = order_told (seen_at sight node mark) r_first (node_at sight.nodes) (top_node sight tops) (length tops)
+      let same = order_told (seen_at sight node descriptor) r_first (node_at sight.nodes) (top_node sight tops) (length tops)
       (requested ∷ []) (within, tt) (R1a ∷ R1b ∷ R2 ∷ []) (R3 ∷ R4a ∷ R4b ∷ R4c ∷ R5 ∷ []) refl
       (with_found (decide tops) requested ∷ []) refl
       (ap (λ (d : Option Decision). is_decided (asked_between requested.first requested.second d) && true) e) in
@@ -290,27 +290,27 @@ module _ (sight : DigraphView) (node : ℕ) (tops : List ℕ) (asked_for : List 
   abbrev others : List ℕ
   others = asked_tops (parents_of sight.node_data) (unresolved_tops tops pairs) node
 
-  no_mark : List ℕ → Option Descriptor
-  no_mark path = None
+  no_descriptor : List ℕ → Option Descriptor
+  no_descriptor path = None
 
   pub pairs_are_within : AllByRecursion (AreWithin (length tops)) pairs
-  pairs_are_within = subst (AllByRecursion (AreWithin (length tops))) (sym (left.constituted.noted no_mark))
-      (all_within (decide sight node tops others no_mark tops) (length tops) left.requested left.within)
+  pairs_are_within = subst (AllByRecursion (AreWithin (length tops))) (sym (left.constituted.noted no_descriptor))
+      (all_within (decide sight node tops others no_descriptor tops) (length tops) left.requested left.within)
 
   pairs_have : AllByRecursion (HasTops (parents_of sight.node_data) node tops asked_for are pairs) pairs
   pairs_have = have_tops (parents_of sight.node_data) node tops asked_for are pairs pairs_are_within
 
-  have : (mark : List ℕ → Option Descriptor) → AllByRecursion (Has sight node tops others mark) left.requested
-  have mark = under_found (decide sight node tops others mark tops)
+  have : (descriptor : List ℕ → Option Descriptor) → AllByRecursion (Has sight node tops others descriptor) left.requested
+  have descriptor = under_found (decide sight node tops others descriptor tops)
       (HasTops (parents_of sight.node_data) node tops asked_for are pairs) left.requested
       (subst (AllByRecursion (HasTops (parents_of sight.node_data) node tops asked_for are pairs))
-      (left.constituted.noted mark) pairs_have)
+      (left.constituted.noted descriptor) pairs_have)
 
   pub some_left : 0 < length others
   some_left = some_top (parents_of sight.node_data) node tops asked_for are pairs pairs left.undone pairs_have
 
   pub all_moved : AllByRecursion (AreWithin (length others)) (map (moved tops others) pairs)
-  all_moved = moved_within sight node tops others no_mark some_left pairs
+  all_moved = moved_within sight node tops others no_descriptor some_left pairs
 
   -- asked about once more they give the same
   pub narrowed_left : (now : Branched) (found : List BranchPair)
@@ -320,18 +320,18 @@ module _ (sight : DigraphView) (node : ℕ) (tops : List ℕ) (asked_for : List 
     requested = map (moved tops others) pairs;
     within = all_moved;
     tell = record {
-      each = λ mark r_first.
-          ap (λ (ps : List BranchPair). map side_at (map (with_found (ordered sight node tops others mark r_first others))
-          (map (moved tops others) ps))) (left.constituted.noted mark)
-          ∙ all_sides sight node tops others mark r_first left.requested left.within (have mark)
-          ∙ left.tell.each mark r_first;
+      each = λ descriptor r_first.
+          ap (λ (ps : List BranchPair). map side_at (map (with_found (ordered sight node tops others descriptor r_first others))
+          (map (moved tops others) ps))) (left.constituted.noted descriptor)
+          ∙ all_sides sight node tops others descriptor r_first left.requested left.within (have descriptor)
+          ∙ left.tell.each descriptor r_first;
     };
     constituted = is;
-    undone = ap (list_all is_decided) (is.noted no_mark)
-        ∙ ap (λ (ps : List BranchPair). list_all is_decided (map (with_found (decide sight node tops others no_mark others))
-        (map (moved tops others) ps))) (left.constituted.noted no_mark)
-        ∙ all_open sight node tops others no_mark left.requested (have no_mark)
-        ∙ sym (ap (list_all is_decided) (left.constituted.noted no_mark)) ∙ left.undone;
+    undone = ap (list_all is_decided) (is.noted no_descriptor)
+        ∙ ap (λ (ps : List BranchPair). list_all is_decided (map (with_found (decide sight node tops others no_descriptor others))
+        (map (moved tops others) ps))) (left.constituted.noted no_descriptor)
+        ∙ all_open sight node tops others no_descriptor left.requested (have no_descriptor)
+        ∙ sym (ap (list_all is_decided) (left.constituted.noted no_descriptor)) ∙ left.undone;
   }
 
   -- by the tops as they are then

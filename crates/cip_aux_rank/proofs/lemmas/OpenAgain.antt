@@ -13,7 +13,7 @@ use Rattle.cip_aux.specs.Views.{DigraphView}
 use Rattle.cip_branches.specs.Deciding.{Branched}
 use Rattle.cip_branches.specs.Saving.{Checkpoint, restored, saved_of}
 use Rattle.cip_digraph.specs.digraph.NodeList.{parents_of}
-use Rattle.cip_digraph.specs.declared.branch_pair.BranchPair.{BranchPair}
+use Rattle.cip_digraph.specs.declared.decisions.branch_pair.BranchPair.{BranchPair}
 use Rattle.cip_rules.specs.Taking.{AreSame}
 use Rattle.cip_rules.proofs.lemmas.TakenSteps.{same_still, stands_back}
 use Rattle.cip_aux_rank.specs.Narrowing.{LeavesOpen}

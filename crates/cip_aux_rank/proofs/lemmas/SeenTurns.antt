@@ -3,17 +3,17 @@ use Rattle.std.proofs.Common.{◌≡◌, ◌<◌, ◌∷◌, ℕ, Bool, true, fa
 use Rattle.std.specs.List.{AllByRecursion, list_all}
 use Rattle.std.specs.declared.option.Option.{Option}
 use Rattle.cip_branches.specs.Deciding.{Branched}
-use Rattle.cip_mol.specs.declared.descriptor.Descriptor.{Descriptor}
-use Rattle.cip_mol.specs.declared.outcome.Rule.TheVariants.{R1a, R1b, R2, R3, R4a, R4b, R4c, R5}
+use Rattle.cip_mol.specs.declared.labels.descriptor.Descriptor.{Descriptor}
+use Rattle.cip_mol.specs.declared.labels.outcome.Rule.TheVariants.{R1a, R1b, R2, R3, R4a, R4b, R4c, R5}
 use Rattle.cip_digraph.specs.digraph.NodeList.{parents_of}
 use Rattle.cip_digraph.specs.digraph.Telling.{node_at}
 use Rattle.cip_digraph.specs.rules.Decisions.{order}
-use Rattle.cip_digraph.specs.declared.branch_pair.BranchPair.{BranchPair}
+use Rattle.cip_digraph.specs.declared.decisions.branch_pair.BranchPair.{BranchPair}
 use Rattle.cip_digraph.specs.Asking.{is_decided, with_found}
 use Rattle.cip_rules.specs.Orders.{decided_in_turn}
 use Rattle.cip_rules.proofs.lemmas.RulesGoOn.{order_told}
 use Rattle.cip_aux.specs.InnerContext.{InnerContext, AgreesInside}
-use Rattle.cip_aux.specs.Marking.{AreSeenTurns}
+use Rattle.cip_aux.specs.DescriptorsInside.{AreSeenTurns}
 use Rattle.cip_aux.specs.Neighbours.{neighbours_of}
 use Rattle.cip_digraph.specs.Sides.{pair_sides}
 use Rattle.cip_digraph.specs.TurnsOf.{turns_of}
@@ -35,23 +35,23 @@ module _ (inner : InnerContext) (node : ℕ) (ligands : List (Option ℕ))
       (tops_of (parents_of inner.sight.node_data) node ligands next)
 
   -- the order of branches
-  sides_are : (mark : List ℕ → Option Descriptor) (r_first : Bool) (pairs : List BranchPair)
-      → pairs ≡ map (with_found (λ a b. order (seen_at sight node mark) r_first (top_node sight tops a)
+  sides_are : (descriptor : List ℕ → Option Descriptor) (r_first : Bool) (pairs : List BranchPair)
+      → pairs ≡ map (with_found (λ a b. order (seen_at sight node descriptor) r_first (top_node sight tops a)
       (top_node sight tops b))) (asked_pairs tops ligands)
-      → map side_at pairs ≡ pair_sides (seen_sides sight node mark r_first) ligands
-  sides_are mark r_first pairs found =
+      → map side_at pairs ≡ pair_sides (seen_sides sight node descriptor r_first) ligands
+  sides_are descriptor r_first pairs found =
       ap (map side_at) found
-      ∙ pairs_found tops (node_at sight.nodes) (seen_at sight node mark) r_first ligands all_tops
+      ∙ pairs_found tops (node_at sight.nodes) (seen_at sight node descriptor) r_first ligands all_tops
 
   -- of lone pairs alone, whichever descriptors there are
   pub lone_seen : (pairs : List BranchPair) → length tops ≡ 0 → pairs ≡ asked_pairs tops ligands
       → AreSeenTurns inner node ligands (found_by true pairs pairs)
-  lone_seen pairs none is = record { each = λ mark any i. turns_of (lone mark true i) (lone mark false i) }
+  lone_seen pairs none is = record { each = λ descriptor any i. turns_of (lone descriptor true i) (lone descriptor false i) }
     where
-      lone : (mark : List ℕ → Option Descriptor) (r_first : Bool)
-          → map side_at pairs ≡ pair_sides (seen_sides sight node mark r_first) ligands
-      lone mark r_first =
-          ap (map side_at) is ∙ pairs_lone tops none (seen_sides sight node mark r_first) ligands all_tops
+      lone : (descriptor : List ℕ → Option Descriptor) (r_first : Bool)
+          → map side_at pairs ≡ pair_sides (seen_sides sight node descriptor r_first) ligands
+      lone descriptor r_first =
+          ap (map side_at) is ∙ pairs_lone tops none (seen_sides sight node descriptor r_first) ligands all_tops
 
   -- where constitution decides all, whichever descriptors there are
   pub decided_seen : (now : Branched) (pairs : List BranchPair) → 0 < length tops
@@ -59,27 +59,27 @@ module _ (inner : InnerContext) (node : ℕ) (ligands : List (Option ℕ))
       → AreSeenTurns inner node ligands (found_by true pairs pairs)
   decided_seen now pairs some is done =
       record {
-        each = λ mark any i. turns_of (sides_are mark true pairs (all_told mark true (is.noted mark)) i)
-            (sides_are mark false pairs (all_told mark false (is.noted mark)) i);
+        each = λ descriptor any i. turns_of (sides_are descriptor true pairs (all_told descriptor true (is.noted descriptor)) i)
+            (sides_are descriptor false pairs (all_told descriptor false (is.noted descriptor)) i);
       }
     where
-      all_told : (mark : List ℕ → Option Descriptor) (r_first : Bool)
-          → pairs ≡ map (with_found (decided_in_turn (seen_at sight node mark) r_first (R1a ∷ R1b ∷ R2 ∷ [])
+      all_told : (descriptor : List ℕ → Option Descriptor) (r_first : Bool)
+          → pairs ≡ map (with_found (decided_in_turn (seen_at sight node descriptor) r_first (R1a ∷ R1b ∷ R2 ∷ [])
           (top_node sight tops))) (asked_pairs tops ligands)
-          → pairs ≡ map (with_found (λ a b. order (seen_at sight node mark) r_first (top_node sight tops a)
+          → pairs ≡ map (with_found (λ a b. order (seen_at sight node descriptor) r_first (top_node sight tops a)
           (top_node sight tops b))) (asked_pairs tops ligands)
-      all_told mark r_first noted =
-          order_told (seen_at sight node mark) r_first (node_at sight.nodes) (top_node sight tops) (length tops)
+      all_told descriptor r_first noted =
+          order_told (seen_at sight node descriptor) r_first (node_at sight.nodes) (top_node sight tops) (length tops)
           (asked_pairs tops ligands) (pairs_within tops some ligands) (R1a ∷ R1b ∷ R2 ∷ [])
           (R3 ∷ R4a ∷ R4b ∷ R4c ∷ R5 ∷ []) refl pairs noted done
 
 -- where all rules decide them
 pub ordered_seen : (inner : InnerContext) (node : ℕ) (tops : List ℕ) (requested : List BranchPair) (ligands : List (Option ℕ))
     → SidesAreTold inner.sight node tops requested ligands → (pairs turned : List BranchPair)
-    → ((mark : List ℕ → Option Descriptor) → AgreesInside inner mark
-    → AreOrdered inner.sight node mark tops requested pairs turned)
+    → ((descriptor : List ℕ → Option Descriptor) → AgreesInside inner descriptor
+    → AreOrdered inner.sight node descriptor tops requested pairs turned)
     → AreSeenTurns inner node ligands (found_by false pairs turned)
 ordered_seen inner node tops requested ligands tell pairs turned are_ordered = record {
-  each = λ mark agrees i. turns_of ((ap (map side_at) (are_ordered mark agrees).natural ∙ tell.each mark true) i)
-      ((ap (map side_at) (are_ordered mark agrees).other ∙ tell.each mark false) i);
+  each = λ descriptor agrees i. turns_of ((ap (map side_at) (are_ordered descriptor agrees).natural ∙ tell.each descriptor true) i)
+      ((ap (map side_at) (are_ordered descriptor agrees).other ∙ tell.each descriptor false) i);
 }

@@ -1,6 +1,6 @@
 -- Where all nodes are requested.
 use Rattle.std.proofs.Common.{◌≡◌, ◌<◌, ℕ, zero, suc, true, List, length, replicate, refl, arith, Result, Ok, Err, OnOk}
-use Rattle.cip_aux.specs.Marking.{AreWanted, flag_at}
+use Rattle.cip_aux.specs.DescriptorsInside.{AreWanted, flag_at}
 
 -- with a flag at each node all are requested
 pub wanted_at : (count k : ℕ) → k < count → flag_at (replicate count true) k ≡ true

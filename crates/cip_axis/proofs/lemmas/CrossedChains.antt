@@ -3,7 +3,7 @@ use Rattle.std.proofs.Common.{◌≡◌, ◌<◌, ◌≤◌, ◌+◌, ◌||◌, 
 use Rattle.std.proofs.Math.Seq.{drop-cons}
 use Rattle.std.proofs.lemmas.List.{drop_all}
 use Rattle.cip_mol.specs.Marks.{is_crossed}
-use Rattle.cip_mol.specs.declared.molecule.Bond.{Bond}
+use Rattle.cip_mol.specs.declared.graph.molecule.Bond.{Bond}
 use Rattle.cip_axis.specs.Further.{has_crossed}
 
 module _ (bonds : List Bond) (before : ℕ) (rest : List ℕ) (i : ℕ) where

@@ -3,7 +3,7 @@ use Rattle.std.proofs.Common.{◌≡◌, ◌<◌, ◌≤◌, ◌+◌, ℕ, zero,
 use Rattle.std.proofs.Common.{length, arith, eqb-true}
 use Rattle.std.specs.Prelude.{filter, slice_index_or}
 use Rattle.std.specs.List.{AllByRecursion}
-use Rattle.cip_digraph.specs.declared.graph.Edge.{Edge}
+use Rattle.cip_digraph.specs.declared.drawing.graph.Edge.{Edge}
 use Rattle.cip_digraph.specs.graph.Graph.{Graph, edges_at, other_end, touches}
 use Rattle.cip_digraph.specs.units.Allenes.{doubles}
 use Rattle.cip_digraph.proofs.lemmas.lists.Elements.{all_by, all_filtered, all_mapped, by_recursion, all_passed}

@@ -7,7 +7,7 @@ use Rattle.cip_digraph.specs.graph.Graph.{Graph, edges_at, other_end}
 use Rattle.cip_digraph.specs.graph.SoundGraphs.{IsSound}
 use Rattle.cip_digraph.specs.units.Descriptors.{is_odd}
 use Rattle.cip_digraph.specs.units.DoubleBonds.{end_ligands}
-use Rattle.cip_digraph.specs.declared.graph.Edge.{Edge}
+use Rattle.cip_digraph.specs.declared.drawing.graph.Edge.{Edge}
 use Rattle.cip_digraph.proofs.lemmas.lists.Elements.{all_append, all_mapped, all_told}
 use Rattle.cip_digraph.proofs.lemmas.lists.Elements.{all_flat_each}
 use Rattle.cip_label.specs.Fitting.{IsFitSite}

@@ -7,7 +7,7 @@ use Rattle.std.proofs.lemmas.List.Elements.{All-from_recursion}
 use Rattle.cip_mol.specs.Sites.{IsEnd, IsSite}
 use Rattle.cip_mol.specs.declared.site.Ligand.{Ligand}
 use Rattle.cip_mol.specs.declared.site.Site.TheVariants.{Bond, Axis}
-use Rattle.cip_digraph.specs.declared.graph.Edge.{Edge}
+use Rattle.cip_digraph.specs.declared.drawing.graph.Edge.{Edge}
 use Rattle.cip_digraph.specs.graph.Graph.{Graph, edges_at, other_end, vertex_at}
 use Rattle.cip_digraph.specs.rings.Positions.{is_delocalised}
 use Rattle.cip_digraph.specs.units.Allenes.{is_axis_end}

@@ -4,8 +4,8 @@ use Rattle.std.specs.Prelude.{IsErrOf}
 use Rattle.cip_frame.specs.Framing.{Framing}
 use Rattle.cip_frame.specs.Records.{cut_of}
 use Rattle.cip_batch.specs.declared.limits.Limits.{Limits}
-use Rattle.cip_batch.specs.declared.input.InputEnd.{InputEnd}
-use Rattle.cip_batch.specs.declared.input.InputEnd.TheVariants.{End, Fault, Limit}
+use Rattle.cip_batch.specs.declared.streams.input.InputEnd.{InputEnd}
+use Rattle.cip_batch.specs.declared.streams.input.InputEnd.TheVariants.{End, Fault, Limit}
 use Rattle.cip_batch.specs.declared.error.StreamError.{StreamError}
 use Rattle.cip_batch.specs.declared.error.StreamError.TheVariants as stops
 use Rattle.cip_batch.specs.declared.status.StreamStatus.{StreamStatus}

@@ -4,8 +4,8 @@ use Rattle.std.specs.Io.KnownBytes.{Consumes, Keeps}
 use Rattle.cip_frame.specs.Records.{cut_of}
 use Rattle.cip_frame.specs.Framing.{Framing, Holds}
 use Rattle.cip_batch.specs.declared.limits.Limits.{Limits}
-use Rattle.cip_batch.specs.declared.input.ReadStep.{ReadStep}
-use Rattle.cip_batch.specs.declared.input.ReadStep.TheVariants.{Piece}
+use Rattle.cip_batch.specs.declared.streams.input.ReadStep.{ReadStep}
+use Rattle.cip_batch.specs.declared.streams.input.ReadStep.TheVariants.{Piece}
 use Rattle.cip_batch.specs.declared.status.StreamStatus.{StreamStatus}
 use Rattle.cip_batch.specs.ExpectedOutput.{ExpectedOutput}
 use Rattle.cip_batch.specs.Verdicts.{clear, joined}

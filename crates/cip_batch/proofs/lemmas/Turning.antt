@@ -4,10 +4,10 @@ use Rattle.std.proofs.lemmas.List.{take-append-drop, length-append, length-drop,
 use Rattle.std.proofs.lemmas.Grind.{common_steps}
 use Rattle.std.specs.Io.KnownBytes.{Consumes}
 use Rattle.cip_frame.specs.Framing.{Framing, Holds, Passed}
-use Rattle.cip_batch.specs.declared.input.InputEnd.{InputEnd}
-use Rattle.cip_batch.specs.declared.input.InputEnd.TheVariants.{End, Fault, Limit}
-use Rattle.cip_batch.specs.declared.input.ReadStep.{ReadStep}
-use Rattle.cip_batch.specs.declared.input.ReadStep.TheVariants.{Piece, Last}
+use Rattle.cip_batch.specs.declared.streams.input.InputEnd.{InputEnd}
+use Rattle.cip_batch.specs.declared.streams.input.InputEnd.TheVariants.{End, Fault, Limit}
+use Rattle.cip_batch.specs.declared.streams.input.ReadStep.{ReadStep}
+use Rattle.cip_batch.specs.declared.streams.input.ReadStep.TheVariants.{Piece, Last}
 use Rattle.cip_batch.specs.declared.error.StreamError.{StreamError}
 use Rattle.cip_batch.specs.declared.error.StreamError.TheVariants as stops
 use Rattle.cip_batch.specs.Reading.{Brings, Feeds, Halts, Overfeeds, Overflows, TakesAtMost}

@@ -6,7 +6,7 @@ use Rattle.cip_edit.proofs.lemmas.MirrorReads.{mirror_reads}
 use Rattle.cip_edit.specs.Answers.{GivesReflected, mirror_answer}
 use Rattle.cip_edit.specs.declared.mirror_answer.MirrorAnswer.{MirrorAnswer}
 use Rattle.cip_edit.specs.declared.mirror_answer.MirrorAnswer.TheVariants as mirrored
-use Rattle.cip_mol.specs.declared.centre_letter.CentreLetter.{CentreLetter}
+use Rattle.cip_mol.specs.declared.labels.centre_letter.CentreLetter.{CentreLetter}
 use Rattle.cip_edit.proofs.lemmas.SetReads.{set_reads}
 use Rattle.cip_edit.specs.SetAnswers.{GivesMark, set_answer, set_without_items}
 use Rattle.cip_edit.specs.declared.set_answer.SetAnswer.{SetAnswer}

@@ -2,8 +2,8 @@
 use Rattle.std.proofs.Common.{◌≡◌, ◌+◌, ℕ, zero, suc, List, Result, Ok, Err, Option, Some, None, refl, ap, subst, arith}
 use Rattle.std.specs.Prelude.{slice_get}
 use Rattle.cip_mol.specs.declared.faults.BondCause.{BondCause}
-use Rattle.cip_mol.specs.declared.molecule.Bond.{Bond}
-use Rattle.cip_mol.specs.declared.refusal.ReadCause.{ReadCause}
+use Rattle.cip_mol.specs.declared.graph.molecule.Bond.{Bond}
+use Rattle.cip_mol.specs.declared.labels.refusal.ReadCause.{ReadCause}
 use Rattle.cip_ctfile.specs.Causes.{unless_refused}
 use Rattle.cip_ctfile.specs.Reading.{◌>>=◌, numbered, read_line, read_at, through}
 

@@ -1,7 +1,7 @@
 -- A refusal that is passed on.
 use Rattle.std.proofs.Common.{◌≡◌, Option, Some, None, Result, Err, sym}
-use Rattle.cip_mol.specs.declared.refusal.ReadFault.{ReadFault}
-use Rattle.cip_mol.specs.declared.refusal.ReadRefusal.{ReadRefusal}
+use Rattle.cip_mol.specs.declared.labels.refusal.ReadFault.{ReadFault}
+use Rattle.cip_mol.specs.declared.labels.refusal.ReadRefusal.{ReadRefusal}
 use Rattle.cip_ctfile.specs.Reading.{Fails, fault_in}
 use Rattle.cip_ctfile.specs.Refusals.{FailsBy}
 

@@ -2,16 +2,16 @@
 use Rattle.std.proofs.Common.{◌≡◌, ◌≤◌, arith, length, ℕ, Bool, true, false, ◌||◌, List, [], ◌∷◌, refl, sym, ap, None, Some}
 use Rattle.std.specs.declared.option.Option.{Option}
 use Rattle.cip_rank.specs.declared.rules.Rules.{Rules}
-use Rattle.cip_mol.specs.declared.descriptor.Descriptor.{Descriptor}
-use Rattle.cip_mol.specs.declared.descriptor.Sense.{Sense}
-use Rattle.cip_mol.specs.declared.descriptor.Sense.TheVariants.{Plus, Minus}
+use Rattle.cip_mol.specs.declared.labels.descriptor.Descriptor.{Descriptor}
+use Rattle.cip_mol.specs.declared.labels.descriptor.Sense.{Sense}
+use Rattle.cip_mol.specs.declared.labels.descriptor.Sense.TheVariants.{Plus, Minus}
 use Rattle.cip_mol.specs.declared.site.Site.{Site}
 use Rattle.cip_digraph.specs.rules.Auxiliary.{letter_at}
 use Rattle.cip_digraph.specs.units.Descriptors.{turned_if, letter_by, letter}
 use Rattle.cip_digraph.specs.digraph.Digraph.{Node}
 use Rattle.cip_digraph.specs.graph.Graph.{Graph}
 use Rattle.cip_digraph.specs.units.Ranked.{Root, has_tie, ranks, turned_ranks}
-use Rattle.cip_digraph.specs.declared.parity.Parity.{Parity}
+use Rattle.cip_digraph.specs.declared.decisions.parity.Parity.{Parity}
 use Rattle.cip_digraph.specs.Falls.{differ}
 use Rattle.cip_digraph.specs.Lettered.{letter_in, turned_letter}
 use Rattle.cip_digraph.specs.TurnsOf.{both_turns, places_turns, roots_turns, together}

@@ -7,10 +7,10 @@ use Rattle.std.specs.declared.option.Option.{Option}
 use Rattle.std.specs.declared.cmp.Ordering.{Ordering}
 use Rattle.std.proofs.lemmas.List.Sums.{sum_by-append}
 use Rattle.cip_mol.specs.FlatCentres.{inversions}
-use Rattle.cip_digraph.specs.declared.decision.Decision.{Decision}
+use Rattle.cip_digraph.specs.declared.decisions.decision.Decision.{Decision}
 use Rattle.cip_digraph.specs.units.Descriptors.{is_odd}
 use Rattle.cip_digraph.specs.units.Ranked.{has_tie, is_tie, ligand_order, ranked_places, side_of, some_pair}
-use Rattle.cip_digraph.specs.declared.parity.Parity.{Parity}
+use Rattle.cip_digraph.specs.declared.decisions.parity.Parity.{Parity}
 use Rattle.cip_digraph.specs.Falls.{falls}
 use Rattle.cip_digraph.specs.Sides.{each_two, found_side, is_below, is_tied, ordering_of}
 use Rattle.cip_digraph.specs.TurnsOf.{root_turns, turns_of}

@@ -15,7 +15,7 @@ use Rattle.cip_num.proofs.lemmas.Counting.{count_cons}
 use Rattle.cip_rank.specs.Comparison.{insert_down, sorted_down}
 use Rattle.cip_rank.proofs.lemmas.Descending.{IsDown, all_by, weak, sorted_is_down, insert_all}
 use Rattle.cip_rank.proofs.lemmas.ExtendedOrder.{then_equal}
-use Rattle.cip_digraph.specs.declared.decision.Decision.{Decision}
+use Rattle.cip_digraph.specs.declared.decisions.decision.Decision.{Decision}
 use Rattle.cip_digraph.specs.units.Ranked.{ligand_order, place_order, side_of, ranked_places}
 use Rattle.cip_digraph.specs.Falls.{falls}
 

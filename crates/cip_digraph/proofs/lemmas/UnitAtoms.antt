@@ -9,7 +9,7 @@ use Rattle.std.proofs.lemmas.List.Sums.{fold-append}
 use Rattle.cip_mol.specs.declared.site.Unit as units
 use Rattle.cip_digraph.specs.rings.Alternating.{is_in}
 use Rattle.cip_digraph.specs.units.Ends.{atoms_of}
-use Rattle.cip_digraph.specs.Marking.{with_mark, with_marks, Marks}
+use Rattle.cip_digraph.specs.UnitFlags.{with_flag, with_flags, AreUnitFlags}
 
 abbrev pub atoms_in : List units.Unit → List ℕ
 atoms_in all = flat_map (λ (unit : units.Unit). atoms_of unit.site) all
@@ -21,13 +21,13 @@ any_unit (unit ∷ others) vertex =
     ap (λ b. is_in vertex (atoms_of unit.site) || b) (any_unit others vertex)
     ∙ sym (list_any-append (λ other. other == vertex) (atoms_of unit.site) (atoms_in others))
 
--- the atoms of a unit are marked after those of the units before it
-pub marks_more : (before : List units.Unit) (unit : units.Unit) (flags : List Bool)
-    → with_marks (atoms_of unit.site) (with_marks (atoms_in before) flags) ≡ with_marks
+-- the atoms of a unit are flagged after those of the units before it
+pub flags_more : (before : List units.Unit) (unit : units.Unit) (flags : List Bool)
+    → with_flags (atoms_of unit.site) (with_flags (atoms_in before) flags) ≡ with_flags
     (atoms_in (before ++ unit ∷ [])) flags
-marks_more before unit flags =
-    sym (fold-append (λ flags vertex. with_mark vertex flags) flags (atoms_in before) (atoms_of unit.site))
-    ∙ ap (λ vertices. with_marks vertices flags) (sym (more before))
+flags_more before unit flags =
+    sym (fold-append (λ flags vertex. with_flag vertex flags) flags (atoms_in before) (atoms_of unit.site))
+    ∙ ap (λ vertices. with_flags vertices flags) (sym (more before))
   where
     more : (units : List units.Unit) → atoms_in (units ++ unit ∷ []) ≡ atoms_in units ++ atoms_of unit.site
     more [] = append-nil (atoms_of unit.site)
@@ -38,16 +38,16 @@ marks_more before unit flags =
 abbrev flag_at : List Bool → ℕ → Bool
 flag_at flags vertex = slice_index_or flags vertex false
 
-mark_tells : (marked : ℕ) (flags : List Bool) (vertex : ℕ) → vertex < length flags
-    → flag_at (with_mark marked flags) vertex ≡ ((marked == vertex) || flag_at flags vertex)
-mark_tells marked flags vertex lt = elim (cases_Bool (marked == vertex)) [
+flag_tells : (flagged : ℕ) (flags : List Bool) (vertex : ℕ) → vertex < length flags
+    → flag_at (with_flag flagged flags) vertex ≡ ((flagged == vertex) || flag_at flags vertex)
+flag_tells flagged flags vertex lt = elim (cases_Bool (flagged == vertex)) [
   | inl here ↦
-      let same : marked ≡ vertex = eqb-true marked vertex here in
-      subst (λ v. flag_at (with_mark marked flags) v ≡ ((marked == v) || flag_at flags v)) same
-      (get_or-set_same flags marked true false (subst (λ v. v < length flags) (sym same) lt)
-      ∙ sym (or_left (marked == marked) (flag_at flags marked) (eq-eqb marked marked refl)))
+      let same : flagged ≡ vertex = eqb-true flagged vertex here in
+      subst (λ v. flag_at (with_flag flagged flags) v ≡ ((flagged == v) || flag_at flags v)) same
+      (get_or-set_same flags flagged true false (subst (λ v. v < length flags) (sym same) lt)
+      ∙ sym (or_left (flagged == flagged) (flag_at flags flagged) (eq-eqb flagged flagged refl)))
   | inr other ↦
-      get_or-set_other flags marked vertex true false (λ e. eqb-false marked vertex other (sym e))
+      get_or-set_other flags flagged vertex true false (λ e. eqb-false flagged vertex other (sym e))
       ∙ sym (ap (λ b. b || flag_at flags vertex) other)
 ]
 
@@ -57,29 +57,29 @@ or_next true false c = refl
 or_next false true c = refl
 or_next false false c = refl
 
-marks_tell : (marked : List ℕ) (flags : List Bool) (vertex : ℕ) → vertex < length flags
-    → flag_at (with_marks marked flags) vertex ≡ (flag_at flags vertex || is_in vertex marked)
-marks_tell [] flags vertex lt = or_false (flag_at flags vertex)
+flags_tell : (flagged : List ℕ) (flags : List Bool) (vertex : ℕ) → vertex < length flags
+    → flag_at (with_flags flagged flags) vertex ≡ (flag_at flags vertex || is_in vertex flagged)
+flags_tell [] flags vertex lt = or_false (flag_at flags vertex)
   where
     or_false : (b : Bool) → b ≡ (b || false)
     or_false true = refl
     or_false false = refl
-marks_tell (first ∷ others) flags vertex lt =
-    marks_tell others (with_mark first flags) vertex
+flags_tell (first ∷ others) flags vertex lt =
+    flags_tell others (with_flag first flags) vertex
     (subst (λ n. vertex < n) (sym (length-set flags first true)) lt)
-    ∙ ap (λ b. b || is_in vertex others) (mark_tells first flags vertex lt)
+    ∙ ap (λ b. b || is_in vertex others) (flag_tells first flags vertex lt)
     ∙ or_next (first == vertex) (flag_at flags vertex) (is_in vertex others)
 
-marks_len : (marked : List ℕ) (flags : List Bool) → length (with_marks marked flags) ≡ length flags
-marks_len [] flags = refl
-marks_len (first ∷ others) flags = marks_len others (with_mark first flags) ∙ length-set flags first true
+flags_len : (flagged : List ℕ) (flags : List Bool) → length (with_flags flagged flags) ≡ length flags
+flags_len [] flags = refl
+flags_len (first ∷ others) flags = flags_len others (with_flag first flags) ∙ length-set flags first true
 
 -- flags of which none was set before
-pub marks_all : (all : List units.Unit) (count : ℕ) → Marks all (with_marks (atoms_in all) (replicate count false))
-marks_all all count = record {
+pub flags_all : (all : List units.Unit) (count : ℕ) → AreUnitFlags all (with_flags (atoms_in all) (replicate count false))
+flags_all all count = record {
   each = λ vertex lt.
-      let inside = subst (λ n. vertex < n) (marks_len (atoms_in all) (replicate count false)) lt in
-      marks_tell (atoms_in all) (replicate count false) vertex inside
+      let inside = subst (λ n. vertex < n) (flags_len (atoms_in all) (replicate count false)) lt in
+      flags_tell (atoms_in all) (replicate count false) vertex inside
       ∙ ap (λ b. b || is_in vertex (atoms_in all)) (none count vertex inside);
 }
   where

@@ -5,8 +5,8 @@ use Rattle.std.specs.Prelude.{◌≡◌, ℕ, zero, suc, List, [], None, Some}
 use Rattle.std.specs.List.{AllByRecursion}
 use Rattle.std.specs.declared.option.Option.{Option}
 use Rattle.cip_rank.specs.Matching.{Matches}
-use Rattle.cip_mol.specs.declared.descriptor.Descriptor.{Descriptor}
-use Rattle.cip_mol.specs.declared.descriptor.Descriptor.TheVariants.{R, S, SmallR, SmallS, M, P, SmallM, SmallP, Z, E, SeqCis, SeqTrans}
+use Rattle.cip_mol.specs.declared.labels.descriptor.Descriptor.{Descriptor}
+use Rattle.cip_mol.specs.declared.labels.descriptor.Descriptor.TheVariants.{R, S, SmallR, SmallS, M, P, SmallM, SmallP, Z, E, SeqCis, SeqTrans}
 use Rattle.cip_digraph.specs.rules.Orders.{Seen}
 
 pub data Class : Type 0 where
@@ -16,10 +16,10 @@ pub data Class : Type 0 where
   ClassSmallS : Class
   ClassZ : Class
   ClassE : Class
-  Unmarked : Class
+  NoDescriptor : Class
 
 abbrev pub class_of : Option Descriptor → Class
-class_of None = Unmarked
+class_of None = NoDescriptor
 class_of (Some R) = ClassR
 class_of (Some M) = ClassR
 class_of (Some SeqCis) = ClassR
@@ -37,7 +37,7 @@ pub record AreSameNodes {N : Type 0} (seen : Seen N) (a b : N) : Type 0 where
   pub atomic : seen.atomic a ≡ seen.atomic b
   pub distance : seen.distance a ≡ seen.distance b
   pub mass : seen.mass a ≡ seen.mass b
-  pub class : class_of (seen.mark a) ≡ class_of (seen.mark b)
+  pub class : class_of (seen.descriptor a) ≡ class_of (seen.descriptor b)
 
 -- n spheres down
 abbrev pub SameWithin : {N : Type 0} → Seen N → ℕ → N → N → Type 0

@@ -3,7 +3,7 @@
 use Rattle.std.specs.Prelude.{ℕ, zero, suc, ◌+◌, ◌-◌, ◌*◌, ◌==◌, ◌&&◌, Bool, true, false, not, List, [], ◌∷◌, ◌++◌, filter, flat_map, length, drop, nat_le, pos, None, if◌then◌else◌}
 use Rattle.std.specs.declared.option.Option.{Option}
 use Rattle.cip_rank.specs.declared.rules.Rules.{Rules}
-use Rattle.cip_mol.specs.declared.descriptor.Descriptor.{Descriptor}
+use Rattle.cip_mol.specs.declared.labels.descriptor.Descriptor.{Descriptor}
 use Rattle.cip_digraph.specs.graph.Graph.{Graph}
 use Rattle.cip_digraph.specs.digraph.Digraph.{Node, Real, real_node, duplicate, is_real, children}
 use Rattle.cip_digraph.specs.rules.Keys.{atomic_key, distance_key, mass_key, lower_precedes}
@@ -60,11 +60,11 @@ height_below {N} children (suc more) nodes =
 
 -- Descriptors are on real nodes, by their paths. No way in the digraph is longer than twice the number of vertices.
 abbrev pub seen_from : Rules → Graph → List (List ℕ) → List ℕ → (List ℕ → Option Descriptor) → Seen Node
-seen_from rules graph positions from mark = record {
+seen_from rules graph positions from descriptor = record {
   children = view_children graph positions from;
   height = height_below (view_children graph positions from) (2 * length graph.vertices + 2) (real_at from ∷ []);
   atomic = λ node. pos (atomic_key graph positions node);
   distance = λ node. lower_precedes (distance_key rules (apart from) node);
   mass = λ node. pos (mass_key graph node);
-  mark = λ node. if is_real node.kind then mark node.path else None;
+  descriptor = λ node. if is_real node.kind then descriptor node.path else None;
 }

@@ -2,9 +2,9 @@
 use Rattle.std.specs.Prelude.{ℕ, pos, false, ◌+◌, List, [], ◌∷◌, ◌++◌, map, length, replicate, flat_map}
 use Rattle.std.specs.List.{range_with_len}
 use Rattle.cip_mol.specs.Drawing.{Drawing}
-use Rattle.cip_mol.specs.declared.molecule.Bond.{Bond}
-use Rattle.cip_digraph.specs.declared.graph.Edge.{Edge}
-use Rattle.cip_digraph.specs.declared.graph.Vertex.{Vertex}
+use Rattle.cip_mol.specs.declared.graph.molecule.Bond.{Bond}
+use Rattle.cip_digraph.specs.declared.drawing.graph.Edge.{Edge}
+use Rattle.cip_digraph.specs.declared.drawing.graph.Vertex.{Vertex}
 use Rattle.cip_digraph.specs.graph.Graph.{Graph}
 use Rattle.cip_digraph.specs.graph.Hydrogens.{atom_at, hydrogens_of}
 use Rattle.cip_digraph.specs.graph.LonePairs.{lone_pair_of}

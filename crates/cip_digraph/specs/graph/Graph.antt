@@ -1,7 +1,7 @@
 -- The graph of a molecule: its atoms and implicit hydrogens as vertices, its bonds as edges. Own.
 use Rattle.std.specs.Prelude.{ℕ, pos, Bool, false, ◌==◌, ◌||◌, List, [], ◌∷◌, map, filter, nat_lt, slice_index_or, if◌then◌else◌}
-use Rattle.cip_digraph.specs.declared.graph.Vertex.{Vertex}
-use Rattle.cip_digraph.specs.declared.graph.Edge.{Edge}
+use Rattle.cip_digraph.specs.declared.drawing.graph.Vertex.{Vertex}
+use Rattle.cip_digraph.specs.declared.drawing.graph.Edge.{Edge}
 
 -- the first vertices, as many as are drawn, are the atoms of the drawing in their order; the others are implicit
 -- hydrogens

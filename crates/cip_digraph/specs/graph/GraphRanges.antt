@@ -1,6 +1,6 @@
 -- What the vertices of a graph may hold, and how many vertices and edges there may be. Own.
 use Rattle.std.specs.Prelude.{◌<◌, ◌≤◌, ◌^◌, All, length}
-use Rattle.cip_digraph.specs.declared.graph.Vertex.{Vertex}
+use Rattle.cip_digraph.specs.declared.drawing.graph.Vertex.{Vertex}
 use Rattle.cip_digraph.specs.graph.Graph.{Graph}
 
 pub record IsElement (vertex : Vertex) : Type 0 where

@@ -5,8 +5,8 @@ use Rattle.cip_elem.specs.Bonding.{valences_of}
 use Rattle.cip_mol.specs.Bonds.{touches}
 use Rattle.cip_mol.specs.Drawing.{Drawing}
 use Rattle.cip_mol.specs.Points.{no_atom}
-use Rattle.cip_mol.specs.declared.molecule.Atom.{Atom}
-use Rattle.cip_mol.specs.declared.molecule.Bond.{Bond}
+use Rattle.cip_mol.specs.declared.graph.molecule.Atom.{Atom}
+use Rattle.cip_mol.specs.declared.graph.molecule.Bond.{Bond}
 
 abbrev pub atom_at : Drawing → ℕ → Atom
 atom_at drawing atom = slice_index_or drawing.atoms atom no_atom

@@ -4,7 +4,7 @@ use Rattle.std.specs.Prelude.{ℕ, ℤ, pos, negsuc, ◌==◌, Bool, false, None
 use Rattle.std.specs.declared.option.Option.{Option}
 use Rattle.cip_elem.specs.Electrons.{outer_of}
 use Rattle.cip_mol.specs.Drawing.{Drawing}
-use Rattle.cip_mol.specs.declared.molecule.Atom.{Atom}
+use Rattle.cip_mol.specs.declared.graph.molecule.Atom.{Atom}
 use Rattle.cip_digraph.specs.graph.Hydrogens.{atom_at, bond_orders, radical_electrons, hydrogens_of}
 
 -- two electrons are left of the outer ones, less the charge, when bonds, hydrogens and radical have theirs

@@ -4,7 +4,7 @@ use Rattle.std.specs.Prelude.{ℕ, Bool, ◌+◌, ◌&&◌, ◌||◌, not, is_so
 use Rattle.cip_elem.specs.Electrons.{outer_of}
 use Rattle.cip_mol.specs.Bonds.{degree}
 use Rattle.cip_mol.specs.Drawing.{Drawing}
-use Rattle.cip_mol.specs.declared.molecule.Bond.{Bond}
+use Rattle.cip_mol.specs.declared.graph.molecule.Bond.{Bond}
 use Rattle.cip_digraph.specs.graph.Hydrogens.{atom_at, hydrogens_of}
 use Rattle.cip_digraph.specs.graph.LonePairs.{lone_pair_of}
 

@@ -1,7 +1,7 @@
 -- A table of rows that are in one column, each with room for n edges, and filled from its end down. Own.
 use Rattle.std.specs.Prelude.{◌≡◌, ◌<◌, ◌≤◌, ◌+◌, ◌-◌, ℕ, List, [], ◌∷◌, drop, filter, length, map, slice_index_or, slice_set, take}
-use Rattle.cip_digraph.specs.declared.graph.Edge.{Edge}
-use Rattle.cip_digraph.specs.declared.incidence.Span.{Span}
+use Rattle.cip_digraph.specs.declared.drawing.graph.Edge.{Edge}
+use Rattle.cip_digraph.specs.declared.drawing.incidence.Span.{Span}
 use Rattle.cip_digraph.specs.graph.Graph.{insert_up, touches}
 use Rattle.cip_digraph.specs.graph.Incidence.{row}
 

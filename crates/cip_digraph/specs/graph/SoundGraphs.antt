@@ -2,7 +2,7 @@
 -- same ones. Own.
 use Rattle.std.specs.Prelude.{◌≡◌, ◌≢◌, ◌<◌, ◌≤◌, ◌==◌, ◌&&◌, ◌||◌, ℕ, Bool, false, All, length}
 use Rattle.std.specs.List.{AllPairs}
-use Rattle.cip_digraph.specs.declared.graph.Edge.{Edge}
+use Rattle.cip_digraph.specs.declared.drawing.graph.Edge.{Edge}
 use Rattle.cip_digraph.specs.graph.Graph.{Graph}
 
 pub record JoinsBelow (count : ℕ) (edge : Edge) : Type 0 where

@@ -2,7 +2,7 @@
 -- P-92.1.4; which atoms alternate, and that a ring has at most 24 of them, is own.
 use Rattle.std.specs.Prelude.{ℕ, zero, suc, Bool, false, not, ◌==◌, ◌&&◌, ◌||◌, List, [], ◌∷◌, map, filter, length, nat_le, if◌then◌else◌}
 use Rattle.std.specs.List.{list_any}
-use Rattle.cip_digraph.specs.declared.graph.Edge.{Edge}
+use Rattle.cip_digraph.specs.declared.drawing.graph.Edge.{Edge}
 use Rattle.cip_digraph.specs.graph.Graph.{Graph, edges_at, other_end}
 
 abbrev pub is_in : ℕ → List ℕ → Bool

@@ -2,7 +2,7 @@
 -- atom. Own.
 use Rattle.std.specs.Prelude.{◌≡◌, ◌<◌, ◌≤◌, ℕ, List, length, take}
 use Rattle.std.specs.List.{AllPairs}
-use Rattle.cip_digraph.specs.declared.positions.PositionList.{PositionList}
+use Rattle.cip_digraph.specs.declared.drawing.positions.PositionList.{PositionList}
 
 pub record IsPositionList (positions : List ℕ) : Type 0 where
   pub ascending : AllPairs ◌<◌ positions

@@ -5,8 +5,8 @@ use Rattle.std.specs.Prelude.{ℕ, zero, suc, ◌==◌, ◌&&◌, Bool, true, fa
 use Rattle.std.specs.List.{list_any, list_all}
 use Rattle.std.specs.declared.option.Option.{Option}
 use Rattle.cip_rank.specs.declared.rules.Rules.{Rules}
-use Rattle.cip_mol.specs.declared.descriptor.Descriptor.{Descriptor}
-use Rattle.cip_mol.specs.declared.descriptor.Sense.{Sense}
+use Rattle.cip_mol.specs.declared.labels.descriptor.Descriptor.{Descriptor}
+use Rattle.cip_mol.specs.declared.labels.descriptor.Sense.{Sense}
 use Rattle.cip_mol.specs.declared.site.Geometry.{Geometry}
 use Rattle.cip_mol.specs.declared.site.Geometry.TheVariants.{Known, Unknown}
 use Rattle.cip_mol.specs.declared.site.Ligand.{Ligand}
@@ -49,8 +49,8 @@ nearer_first vertex (end ∷ other ∷ ends) =
 module _ (rules : Rules) (graph : Graph) (positions : List (List ℕ)) where
   -- an end as it is ranked in the digraph seen from the real node of a path, with these descriptors
   abbrev pub root_at : (List ℕ → Option Descriptor) → List ℕ → List Ligand → Root Node
-  root_at mark path ligands =
-      let seen = seen_from rules graph positions path mark in
+  root_at descriptor path ligands =
+      let seen = seen_from rules graph positions path descriptor in
       record {
         order = order seen true;
         turned = order seen false;
@@ -60,10 +60,10 @@ module _ (rules : Rules) (graph : Graph) (positions : List (List ℕ)) where
   -- The roots of a unit by its ends, the first of which is at the real node of a path. The far end is ranked in its
   -- own view, and only where the rest of the unit follows below the path.
   abbrev pub roots_at : (List ℕ → Option Descriptor) → List ℕ → List ℕ → List End → List (Root Node)
-  roots_at mark path between [] = []
-  roots_at mark path between (nearer ∷ []) = root_at mark path nearer.ligands ∷ []
-  roots_at mark path between (nearer ∷ far ∷ ends) =
-      let both = root_at mark path nearer.ligands ∷ root_at mark (far.at ∷ between ++ path) far.ligands ∷ [] in
+  roots_at descriptor path between [] = []
+  roots_at descriptor path between (nearer ∷ []) = root_at descriptor path nearer.ligands ∷ []
+  roots_at descriptor path between (nearer ∷ far ∷ ends) =
+      let both = root_at descriptor path nearer.ligands ∷ root_at descriptor (far.at ∷ between ++ path) far.ligands ∷ [] in
       elim (list_all (λ vertex. not (is_in vertex path)) (far.at ∷ between)) as
       (λ _. List (Root Node)) [ true ↦ both | false ↦ [] ]
 
@@ -75,43 +75,43 @@ module _ (rules : Rules) (graph : Graph) (positions : List (List ℕ)) where
       elim (list_any has_tie (root ∷ roots)) as (λ _. Option Descriptor) [ true ↦ None | false ↦ Some found ]
 
   abbrev pub unit_letter : units.Unit → ℕ → List ℕ → (List ℕ → Option Descriptor) → Option Descriptor
-  unit_letter unit vertex up mark = by_geometry unit.geometry
+  unit_letter unit vertex up descriptor = by_geometry unit.geometry
     where
       by_geometry : Geometry → Option Descriptor
       by_geometry (Unknown cause) = None
       by_geometry (Known sense) =
           letter_at unit.site sense
-          (roots_at mark (vertex ∷ up) (between_of unit.site) (nearer_first vertex (ends_of unit.site)))
+          (roots_at descriptor (vertex ∷ up) (between_of unit.site) (nearer_first vertex (ends_of unit.site)))
 
   abbrev pub first_letter : List units.Unit → ℕ → List ℕ → (List ℕ → Option Descriptor) → Option Descriptor
-  first_letter [] vertex up mark = None
-  first_letter (unit ∷ others) vertex up mark =
-      let later = first_letter others vertex up mark in
-      elim (unit_letter unit vertex up mark) as (λ _. Option Descriptor) [ None ↦ later | Some found ↦ Some found ]
+  first_letter [] vertex up descriptor = None
+  first_letter (unit ∷ others) vertex up descriptor =
+      let later = first_letter others vertex up descriptor in
+      elim (unit_letter unit vertex up descriptor) as (λ _. Option Descriptor) [ None ↦ later | Some found ↦ Some found ]
 
   -- the descriptor at the real node of a path: the root of the digraph has none, nor has what is longer than any path
   abbrev pub node_letter : List units.Unit → List ℕ → (List ℕ → Option Descriptor) → Option Descriptor
-  node_letter all [] mark = None
-  node_letter all (root ∷ []) mark = None
-  node_letter all (vertex ∷ next ∷ up) mark =
-      let found = first_letter all vertex (next ∷ up) mark in
+  node_letter all [] descriptor = None
+  node_letter all (root ∷ []) descriptor = None
+  node_letter all (vertex ∷ next ∷ up) descriptor =
+      let found = first_letter all vertex (next ∷ up) descriptor in
       elim (nat_le (length (vertex ∷ next ∷ up)) (length graph.vertices)) as
       (λ _. Option Descriptor) [ true ↦ found | false ↦ None ]
 
 -- what is on a node strictly inside the subtree of another one
 abbrev pub inside : (List ℕ → Option Descriptor) → List ℕ → List ℕ → Option Descriptor
-inside mark path inner =
-    let found = mark inner in
+inside descriptor path inner =
+    let found = descriptor inner in
     elim (is_end_of path inner && nat_lt (length path) (length inner)) as
     (λ _. Option Descriptor) [ true ↦ found | false ↦ None ]
 
 -- From the outermost sphere inwards: at each node the letter by the descriptors strictly inside its subtree. n
 -- spheres of them are looked at.
-unfoldable pub marks_within : (List ℕ → (List ℕ → Option Descriptor) → Option Descriptor) → ℕ → List ℕ
+unfoldable pub descriptors_within : (List ℕ → (List ℕ → Option Descriptor) → Option Descriptor) → ℕ → List ℕ
     → Option Descriptor
-marks_within letter_of zero path = None
-marks_within letter_of (suc more) path = letter_of path (inside (marks_within letter_of more) path)
+descriptors_within letter_of zero path = None
+descriptors_within letter_of (suc more) path = letter_of path (inside (descriptors_within letter_of more) path)
 
 -- the descriptors of a digraph by the paths of its real nodes; none has more spheres than the graph has vertices
 abbrev pub auxiliary : Rules → Graph → List (List ℕ) → List units.Unit → List ℕ → Option Descriptor
-auxiliary rules graph positions all = marks_within (node_letter rules graph positions all) (length graph.vertices)
+auxiliary rules graph positions all = descriptors_within (node_letter rules graph positions all) (length graph.vertices)

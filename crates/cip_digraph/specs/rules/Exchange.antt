@@ -2,9 +2,9 @@
 -- and E stay. IUPAC 2013, P-91.2 and P-93.
 use Rattle.std.specs.Prelude.{None, Some}
 use Rattle.std.specs.declared.option.Option.{Option}
-use Rattle.cip_mol.specs.declared.descriptor.Descriptor.{Descriptor}
-use Rattle.cip_mol.specs.declared.descriptor.Descriptor.TheVariants.{R, S, SmallR, SmallS, M, P, SmallM, SmallP, Z, E, SeqCis, SeqTrans}
-use Rattle.cip_mol.specs.declared.descriptor.Sense.{Sense}
+use Rattle.cip_mol.specs.declared.labels.descriptor.Descriptor.{Descriptor}
+use Rattle.cip_mol.specs.declared.labels.descriptor.Descriptor.TheVariants.{R, S, SmallR, SmallS, M, P, SmallM, SmallP, Z, E, SeqCis, SeqTrans}
+use Rattle.cip_mol.specs.declared.labels.descriptor.Sense.{Sense}
 use Rattle.cip_mol.specs.declared.site.Geometry.{Geometry}
 use Rattle.cip_mol.specs.declared.site.Geometry.TheVariants.{Known, Unknown}
 use Rattle.cip_mol.specs.declared.site.Site.{Site}
@@ -27,13 +27,13 @@ exchanged SmallP = SmallP
 exchanged Z = Z
 exchanged E = E
 
-abbrev pub exchanged_mark : Option Descriptor → Option Descriptor
-exchanged_mark None = None
-exchanged_mark (Some descriptor) = Some (exchanged descriptor)
+abbrev pub exchanged_descriptor : Option Descriptor → Option Descriptor
+exchanged_descriptor None = None
+exchanged_descriptor (Some descriptor) = Some (exchanged descriptor)
 
 -- a digraph with all descriptors exchanged
 abbrev pub with_exchanged : {N : Type 0} → Seen N → Seen N
-with_exchanged seen = record seen { mark = λ node. exchanged_mark (seen.mark node) }
+with_exchanged seen = record seen { descriptor = λ node. exchanged_descriptor (seen.descriptor node) }
 
 -- the sense of a centre and of an axis is turned, that of a bond stays
 abbrev pub reflected_sense : Site → Sense → Sense

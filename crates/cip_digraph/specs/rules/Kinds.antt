@@ -2,8 +2,8 @@
 -- seqCis and seqTrans count as kinds in Rules 4 and 5 and not in Rule 3, is own.
 use Rattle.std.specs.Prelude.{ℕ, ℤ, pos, Bool, None, Some, if◌then◌else◌}
 use Rattle.std.specs.declared.option.Option.{Option}
-use Rattle.cip_mol.specs.declared.descriptor.Descriptor.{Descriptor}
-use Rattle.cip_mol.specs.declared.descriptor.Descriptor.TheVariants.{R, S, SmallR, SmallS, M, P, SmallM, SmallP, Z, E, SeqCis, SeqTrans}
+use Rattle.cip_mol.specs.declared.labels.descriptor.Descriptor.{Descriptor}
+use Rattle.cip_mol.specs.declared.labels.descriptor.Descriptor.TheVariants.{R, S, SmallR, SmallS, M, P, SmallM, SmallP, Z, E, SeqCis, SeqTrans}
 
 pub data Kind : Type 0 where
   KindR : Kind
@@ -25,9 +25,9 @@ kind_of Z = Neither
 kind_of E = Neither
 
 -- a key of a node by its descriptor: without one it has 0
-abbrev pub marked : (Descriptor → ℕ) → Option Descriptor → ℤ
-marked key None = pos 0
-marked key (Some descriptor) = pos (key descriptor)
+abbrev pub key_or_zero : (Descriptor → ℕ) → Option Descriptor → ℤ
+key_or_zero key None = pos 0
+key_or_zero key (Some descriptor) = pos (key descriptor)
 
 -- Rule 3: Z before E, and both before others
 abbrev pub geometric_key : Descriptor → ℕ

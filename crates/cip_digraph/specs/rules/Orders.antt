@@ -7,8 +7,8 @@ use Rattle.std.specs.declared.option.Option.{Option}
 use Rattle.std.specs.declared.cmp.Ordering.{Ordering}
 use Rattle.std.specs.declared.cmp.Ordering.TheVariants.{Equal}
 use Rattle.cip_rank.specs.Comparison.{comparison}
-use Rattle.cip_mol.specs.declared.descriptor.Descriptor.{Descriptor}
-use Rattle.cip_digraph.specs.rules.Kinds.{Kind, KindR, KindS, marked, geometric_key, chirality_key, like_key, small_key, capital_key}
+use Rattle.cip_mol.specs.declared.labels.descriptor.Descriptor.{Descriptor}
+use Rattle.cip_digraph.specs.rules.Kinds.{Kind, KindR, KindS, key_or_zero, geometric_key, chirality_key, like_key, small_key, capital_key}
 
 -- a digraph as it is seen from one of its nodes: its height is that of the outermost sphere from there
 pub record Seen (N : Type 0) : Type 0 where
@@ -17,7 +17,7 @@ pub record Seen (N : Type 0) : Type 0 where
   pub atomic : N → ℤ
   pub distance : N → ℤ
   pub mass : N → ℤ
-  pub mark : N → Option Descriptor
+  pub descriptor : N → Option Descriptor
 
 abbrev pub all_tie : {N : Type 0} → N → N → Ordering
 all_tie a b = Equal
@@ -33,10 +33,10 @@ module _ {N : Type 0} (seen : Seen N) where
   rule_2 = comparison seen.children (rule_1b seen.height) seen.mass
 
   unfoldable pub rule_3 : ℕ → N → N → Ordering
-  rule_3 = comparison seen.children (rule_2 seen.height) (λ node. marked geometric_key (seen.mark node))
+  rule_3 = comparison seen.children (rule_2 seen.height) (λ node. key_or_zero geometric_key (seen.descriptor node))
 
   unfoldable pub rule_4a : ℕ → N → N → Ordering
-  rule_4a = comparison seen.children (rule_3 seen.height) (λ node. marked chirality_key (seen.mark node))
+  rule_4a = comparison seen.children (rule_3 seen.height) (λ node. key_or_zero chirality_key (seen.descriptor node))
 
   -- Rule 4b reads each branch twice, with R and with S as the reference, and compares readings, whichever reference
   -- each has.
@@ -46,7 +46,7 @@ module _ {N : Type 0} (seen : Seen N) where
   unfoldable pub readings : ℕ → N × Kind → N × Kind → Ordering
   readings =
       comparison read_children (λ a b. rule_4a seen.height a.0 b.0)
-      (λ branch. marked (like_key branch.1) (seen.mark branch.0))
+      (λ branch. key_or_zero (like_key branch.1) (seen.descriptor branch.0))
 
   abbrev pub is_s_higher : N → Bool
   is_s_higher node = is_lt (readings seen.height (node, KindR) (node, KindS))
@@ -64,9 +64,9 @@ module _ {N : Type 0} (seen : Seen N) where
   rule_4b_lower depth a b = readings depth (lower_reading a) (lower_reading b)
 
   unfoldable pub rule_4c : ℕ → N → N → Ordering
-  rule_4c = comparison seen.children (rule_4a seen.height) (λ node. marked small_key (seen.mark node))
+  rule_4c = comparison seen.children (rule_4a seen.height) (λ node. key_or_zero small_key (seen.descriptor node))
 
   -- turned: kind S before kind R
   unfoldable pub rule_5 : Bool → ℕ → N → N → Ordering
   rule_5 r_first =
-      comparison seen.children (rule_4c seen.height) (λ node. marked (capital_key r_first) (seen.mark node))
+      comparison seen.children (rule_4c seen.height) (λ node. key_or_zero (capital_key r_first) (seen.descriptor node))

@@ -3,12 +3,12 @@ use Rattle.std.specs.Prelude.{◌≡◌, ℕ, List, [], ◌∷◌, None, Some}
 use Rattle.std.specs.declared.option.Option.{Option}
 use Rattle.cip_rank.specs.declared.rules.Rules.TheVariants.{Wording2013, Wording2018}
 use Rattle.cip_mol.specs.Drawing.{Drawing}
-use Rattle.cip_mol.specs.declared.descriptor.Descriptor.{Descriptor}
-use Rattle.cip_mol.specs.declared.descriptor.Descriptor.TheVariants.{R, S, SmallR, SmallS, M, Z, E}
-use Rattle.cip_mol.specs.declared.outcome.Outcome.{Outcome}
-use Rattle.cip_mol.specs.declared.outcome.Outcome.TheVariants.{Label, Tie, Over, NoGeometry}
-use Rattle.cip_mol.specs.declared.outcome.Rule.{Rule}
-use Rattle.cip_mol.specs.declared.outcome.Rule.TheVariants.{R1a, R1b, R2, R3, R4a, R4b, R4c, R5}
+use Rattle.cip_mol.specs.declared.labels.descriptor.Descriptor.{Descriptor}
+use Rattle.cip_mol.specs.declared.labels.descriptor.Descriptor.TheVariants.{R, S, SmallR, SmallS, M, Z, E}
+use Rattle.cip_mol.specs.declared.labels.outcome.Outcome.{Outcome}
+use Rattle.cip_mol.specs.declared.labels.outcome.Outcome.TheVariants.{Label, Tie, Over, NoGeometry}
+use Rattle.cip_mol.specs.declared.labels.outcome.Rule.{Rule}
+use Rattle.cip_mol.specs.declared.labels.outcome.Rule.TheVariants.{R1a, R1b, R2, R3, R4a, R4b, R4c, R5}
 use Rattle.cip_mol.specs.declared.site.Cause.TheVariants.{NoMark}
 use Rattle.cip_mol.specs.declared.site.Geometry.{Geometry}
 use Rattle.cip_digraph.specs.rules.Auxiliary.{auxiliary}
@@ -23,8 +23,8 @@ abbrev pub labelled : Descriptor → Rule → ℕ → List ℕ → Outcome
 labelled letter rule sphere order = Label (record { letter = letter; rule = rule; sphere = sphere; order = order })
 
 -- a descriptor in the digraph of some root
-abbrev pub mark_in : Drawing → List Geometry → List ℕ → Option Descriptor
-mark_in drawing geometries path =
+abbrev pub descriptor_in : Drawing → List Geometry → List ℕ → Option Descriptor
+descriptor_in drawing geometries path =
     let graph = graph_of drawing in
     let positions = positions_of graph in
     auxiliary Wording2018 graph positions (with_geometries (sites_of graph positions) geometries) path
@@ -79,9 +79,9 @@ pub record AreLabelled : Type 0 where
 
 -- the acid's outer centres in the digraph of its middle one, which has none itself
 pub record HaveAuxiliaries : Type 0 where
-  pub one : mark_in trihydroxyglutaric_acid acid_geometries (1 ∷ 2 ∷ []) ≡ Some R
-  pub other : mark_in trihydroxyglutaric_acid acid_geometries (3 ∷ 2 ∷ []) ≡ Some S
-  pub root : mark_in trihydroxyglutaric_acid acid_geometries (2 ∷ []) ≡ None
+  pub one : descriptor_in trihydroxyglutaric_acid acid_geometries (1 ∷ 2 ∷ []) ≡ Some R
+  pub other : descriptor_in trihydroxyglutaric_acid acid_geometries (3 ∷ 2 ∷ []) ≡ Some S
+  pub root : descriptor_in trihydroxyglutaric_acid acid_geometries (2 ∷ []) ≡ None
 
 pub record AreBounded : Type 0 where
   pub glyceraldehyde_over : outcomes Wording2018 11 glyceraldehyde (minus ∷ []) ≡ Over ∷ []

@@ -10,14 +10,14 @@ use Rattle.cip_mol.specs.DrawnLigands.{drawn}
 use Rattle.cip_mol.specs.Geometry.{geometry_of}
 use Rattle.cip_mol.specs.Points.{is_spatial}
 use Rattle.cip_mol.specs.Sites.{IsSite}
-use Rattle.cip_mol.specs.declared.molecule.Mark.TheVariants.{Up}
+use Rattle.cip_mol.specs.declared.graph.molecule.Mark.TheVariants.{Up}
 use Rattle.cip_mol.specs.declared.site.Geometry.{Geometry}
 use Rattle.cip_mol.specs.declared.site.Site.{Site}
 use Rattle.cip_digraph.specs.graph.DrawnGraph.{graph_of}
 use Rattle.cip_digraph.specs.units.Centres.{is_centre}
 use Rattle.cip_digraph.specs.units.Units.{centre_site}
 use Rattle.cip_unit.proofs.lemmas.Shown.{centre_shown}
-use Rattle.cip_mol.specs.declared.centre_letter.CentreLetter.{CentreLetter}
+use Rattle.cip_mol.specs.declared.labels.centre_letter.CentreLetter.{CentreLetter}
 use Rattle.cip_edit.specs.declared.request.CentreRefusal.TheVariants as refusals
 use Rattle.cip_edit.specs.FoundCentres.{found_at}
 use Rattle.cip_edit.specs.Marking.{bare, marked, directions, shows_coincident, is_eligible, ligands_of, first_where, chosen, has_centre}

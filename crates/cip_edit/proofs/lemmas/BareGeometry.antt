@@ -11,7 +11,7 @@ use Rattle.cip_mol.specs.Marks.{is_narrow_at, is_either, has_either, mark_to}
 use Rattle.cip_mol.specs.Points.{point, is_spatial}
 use Rattle.cip_mol.specs.Senses.{sense_of}
 use Rattle.cip_mol.specs.SpatialCentres.{in_space}
-use Rattle.cip_mol.specs.declared.molecule.Bond.{Bond}
+use Rattle.cip_mol.specs.declared.graph.molecule.Bond.{Bond}
 use Rattle.cip_mol.specs.declared.site.Cause.TheVariants.{Either, Coincident, Contradictory, Reentrant, NoMark}
 use Rattle.cip_mol.specs.declared.site.Geometry.TheVariants.{Known, Unknown}
 use Rattle.cip_digraph.specs.graph.DrawnGraph.{graph_of}

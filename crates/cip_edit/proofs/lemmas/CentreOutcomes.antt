@@ -1,10 +1,10 @@
 -- What is found of a centre depends on what is shown of the other units alone, but for its sense.
 use Rattle.std.proofs.Common.{◌≡◌, ℕ, List, [], ◌∷◌, ◌++◌, length, flat_map, refl, ap, ◌∙◌, Bool, true, false, ◌&&◌, nat_lt, ◌||◌}
 use Rattle.cip_rank.specs.declared.rules.Rules.{Rules}
-use Rattle.cip_mol.specs.declared.descriptor.Sense.{Sense}
-use Rattle.cip_mol.specs.declared.outcome.Label as labels
-use Rattle.cip_mol.specs.declared.outcome.Outcome.{Outcome}
-use Rattle.cip_mol.specs.declared.outcome.Outcome.TheVariants.{Label, Tie, Over}
+use Rattle.cip_mol.specs.declared.labels.descriptor.Sense.{Sense}
+use Rattle.cip_mol.specs.declared.labels.outcome.Label as labels
+use Rattle.cip_mol.specs.declared.labels.outcome.Outcome.{Outcome}
+use Rattle.cip_mol.specs.declared.labels.outcome.Outcome.TheVariants.{Label, Tie, Over}
 use Rattle.cip_mol.specs.declared.site.Geometry.{Geometry}
 use Rattle.cip_mol.specs.declared.site.Geometry.TheVariants.{Known, Unknown}
 use Rattle.cip_mol.specs.declared.site.Ligand.{Ligand}
@@ -22,7 +22,7 @@ use Rattle.cip_digraph.specs.units.Descriptors.{letter, reason_needed, all_ranks
 use Rattle.cip_digraph.specs.units.Ends.{End, end_at, atoms_of}
 use Rattle.cip_digraph.specs.units.Ranked.{Root, last_reason}
 use Rattle.cip_edit.specs.UnitsBeside.{AreSameBeside}
-use Rattle.cip_edit.proofs.lemmas.MarksBeside.{root_alike, auxiliary_same}
+use Rattle.cip_edit.proofs.lemmas.DescriptorsBeside.{root_alike, auxiliary_same}
 use Rattle.cip_edit.proofs.lemmas.RootsAlike.{AreAlike, letters_alike}
 
 module _ (rules : Rules) (graph : Graph) (positions : List (List ℕ)) (at : ℕ) (all others : List units.Unit)

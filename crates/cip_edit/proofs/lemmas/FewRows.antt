@@ -6,8 +6,8 @@ use Rattle.std.proofs.lemmas.Bool.{leb-true}
 use Rattle.cip_text.specs.Columns.{field}
 use Rattle.cip_text.specs.Numbers.{integer_of}
 use Rattle.cip_mol.specs.Drawing.{Drawing}
-use Rattle.cip_mol.specs.declared.refusal.ReadCause.{ReadCause}
-use Rattle.cip_mol.specs.declared.refusal.ReadCause.TheVariants.{Counts, Version}
+use Rattle.cip_mol.specs.declared.labels.refusal.ReadCause.{ReadCause}
+use Rattle.cip_mol.specs.declared.labels.refusal.ReadCause.TheVariants.{Counts, Version}
 use Rattle.cip_ctfile.specs.Causes.{guard}
 use Rattle.cip_ctfile.specs.Fields.{number_in, up_to, or_zero}
 use Rattle.cip_v2000.specs.CountsLine.{counts_of}

@@ -6,9 +6,9 @@ use Rattle.std.specs.Option.{option_map}
 use Rattle.std.proofs.lemmas.List.{length-set, length-map}
 use Rattle.std.proofs.lemmas.Option.{slice_get-get_or, get_or_from_slice_get}
 use Rattle.cip_mol.specs.Drawing.{Drawing}
-use Rattle.cip_mol.specs.declared.molecule.Atom.{Atom}
-use Rattle.cip_mol.specs.declared.molecule.Bond.{Bond}
-use Rattle.cip_mol.specs.declared.refusal.ReadCause.{ReadCause}
+use Rattle.cip_mol.specs.declared.graph.molecule.Atom.{Atom}
+use Rattle.cip_mol.specs.declared.graph.molecule.Bond.{Bond}
+use Rattle.cip_mol.specs.declared.labels.refusal.ReadCause.{ReadCause}
 use Rattle.cip_ctfile.specs.Reading.{read_line, read_at, in_turn}
 use Rattle.cip_v2000.specs.declared.atoms.AtomLine.{AtomLine}
 use Rattle.cip_v2000.specs.declared.counts.CountsLine.{CountsLine}

@@ -5,12 +5,12 @@ use Rattle.std.proofs.lemmas.List.Sums.{sum_by-cons}
 use Rattle.cip_rank.specs.Matching.{InPairs}
 use Rattle.cip_mol.specs.Bonds.{touches}
 use Rattle.cip_mol.specs.Drawing.{Drawing}
-use Rattle.cip_mol.specs.declared.molecule.Atom.{Atom}
-use Rattle.cip_mol.specs.declared.molecule.Bond.{Bond}
+use Rattle.cip_mol.specs.declared.graph.molecule.Atom.{Atom}
+use Rattle.cip_mol.specs.declared.graph.molecule.Bond.{Bond}
 use Rattle.cip_mol.specs.declared.site.Ligand.TheVariants.{LonePair}
 use Rattle.cip_mol.specs.declared.site.Ligand.TheVariants as ligands
-use Rattle.cip_digraph.specs.declared.graph.Edge.{Edge}
-use Rattle.cip_digraph.specs.declared.graph.Vertex.{Vertex}
+use Rattle.cip_digraph.specs.declared.drawing.graph.Edge.{Edge}
+use Rattle.cip_digraph.specs.declared.drawing.graph.Vertex.{Vertex}
 use Rattle.cip_digraph.specs.graph.DrawnGraph.{atom_vertex, hydrogen, bond_edge, carriers, hydrogen_edges, graph_of}
 use Rattle.cip_digraph.specs.graph.Graph.{vertex_at, other_end, insert_up, sorted_up, neighbours}
 use Rattle.cip_digraph.specs.graph.Graph as graphs

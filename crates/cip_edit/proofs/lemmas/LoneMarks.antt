@@ -11,9 +11,9 @@ use Rattle.cip_num.specs.Around.{direction_at}
 use Rattle.cip_mol.specs.FlatCentres.{turned, turned_by_place, votes, has_plus, has_minus, lies_between, is_reentrant, inversions, by_votes}
 use Rattle.cip_mol.specs.Marks.{is_narrow_at, is_either, has_either, joins, mark_sign, mark_at, mark_to}
 use Rattle.cip_mol.specs.Senses.{sense_of}
-use Rattle.cip_mol.specs.declared.molecule.Bond.{Bond}
-use Rattle.cip_mol.specs.declared.molecule.Mark.{Mark}
-use Rattle.cip_mol.specs.declared.molecule.Mark.TheVariants.{Plain}
+use Rattle.cip_mol.specs.declared.graph.molecule.Bond.{Bond}
+use Rattle.cip_mol.specs.declared.graph.molecule.Mark.{Mark}
+use Rattle.cip_mol.specs.declared.graph.molecule.Mark.TheVariants.{Plain}
 use Rattle.cip_mol.specs.declared.site.Cause.TheVariants.{Contradictory, Reentrant, NoMark}
 use Rattle.cip_mol.specs.declared.site.Geometry.{Geometry}
 use Rattle.cip_mol.specs.declared.site.Geometry.TheVariants.{Known, Unknown}

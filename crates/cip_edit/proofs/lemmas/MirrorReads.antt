@@ -11,7 +11,7 @@ use Rattle.cip_num.specs.Space.{mirrored}
 use Rattle.cip_mol.specs.Bonds.{cause_of, IsSound}
 use Rattle.cip_mol.specs.Drawing.{Drawing}
 use Rattle.cip_mol.specs.Reflection.{mirrored_bond, reflected}
-use Rattle.cip_mol.specs.declared.refusal.ReadFault.{ReadFault}
+use Rattle.cip_mol.specs.declared.labels.refusal.ReadFault.{ReadFault}
 use Rattle.cip_mol.proofs.lemmas.Mirrored.{sound_mirrored}
 use Rattle.cip_item.specs.Parts.{without_label_items, has_label_item}
 use Rattle.cip_item.proofs.lemmas.Walking.{itself}

@@ -9,9 +9,9 @@ use Rattle.cip_text.specs.Numbers.{decimal4_of}
 use Rattle.cip_num.specs.Space.{mirrored}
 use Rattle.cip_mol.specs.Bonds.{cause_of}
 use Rattle.cip_mol.specs.Reflection.{exchanged, mirrored_bond}
-use Rattle.cip_mol.specs.declared.molecule.Bond.{Bond}
-use Rattle.cip_mol.specs.declared.molecule.Mark.{Mark}
-use Rattle.cip_mol.specs.declared.molecule.Mark.TheVariants.{Plain, Up, Down, Either}
+use Rattle.cip_mol.specs.declared.graph.molecule.Bond.{Bond}
+use Rattle.cip_mol.specs.declared.graph.molecule.Mark.{Mark}
+use Rattle.cip_mol.specs.declared.graph.molecule.Mark.TheVariants.{Plain, Up, Down, Either}
 use Rattle.cip_ctfile.specs.Causes.{order_of}
 use Rattle.cip_ctfile.specs.Fields.{number_in, one_based_index, up_to, or_zero}
 use Rattle.cip_v2000.specs.declared.atoms.AtomLine.{AtomLine}

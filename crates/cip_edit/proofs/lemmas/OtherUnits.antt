@@ -13,14 +13,14 @@ use Rattle.cip_mol.specs.Marks.{is_narrow_at, is_either, has_either, joins, is_c
 use Rattle.cip_mol.specs.Pairs.{by_pairs}
 use Rattle.cip_mol.specs.Points.{point, step, steps, flat_steps, is_spatial}
 use Rattle.cip_mol.specs.SpatialCentres.{in_space}
-use Rattle.cip_mol.specs.declared.molecule.Atom.{Atom}
-use Rattle.cip_mol.specs.declared.molecule.Bond as molecules
+use Rattle.cip_mol.specs.declared.graph.molecule.Atom.{Atom}
+use Rattle.cip_mol.specs.declared.graph.molecule.Bond as molecules
 use Rattle.cip_mol.specs.declared.site.Cause.TheVariants.{Either}
 use Rattle.cip_mol.specs.declared.site.Geometry.TheVariants.{Unknown}
 use Rattle.cip_mol.specs.declared.site.Site.{Site}
 use Rattle.cip_mol.specs.declared.site.Site.TheVariants.{Centre, Bond, Axis}
 use Rattle.cip_mol.specs.declared.site.Unit as units
-use Rattle.cip_digraph.specs.declared.graph.Edge.{Edge}
+use Rattle.cip_digraph.specs.declared.drawing.graph.Edge.{Edge}
 use Rattle.cip_digraph.specs.graph.Graph.{Graph, vertex_at, edges_at, neighbours, other_end}
 use Rattle.cip_digraph.specs.units.Allenes.{doubles, is_axis_end, is_axis_unit, axis_site, axis_sites}
 use Rattle.cip_digraph.specs.units.Centres.{is_centre_by, drawn_neighbours, is_centre}

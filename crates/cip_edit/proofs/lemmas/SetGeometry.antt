@@ -15,11 +15,11 @@ use Rattle.cip_mol.specs.Marks.{is_either, mark_sign, mark_to}
 use Rattle.cip_mol.specs.Points.{point, flat_step, flat_steps, is_spatial}
 use Rattle.cip_mol.specs.Senses.{sense_of}
 use Rattle.cip_mol.specs.SpatialCentres.{in_space}
-use Rattle.cip_mol.specs.declared.descriptor.Sense.{Sense}
-use Rattle.cip_mol.specs.declared.molecule.Atom.{Atom}
-use Rattle.cip_mol.specs.declared.molecule.Bond.{Bond}
-use Rattle.cip_mol.specs.declared.molecule.Mark.{Mark}
-use Rattle.cip_mol.specs.declared.molecule.Mark.TheVariants.{Up, Down}
+use Rattle.cip_mol.specs.declared.labels.descriptor.Sense.{Sense}
+use Rattle.cip_mol.specs.declared.graph.molecule.Atom.{Atom}
+use Rattle.cip_mol.specs.declared.graph.molecule.Bond.{Bond}
+use Rattle.cip_mol.specs.declared.graph.molecule.Mark.{Mark}
+use Rattle.cip_mol.specs.declared.graph.molecule.Mark.TheVariants.{Up, Down}
 use Rattle.cip_mol.specs.declared.site.Cause.TheVariants.{Either, Coincident, Reentrant}
 use Rattle.cip_mol.specs.declared.site.Geometry.{Geometry}
 use Rattle.cip_mol.specs.declared.site.Geometry.TheVariants.{Known, Unknown}

@@ -11,10 +11,10 @@ use Rattle.cip_mol.specs.DrawnLigands.{drawn}
 use Rattle.cip_mol.specs.Geometry.{of_centre}
 use Rattle.cip_mol.specs.Marks.{is_narrow_at, joins}
 use Rattle.cip_mol.specs.Points.{is_spatial}
-use Rattle.cip_mol.specs.declared.descriptor.Sense.{Sense}
-use Rattle.cip_mol.specs.declared.molecule.Bond.{Bond}
-use Rattle.cip_mol.specs.declared.molecule.Mark.{Mark}
-use Rattle.cip_mol.specs.declared.molecule.Mark.TheVariants.{Plain, Up, Down}
+use Rattle.cip_mol.specs.declared.labels.descriptor.Sense.{Sense}
+use Rattle.cip_mol.specs.declared.graph.molecule.Bond.{Bond}
+use Rattle.cip_mol.specs.declared.graph.molecule.Mark.{Mark}
+use Rattle.cip_mol.specs.declared.graph.molecule.Mark.TheVariants.{Plain, Up, Down}
 use Rattle.cip_mol.specs.declared.site.Geometry.{Geometry}
 use Rattle.cip_mol.specs.declared.site.Geometry.TheVariants.{Known}
 use Rattle.cip_digraph.specs.graph.DrawnGraph.{graph_of}

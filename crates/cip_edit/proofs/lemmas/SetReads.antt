@@ -7,8 +7,8 @@ use Rattle.cip_rank.specs.declared.rules.Rules.{Rules}
 use Rattle.cip_mol.specs.Bonds.{IsSound}
 use Rattle.cip_mol.specs.Drawing.{Drawing}
 use Rattle.cip_mol.specs.Ranges.{IsBond}
-use Rattle.cip_mol.specs.declared.centre_letter.CentreLetter.{CentreLetter}
-use Rattle.cip_mol.specs.declared.refusal.ReadFault.{ReadFault}
+use Rattle.cip_mol.specs.declared.labels.centre_letter.CentreLetter.{CentreLetter}
+use Rattle.cip_mol.specs.declared.labels.refusal.ReadFault.{ReadFault}
 use Rattle.cip_item.specs.Parts.{without_label_items}
 use Rattle.cip_edit.proofs.lemmas.NoLonger.{no_longer}
 use Rattle.cip_v2000.specs.Version.{is_v3000}

@@ -7,9 +7,9 @@ use Rattle.cip_mol.specs.Bonds.{IsSound}
 use Rattle.cip_mol.specs.Drawing.{Drawing}
 use Rattle.cip_mol.specs.Marks.{is_narrow_at, joins}
 use Rattle.cip_mol.specs.Ranges.{IsBond, IsInRange}
-use Rattle.cip_mol.specs.declared.molecule.Bond.{Bond}
-use Rattle.cip_mol.specs.declared.molecule.Mark.{Mark}
-use Rattle.cip_mol.specs.declared.molecule.Mark.TheVariants.{Plain}
+use Rattle.cip_mol.specs.declared.graph.molecule.Bond.{Bond}
+use Rattle.cip_mol.specs.declared.graph.molecule.Mark.{Mark}
+use Rattle.cip_mol.specs.declared.graph.molecule.Mark.TheVariants.{Plain}
 use Rattle.cip_mol.proofs.lemmas.Redrawn.{map_redrawn, sound_redrawn}
 use Rattle.cip_edit.specs.Marking.{without_mark, bare_bonds, bare, is_plain, can_be_marked, marked_to, marked}
 use Rattle.cip_edit.proofs.lemmas.SetMarks.{marked_joins, bare_joins}

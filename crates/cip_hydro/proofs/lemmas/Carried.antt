@@ -1,7 +1,7 @@
 -- Hydrogens by the atoms that carry them: those of one more atom, and one hydrogen more.
 use Rattle.std.proofs.Common.{◌≡◌, ◌<◌, ◌+◌, ℕ, List, [], ◌∷◌, ◌++◌, append_assoc, drop, get_or, length, length-append, replicate, false, sym, ap, ◌∙◌, arith}
 use Rattle.std.proofs.lemmas.List.{at_drop_more, length-replicate, replicate_more}
-use Rattle.cip_digraph.specs.declared.graph.Edge.{Edge}
+use Rattle.cip_digraph.specs.declared.drawing.graph.Edge.{Edge}
 use Rattle.cip_digraph.specs.graph.DrawnGraph.{hydrogen_edges}
 use Rattle.cip_hydro.specs.Carriers.{carriers_from}
 use Rattle.cip_hydro.specs.declared.valence_state.ValenceState.{ValenceState}

@@ -20,7 +20,7 @@ use Rattle.cip_digraph.specs.units.Centres.{centre_ligands, drawn_neighbours, is
 use Rattle.cip_digraph.specs.units.DoubleBonds.{bond_site, bond_sites, end_ligands, has_end_bonds, is_bond_end}
 use Rattle.cip_digraph.specs.units.DoubleBonds.{is_bond_unit, is_double_end, outer_neighbours}
 use Rattle.cip_digraph.specs.units.Ends.{End, end_at}
-use Rattle.cip_digraph.specs.declared.graph.Edge.{Edge}
+use Rattle.cip_digraph.specs.declared.drawing.graph.Edge.{Edge}
 use Rattle.cip_digraph.specs.graph.Graph.{Graph, edges_at, neighbours, other_end, touches, vertex_at}
 use Rattle.cip_digraph.specs.graph.SoundGraphs.{IsSound, JoinsBelow}
 use Rattle.cip_digraph.specs.units.Units.{centre_site, sites_of}

@@ -5,9 +5,9 @@ use Rattle.std.specs.List.{list_any, range_with_len}
 use Rattle.std.proofs.lemmas.List.{length-map}
 use Rattle.std.proofs.lemmas.List.FromFn.{length-range_with_len}
 use Rattle.cip_rank.specs.Comparison.{insert_down, sorted_down}
-use Rattle.cip_mol.specs.declared.descriptor.Sense.{Sense}
-use Rattle.cip_mol.specs.declared.outcome.Outcome.{Outcome}
-use Rattle.cip_mol.specs.declared.outcome.Outcome.TheVariants as outcomes
+use Rattle.cip_mol.specs.declared.labels.descriptor.Sense.{Sense}
+use Rattle.cip_mol.specs.declared.labels.outcome.Outcome.{Outcome}
+use Rattle.cip_mol.specs.declared.labels.outcome.Outcome.TheVariants as outcomes
 use Rattle.cip_mol.specs.declared.site.Site.{Site}
 use Rattle.cip_digraph.specs.units.Descriptors.{reason_needed}
 use Rattle.cip_digraph.specs.digraph.Digraph.{Node}
@@ -15,7 +15,7 @@ use Rattle.cip_digraph.specs.units.Ends.{End, ends_of}
 use Rattle.cip_digraph.specs.outcome.Outcomes.{label_of}
 use Rattle.cip_digraph.specs.units.Ranked.{Root, Reason, decisions, has_tie, last_reason, place_order, ranks, side_of}
 use Rattle.cip_digraph.specs.units.Ranked.{turned_ranks}
-use Rattle.cip_digraph.specs.declared.parity.Parity.{Parity}
+use Rattle.cip_digraph.specs.declared.decisions.parity.Parity.{Parity}
 use Rattle.cip_digraph.specs.TurnsOf.{places_turns, together}
 use Rattle.cip_digraph.proofs.lemmas.LettersTurn.{letter_of_both}
 use Rattle.cip_label.specs.declared.ranked_root.Ranked.{Ranked}

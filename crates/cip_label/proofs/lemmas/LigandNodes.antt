@@ -13,7 +13,7 @@ use Rattle.cip_digraph.specs.rules.Auxiliary.{stands_for, ligand_node}
 use Rattle.cip_digraph.specs.declared.nodes.NodeKind.TheVariants.{Closure, Multiple, Delocalised}
 use Rattle.cip_digraph.specs.digraph.Digraph.{Node, real_node, duplicate, neighbour_child, bond_children, edge_children}
 use Rattle.cip_digraph.specs.digraph.Digraph.{real_children}
-use Rattle.cip_digraph.specs.declared.graph.Edge.{Edge}
+use Rattle.cip_digraph.specs.declared.drawing.graph.Edge.{Edge}
 use Rattle.cip_digraph.specs.graph.Graph.{Graph, edges_at, neighbours, other_end, touches}
 use Rattle.cip_digraph.specs.rings.Positions.{is_delocalised}
 use Rattle.cip_digraph.specs.graph.SoundGraphs.{IsSound, JoinsBelow}

@@ -11,7 +11,7 @@ use Rattle.std.proofs.lemmas.Bool.{or_parts}
 use Rattle.cip_rank.specs.Comparison.{insert_down, sorted_down}
 use Rattle.cip_mol.specs.declared.site.Ligand.{Ligand}
 use Rattle.cip_mol.specs.declared.site.Ligand.TheVariants.{Vertex, LonePair}
-use Rattle.cip_digraph.specs.declared.decision.Decision.{Decision}
+use Rattle.cip_digraph.specs.declared.decisions.decision.Decision.{Decision}
 use Rattle.cip_digraph.specs.digraph.Digraph.{Node, real_node}
 use Rattle.cip_digraph.specs.graph.SoundGraphs.{IsSound}
 use Rattle.cip_digraph.specs.units.Ends.{end_at}

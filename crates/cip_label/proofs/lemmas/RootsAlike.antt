@@ -9,7 +9,7 @@ use Rattle.cip_rank.specs.Comparison.{sorted_down}
 use Rattle.cip_mol.specs.declared.site.Ligand.{Ligand}
 use Rattle.cip_mol.specs.declared.site.Ligand.TheVariants.{Vertex, LonePair}
 use Rattle.cip_digraph.specs.rules.Auxiliary.{ligand_node}
-use Rattle.cip_digraph.specs.declared.decision.Decision.{Decision}
+use Rattle.cip_digraph.specs.declared.decisions.decision.Decision.{Decision}
 use Rattle.cip_digraph.specs.rules.Decisions.{order}
 use Rattle.cip_digraph.specs.units.Descriptors.{reason_needed}
 use Rattle.cip_digraph.specs.digraph.Digraph.{Node, real_node}

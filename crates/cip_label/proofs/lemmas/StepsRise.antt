@@ -1,7 +1,7 @@
 -- Steps that are taken for the ends of a site.
 use Rattle.std.proofs.Common.{◌≡◌, ◌+◌, ◌∷◌, ◌∙◌, [], ℕ, List, arith, ap, refl, sym, subst, slice_get, Some}
 use Rattle.std.specs.Prelude.{unwrap_or}
-use Rattle.cip_mol.specs.declared.descriptor.Sense.{Sense}
+use Rattle.cip_mol.specs.declared.labels.descriptor.Sense.{Sense}
 use Rattle.cip_mol.specs.declared.site.Cause.{Cause}
 use Rattle.cip_mol.specs.declared.site.Geometry.TheVariants.{Known, Unknown}
 use Rattle.cip_mol.specs.declared.site.Site.{Site}

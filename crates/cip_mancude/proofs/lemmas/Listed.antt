@@ -13,7 +13,7 @@ use Rattle.cip_digraph.specs.graph.Graph.{Graph, edges_at, neighbours, other_end
 use Rattle.cip_digraph.specs.rings.PositionLists.{IsPositionList}
 use Rattle.cip_digraph.specs.rings.Positions.{listed_positions, positions_at, positions_of}
 use Rattle.cip_digraph.specs.graph.SoundGraphs.{IsSound}
-use Rattle.cip_digraph.specs.declared.graph.Edge.{Edge}
+use Rattle.cip_digraph.specs.declared.drawing.graph.Edge.{Edge}
 use Rattle.cip_digraph.proofs.lemmas.lists.Positions.{none_listed}
 use Rattle.cip_digraph.proofs.lemmas.lists.Elements.{pairs_from_pairwise, pairwise_filtered}
 use Rattle.cip_digraph.proofs.lemmas.bonds.Neighbours.{neighbours_ascend}

@@ -10,7 +10,7 @@ use Rattle.std.proofs.lemmas.List.{append-nil}
 use Rattle.std.proofs.lemmas.List.Folds.{list_any_at}
 use Rattle.std.proofs.lemmas.List.Elements.{All-from_recursion}
 use Rattle.std.proofs.Math.Bool.{or-false, and-false}
-use Rattle.cip_digraph.specs.declared.graph.Edge.{Edge}
+use Rattle.cip_digraph.specs.declared.drawing.graph.Edge.{Edge}
 use Rattle.cip_digraph.specs.graph.Graph.{Graph, edges_at, neighbours, other_end, touches}
 use Rattle.cip_digraph.specs.graph.SoundGraphs.{IsSound, JoinsBelow}
 use Rattle.cip_digraph.specs.rings.Alternating.{closes_ring, counted_at, is_alternating, is_in, is_one_double, partner, partner_by, singles}

@@ -6,8 +6,8 @@ use Rattle.cip_mol.specs.Bonds.{IsSound}
 use Rattle.cip_mol.specs.Drawing.{Drawing}
 use Rattle.cip_mol.specs.Ranges.{IsAtom, IsBond, IsInRange}
 use Rattle.cip_mol.specs.Reflection.{exchanged, mirrored_atom, mirrored_bond, reflected}
-use Rattle.cip_mol.specs.declared.molecule.Atom.{Atom}
-use Rattle.cip_mol.specs.declared.molecule.Bond.{Bond}
+use Rattle.cip_mol.specs.declared.graph.molecule.Atom.{Atom}
+use Rattle.cip_mol.specs.declared.graph.molecule.Bond.{Bond}
 use Rattle.cip_mol.proofs.lemmas.SimpleBonds.{simple_from_sound, simple_map, sound_from_simple}
 
 unsigned_abs-neg : (z : ℤ) → unsigned_abs (neg_ℤ z) ≡ unsigned_abs z

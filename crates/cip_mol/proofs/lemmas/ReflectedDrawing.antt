@@ -10,10 +10,10 @@ use Rattle.cip_num.specs.declared.plane.Vec3.{Vec3}
 use Rattle.cip_num.specs.Signs.{opposite}
 use Rattle.cip_num.specs.Space.{mirrored}
 use Rattle.cip_num.proofs.lemmas.Signs.{sign_of-neg, is_zero-opposite}
-use Rattle.cip_mol.specs.declared.molecule.Atom.{Atom}
-use Rattle.cip_mol.specs.declared.molecule.Bond.{Bond}
-use Rattle.cip_mol.specs.declared.molecule.Mark.{Mark}
-use Rattle.cip_mol.specs.declared.molecule.Mark.TheVariants.{Plain, Up, Down, Either}
+use Rattle.cip_mol.specs.declared.graph.molecule.Atom.{Atom}
+use Rattle.cip_mol.specs.declared.graph.molecule.Bond.{Bond}
+use Rattle.cip_mol.specs.declared.graph.molecule.Mark.{Mark}
+use Rattle.cip_mol.specs.declared.graph.molecule.Mark.TheVariants.{Plain, Up, Down, Either}
 use Rattle.cip_mol.specs.Points.{no_atom, point, step, flat_steps, steps, is_spatial}
 use Rattle.cip_mol.specs.Marks.{is_either, mark_sign, is_narrow_at, has_either, is_crossed, mark_to}
 use Rattle.cip_mol.specs.Reflection.{mirrored_atom, exchanged, mirrored_bond}

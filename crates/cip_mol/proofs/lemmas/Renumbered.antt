@@ -9,7 +9,7 @@ use Rattle.cip_mol.specs.Permutations.{ArePlaces}
 use Rattle.cip_mol.specs.Points.{no_atom}
 use Rattle.cip_mol.specs.Ranges.{IsAtom, IsBond, IsInRange}
 use Rattle.cip_mol.specs.RenumberedDrawing.{index_of, no_bond, placed, place_of, renamed, renumbered}
-use Rattle.cip_mol.specs.declared.molecule.Bond.{Bond}
+use Rattle.cip_mol.specs.declared.graph.molecule.Bond.{Bond}
 use Rattle.cip_mol.proofs.lemmas.Permutations.{place_below, index_below, place_of_index, index_of_place}
 use Rattle.cip_mol.proofs.lemmas.Placing.{length-placed, All-placed}
 use Rattle.cip_mol.proofs.lemmas.SimpleBonds.{IsJoin, simple_from_sound, simple_map, simple_placed, sound_from_simple}

@@ -13,7 +13,7 @@ use Rattle.std.proofs.lemmas.List.Sums.{sum_by-cons}
 use Rattle.cip_mol.specs.Bonds.{cause_of, degree, joins_same, touches, IsSound}
 use Rattle.cip_mol.specs.Permutations.{ArePlaces}
 use Rattle.cip_mol.specs.RenumberedDrawing.{index_of, placed}
-use Rattle.cip_mol.specs.declared.molecule.Bond.{Bond}
+use Rattle.cip_mol.specs.declared.graph.molecule.Bond.{Bond}
 use Rattle.cip_mol.proofs.lemmas.OtherEnds.{length-neighbours}
 use Rattle.cip_mol.proofs.lemmas.Permutations.{index_below, place_of_index}
 use Rattle.cip_mol.proofs.lemmas.Placing.{length-placed, get_or-placed, All-placed, IsPermutation-placed}

@@ -6,7 +6,7 @@ use Rattle.std.proofs.lemmas.Bool.{cases_eq, cases_lt}
 use Rattle.std.proofs.lemmas.Bool.Decides.{nat_tests}
 use Rattle.std.proofs.lemmas.List.{take_more, take-append-le, get_or_append_left, length-append, append-nil}
 use Rattle.std.proofs.lemmas.List.Elements.{All-push, filter_map-append}
-use Rattle.cip_mol.specs.declared.molecule.Bond.{Bond}
+use Rattle.cip_mol.specs.declared.graph.molecule.Bond.{Bond}
 use Rattle.cip_mol.specs.Bonds.{cause_of, degree, IsSound}
 use Rattle.cip_mol.specs.Neighbours.{other_end, neighbours}
 use Rattle.cip_mol.proofs.lemmas.OtherEnds.{length-neighbours, other_end-a, other_end-b, other_end-none}

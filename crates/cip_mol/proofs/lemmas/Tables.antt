@@ -6,7 +6,7 @@ use Rattle.std.proofs.lemmas.List.Elements.{filter-append, filter_map-append}
 use Rattle.std.proofs.lemmas.List.Sums.{length-filter}
 use Rattle.std.proofs.lemmas.Bool.{cases_eq}
 use Rattle.std.proofs.lemmas.Bool.Decides.{nat_tests}
-use Rattle.cip_mol.specs.declared.molecule.Bond.{Bond}
+use Rattle.cip_mol.specs.declared.graph.molecule.Bond.{Bond}
 use Rattle.cip_mol.specs.Bonds.{cause_of, degree, touches}
 use Rattle.cip_mol.specs.Neighbours.{AtAtom, HasRoom, at_atom, bonds_at, other_end, with_more}
 use Rattle.cip_mol.specs.Tables.{IsFree, IsTable, row, with_entry, with_bond}

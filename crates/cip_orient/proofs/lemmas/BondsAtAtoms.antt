@@ -3,7 +3,7 @@ use Rattle.std.proofs.Common.{◌≡◌, ℕ, List, [], ◌∷◌, Bool, true, f
 use Rattle.std.proofs.lemmas.Bool.{false≢true}
 use Rattle.std.proofs.lemmas.Bool.Decides.{nat_tests}
 use Rattle.std.proofs.lemmas.Map.Views.{any-filter_same}
-use Rattle.cip_mol.specs.declared.molecule.Bond.{Bond}
+use Rattle.cip_mol.specs.declared.graph.molecule.Bond.{Bond}
 use Rattle.cip_mol.specs.Bonds.{touches}
 use Rattle.cip_mol.specs.Neighbours.{bonds_at}
 use Rattle.cip_mol.specs.Marks.{has_either, is_crossed, is_either, is_narrow_at, joins, mark_sign, mark_to}

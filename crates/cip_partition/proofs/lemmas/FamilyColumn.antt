@@ -6,7 +6,7 @@ use Rattle.std.proofs.lemmas.List.{length-append, length-map, length-set, map-ap
 use lib.Seq.{map-set_same}
 use Rattle.cip_partition.specs.PlaceTree.{PlaceTree, IsFamily, KeepKin, kin_of, with_children, with_place}
 use Rattle.cip_partition.specs.ReservedList.{ReservedList}
-use Rattle.cip_partition.specs.declared.place.Place.{Place}
+use Rattle.cip_partition.specs.declared.places.place.Place.{Place}
 use Rattle.cip_partition.proofs.lemmas.Cases.{cases_same}
 
 abbrev pub none : Place

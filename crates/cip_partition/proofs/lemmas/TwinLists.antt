@@ -5,7 +5,7 @@ use Rattle.std.proofs.lemmas.Bool.Decides.{nat_tests}
 use Rattle.std.proofs.lemmas.List.{length-append, length-map, get_or-map, get_or_append_left, get_or-append-add}
 use Rattle.std.specs.List.{range_with_len}
 use Rattle.cip_partition.specs.Twins.{moved_on, twin_place, twins_from, halves, twice, pairs}
-use Rattle.cip_partition.specs.declared.place.Place.{Place}
+use Rattle.cip_partition.specs.declared.places.place.Place.{Place}
 
 -- where the doubles of n find room, they are few
 pub doubles_few : {count len room bound : ℕ} → count ≡ len → len + len ≤ bound → room ≡ bound → room < 2 ^ 32

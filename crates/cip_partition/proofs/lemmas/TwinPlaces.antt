@@ -10,7 +10,7 @@ use Rattle.cip_partition.specs.Keys.{AreKeyed}
 use Rattle.cip_partition.specs.Ranked.{Ranked, KeepOrder}
 use Rattle.cip_partition.specs.ReservedList.{ReservedList}
 use Rattle.cip_partition.specs.Twins.{moved_on, halves, twice, pairs, twin_kin, twin_place, twins_from}
-use Rattle.cip_partition.specs.declared.place.Place.{Place}
+use Rattle.cip_partition.specs.declared.places.place.Place.{Place}
 use Rattle.cip_partition.proofs.lemmas.TwinLists.{halves_length, in_first, in_second, in_front, in_back, moved_low, moved_high, is_twin, of_pair, pairs_length, pair_first, pair_second}
 use Rattle.cip_partition.proofs.lemmas.TwinLists.{moved_nodes, moved_counts, moved_numbers, range_twice, twins_length}
 

@@ -90,77 +90,77 @@ module _ (ps : List ℕ) (tree : IsTree ps) where
     | inr (inr none) ↦ absurd (omega arith)
   ]
 
-  -- a mark set on the way up
-  pub mark_step : (marks : List Bool) (n x : ℕ) → 0 < n → n < length ps → length ps ≤ length marks →
-      (get_or (set marks n true) x false || is_above ps (slice_index ps n) (slice_index ps n) x) ≡ (get_or marks x false || is_above ps n n x)
-  mark_step marks n x some h len =
+  -- a flag set on the way up
+  pub flag_step : (flags : List Bool) (n x : ℕ) → 0 < n → n < length ps → length ps ≤ length flags →
+      (get_or (set flags n true) x false || is_above ps (slice_index ps n) (slice_index ps n) x) ≡ (get_or flags x false || is_above ps n n x)
+  flag_step flags n x some h len =
       let earlier : slice_index ps n < n = tree.behind n some h in
       let p = slice_index ps n in
       let more : is_above ps n n x ≡ ((n == x) || is_above ps p p x) =
       fuel_free n (suc n) n x (omega arith) (omega arith) h
       ∙ ap (λ b. (n == x) || (b && is_above ps n p x)) (not_from_false (n == 0) (ne_eqb n 0 (λ e. absurd (omega (arith, e, some)))))
       ∙ ap (λ b. (n == x) || b) (fuel_free n p p x (omega arith) (omega arith) (omega arith)) in
-      set_on marks n x (is_above ps p p x) (omega arith) ∙ ap (λ b. get_or marks x false || b) (sym more)
+      set_on flags n x (is_above ps p p x) (omega arith) ∙ ap (λ b. get_or flags x false || b) (sym more)
     where
       any_true : (m : Bool) → (m || true) ≡ true
       any_true true = refl
       any_true false = refl
 
-      set_on : (marks : List Bool) (n x : ℕ) (a : Bool) → n < length marks → (get_or (set marks n true) x false || a) ≡ (get_or marks x false || ((n == x) || a))
-      set_on marks n x a lt = elim (cases_eq x n) [
+      set_on : (flags : List Bool) (n x : ℕ) (a : Bool) → n < length flags → (get_or (set flags n true) x false || a) ≡ (get_or flags x false || ((n == x) || a))
+      set_on flags n x a lt = elim (cases_eq x n) [
         | inl e ↦
-            ap (λ b. b || a) (ap (λ k. get_or (set marks n true) k false) e ∙ get_or-set_same marks n true false lt)
-            ∙ sym (ap (λ b. get_or marks x false || (b || a)) (eq-eqb n x (sym e)) ∙ any_true (get_or marks x false))
+            ap (λ b. b || a) (ap (λ k. get_or (set flags n true) k false) e ∙ get_or-set_same flags n true false lt)
+            ∙ sym (ap (λ b. get_or flags x false || (b || a)) (eq-eqb n x (sym e)) ∙ any_true (get_or flags x false))
         | inr ne ↦
-            ap (λ b. b || a) (get_or-set_other marks n x true false ne)
-            ∙ ap (λ b. get_or marks x false || (b || a)) (sym (ne_eqb n x (λ e. ne (sym e))))
+            ap (λ b. b || a) (get_or-set_other flags n x true false ne)
+            ∙ ap (λ b. get_or flags x false || (b || a)) (sym (ne_eqb n x (λ e. ne (sym e))))
       ]
 
-pub mark_last : (ps : List ℕ) (marks : List Bool) (n x : ℕ) → n ≡ 0 → 0 < length marks → get_or (set marks 0 true) x false ≡ (get_or marks x false || is_above ps n n x)
-mark_last ps marks zero x e h = elim (cases_eq x 0) [
+pub flag_last : (ps : List ℕ) (flags : List Bool) (n x : ℕ) → n ≡ 0 → 0 < length flags → get_or (set flags 0 true) x false ≡ (get_or flags x false || is_above ps n n x)
+flag_last ps flags zero x e h = elim (cases_eq x 0) [
   | inl z ↦
-      ap (λ k. get_or (set marks 0 true) k false) z ∙ get_or-set_same marks 0 true false h
-      ∙ sym (ap (λ b. get_or marks x false || b) (eq-eqb 0 x (sym z)) ∙ any_true (get_or marks x false))
+      ap (λ k. get_or (set flags 0 true) k false) z ∙ get_or-set_same flags 0 true false h
+      ∙ sym (ap (λ b. get_or flags x false || b) (eq-eqb 0 x (sym z)) ∙ any_true (get_or flags x false))
   | inr ne ↦
-      get_or-set_other marks 0 x true false ne
-      ∙ sym (ap (λ b. get_or marks x false || b) (ne_eqb 0 x (λ e. ne (sym e))) ∙ or-false (get_or marks x false))
+      get_or-set_other flags 0 x true false ne
+      ∙ sym (ap (λ b. get_or flags x false || b) (ne_eqb 0 x (λ e. ne (sym e))) ∙ or-false (get_or flags x false))
 ]
   where
     any_true : (m : Bool) → (m || true) ≡ true
     any_true true = refl
     any_true false = refl
-mark_last ps marks (suc n) x e h = absurd (omega arith)
+flag_last ps flags (suc n) x e h = absurd (omega arith)
 
--- a mark taken off on the way up
-pub unmark_step : (ps : List ℕ) → IsTree ps → (marks : List Bool) (n x : ℕ) → 0 < n → n < length ps → length ps ≤ length marks
-    → get_or marks x false ≡ is_above ps n n x → get_or (set marks n false) x false ≡ is_above ps (slice_index ps n) (slice_index ps n) x
-unmark_step ps tree marks n x some h long is =
+-- a flag cleared on the way up
+pub clear_step : (ps : List ℕ) → IsTree ps → (flags : List Bool) (n x : ℕ) → 0 < n → n < length ps → length ps ≤ length flags
+    → get_or flags x false ≡ is_above ps n n x → get_or (set flags n false) x false ≡ is_above ps (slice_index ps n) (slice_index ps n) x
+clear_step ps tree flags n x some h long is =
     let p = slice_index ps n in
     let earlier : p < n = tree.behind n some h in
     elim (cases_eq x n) [
       | inl e ↦
-          ap (λ k. get_or (set marks n false) k false) e ∙ get_or-set_same marks n false false (omega arith)
+          ap (λ k. get_or (set flags n false) k false) e ∙ get_or-set_same flags n false false (omega arith)
           ∙ sym (elim (cases_Bool (is_above ps p p x)) [
             | inl on ↦ absurd (let le : x ≤ p = above_le ps tree p p x (omega arith) (to_above ps p p x on) in omega (arith, le, e, earlier))
             | inr off ↦ off
           ])
       | inr ne ↦
-          get_or-set_other marks n x false false ne ∙ is
+          get_or-set_other flags n x false false ne ∙ is
           ∙ fuel_free ps tree n (suc n) n x (omega arith) (omega arith) h
           ∙ ap (λ b. b || (not (n == 0) && is_above ps n p x)) (ne_eqb n x (λ e. ne (sym e)))
           ∙ ap (λ b. b && is_above ps n p x) (not_from_false (n == 0) (ne_eqb n 0 (λ e. absurd (omega (arith, e, some)))))
           ∙ fuel_free ps tree n p p x (omega arith) (omega arith) (omega arith)
     ]
 
-pub unmark_last : (ps : List ℕ) (marks : List Bool) (n x : ℕ) → n ≡ 0 → 0 < length marks → get_or marks x false ≡ is_above ps n n x → get_or (set marks 0 false) x false ≡ false
-unmark_last ps marks zero x e h is = elim (cases_eq x 0) [
-  | inl z ↦ ap (λ k. get_or (set marks 0 false) k false) z ∙ get_or-set_same marks 0 false false h
-  | inr ne ↦ get_or-set_other marks 0 x false false ne ∙ is ∙ ne_eqb 0 x (λ z. ne (sym z))
+pub clear_last : (ps : List ℕ) (flags : List Bool) (n x : ℕ) → n ≡ 0 → 0 < length flags → get_or flags x false ≡ is_above ps n n x → get_or (set flags 0 false) x false ≡ false
+clear_last ps flags zero x e h is = elim (cases_eq x 0) [
+  | inl z ↦ ap (λ k. get_or (set flags 0 false) k false) z ∙ get_or-set_same flags 0 false false h
+  | inr ne ↦ get_or-set_other flags 0 x false false ne ∙ is ∙ ne_eqb 0 x (λ z. ne (sym z))
 ]
-unmark_last ps marks (suc n) x e h is = absurd (omega arith)
+clear_last ps flags (suc n) x e h is = absurd (omega arith)
 
-pub others_stay : (marks : List Bool) (n x count : ℕ) (b : Bool) → n < count → count ≤ x → get_or (set marks n b) x false ≡ get_or marks x false
-others_stay marks n x count b low high = get_or-set_other marks n x b false (λ e. absurd (omega (arith, e)))
+pub others_stay : (flags : List Bool) (n x count : ℕ) (b : Bool) → n < count → count ≤ x → get_or (set flags n b) x false ≡ get_or flags x false
+others_stay flags n x count b low high = get_or-set_other flags n x b false (λ e. absurd (omega (arith, e)))
 
 pub none_set : (count k : ℕ) → get_or (replicate count false) k false ≡ false
 none_set zero k = refl

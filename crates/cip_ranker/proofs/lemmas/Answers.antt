@@ -9,7 +9,7 @@ use Rattle.cip_constitution.specs.Noting.{asked_by}
 use Rattle.cip_constitution.specs.Pairs.{pair, pair_with, pairs_at, pairs_of}
 use Rattle.cip_constitution.specs.declared.pairs.VertexPair.{VertexPair}
 use Rattle.cip_digraph.specs.Asking.{with_found}
-use Rattle.cip_digraph.specs.declared.branch_pair.BranchPair.{BranchPair}
+use Rattle.cip_digraph.specs.declared.decisions.branch_pair.BranchPair.{BranchPair}
 use Rattle.cip_ranker.specs.RootDecisions.{Branch, answer_between, answers_at, answers_of, branch_at, branch_if, branches_of}
 use Rattle.cip_ranker.specs.ToldEarly.{found_early, noted_early}
 use Rattle.cip_ranker.proofs.lemmas.Counted.{flat_append}

@@ -8,14 +8,14 @@ use Rattle.cip_constitution.specs.Noting.{Notes}
 use Rattle.cip_constitution.specs.Pairs.{pairs_of}
 use Rattle.cip_constitution.specs.Settling.{SettledAs}
 use Rattle.cip_constitution.specs.declared.pairs.VertexPair.{VertexPair}
-use Rattle.cip_constitution.specs.declared.settling.Settled.{Settled}
-use Rattle.cip_constitution.specs.declared.settling.Settled.TheVariants as ways
+use Rattle.cip_constitution.specs.declared.steps.settling.Settled.{Settled}
+use Rattle.cip_constitution.specs.declared.steps.settling.Settled.TheVariants as ways
 use Rattle.cip_label.specs.Fitting.{IsFit}
 use Rattle.cip_label.specs.Settings.{IsProper, LabelContext, StandAtSites}
 use Rattle.cip_label.specs.BranchComparison.{RankedAs}
 use Rattle.cip_label.specs.declared.root_ranker.Ranking.TheVariants.{Known, Tied, Over}
 use Rattle.cip_digraph.specs.Asking.{is_decided}
-use Rattle.cip_digraph.specs.declared.branch_pair.BranchPair.{BranchPair}
+use Rattle.cip_digraph.specs.declared.decisions.branch_pair.BranchPair.{BranchPair}
 use Rattle.cip_mol.specs.declared.site.Ligand.{Ligand}
 use Rattle.cip_mol.specs.declared.site.Unit as units
 use Rattle.cip_ranker.specs.Desks.{settled_by}

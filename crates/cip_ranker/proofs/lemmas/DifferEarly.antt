@@ -8,10 +8,10 @@ use Rattle.std.specs.Ordering.{is_eq, ordering_then}
 use Rattle.std.specs.declared.cmp.Ordering.{Ordering}
 use Rattle.std.specs.declared.cmp.Ordering.TheVariants.{Less, Equal, Greater}
 use Rattle.std.specs.declared.option.Option.{Option}
-use Rattle.cip_mol.specs.declared.outcome.Rule.TheVariants.{R1a}
+use Rattle.cip_mol.specs.declared.labels.outcome.Rule.TheVariants.{R1a}
 use Rattle.cip_mol.specs.declared.site.Ligand.{Ligand}
 use Rattle.cip_mol.specs.declared.site.Ligand.TheVariants.{Vertex, LonePair}
-use Rattle.cip_digraph.specs.declared.decision.Decision.{Decision}
+use Rattle.cip_digraph.specs.declared.decisions.decision.Decision.{Decision}
 use Rattle.cip_digraph.specs.digraph.Digraph.{Node, real_node}
 use Rattle.cip_digraph.specs.digraph.View.{view_children}
 use Rattle.cip_digraph.specs.graph.Graph.{neighbours}
@@ -33,7 +33,7 @@ use Rattle.cip_constitution.specs.Noting.{asked_by, by_atoms}
 use Rattle.cip_constitution.specs.Pairs.{pair, pair_with, pairs_at, pairs_of}
 use Rattle.cip_constitution.specs.declared.pairs.VertexPair.{VertexPair}
 use Rattle.cip_digraph.specs.Asking.{decided, differing, is_decided, with_found}
-use Rattle.cip_digraph.specs.declared.branch_pair.BranchPair.{BranchPair}
+use Rattle.cip_digraph.specs.declared.decisions.branch_pair.BranchPair.{BranchPair}
 use Rattle.cip_ranker.specs.ToldEarly.{found_early, noted_early}
 use Rattle.cip_ranker.proofs.lemmas.NeighbourNodes.{neighbour_further}
 use Rattle.cip_ranker.proofs.lemmas.ToldBranches.{first_of_two, sets_compared}

@@ -13,7 +13,7 @@ use Rattle.cip_constitution.specs.Noting.{asked_by, Notes}
 use Rattle.cip_constitution.specs.Pairs.{pairs_of}
 use Rattle.cip_constitution.specs.Settling.{SettledAs}
 use Rattle.cip_constitution.specs.declared.pairs.VertexPair.{VertexPair}
-use Rattle.cip_constitution.specs.declared.settling.Settled.TheVariants.{Ordered, Whole}
+use Rattle.cip_constitution.specs.declared.steps.settling.Settled.TheVariants.{Ordered, Whole}
 use Rattle.cip_digraph.specs.graph.Graph.{neighbours}
 use Rattle.cip_digraph.specs.graph.SoundGraphs.{IsSound}
 use Rattle.cip_digraph.specs.rings.Alternating.{is_in}
@@ -24,13 +24,13 @@ use Rattle.cip_label.specs.Fitting.{IsFit}
 use Rattle.cip_label.specs.Settings as records
 use Rattle.cip_label.specs.BranchComparison.{RankedAs}
 use Rattle.cip_label.specs.declared.root_ranker.Ranking.TheVariants.{Known}
-use Rattle.cip_digraph.specs.declared.branch_pair.BranchPair.{BranchPair}
+use Rattle.cip_digraph.specs.declared.decisions.branch_pair.BranchPair.{BranchPair}
 use Rattle.cip_digraph.specs.Asking.{is_decided, with_found}
-use Rattle.cip_mol.specs.declared.descriptor.Descriptor.{Descriptor}
+use Rattle.cip_mol.specs.declared.labels.descriptor.Descriptor.{Descriptor}
 use Rattle.cip_mol.specs.declared.site.Ligand.{Ligand}
 use Rattle.cip_mol.specs.declared.site.Ligand.TheVariants.{Vertex}
 use Rattle.cip_ranker.specs.Desks.{settled_by}
-use Rattle.cip_ranker.specs.Rooting.{HaveMarks}
+use Rattle.cip_ranker.specs.Rooting.{HoldDescriptors}
 use Rattle.cip_ranker.specs.Standing.{Standing, StandsOrdered, asked_in, by_vertices, standing_of}
 use Rattle.cip_ranker.proofs.lemmas.EarlyStanding.{stands_early}
 use Rattle.cip_ranker.proofs.lemmas.RootLow.{beside, root_low, settled_further}
@@ -105,12 +105,12 @@ module _ (setting : records.LabelContext) (ligands : List Ligand) (a : Growth)
     )
 
     -- where descriptors were asked for
-    pub late_ranked : list_all is_decided trying.noted ≡ false → (marks : List (Option Descriptor))
-        → HaveMarks setting a trying.branched marks → (standing : Standing) → StandsOrdered trying marks standing
+    pub late_ranked : list_all is_decided trying.noted ≡ false → (descriptors : List (Option Descriptor))
+        → HoldDescriptors setting a trying.branched descriptors → (standing : Standing) → StandsOrdered trying descriptors standing
         → RankedAs setting a.bound a.root ligands (standing_of standing) Known
-    late_ranked undone marks have standing stands =
+    late_ranked undone descriptors have standing stands =
         let found = found_late setting.rules setting.graph setting.positions setting.units a sound ligands by trying are
-        undone marks have.each stands.first stands.second stands.ordered in
+        undone descriptors have.each stands.first stands.second stands.ordered in
         let seen = seen_at setting.rules setting.graph setting.positions setting.units a.root in
         let node = node_of setting.rules setting.graph setting.positions a trying.branched in (
           cost_within setting ligands a.root a h refl settled.0 fits,

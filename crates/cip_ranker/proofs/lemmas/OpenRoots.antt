@@ -11,11 +11,11 @@ use Rattle.cip_constitution.specs.Following.{Trying}
 use Rattle.cip_constitution.specs.Pairs.{pairs_of}
 use Rattle.cip_digraph.specs.Asking.{is_decided}
 use Rattle.cip_rules.specs.Taking.{AreSame}
-use Rattle.cip_digraph.specs.declared.branch_pair.BranchPair.{BranchPair}
+use Rattle.cip_digraph.specs.declared.decisions.branch_pair.BranchPair.{BranchPair}
 use Rattle.cip_rules.proofs.lemmas.TakenSteps.{stands_back}
 use Rattle.cip_ranker.specs.Keeping.{IsOpen, IsWholeAnyway, with_units}
 use Rattle.cip_ranker.specs.Rooting.{HaveTurns}
-use Rattle.cip_ranker.specs.declared.cache_key.CacheKey.{CacheKey}
+use Rattle.cip_ranker.specs.declared.caches.cache_key.CacheKey.{CacheKey}
 use Rattle.cip_ranker.specs.declared.whole_digraph.RankTables.{RankTables}
 
 module _ (begin now : Branched) (saved : Checkpoint) (room : ℕ) (are : saved ≡ saved_of room begin)

@@ -4,15 +4,15 @@ use Rattle.std.specs.declared.option.Option.{Option}
 use Rattle.cip_label.specs.Settings.{IsProper, LabelContext}
 use Rattle.cip_label.specs.BranchComparison.{RankedAs}
 use Rattle.cip_label.specs.declared.root_ranker.Ranking.{Ranking}
-use Rattle.cip_digraph.specs.declared.branch_pair.BranchPair.{BranchPair}
+use Rattle.cip_digraph.specs.declared.decisions.branch_pair.BranchPair.{BranchPair}
 use Rattle.cip_mol.specs.declared.site.Ligand.{Ligand}
 use Rattle.std.specs.Prelude.{List}
 use Rattle.cip_ranker.specs.Keeping.{FoundAs, HaveRoom, IsOpen, IsReady, KeptAs, StandsAnyway, kept_of}
 use Rattle.cip_ranker.specs.Standing.{Standing, both_as, standing_of}
 use Rattle.cip_ranker.specs.declared.workspace.Workspace.{Workspace}
-use Rattle.cip_ranker.specs.declared.cache_key.CacheKey.{CacheKey}
-use Rattle.cip_ranker.specs.declared.cache.CachedResult.{CachedResult}
-use Rattle.cip_ranker.specs.declared.cache.CachedResult.TheVariants.{Open}
+use Rattle.cip_ranker.specs.declared.caches.cache_key.CacheKey.{CacheKey}
+use Rattle.cip_ranker.specs.declared.caches.cache.CachedResult.{CachedResult}
+use Rattle.cip_ranker.specs.declared.caches.cache.CachedResult.TheVariants.{Open}
 
 pub found_kept : (workspace : Workspace) (found : CachedResult) (kept : CacheKey) → workspace.root_cache.found ≡ Some found
     → workspace.root_cache.root ≡ Some kept → KeptAs workspace workspace.root_cache.found workspace.root_cache.root

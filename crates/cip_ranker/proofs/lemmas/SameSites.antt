@@ -16,8 +16,8 @@ use Rattle.cip_digraph.specs.rules.Orders.{rule_1a, rule_1b, rule_2}
 use Rattle.cip_digraph.specs.units.Ends.{End, atoms_of, end_at}
 use Rattle.cip_digraph.specs.units.Ranked.{some_pair}
 use Rattle.cip_constitution.specs.Settling.{SettledAs}
-use Rattle.cip_constitution.specs.declared.settling.Settled.{Settled}
-use Rattle.cip_constitution.specs.declared.settling.Settled.TheVariants.{Ordered, Tied, Whole, Over}
+use Rattle.cip_constitution.specs.declared.steps.settling.Settled.{Settled}
+use Rattle.cip_constitution.specs.declared.steps.settling.Settled.TheVariants.{Ordered, Tied, Whole, Over}
 use Rattle.cip_label.specs.Settings.{setting_of}
 use Rattle.cip_ranker.specs.Desks.{settled_by}
 

@@ -13,7 +13,7 @@ use Rattle.cip_digraph.proofs.lemmas.numbered.PlaceTrees.{some_nodes}
 use Rattle.cip_digraph.proofs.lemmas.ties.Settled.{settled_tie}
 use Rattle.cip_arena.specs.Growth.{Growth, Holds}
 use Rattle.cip_constitution.specs.Settling.{setting_of, SettledAs, deciding, cost_of}
-use Rattle.cip_constitution.specs.declared.settling.Settled.TheVariants.{Tied, Over}
+use Rattle.cip_constitution.specs.declared.steps.settling.Settled.TheVariants.{Tied, Over}
 use Rattle.cip_label.specs.Settings as records
 use Rattle.cip_label.specs.Fitting.{IsFit}
 use Rattle.cip_label.specs.BranchComparison.{Stands, RankedAs}

@@ -3,7 +3,7 @@ use Rattle.std.proofs.Common.{◌≡◌, ◌≤◌, ◌+◌, ◌-◌, ◌++◌, 
 use Rattle.std.proofs.lemmas.List.{drop-append-le, drop_min, length-drop, take-append-le, take_all, take_min}
 use Rattle.cip_ranker.specs.RootDecisions.{Branch}
 use Rattle.cip_ranker.specs.Rows.{count_below, shown_of}
-use Rattle.cip_ranker.specs.declared.two_sphere_branches.BranchTop.{BranchTop}
+use Rattle.cip_ranker.specs.declared.two_sphere.two_sphere_branches.BranchTop.{BranchTop}
 
 pub as_many_taken : (n : ℕ) (keys : List ℕ) → take (min n (length keys)) keys ≡ take n keys
 as_many_taken n keys = take_min n keys

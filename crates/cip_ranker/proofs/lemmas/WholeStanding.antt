@@ -5,13 +5,13 @@ use Rattle.std.specs.List.{AllByRecursion, list_all}
 use Rattle.cip_arena.specs.Growth.{Growth}
 use Rattle.cip_branches.specs.Deciding.{Branched}
 use Rattle.cip_rank.specs.declared.rules.Rules.{Rules}
-use Rattle.cip_mol.specs.declared.outcome.Rule.{Rule}
-use Rattle.cip_mol.specs.declared.outcome.Rule.TheVariants.{R1a, R1b, R2, R3, R4a, R4b, R4c, R5}
-use Rattle.cip_mol.specs.declared.descriptor.Descriptor.{Descriptor}
+use Rattle.cip_mol.specs.declared.labels.outcome.Rule.{Rule}
+use Rattle.cip_mol.specs.declared.labels.outcome.Rule.TheVariants.{R1a, R1b, R2, R3, R4a, R4b, R4c, R5}
+use Rattle.cip_mol.specs.declared.labels.descriptor.Descriptor.{Descriptor}
 use Rattle.cip_mol.specs.declared.site.Ligand.{Ligand}
 use Rattle.cip_mol.specs.declared.site.Ligand.TheVariants.{Vertex}
 use Rattle.cip_mol.specs.declared.site.Unit as units
-use Rattle.cip_digraph.specs.declared.decision.Decision.{Decision}
+use Rattle.cip_digraph.specs.declared.decisions.decision.Decision.{Decision}
 use Rattle.cip_digraph.specs.digraph.Digraph.{Node, real_node}
 use Rattle.cip_digraph.specs.graph.Graph.{Graph, neighbours}
 use Rattle.cip_digraph.specs.graph.SoundGraphs.{IsSound}
@@ -26,9 +26,9 @@ use Rattle.cip_constitution.specs.Noting.{asked_by}
 use Rattle.cip_constitution.specs.Pairs.{pairs_of}
 use Rattle.cip_constitution.proofs.lemmas.followed.Pairs.{asked_within}
 use Rattle.cip_label.proofs.lemmas.LigandNodes.{one_node}
-use Rattle.cip_digraph.specs.declared.branch_pair.BranchPair.{BranchPair}
+use Rattle.cip_digraph.specs.declared.decisions.branch_pair.BranchPair.{BranchPair}
 use Rattle.cip_digraph.specs.Asking.{AreWithin, is_decided, with_found}
-use Rattle.cip_rules.specs.DescriptorMap.{AreMarksOf}
+use Rattle.cip_rules.specs.DescriptorMap.{AreDescriptorsOf}
 use Rattle.cip_rules.specs.Orders.{decided_in_turn}
 use Rattle.cip_rules.proofs.lemmas.RulesGoOn.{order_told}
 use Rattle.cip_ranker.specs.Standing.{Standing, asked_in, by_vertices, standing_of}
@@ -53,8 +53,8 @@ module _ (rules : Rules) (g : Graph) (positions : List (List ℕ)) (all : List u
   abbrev now : Branched
   now = trying.branched
 
-  abbrev mark : List ℕ → Option Descriptor
-  mark = auxiliary rules g positions all
+  abbrev descriptor : List ℕ → Option Descriptor
+  descriptor = auxiliary rules g positions all
 
   abbrev seen : Seen Node
   seen = seen_at rules g positions all a.root
@@ -93,13 +93,13 @@ module _ (rules : Rules) (g : Graph) (positions : List (List ℕ)) (all : List u
       → trying.noted ≡ map (with_found (find r_first)) begin
   found_early done r_first =
       order_told seen r_first node node are.count begin begin_within early_rules late_rules refl trying.noted
-      ((are.decided mark).noted ∙ ap (λ f. map (with_found f) begin) (sym (either_way seen r_first node))) done
+      ((are.decided descriptor).noted ∙ ap (λ f. map (with_found f) begin) (sym (either_way seen r_first node))) done
 
   -- and where it doesn't, descriptors say what all rules find
-  pub found_late : list_all is_decided trying.noted ≡ false → (marks : List (Option Descriptor))
-      → AreMarksOf (named g positions a.root a.bound) seen.mark marks now → (natural turned : List BranchPair)
-      → AreOrdered trying marks natural turned
+  pub found_late : list_all is_decided trying.noted ≡ false → (descriptors : List (Option Descriptor))
+      → AreDescriptorsOf (named g positions a.root a.bound) seen.descriptor descriptors now → (natural turned : List BranchPair)
+      → AreOrdered trying descriptors natural turned
       → (natural ≡ map (with_found (find true)) begin) × (turned ≡ map (with_found (find false)) begin)
-  found_late undone marks have natural turned ordered =
+  found_late undone descriptors have natural turned ordered =
       ordered.each seen (named g positions a.root a.bound) node are.count begin begin_within
-      ((are.decided mark).stands undone) have
+      ((are.decided descriptor).stands undone) have

@@ -11,7 +11,7 @@ use Rattle.cip_digraph.specs.graph.Graph.{Graph, edges_at, other_end}
 use Rattle.cip_digraph.specs.rings.RingsThrough.{IsRingThrough, Walks}
 use Rattle.cip_digraph.specs.rings.SmallRings.{neighbours_aside}
 use Rattle.cip_digraph.specs.graph.SoundGraphs.{IsSound, JoinsBelow}
-use Rattle.cip_digraph.specs.declared.graph.Edge.{Edge}
+use Rattle.cip_digraph.specs.declared.drawing.graph.Edge.{Edge}
 use Rattle.cip_digraph.proofs.lemmas.tree.Ended.{leads_below, member_below}
 use Rattle.cip_digraph.proofs.lemmas.ways.Reached.{ring_finds, ring_found}
 use Rattle.cip_ring.specs.Neighbours.{IsLeast, IsOutside, within}

@@ -7,8 +7,8 @@ use Rattle.std.specs.List.{AllByRecursion}
 use Rattle.std.proofs.lemmas.Bool.{cases_lt}
 use Rattle.cip_rank.specs.Comparison.{comparison}
 use Rattle.cip_rank.specs.Ranking.{by_number, key_at}
-use Rattle.cip_mol.specs.declared.outcome.Rule.{Rule}
-use Rattle.cip_digraph.specs.declared.decision.Decision.{Decision}
+use Rattle.cip_mol.specs.declared.labels.outcome.Rule.{Rule}
+use Rattle.cip_digraph.specs.declared.decisions.decision.Decision.{Decision}
 use Rattle.cip_digraph.specs.rules.Decisions.{first_difference}
 use Rattle.cip_branches.specs.Among.{StandsAmong, IsTakenAmong}
 use Rattle.cip_branches.specs.Deciding.{Branched}
@@ -16,7 +16,7 @@ use Rattle.cip_partition.specs.PlaceTree.{PlaceTree}
 use Rattle.cip_branches.specs.Standing.{node_in, WantedIn, AreKeysOf}
 use Rattle.cip_branches.specs.Views.{IsEnded}
 use Rattle.cip_branches.proofs.lemmas.taken.Among.{was_wanted, ends_now, rule_begun, rule_deeper, rule_stands}
-use Rattle.cip_digraph.specs.declared.branch_pair.BranchPair.{BranchPair}
+use Rattle.cip_digraph.specs.declared.decisions.branch_pair.BranchPair.{BranchPair}
 use Rattle.cip_digraph.specs.Asking.{decided, kept_or, with_found, differing, found_between}
 use Rattle.cip_rules.proofs.lemmas.FoundWithin.{first_split, decided_else, one_more, with_both, all_stay, no_more, same_found}
 use Rattle.cip_rules.specs.Orders.{found_below}

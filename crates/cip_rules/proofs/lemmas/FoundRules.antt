@@ -5,13 +5,13 @@ use Rattle.std.specs.Cmp.{IsTotalOrder}
 use Rattle.std.specs.List.{AllByRecursion}
 use Rattle.cip_rank.specs.Comparison.{comparison}
 use Rattle.cip_rank.specs.Ranking.{by_number}
-use Rattle.cip_mol.specs.declared.outcome.Rule.{Rule}
+use Rattle.cip_mol.specs.declared.labels.outcome.Rule.{Rule}
 use Rattle.cip_branches.specs.Among.{StandsAmong}
 use Rattle.cip_branches.specs.Deciding.{Branched}
 use Rattle.cip_branches.specs.Standing.{node_in, WantedIn, AreKeysOf, StandsBy}
 use Rattle.cip_branches.specs.Views.{IsEnded}
 use Rattle.cip_branches.proofs.lemmas.taken.Rules.{AllOf, stand_all, stand_back}
-use Rattle.cip_digraph.specs.declared.branch_pair.BranchPair.{BranchPair}
+use Rattle.cip_digraph.specs.declared.decisions.branch_pair.BranchPair.{BranchPair}
 use Rattle.cip_digraph.specs.Asking.{AreWithin, decided, kept_or, with_found, differing, found_between}
 use Rattle.cip_rules.specs.Orders.{found_below}
 use Rattle.cip_rules.specs.Taking.{TakesRule}

@@ -7,13 +7,13 @@ use Rattle.std.specs.declared.cmp.Ordering.{Ordering}
 use Rattle.std.specs.declared.cmp.Ordering.TheVariants.{Less, Equal, Greater}
 use Rattle.std.proofs.lemmas.Bool.{and_parts}
 use Rattle.std.proofs.lemmas.List.Elements.{All-from_recursion}
-use Rattle.cip_mol.specs.declared.outcome.Rule.{Rule}
+use Rattle.cip_mol.specs.declared.labels.outcome.Rule.{Rule}
 use Rattle.cip_digraph.specs.rules.Decisions.{Difference, first_difference, or_else}
 use Rattle.cip_digraph.proofs.lemmas.orders.Exchanged.{found_at}
 use Rattle.cip_digraph.proofs.lemmas.lists.Elements.{by_recursion}
 use Rattle.cip_rules.proofs.lemmas.FirstNone.{none_at}
-use Rattle.cip_digraph.specs.declared.decision.Decision.{Decision}
-use Rattle.cip_digraph.specs.declared.branch_pair.BranchPair.{BranchPair}
+use Rattle.cip_digraph.specs.declared.decisions.decision.Decision.{Decision}
+use Rattle.cip_digraph.specs.declared.decisions.branch_pair.BranchPair.{BranchPair}
 use Rattle.cip_digraph.specs.Asking.{AreWithin, is_decided, decided, kept_or, with_found, differing}
 
 split_by : (s : ℕ) (r : Ordering) (first second : Option Difference)

@@ -8,11 +8,11 @@ use Rattle.std.specs.declared.cmp.Ordering.{Ordering}
 use Rattle.std.proofs.lemmas.List.Sorted.{IsPermutation-refl}
 use Rattle.cip_rank.specs.Comparison.{comparison}
 use Rattle.cip_rank.proofs.lemmas.Embedded.{embedded_comparison}
-use Rattle.cip_mol.specs.declared.descriptor.Descriptor.{Descriptor}
-use Rattle.cip_mol.specs.declared.outcome.Rule.{Rule}
-use Rattle.cip_mol.specs.declared.outcome.Rule.TheVariants.{R1a, R1b, R2, R3, R4a, R4b, R4c, R5}
+use Rattle.cip_mol.specs.declared.labels.descriptor.Descriptor.{Descriptor}
+use Rattle.cip_mol.specs.declared.labels.outcome.Rule.{Rule}
+use Rattle.cip_mol.specs.declared.labels.outcome.Rule.TheVariants.{R1a, R1b, R2, R3, R4a, R4b, R4c, R5}
 use Rattle.cip_digraph.specs.rules.Decisions.{first_difference, or_else, difference_at, difference_by, first_decision, rules_in_turn, order}
-use Rattle.cip_digraph.specs.rules.Kinds.{Kind, KindR, KindS, marked, geometric_key, chirality_key, like_key, small_key, capital_key}
+use Rattle.cip_digraph.specs.rules.Kinds.{Kind, KindR, KindS, key_or_zero, geometric_key, chirality_key, like_key, small_key, capital_key}
 use Rattle.cip_digraph.specs.rules.Orders.{Seen, all_tie, rule_1a, rule_1b, rule_2, rule_3, rule_4a, read_children, readings, higher_reading, lower_reading, rule_4b_higher, rule_4b_lower, rule_4c, rule_5}
 use Rattle.cip_digraph.proofs.lemmas.orders.Exchanged.{all_tie_total, total_4a, earlier_total}
 use Rattle.cip_digraph.proofs.lemmas.ties.Turned.{total_4c}
@@ -52,8 +52,8 @@ module _ {N M : Type 0} (image : N → M) (IsTold : N → Type 0) (seen : Seen N
   whole rule theirs agree a b ha hb =
       ap (λ height. theirs height (image a) (image b)) m.height ∙ agree seen.height a b ha hb
 
-  marks : (key : Descriptor → ℕ) (n : N) → IsTold n → marked key (their.mark (image n)) ≡ marked key (seen.mark n)
-  marks key n h = ap (marked key) (m.mark n h)
+  descriptors : (key : Descriptor → ℕ) (n : N) → IsTold n → key_or_zero key (their.descriptor (image n)) ≡ key_or_zero key (seen.descriptor n)
+  descriptors key n h = ap (key_or_zero key) (m.descriptor n h)
 
   pub moved_1a : Agree (rule_1a seen) (rule_1a their)
   unfolding rule_1a
@@ -80,32 +80,32 @@ module _ {N M : Type 0} (image : N → M) (IsTold : N → Type 0) (seen : Seen N
   moved_3 =
       moved_comparison image IsTold seen.children their.children m.moved m.below (rule_2 seen seen.height)
       (rule_2 their their.height)
-      (λ n. marked geometric_key (seen.mark n)) (λ n. marked geometric_key (their.mark n)) (total_2 their)
-      (whole (rule_2 seen) (rule_2 their) moved_2) (marks geometric_key)
+      (λ n. key_or_zero geometric_key (seen.descriptor n)) (λ n. key_or_zero geometric_key (their.descriptor n)) (total_2 their)
+      (whole (rule_2 seen) (rule_2 their) moved_2) (descriptors geometric_key)
 
   pub moved_4a : Agree (rule_4a seen) (rule_4a their)
   unfolding rule_4a
   moved_4a =
       moved_comparison image IsTold seen.children their.children m.moved m.below (rule_3 seen seen.height)
       (rule_3 their their.height)
-      (λ n. marked chirality_key (seen.mark n)) (λ n. marked chirality_key (their.mark n)) (total_3 their)
-      (whole (rule_3 seen) (rule_3 their) moved_3) (marks chirality_key)
+      (λ n. key_or_zero chirality_key (seen.descriptor n)) (λ n. key_or_zero chirality_key (their.descriptor n)) (total_3 their)
+      (whole (rule_3 seen) (rule_3 their) moved_3) (descriptors chirality_key)
 
   pub moved_4c : Agree (rule_4c seen) (rule_4c their)
   unfolding rule_4c
   moved_4c =
       moved_comparison image IsTold seen.children their.children m.moved m.below (rule_4a seen seen.height)
       (rule_4a their their.height)
-      (λ n. marked small_key (seen.mark n)) (λ n. marked small_key (their.mark n)) (total_4a their)
-      (whole (rule_4a seen) (rule_4a their) moved_4a) (marks small_key)
+      (λ n. key_or_zero small_key (seen.descriptor n)) (λ n. key_or_zero small_key (their.descriptor n)) (total_4a their)
+      (whole (rule_4a seen) (rule_4a their) moved_4a) (descriptors small_key)
 
   pub moved_5 : (r_first : Bool) → Agree (rule_5 seen r_first) (rule_5 their r_first)
   unfolding rule_5
   moved_5 r_first =
       moved_comparison image IsTold seen.children their.children m.moved m.below (rule_4c seen seen.height)
       (rule_4c their their.height)
-      (λ n. marked (capital_key r_first) (seen.mark n)) (λ n. marked (capital_key r_first) (their.mark n))
-      (total_4c their) (whole (rule_4c seen) (rule_4c their) moved_4c) (marks (capital_key r_first))
+      (λ n. key_or_zero (capital_key r_first) (seen.descriptor n)) (λ n. key_or_zero (capital_key r_first) (their.descriptor n))
+      (total_4c their) (whole (rule_4c seen) (rule_4c their) moved_4c) (descriptors (capital_key r_first))
 
   abbrev reading : N × Kind → M × Kind
   reading branch = (image branch.0, branch.1)
@@ -132,10 +132,10 @@ module _ {N M : Type 0} (image : N → M) (IsTold : N → Type 0) (seen : Seen N
       ∙ ap (map {B = M × Kind} (λ n. (n, branch.1))) (m.moved branch.0 h))
       (λ branch h. read_below branch.1 (seen.children branch.0) (m.below branch.0 h))
       (λ a b. rule_4a seen seen.height a.0 b.0) (λ a b. rule_4a their their.height a.0 b.0)
-      (λ branch. marked (like_key branch.1) (seen.mark branch.0))
-      (λ branch. marked (like_key branch.1) (their.mark branch.0))
+      (λ branch. key_or_zero (like_key branch.1) (seen.descriptor branch.0))
+      (λ branch. key_or_zero (like_key branch.1) (their.descriptor branch.0))
       (earlier_total their) (λ a b ha hb. whole (rule_4a seen) (rule_4a their) moved_4a a.0 b.0 ha hb)
-      (λ branch h. marks (like_key branch.1) branch.0 h)
+      (λ branch h. descriptors (like_key branch.1) branch.0 h)
 
   same_higher : (a : N) → IsTold a
       → is_lt (readings their their.height (image a, KindR) (image a, KindS))

@@ -6,16 +6,16 @@ use Rattle.std.proofs.lemmas.List.{get_or-map, map-append}
 use Rattle.std.proofs.lemmas.List.FromFn.{get_or-map-range_with_len}
 use Rattle.cip_rank.specs.Ranking.{key_at}
 use Rattle.cip_rank.proofs.lemmas.Ranges.{range_more}
-use Rattle.cip_mol.specs.declared.descriptor.Descriptor.{Descriptor}
+use Rattle.cip_mol.specs.declared.labels.descriptor.Descriptor.{Descriptor}
 use Rattle.cip_branches.specs.Deciding.{Branched}
 use Rattle.cip_rules.specs.Rule4bWorkspace.{reading_key, reading_keys}
 
-pub key_here : (marks : List (Option Descriptor)) (from : Branched) (place : ℕ)
+pub key_here : (descriptors : List (Option Descriptor)) (from : Branched) (place : ℕ)
     → place < length from.layers.place_tree.place_parents + length from.layers.place_tree.place_parents
-    → key_at (reading_keys marks from) place
-    ≡ reading_key marks from.layers.place_tree.nodes (length from.layers.place_tree.place_parents) place
-key_here marks from place lt =
-    get_or-map-range_with_len (reading_key marks from.layers.place_tree.nodes (length from.layers.place_tree.place_parents)) 0
+    → key_at (reading_keys descriptors from) place
+    ≡ reading_key descriptors from.layers.place_tree.nodes (length from.layers.place_tree.place_parents) place
+key_here descriptors from place lt =
+    get_or-map-range_with_len (reading_key descriptors from.layers.place_tree.nodes (length from.layers.place_tree.place_parents)) 0
     (length from.layers.place_tree.place_parents + length from.layers.place_tree.place_parents) place place (pos 0) lt (omega arith)
 
 pub mapped_place : {X : Type 0} (f : ℕ → X) (count : ℕ)

@@ -16,12 +16,12 @@ use Rattle.cip_rank.specs.Ranking.{key_at}
 use Rattle.cip_rank.proofs.lemmas.NumberedNodes.{equal_is}
 use Rattle.cip_rank.proofs.lemmas.Refining.{depths_refine, first_decides}
 use Rattle.cip_rank.proofs.lemmas.TotalOrder.{comparison_total}
-use Rattle.cip_mol.specs.declared.descriptor.Descriptor.{Descriptor}
-use Rattle.cip_mol.specs.declared.descriptor.Descriptor.TheVariants as letters
-use Rattle.cip_mol.specs.declared.outcome.Rule.TheVariants.{R4b, R5}
-use Rattle.cip_digraph.specs.declared.decision.Decision.{Decision}
+use Rattle.cip_mol.specs.declared.labels.descriptor.Descriptor.{Descriptor}
+use Rattle.cip_mol.specs.declared.labels.descriptor.Descriptor.TheVariants as letters
+use Rattle.cip_mol.specs.declared.labels.outcome.Rule.TheVariants.{R4b, R5}
+use Rattle.cip_digraph.specs.declared.decisions.decision.Decision.{Decision}
 use Rattle.cip_digraph.specs.rules.Decisions.{Difference, first_difference, difference_at}
-use Rattle.cip_digraph.specs.rules.Kinds.{Kind, KindR, KindS, Neither, marked, like_key, like_kind}
+use Rattle.cip_digraph.specs.rules.Kinds.{Kind, KindR, KindS, Neither, key_or_zero, like_key, like_kind}
 use Rattle.cip_digraph.specs.rules.Orders.{Seen, rule_4a, read_children, readings, is_s_higher, higher_reading, lower_reading, rule_4b_higher, rule_4b_lower}
 use Rattle.cip_digraph.proofs.lemmas.orders.Exchanged.{total_4a}
 use Rattle.cip_digraph.proofs.lemmas.orders.Whole.{side_at, first_side}
@@ -37,11 +37,11 @@ use Rattle.cip_branches.proofs.lemmas.taken.Ended.{deep}
 use Rattle.cip_branches.proofs.lemmas.doubled.Ranks.{double_order, twins_followed}
 use Rattle.cip_branches.proofs.lemmas.doubled.Starts.{kept_at_most, number_first, number_second}
 use Rattle.cip_branches.proofs.lemmas.doubled.Stands.{IsReading, wants_twin, twin_named, read_each, itself, node_first, node_second, view_before, ended_before, ended_twins, twins_stand, reading_in, top_node}
-use Rattle.cip_digraph.specs.declared.branch_pair.BranchPair.{BranchPair}
+use Rattle.cip_digraph.specs.declared.decisions.branch_pair.BranchPair.{BranchPair}
 use Rattle.cip_digraph.specs.Asking.{AreWithin, decided, differing, found_between, is_decided, kept_or, with_found}
 use Rattle.cip_rules.specs.Counting.{AreUncounted}
-use Rattle.cip_rules.specs.DescriptorMap.{AreMarksOf}
-use Rattle.cip_rules.specs.Orders.{decided_by, found_below, mark_key}
+use Rattle.cip_rules.specs.DescriptorMap.{AreDescriptorsOf}
+use Rattle.cip_rules.specs.Orders.{decided_by, found_below, key_of_descriptor}
 use Rattle.cip_rules.specs.Rule4bWorkspace.{twin_of, side_of, is_second, s_higher, base_of, one_reading, reading_of, read_as, between, reading_key, reading_keys, TakesReadings}
 use Rattle.cip_rules.specs.Taking.{TakesRule}
 use Rattle.cip_rules.proofs.lemmas.FoundAmong.{AsksAmong, rule_found, found_rest}
@@ -49,20 +49,20 @@ use Rattle.cip_rules.proofs.lemmas.FoundWithin.{all_stay, same_found, same_diffe
 use Rattle.cip_rules.proofs.lemmas.ReadingKeys.{key_here}
 use Rattle.cip_rules.proofs.lemmas.TakenNone.{none_taken}
 
-key_low : (marks : List (Option Descriptor)) (nodes : List ℕ) (count x : ℕ) → x < count
-    → reading_key marks nodes count x ≡ marked (like_key KindR) (slice_index_or marks (slice_index nodes x) None)
-key_low marks nodes count x lt = grind (arith, nat_tests)
+key_low : (descriptors : List (Option Descriptor)) (nodes : List ℕ) (count x : ℕ) → x < count
+    → reading_key descriptors nodes count x ≡ key_or_zero (like_key KindR) (slice_index_or descriptors (slice_index nodes x) None)
+key_low descriptors nodes count x lt = grind (arith, nat_tests)
 
-key_high : (marks : List (Option Descriptor)) (nodes : List ℕ) (count p : ℕ)
-    → reading_key marks nodes count (count + p)
-    ≡ marked (like_key KindS) (slice_index_or marks (slice_index nodes p) None)
-key_high marks nodes count p =
+key_high : (descriptors : List (Option Descriptor)) (nodes : List ℕ) (count p : ℕ)
+    → reading_key descriptors nodes count (count + p)
+    ≡ key_or_zero (like_key KindS) (slice_index_or descriptors (slice_index nodes p) None)
+key_high descriptors nodes count p =
     let back : count + p - count ≡ p = omega arith in
     high (count + p) (omega arith)
-    ∙ ap (λ k. marked (like_key KindS) (slice_index_or marks (slice_index nodes k) None)) back
+    ∙ ap (λ k. key_or_zero (like_key KindS) (slice_index_or descriptors (slice_index nodes k) None)) back
   where
-    high : (x : ℕ) → count ≤ x → reading_key marks nodes count x
-        ≡ marked (like_key KindS) (slice_index_or marks (slice_index nodes (x - count)) None)
+    high : (x : ℕ) → count ≤ x → reading_key descriptors nodes count x
+        ≡ key_or_zero (like_key KindS) (slice_index_or descriptors (slice_index nodes (x - count)) None)
     high x le = grind (arith, nat_tests)
 
 base_low : (count x : ℕ) → x < count → base_of count x ≡ x
@@ -85,8 +85,8 @@ all_range P f first (suc count) each =
     (each first (omega arith), all_range P f (first + 1) count (λ k lt. each k (omega (arith, lt))))
 
 -- what is neither like one kind nor like the other one
-like_none : (kind : Kind) → like_kind kind Neither ≡ 0 → (mark : Option Descriptor) → mark_key true R5 mark ≡ pos 0
-    → marked (like_key kind) mark ≡ pos 0
+like_none : (kind : Kind) → like_kind kind Neither ≡ 0 → (descriptor : Option Descriptor) → key_of_descriptor true R5 descriptor ≡ pos 0
+    → key_or_zero (like_key kind) descriptor ≡ pos 0
 like_none kind n None e = refl
 like_none kind n (Some letters.R) e = let bad : pos 2 ≡ pos 0 = e in cc
 like_none kind n (Some letters.S) e = let bad : pos 1 ≡ pos 0 = e in cc
@@ -120,7 +120,7 @@ five P a b c d e g same (x ∷ xs) all =
 module _ {N : Type 0} (seen : Seen N) (named : ℕ → N) (from : Branched) (followed : AreFollowed from)
     (may : MayDouble from) (stands : StandsBy seen.children named (rule_4a seen seen.height) from)
     (ends : IsEnded seen.children (node_in named from) (WantedIn from) from.last) (tall : from.last ≤ seen.height)
-    (marks : List (Option Descriptor)) (are : AreMarksOf named seen.mark marks from) (room : ℕ) where
+    (descriptors : List (Option Descriptor)) (are : AreDescriptorsOf named seen.descriptor descriptors from) (room : ℕ) where
   abbrev count : ℕ
   count = length from.layers.place_tree.place_parents
 
@@ -140,7 +140,7 @@ module _ {N : Type 0} (seen : Seen N) (named : ℕ → N) (from : Branched) (fol
   earlier a b = rule_4a seen seen.height a.0 b.0
 
   abbrev key : N × Kind → ℤ
-  key branch = marked (like_key branch.1) (seen.mark branch.0)
+  key branch = key_or_zero (like_key branch.1) (seen.descriptor branch.0)
 
   abbrev compare : ℕ → N × Kind → N × Kind → Ordering
   compare depth = comparison (read_each seen.children) earlier key depth
@@ -158,7 +158,7 @@ module _ {N : Type 0} (seen : Seen N) (named : ℕ → N) (from : Branched) (fol
   ends_now : IsEnded (read_each seen.children) node_now (WantedIn twins) (kept_spheres from.last count)
   ends_now = ended_twins room from followed may seen.children named KindR KindS stands.shown.view ends
 
-  keys_now : AreKeysOf reads key (reading_keys marks from) twins
+  keys_now : AreKeysOf reads key (reading_keys descriptors from) twins
   keys_now = record {
     each = λ t x w.
         let twin = wants_twin room from followed may t x w in
@@ -166,20 +166,20 @@ module _ {N : Type 0} (seen : Seen N) (named : ℕ → N) (from : Branched) (fol
         elim twin.which [
           | inl e ↦
               let within : x < count + count = omega (arith, e, low) in
-              ap (key_at (reading_keys marks from))
+              ap (key_at (reading_keys descriptors from))
               (itself room from followed may seen.children named KindR KindS x within)
-              ∙ key_here marks from x within ∙ ap (reading_key marks from.layers.place_tree.nodes count) e
-              ∙ key_low marks from.layers.place_tree.nodes count twin.place low
-              ∙ ap (marked (like_key KindR)) (are.each t twin.place twin.unresolved)
+              ∙ key_here descriptors from x within ∙ ap (reading_key descriptors from.layers.place_tree.nodes count) e
+              ∙ key_low descriptors from.layers.place_tree.nodes count twin.place low
+              ∙ ap (key_or_zero (like_key KindR)) (are.each t twin.place twin.unresolved)
               ∙ sym (ap key (ap node_now e
               ∙ node_first room from followed may seen.children named KindR KindS twin.place low))
           | inr e ↦
               let within : x < count + count = omega (arith, e, low) in
-              ap (key_at (reading_keys marks from))
+              ap (key_at (reading_keys descriptors from))
               (itself room from followed may seen.children named KindR KindS x within)
-              ∙ key_here marks from x within ∙ ap (reading_key marks from.layers.place_tree.nodes count) e
-              ∙ key_high marks from.layers.place_tree.nodes count twin.place
-              ∙ ap (marked (like_key KindS)) (are.each t twin.place twin.unresolved)
+              ∙ key_here descriptors from x within ∙ ap (reading_key descriptors from.layers.place_tree.nodes count) e
+              ∙ key_high descriptors from.layers.place_tree.nodes count twin.place
+              ∙ ap (key_or_zero (like_key KindS)) (are.each t twin.place twin.unresolved)
               ∙ sym (ap key (ap node_now e
               ∙ node_second room from followed may seen.children named KindR KindS twin.place low))
         ];
@@ -285,18 +285,18 @@ module _ {N : Type 0} (seen : Seen N) (named : ℕ → N) (from : Branched) (fol
       1))
 
   pub found_by : (pairs new : List BranchPair) (now : Branched)
-      → TakesRule twins (reading_keys marks from) R4b pairs now new
+      → TakesRule twins (reading_keys descriptors from) R4b pairs now new
       → AllByRecursion (AsksAmong (IsReading from)) pairs → new ≡ map (with_found found) pairs
   found_by pairs new now takes within =
       let most = kept_at_most room from followed may in
       rule_found (IsReading from) (read_each seen.children) reads earlier total key twins stand ends_now
-      (reading_keys marks from) keys_now R4b pairs new now takes (seen.height + 1) (omega (arith, tall, most)) within
+      (reading_keys descriptors from) keys_now R4b pairs new now takes (seen.height + 1) (omega (arith, tall, most)) within
       ∙ same_found (found_below R4b compare node_now (seen.height + 1 + 1)) found (AsksAmong (IsReading from))
       (λ one w. settled one.first one.second w.0 w.1) pairs within
 
   -- the same, where it is taken only if a pair is open
   pub found_open : (pairs new : List BranchPair) (now : Branched) → (list_all is_decided pairs ≡ true → new ≡ pairs)
-      → (list_all is_decided pairs ≡ false → TakesRule twins (reading_keys marks from) R4b pairs now new)
+      → (list_all is_decided pairs ≡ false → TakesRule twins (reading_keys descriptors from) R4b pairs now new)
       → AllByRecursion (AsksAmong (IsReading from)) pairs → new ≡ map (with_found found) pairs
   found_open pairs new now done taken within = by (cases_flag (list_all is_decided pairs))
     where
@@ -305,13 +305,13 @@ module _ {N : Type 0} (seen : Seen N) (named : ℕ → N) (from : Branched) (fol
       by (inr left) = found_by pairs new now (taken left) within
 
   -- Where no descriptor counts, no more is found between readings than their numbers say.
-  module _ (none : AreUncounted marks true R5 from) where
+  module _ (none : AreUncounted descriptors true R5 from) where
     nothing_read : (kind : Kind) → like_kind kind Neither ≡ 0 → (t place : ℕ) → WantedIn from t place
         → pos 0 ≡ key (node place, kind)
     nothing_read kind n t place p =
-        sym (like_none kind n (slice_index_or marks (slice_index from.layers.place_tree.nodes place) None)
+        sym (like_none kind n (slice_index_or descriptors (slice_index from.layers.place_tree.nodes place) None)
         (none.each t place p))
-        ∙ ap (marked (like_key kind)) (are.each t place p)
+        ∙ ap (key_or_zero (like_key kind)) (are.each t place p)
 
     keys_none : AreKeysOf reads key [] twins
     keys_none = record {
@@ -604,7 +604,7 @@ module _ {N : Type 0} (seen : Seen N) (named : ℕ → N) (from : Branched) (fol
         (difference_at seen true (node i) (node j) (rule_4b_lower seen))))
 
     -- so the rule finds no more between branches than their own numbers say
-    module _ (none : AreUncounted marks true R5 from) where
+    module _ (none : AreUncounted descriptors true R5 from) where
       number_is : (x k : ℕ) → k < length from.unresolved → (x ≡ k) ⊎ (x ≡ count + k)
           → slice_index twins.layers.ranked.numbers x
           ≡ slice_index from.layers.ranked.numbers k + slice_index from.layers.ranked.numbers k
@@ -667,44 +667,44 @@ module _ {N : Type 0} (seen : Seen N) (named : ℕ → N) (from : Branched) (fol
 pub readings_found : {N : Type 0} (seen : Seen N) (named : ℕ → N) (from : Branched) → AreFollowed from → MayDouble from
     → StandsBy seen.children named (rule_4a seen seen.height) from
     → IsEnded seen.children (node_in named from) (WantedIn from) from.last → from.last ≤ seen.height
-    → (marks : List (Option Descriptor)) → AreMarksOf named seen.mark marks from
+    → (descriptors : List (Option Descriptor)) → AreDescriptorsOf named seen.descriptor descriptors from
     → (pairs new : List BranchPair) → AllByRecursion (AreWithin (length from.unresolved)) pairs
-    → TakesReadings from marks pairs new
+    → TakesReadings from descriptors pairs new
     → new ≡ map (with_found (decided_by seen true R4b (node_in named from))) pairs
-readings_found seen named from followed may stands ends tall marks are pairs new within takes =
+readings_found seen named from followed may stands ends tall descriptors are pairs new within takes =
     let room = takes.room in
     let compared = takes.compared in
-    let f = found seen named from followed may stands ends tall marks are room in
-    let sides = found_by seen named from followed may stands ends tall marks are room
+    let f = found seen named from followed may stands ends tall descriptors are room in
+    let sides = found_by seen named from followed may stands ends tall descriptors are room
     (map (side_of from) (range_with_len 0 (length from.unresolved))) takes.sides takes.sides_now takes.sides_taken
-    (sides_ask seen named from followed may stands ends tall marks are room) in
-    let higher = found_by seen named from followed may stands ends tall marks are room
+    (sides_ask seen named from followed may stands ends tall descriptors are room) in
+    let higher = found_by seen named from followed may stands ends tall descriptors are room
     (map (between (read_as from (s_higher takes.sides) false)) pairs) compared.higher compared.higher_now compared.higher_taken
-    (hi_asks seen named from followed may stands ends tall marks are room takes.sides sides pairs within) in
-    let lower = found_open seen named from followed may stands ends tall marks are room
+    (hi_asks seen named from followed may stands ends tall descriptors are room takes.sides sides pairs within) in
+    let lower = found_open seen named from followed may stands ends tall descriptors are room
     (map (between (read_as from (s_higher takes.sides) true)) compared.higher) compared.lower compared.lower_now
     compared.lower_decided compared.lower_taken
     (subst (λ (all : List BranchPair). AllByRecursion (AsksAmong (IsReading from)) (map (between (read_as from
     (s_higher takes.sides) true)) all)) (sym higher)
-    (lo_asks seen named from followed may stands ends tall marks are room takes.sides sides pairs within)) in
+    (lo_asks seen named from followed may stands ends tall descriptors are room takes.sides sides pairs within)) in
     compared.named ∙ ap (map (between (base_of (length from.layers.place_tree.place_parents)))) (lower
     ∙ ap (λ (all : List BranchPair). map (with_found f) (map (between (read_as from (s_higher takes.sides) true)) all))
     higher)
-    ∙ all_pairs seen named from followed may stands ends tall marks are room takes.sides sides pairs within
+    ∙ all_pairs seen named from followed may stands ends tall descriptors are room takes.sides sides pairs within
 
 -- where no descriptor counts, the numbers of branches say what the rule decides
 pub readings_none : {N : Type 0} (seen : Seen N) (named : ℕ → N) (from : Branched) → AreFollowed from → MayDouble from
     → StandsBy seen.children named (rule_4a seen seen.height) from
     → IsEnded seen.children (node_in named from) (WantedIn from) from.last → from.last ≤ seen.height
-    → (marks : List (Option Descriptor)) → AreMarksOf named seen.mark marks from → AreUncounted marks true R5 from
+    → (descriptors : List (Option Descriptor)) → AreDescriptorsOf named seen.descriptor descriptors from → AreUncounted descriptors true R5 from
     → (pairs new : List BranchPair) → AllByRecursion (AreWithin (length from.unresolved)) pairs
     → new ≡ map (with_found (found_between from.layers.ranked.numbers R4b 0)) pairs
     → new ≡ map (with_found (decided_by seen true R4b (node_in named from))) pairs
-readings_none seen named from followed may stands ends tall marks are none pairs new within noted =
-    let f = found seen named from followed may stands ends tall marks are 0 in
+readings_none seen named from followed may stands ends tall descriptors are none pairs new within noted =
+    let f = found seen named from followed may stands ends tall descriptors are 0 in
     noted ∙ same_found (found_between from.layers.ranked.numbers R4b 0) (decided_by seen true R4b (node_in named from))
     (AreWithin (length from.unresolved))
-    (λ one w. none_decided seen named from followed may stands ends tall marks are 0
+    (λ one w. none_decided seen named from followed may stands ends tall descriptors are 0
     (map (with_found f) (map (side_of from) (range_with_len 0 (length from.unresolved)))) refl none one.first one.second w.0
     w.1) pairs within
 

@@ -5,8 +5,8 @@ use Rattle.std.specs.declared.cmp.Ordering.{Ordering}
 use Rattle.std.specs.List.{AllByRecursion, list_all}
 use Rattle.std.proofs.lemmas.Bool.{cases_lt}
 use Rattle.cip_rank.specs.Ranking.{by_number}
-use Rattle.cip_mol.specs.declared.outcome.Rule.{Rule}
-use Rattle.cip_mol.specs.declared.outcome.Rule.TheVariants.{R1a}
+use Rattle.cip_mol.specs.declared.labels.outcome.Rule.{Rule}
+use Rattle.cip_mol.specs.declared.labels.outcome.Rule.TheVariants.{R1a}
 use Rattle.cip_digraph.specs.rules.Decisions.{difference_by, rules_in_turn, order}
 use Rattle.cip_digraph.specs.rules.Orders.{Seen, all_tie, rule_1a}
 use Rattle.cip_digraph.proofs.lemmas.orders.Exchanged.{all_tie_total}
@@ -14,7 +14,7 @@ use Rattle.cip_branches.specs.Deciding.{Branched, AreDecided}
 use Rattle.cip_branches.specs.Standing.{node_in, WantedIn, AreKeysOf, StandsBy}
 use Rattle.cip_branches.specs.Views.{IsEnded}
 use Rattle.cip_branches.proofs.lemmas.taken.Rules.{followed_taken, rule_stands}
-use Rattle.cip_digraph.specs.declared.branch_pair.BranchPair.{BranchPair}
+use Rattle.cip_digraph.specs.declared.decisions.branch_pair.BranchPair.{BranchPair}
 use Rattle.cip_digraph.specs.Asking.{AreWithin, is_decided, decided, kept_or, with_found}
 use Rattle.cip_rules.specs.Orders.{is_keyed}
 use Rattle.cip_rules.proofs.lemmas.FoundWithin.{with_both, all_stay, same_found, all_within}

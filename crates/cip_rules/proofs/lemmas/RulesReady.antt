@@ -2,11 +2,11 @@
 use Rattle.std.proofs.Common.{◌≡◌, ◌++◌, ◌∷◌, [], ℕ, ℤ, Bool, true, false, List, map, sym, ap, ◌∙◌, subst}
 use Rattle.std.specs.declared.cmp.Ordering.{Ordering}
 use Rattle.std.specs.List.{AllByRecursion, list_all}
-use Rattle.cip_mol.specs.declared.outcome.Rule.{Rule}
+use Rattle.cip_mol.specs.declared.labels.outcome.Rule.{Rule}
 use Rattle.cip_digraph.specs.rules.Orders.{Seen}
 use Rattle.cip_branches.specs.Deciding.{Branched}
 use Rattle.cip_branches.specs.Standing.{AreKeysOf}
-use Rattle.cip_digraph.specs.declared.branch_pair.BranchPair.{BranchPair}
+use Rattle.cip_digraph.specs.declared.decisions.branch_pair.BranchPair.{BranchPair}
 use Rattle.cip_digraph.specs.Asking.{AreWithin, is_decided, with_found}
 use Rattle.cip_rules.specs.Deciding.{AreDecidedBy, AreReadyFor}
 use Rattle.cip_rules.specs.Orders.{is_keyed, key_by, order_before, order_by, decided_in_turn, rules_before}

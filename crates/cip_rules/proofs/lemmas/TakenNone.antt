@@ -4,12 +4,12 @@ use Rattle.std.specs.declared.cmp.Ordering.{Ordering}
 use Rattle.std.specs.declared.cmp.Ordering.TheVariants.{Less, Equal, Greater}
 use Rattle.std.specs.declared.option.Option.{Option}
 use Rattle.cip_rank.specs.Ranking.{by_number}
-use Rattle.cip_mol.specs.declared.outcome.Rule.{Rule}
-use Rattle.cip_digraph.specs.declared.decision.Decision.{Decision}
+use Rattle.cip_mol.specs.declared.labels.outcome.Rule.{Rule}
+use Rattle.cip_digraph.specs.declared.decisions.decision.Decision.{Decision}
 use Rattle.cip_branches.specs.Deciding.{Branched, AreFollowed}
 use Rattle.cip_branches.specs.Taking.{Deepens, SplitsFirst}
 use Rattle.cip_branches.proofs.lemmas.taken.Even.{deeper_even, stay, then_told}
-use Rattle.cip_digraph.specs.declared.branch_pair.BranchPair.{BranchPair}
+use Rattle.cip_digraph.specs.declared.decisions.branch_pair.BranchPair.{BranchPair}
 use Rattle.cip_digraph.specs.Asking.{decided, differing, found_between, kept_or, with_found}
 use Rattle.cip_rules.specs.Taking.{TakenTo, TakesRule}
 

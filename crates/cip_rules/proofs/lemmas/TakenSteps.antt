@@ -2,9 +2,9 @@
 use Rattle.std.proofs.Common.{◌≡◌, ◌<◌, ℕ, ℤ, zero, suc, Bool, List, [], ◌∷◌, map, refl, ap, ◌∙◌}
 use Rattle.std.specs.declared.option.Option.{Option}
 use Rattle.std.specs.List.{AllByRecursion}
-use Rattle.cip_mol.specs.declared.descriptor.Descriptor.{Descriptor}
-use Rattle.cip_mol.specs.declared.outcome.Rule.{Rule}
-use Rattle.cip_digraph.specs.declared.decision.Decision.{Decision}
+use Rattle.cip_mol.specs.declared.labels.descriptor.Descriptor.{Descriptor}
+use Rattle.cip_mol.specs.declared.labels.outcome.Rule.{Rule}
+use Rattle.cip_digraph.specs.declared.decisions.decision.Decision.{Decision}
 use Rattle.cip_branches.specs.Deciding.{Branched, AreFollowed, FlagsOpen}
 use Rattle.cip_branches.specs.Saving.{saved_of, restored}
 use Rattle.cip_branches.specs.Standing.{WantedIn}
@@ -13,10 +13,10 @@ use Rattle.cip_branches.proofs.lemmas.refined.Kept.{same_itself}
 use Rattle.cip_branches.proofs.lemmas.taken.Checkpoint.{put_back}
 use Rattle.cip_branches.proofs.lemmas.taken.Among.{was_wanted}
 use Rattle.cip_branches.proofs.lemmas.taken.Kept.{kept_on}
-use Rattle.cip_digraph.specs.declared.branch_pair.BranchPair.{BranchPair}
+use Rattle.cip_digraph.specs.declared.decisions.branch_pair.BranchPair.{BranchPair}
 use Rattle.cip_digraph.specs.Asking.{kept_or, with_found, found_between}
 use Rattle.cip_rules.proofs.lemmas.FoundWithin.{with_both}
-use Rattle.cip_rules.specs.Counting.{TakesMarked}
+use Rattle.cip_rules.specs.Counting.{AppliesDescriptorRule}
 use Rattle.cip_rules.specs.Taking.{AreSame, TakenTo, TakesSoFar, TakesRule, WantsNoMore}
 
 abbrev Any : BranchPair → Type 0
@@ -101,11 +101,11 @@ pub same_branches : (begin : Branched) (keys : List ℤ) (rule : Rule) (pairs : 
 same_branches begin keys rule pairs now new takes = taken_same begin keys rule takes.far now takes.so_far.found
     takes.so_far.taken
 
-pub same_marked : (marks : List (Option Descriptor)) (r_first : Bool) (rule : Rule) (begin : Branched)
-    (pairs : List BranchPair) (now : Branched) (new : List BranchPair) → TakesMarked marks r_first rule begin pairs now new
+pub same_described : (descriptors : List (Option Descriptor)) (r_first : Bool) (rule : Rule) (begin : Branched)
+    (pairs : List BranchPair) (now : Branched) (new : List BranchPair) → AppliesDescriptorRule descriptors r_first rule begin pairs now new
     → AreSame begin now
-same_marked marks r_first rule begin pairs now new marked = same_branches begin marked.keys rule pairs now new
-    marked.takes
+same_described descriptors r_first rule begin pairs now new key_or_zero = same_branches begin key_or_zero.keys rule pairs now new
+    key_or_zero.takes
 
 -- ranks that were set aside before let them be as they were
 pub stands_back : (begin now : Branched) (room : ℕ) → AreFollowed begin → AreSame begin now

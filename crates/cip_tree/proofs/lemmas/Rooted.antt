@@ -2,7 +2,7 @@
 use Rattle.std.proofs.Common.{◌≡◌, ◌<◌, ◌-◌, ℕ, zero, suc, Bool, true, false, cond, List, [], ◌∷◌, ◌++◌, drop, map}
 use Rattle.std.proofs.Common.{replicate, length, slice_index, refl, sym, ap, ◌∙◌, arith, flat_map}
 use Rattle.std.proofs.lemmas.List.{map-append}
-use Rattle.cip_digraph.specs.declared.graph.Edge.{Edge}
+use Rattle.cip_digraph.specs.declared.drawing.graph.Edge.{Edge}
 use Rattle.cip_digraph.specs.declared.nodes.NodeKind.TheVariants.{Closure, Multiple, Delocalised}
 use Rattle.cip_digraph.specs.digraph.Digraph.{Node, duplicate, begins_with, neighbour_child, edge_children}
 use Rattle.cip_digraph.specs.digraph.Digraph.{path_children, real_children}

@@ -1,11 +1,11 @@
 -- Order, rule and sphere don't depend on which sense is shown.
 use Rattle.std.proofs.Common.{◌≡◌, Bool, true, false, map, nat_lt, refl}
 use Rattle.std.specs.List.{list_any}
-use Rattle.cip_mol.specs.declared.descriptor.Descriptor.{Descriptor}
-use Rattle.cip_mol.specs.declared.descriptor.Sense.TheVariants.{Plus}
-use Rattle.cip_mol.specs.declared.outcome.Label as labels
-use Rattle.cip_mol.specs.declared.outcome.Outcome.{Outcome}
-use Rattle.cip_mol.specs.declared.outcome.Outcome.TheVariants.{Label, Tie, Over}
+use Rattle.cip_mol.specs.declared.labels.descriptor.Descriptor.{Descriptor}
+use Rattle.cip_mol.specs.declared.labels.descriptor.Sense.TheVariants.{Plus}
+use Rattle.cip_mol.specs.declared.labels.outcome.Label as labels
+use Rattle.cip_mol.specs.declared.labels.outcome.Outcome.{Outcome}
+use Rattle.cip_mol.specs.declared.labels.outcome.Outcome.TheVariants.{Label, Tie, Over}
 use Rattle.cip_digraph.specs.units.Descriptors.{letter, reason_needed, all_ranks}
 use Rattle.cip_digraph.specs.units.Ends.{ends_of}
 use Rattle.cip_digraph.specs.units.Ranked.{has_tie}

@@ -10,7 +10,7 @@ use Rattle.cip_mol.specs.Drawing.{Drawing}
 use Rattle.cip_mol.specs.declared.site.Site.{Site}
 use Rattle.cip_mol.specs.declared.site.Unit as units
 use Rattle.cip_digraph.specs.graph.DrawnGraph.{graph_of}
-use Rattle.cip_digraph.specs.declared.graph.Edge.{Edge}
+use Rattle.cip_digraph.specs.declared.drawing.graph.Edge.{Edge}
 use Rattle.cip_digraph.specs.graph.Graph.{Graph, edges_at, other_end, vertex_at}
 use Rattle.cip_digraph.specs.units.Allenes.{axis_site, axis_sites, doubles, is_allene_middle, is_axis_end, is_axis_unit}
 use Rattle.cip_digraph.specs.units.Centres.{is_centre}

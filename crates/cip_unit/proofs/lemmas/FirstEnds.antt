@@ -3,7 +3,7 @@ use Rattle.std.proofs.Common.{◌≡◌, ℕ, true, false, List, [], ◌∷◌, 
 use Rattle.std.specs.Prelude.{not}
 use Rattle.std.specs.List.{AllByRecursion}
 use Rattle.std.proofs.lemmas.Bool.{and_from, and_parts, false_from_ne_true, true≢false}
-use Rattle.cip_digraph.specs.declared.graph.Edge.{Edge}
+use Rattle.cip_digraph.specs.declared.drawing.graph.Edge.{Edge}
 use Rattle.cip_digraph.specs.graph.Graph.{Graph, edges_at, other_end}
 use Rattle.cip_digraph.specs.rings.Positions.{is_delocalised}
 use Rattle.cip_digraph.specs.units.DoubleBonds.{bond_site, bond_sites, has_end_bonds, is_bond_unit}

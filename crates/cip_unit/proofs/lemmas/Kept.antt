@@ -14,7 +14,7 @@ use Rattle.cip_digraph.specs.units.Centres.{is_centre}
 use Rattle.cip_digraph.specs.units.DoubleBonds.{bond_sites}
 use Rattle.cip_digraph.specs.graph.Graph.{Graph, other_end}
 use Rattle.cip_digraph.specs.units.Units.{centre_site, sites_of, units_of}
-use Rattle.cip_digraph.specs.declared.graph.Edge.{Edge}
+use Rattle.cip_digraph.specs.declared.drawing.graph.Edge.{Edge}
 use Rattle.cip_unit.specs.Sites.{centre_sites, units_at, with_axes, with_bonds}
 
 kept_by : {X Y : Type 0} (f : X → Y) (b : Bool) (x : X) (ys zs : List Y) → ys ≡ zs

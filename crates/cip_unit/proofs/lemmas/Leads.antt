@@ -7,7 +7,7 @@ use Rattle.cip_mol.specs.Bonds.{IsSound}
 use Rattle.cip_mol.specs.Drawing.{Drawing}
 use Rattle.cip_digraph.specs.graph.DrawnGraph.{bond_edge, carriers, graph_of, hydrogen_edges}
 use Rattle.cip_digraph.specs.graph.Graph.{Graph, edges_at, other_end, touches}
-use Rattle.cip_digraph.specs.declared.graph.Edge.{Edge}
+use Rattle.cip_digraph.specs.declared.drawing.graph.Edge.{Edge}
 use Rattle.cip_digraph.proofs.lemmas.lists.Elements.{all_append, all_filtered, all_mapped, by_recursion}
 use Rattle.cip_digraph.proofs.lemmas.bonds.Neighbours.{sorted_all}
 use Rattle.cip_hydro.proofs.lemmas.Drawn.{bonds_join}

@@ -2,10 +2,10 @@
 use Rattle.std.proofs.Common.{◌≡◌, ◌<◌, ◌≤◌, ◌+◌, ℕ, List, length, drop, get_or, Result, Ok, Err, Bor, true, false, refl, sym, ◌∙◌}
 use Rattle.cip_text.specs.Kinds.{is_molecule_end}
 use Rattle.cip_text.specs.Slices.{texts}
-use Rattle.cip_mol.specs.declared.refusal.ReadCause.TheVariants.{Short, Property}
-use Rattle.cip_mol.specs.declared.refusal.ReadFault.{ReadFault}
-use Rattle.cip_mol.specs.declared.refusal.ReadRefusal.{ReadRefusal}
-use Rattle.cip_mol.specs.declared.refusal.ReadRefusal.TheVariants as refusals
+use Rattle.cip_mol.specs.declared.labels.refusal.ReadCause.TheVariants.{Short, Property}
+use Rattle.cip_mol.specs.declared.labels.refusal.ReadFault.{ReadFault}
+use Rattle.cip_mol.specs.declared.labels.refusal.ReadRefusal.{ReadRefusal}
+use Rattle.cip_mol.specs.declared.labels.refusal.ReadRefusal.TheVariants as refusals
 use Rattle.cip_v2000.specs.declared.atom_properties.Pair.{Pair}
 use Rattle.cip_v2000.specs.Grammar.{pairs_from}
 use Rattle.cip_v2000.specs.PropertyLines.{pairs_with}

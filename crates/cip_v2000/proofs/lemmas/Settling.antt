@@ -5,7 +5,7 @@ use Rattle.std.specs.Option.{option_map, option_or, unwrap_or}
 use Rattle.std.proofs.lemmas.Bool.Decides.{nat_tests}
 use Rattle.std.proofs.lemmas.List.{length-set, get_or-set_same}
 use Rattle.std.proofs.lemmas.Option.{slice_get-get_or, slice_get_within, slice_get-map}
-use Rattle.cip_mol.specs.declared.molecule.Atom.{Atom}
+use Rattle.cip_mol.specs.declared.graph.molecule.Atom.{Atom}
 use Rattle.cip_v2000.specs.declared.atom_properties.Pair.{Pair}
 use Rattle.cip_v2000.specs.declared.atom_properties.AtomProperty.{AtomProperty}
 use Rattle.cip_v2000.specs.declared.atom_properties.AtomProperty.TheVariants.{Charge, Radical, Isotope}

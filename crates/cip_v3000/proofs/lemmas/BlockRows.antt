@@ -3,14 +3,14 @@ use Rattle.std.proofs.Common.{◌≡◌, ◌≤◌, ◌<◌, ◌+◌, ℕ, Bool,
 use Rattle.std.specs.Borrow.{Bor}
 use Rattle.std.specs.List.{list_any}
 use Rattle.std.proofs.lemmas.List.{drop_more, drop-map}
-use Rattle.cip_mol.specs.declared.refusal.ReadFault.{ReadFault}
+use Rattle.cip_mol.specs.declared.labels.refusal.ReadFault.{ReadFault}
 use Rattle.cip_text.specs.Kinds.{is_molecule_end}
 use Rattle.cip_text.specs.Slices.{texts}
 use Rattle.cip_ctfile.proofs.lemmas.Texts.{drop_texts, drop_texts_past}
-use Rattle.cip_v3000.specs.declared.continuation.LogicalLine as declared_line
+use Rattle.cip_v3000.specs.declared.lines.continuation.LogicalLine as declared_line
 use Rattle.cip_v3000.specs.declared.atoms.AtomLine.{AtomLine}
 use Rattle.cip_v3000.specs.declared.bonds.BondLine.{BondLine}
-use Rattle.cip_v3000.specs.declared.block_lines.BlockLine.TheVariants.{EndTable}
+use Rattle.cip_v3000.specs.declared.lines.block_lines.BlockLine.TheVariants.{EndTable}
 use Rattle.cip_v3000.specs.AtomLine.{atom_of}
 use Rattle.cip_v3000.specs.BondLine.{bond_of}
 use Rattle.cip_v3000.specs.Frames.{is_frame}

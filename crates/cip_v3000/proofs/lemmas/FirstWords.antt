@@ -3,8 +3,8 @@ use Rattle.std.proofs.Common.{◌≡◌, ◌==◌, ◌≤◌, ◌<◌, ◌+◌, 
 use Rattle.std.proofs.lemmas.Bool.Decides.{nat_tests}
 use Rattle.std.proofs.lemmas.List.{take_more, take_all, take_rest, drop_more, drop_all, length-take-le, length-drop, nil_from_length}
 use Rattle.cip_text.specs.Columns.{without_spaces_before}
-use Rattle.cip_v3000.specs.declared.word_splitter.QuoteState.{QuoteState}
-use Rattle.cip_v3000.specs.declared.word_splitter.QuoteState.TheVariants.{Plain, Bracket, Quote}
+use Rattle.cip_v3000.specs.declared.lines.word_splitter.QuoteState.{QuoteState}
+use Rattle.cip_v3000.specs.declared.lines.word_splitter.QuoteState.TheVariants.{Plain, Bracket, Quote}
 use Rattle.cip_v3000.specs.Words.{after, ends_word, ended, words_from, words_of}
 
 -- no byte after the closing bracket begins or ends a part

@@ -1,7 +1,7 @@
 -- Lines that frame a part, by their first three words.
 use Rattle.std.proofs.Common.{◌≡◌, ℕ, List, [], ◌∷◌, false, refl}
-use Rattle.cip_v3000.specs.declared.block_lines.BlockLine.{BlockLine}
-use Rattle.cip_v3000.specs.declared.block_lines.BlockLine.TheVariants.{BeginTable, BeginAtoms, EndAtoms, BeginBonds, EndBonds, BeginCollection, EndCollection, EndTable}
+use Rattle.cip_v3000.specs.declared.lines.block_lines.BlockLine.{BlockLine}
+use Rattle.cip_v3000.specs.declared.lines.block_lines.BlockLine.TheVariants.{BeginTable, BeginAtoms, EndAtoms, BeginBonds, EndBonds, BeginCollection, EndCollection, EndTable}
 use Rattle.cip_v3000.specs.Frames.{is_frame}
 
 pub further_words : (line : BlockLine) (a b c : List ℕ) (words : List (List ℕ))

@@ -3,7 +3,7 @@ use Rattle.std.proofs.Common.{◌≡◌, ℕ, ◌-◌, ◌+◌, ◌≤◌, ◌<�
 use Rattle.std.proofs.lemmas.List.{append-nil, take_more, drop_more, drop_all, get_or-drop, length-drop, length-take, length-map, map-append}
 use Rattle.std.specs.Borrow.{Bor}
 use Rattle.std.specs.List.{flat_map}
-use Rattle.cip_mol.specs.declared.refusal.ReadCause.TheVariants.{Short, Frame}
+use Rattle.cip_mol.specs.declared.labels.refusal.ReadCause.TheVariants.{Short, Frame}
 use Rattle.cip_text.specs.Slices.{texts}
 use Rattle.cip_ctfile.proofs.lemmas.Texts.{drop_texts, drop_texts_past}
 use Rattle.cip_v3000.specs.JoinedLines.{LogicalLine, JoinedLines, begins_v30, is_continued, part_of, behind, joined_from}

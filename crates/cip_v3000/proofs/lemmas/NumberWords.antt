@@ -10,8 +10,8 @@ use Rattle.cip_text.specs.Columns.{without_spaces_before}
 use Rattle.cip_ctfile.specs.Fields.{parse_number, up_to}
 use Rattle.cip_ctfile.specs.Usual.{is_high, Spells, IsDecimalBegun}
 use Rattle.cip_ctfile.proofs.lemmas.UsualNumbers.{digits_read}
-use Rattle.cip_v3000.specs.declared.word_splitter.QuoteState.{QuoteState}
-use Rattle.cip_v3000.specs.declared.word_splitter.QuoteState.TheVariants.{Plain}
+use Rattle.cip_v3000.specs.declared.lines.word_splitter.QuoteState.{QuoteState}
+use Rattle.cip_v3000.specs.declared.lines.word_splitter.QuoteState.TheVariants.{Plain}
 use Rattle.cip_v3000.specs.LineWords.{HaveNumber, HaveCoordinate}
 use Rattle.cip_v3000.specs.NumberWords.{IsNumberBegun}
 use Rattle.cip_v3000.specs.Words.{ends_word, ended, words_from, words_of}

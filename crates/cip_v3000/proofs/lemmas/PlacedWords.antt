@@ -4,7 +4,7 @@ use Rattle.std.specs.Prelude.{IfOk}
 use Rattle.std.proofs.lemmas.Bool.{lt-ltb}
 use Rattle.cip_num.specs.declared.plane.Vec3.{Vec3}
 use Rattle.cip_mol.specs.Ranges.{IsPlace}
-use Rattle.cip_mol.specs.declared.refusal.ReadCause.{ReadCause}
+use Rattle.cip_mol.specs.declared.labels.refusal.ReadCause.{ReadCause}
 use Rattle.cip_v3000.specs.declared.atoms.AtomWords.{AtomWords}
 use Rattle.cip_v3000.specs.declared.bonds.BondWords.{BondWords}
 use Rattle.cip_v3000.specs.AtomLine.{point_by}

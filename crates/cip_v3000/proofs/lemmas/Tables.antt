@@ -1,10 +1,10 @@
 -- The molecule of a table is that of the grammar.
 use Rattle.std.proofs.Common.{◌≡◌, ℕ, ◌+◌, List, Result, Ok, Err, refl, ap, drop}
 use Rattle.cip_mol.specs.Drawing.{Drawing}
-use Rattle.cip_mol.specs.declared.refusal.ReadFault.{ReadFault}
+use Rattle.cip_mol.specs.declared.labels.refusal.ReadFault.{ReadFault}
 use Rattle.cip_ctfile.specs.Reading.{◌>>=◌}
 use Rattle.cip_v3000.specs.CountsLine.{counts_of}
-use Rattle.cip_v3000.specs.declared.block_lines.BlockLine.TheVariants.{BeginTable, BeginAtoms, EndAtoms}
+use Rattle.cip_v3000.specs.declared.lines.block_lines.BlockLine.TheVariants.{BeginTable, BeginAtoms, EndAtoms}
 use Rattle.cip_v3000.specs.Grammar.{read_at, frame_at, atom_block, bond_block, table_end, molecule_end, molecule_in, molecule_of}
 use Rattle.cip_v3000.specs.JoinedLines.{JoinedLines, logical_lines}
 use Rattle.cip_v3000.specs.Tables.{Table, place_behind, table_in, table_of, drawn}

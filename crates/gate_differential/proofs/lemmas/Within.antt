@@ -1,7 +1,7 @@
 -- Branches of neighbours, and a pair of them.
 use Rattle.std.proofs.Common.{◌≡◌, ◌<◌, ℕ, List, [], ◌∷◌, All, Some, length}
 use Rattle.std.proofs.lemmas.List.Elements.{All-from_recursion}
-use Rattle.cip_digraph.specs.declared.branch_pair.BranchPair.{BranchPair}
+use Rattle.cip_digraph.specs.declared.decisions.branch_pair.BranchPair.{BranchPair}
 use Rattle.cip_digraph.specs.Asking.{AreWithin}
 use Rattle.cip_aux_rank.specs.LigandBranches.{branch_of}
 use Rattle.cip_aux_rank.proofs.lemmas.AskedSides.{branch_is}

@@ -1,6 +1,6 @@
 use Rattle.std.proofs.Common.{rules, ◌<◌, ◌∙◌, refl, subst, length, arith}
 use Rattle.std.proofs.lemmas.Grind.{common_steps}
-use Rattle.cip_aux.specs.Marking.{IsUnitLetter}
+use Rattle.cip_aux.specs.DescriptorsInside.{IsUnitLetter}
 use Rattle.cip_aux.specs.UnitIndex.{unit_at}
 use Rattle.cip_digraph.proofs.lemmas.OddTurns.{all_rest}
 use Rattle.cip_aux.proofs.lemmas.UnitLetters.{ends_leave, none_here}

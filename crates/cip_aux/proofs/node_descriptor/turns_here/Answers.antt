@@ -3,7 +3,7 @@ use Rattle.cip_mol.specs.Ends.{between_in, between_of}
 use Rattle.cip_mol.specs.declared.site.Unit as units
 use Rattle.cip_digraph.specs.rules.Auxiliary.{nearer_first}
 use Rattle.cip_digraph.specs.LentEnds.{ends_in}
-use Rattle.cip_aux.specs.Marking.{AreEndTurns}
+use Rattle.cip_aux.specs.DescriptorsInside.{AreEndTurns}
 use Rattle.cip_aux.specs.UnitIndex.{unit_at}
 use Rattle.cip_aux.proofs.lemmas.Keeping.{found_told, lent_turns, told_kept}
 use Rattle.cip_aux.proofs.lemmas.LentEnds.{lent_joined}

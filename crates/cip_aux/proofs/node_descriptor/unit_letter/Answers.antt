@@ -1,7 +1,7 @@
 use Rattle.std.proofs.Common.{◌∙◌, ap, sym, subst}
 use Rattle.cip_mol.specs.declared.site.Unit as units
 use Rattle.cip_digraph.specs.Lettered.{turned_letter}
-use Rattle.cip_aux.specs.Marking.{IsUnitLetter}
+use Rattle.cip_aux.specs.DescriptorsInside.{IsUnitLetter}
 use Rattle.cip_aux.specs.UnitIndex.{unit_at}
 use Rattle.cip_aux.proofs.lemmas.UnitLetters.{known_letter}
 use Rattle.cip_aux.proofs.node_descriptor.unit_letter.Goals as goal

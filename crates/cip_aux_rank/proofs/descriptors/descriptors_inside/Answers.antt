@@ -2,10 +2,10 @@ use Rattle.std.proofs.Common.{◌≡◌, ◌∙◌, ap, sym, subst, arith, true,
 use Rattle.std.proofs.lemmas.List.Elements.{All-nil}
 use Rattle.cip_digraph.specs.digraph.NodeList.{parents_of}
 use Rattle.cip_aux.specs.ParityCache.{AreKept, sites_in}
-use Rattle.cip_aux.specs.Marking.{node_mark, flag_at, AreMarked, AreWanted}
+use Rattle.cip_aux.specs.DescriptorsInside.{descriptor_at_node, flag_at, HaveDescriptors, AreWanted}
 use Rattle.cip_aux.specs.Views.{sight_of}
 use Rattle.cip_aux.proofs.lemmas.Keeping.{none_kept}
-use Rattle.cip_aux.proofs.lemmas.NodeMarks.{all_marked}
+use Rattle.cip_aux.proofs.lemmas.NodeDescriptors.{all_described}
 use Rattle.cip_aux.proofs.lemmas.Data.{whole_shows}
 use Rattle.cip_aux_rank.proofs.lemmas.WantedNodes.{all_wanted, on_by, wanted_at}
 use Rattle.cip_aux_rank.specs.RankingCache.{AreOpen}
@@ -28,25 +28,25 @@ auxiliaries-found-requires-clause-kept g c =
     subst (AreKept sight sites) (sym made)
     (none_kept sight sites)
 
-pub returns-clause-marks : goal.returns-clause-marks
-returns-clause-marks g c =
+pub returns-clause-descriptors : goal.returns-clause-descriptors
+returns-clause-descriptors g c =
     let whole = c.args.whole.now in
     let sight = sight_of whole in
     let all = c.args.units.now in
-    let marks = c.auxiliaries-found.new.marks.marks in
+    let descriptors = c.auxiliaries-found.new.descriptors.descriptors in
     let shows = whole_shows whole c.nodes.ensures.whole in
     let count : c.len-count.result ≡ length sight.nodes =
     c.len-count.ensures.len ∙ ap length c.table.ensures ∙ ap (λ node_data. length (parents_of node_data)) c.nodes.ensures.node_data
     ∙ sym shows.node_data.len in
     let made : c.in-Ok.flags.items ≡ replicate c.len-count.result true = search rules in
-    on_by (AreMarked sight all c.as_slice.result.now 0 marks) (marks ≡ map (node_mark sight all) sight.nodes)
+    on_by (HaveDescriptors sight all c.as_slice.result.now 0 descriptors) (descriptors ≡ map (descriptor_at_node sight all) sight.nodes)
     c.auxiliaries-found.result
     (λ are.
-    all_marked sight all c.as_slice.result.now marks
+    all_described sight all c.as_slice.result.now descriptors
     (λ k low. subst (λ (flags : List Bool). flag_at flags k ≡ true)
     (sym (c.as_slice.ensures.value ∙ made))
     (wanted_at c.len-count.result k (omega (arith, low, count)))) are)
-    c.auxiliaries-found.ensures.marks
+    c.auxiliaries-found.ensures.descriptors
 
 pub auxiliaries-found-requires-clause-stands : goal.auxiliaries-found-requires-clause-stands
 auxiliaries-found-requires-clause-stands g c =

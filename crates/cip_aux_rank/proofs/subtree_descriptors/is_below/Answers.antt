@@ -1,6 +1,6 @@
 use Rattle.std.proofs.Common.{◌∙◌, sym, ap, arith}
 use Rattle.cip_rank.specs.View.{on_way}
-use Rattle.cip_aux_rank.proofs.lemmas.CountedMarks.{met, below_behind, none_before}
+use Rattle.cip_aux_rank.proofs.lemmas.CountedDescriptors.{met, below_behind, none_before}
 use Rattle.cip_aux_rank.proofs.lemmas.HangingPlaces.{way_same}
 use Rattle.cip_aux_rank.proofs.subtree_descriptors.is_below.Goals as goal
 

@@ -10,7 +10,7 @@ use Rattle.cip_rank.specs.Ranking.{by_number}
 use Rattle.cip_rank.specs.declared.rules.Rules.{Rules}
 use Rattle.cip_rank.specs.declared.rules.Rules.TheVariants.{Wording2013, Wording2018}
 use Rattle.cip_rank.proofs.lemmas.TotalOrder.{comparison_total}
-use Rattle.cip_mol.specs.declared.outcome.Rule.TheVariants.{R1b, R2}
+use Rattle.cip_mol.specs.declared.labels.outcome.Rule.TheVariants.{R1b, R2}
 use Rattle.cip_branches.specs.Deciding.{Branched}
 use Rattle.cip_branches.specs.Standing.{node_in, WantedIn, AreKeysOf, StandsBy}
 use Rattle.cip_branches.specs.Views.{IsEnded}

@@ -1,7 +1,7 @@
 -- Branches over which Rules 1b and 2 were taken are the same ones.
 use Rattle.std.proofs.Common.{List, [], ◌∙◌}
 use Rattle.cip_rank.specs.declared.rules.Rules.{Rules}
-use Rattle.cip_mol.specs.declared.outcome.Rule.TheVariants.{R1b, R2}
+use Rattle.cip_mol.specs.declared.labels.outcome.Rule.TheVariants.{R1b, R2}
 use Rattle.cip_branches.specs.Deciding.{Branched}
 use Rattle.cip_branches.proofs.lemmas.taken.Kept.{kept_on}
 use Rattle.cip_digraph.specs.declared.nodes.NodeData.{NodeData}

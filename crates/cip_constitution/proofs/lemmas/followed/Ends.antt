@@ -12,7 +12,7 @@ use Rattle.cip_arena.specs.Growth.{Growth}
 use Rattle.cip_branches.specs.Deciding.{Branched, AreDecided, AreFollowed}
 use Rattle.cip_branches.specs.Standing.{AreKeysOf, WantedIn, node_in}
 use Rattle.cip_branches.specs.Views.{IsEnded}
-use Rattle.cip_digraph.specs.declared.decision.Decision.{Decision}
+use Rattle.cip_digraph.specs.declared.decisions.decision.Decision.{Decision}
 use Rattle.cip_digraph.specs.digraph.Digraph.{Node, children, digraph, real_node, sphere}
 use Rattle.cip_digraph.specs.digraph.Telling.{first_of, node_at}
 use Rattle.cip_digraph.specs.digraph.View.{real_at, view_children}
@@ -29,14 +29,14 @@ use Rattle.cip_rank.specs.declared.rules.Rules.{Rules}
 use Rattle.cip_partition.specs.Keys.{AreKeyed}
 use Rattle.cip_partition.specs.Kids.{kids_of}
 use Rattle.cip_partition.specs.PlaceTree.{PlaceTree}
-use Rattle.cip_digraph.specs.declared.branch_pair.BranchPair.{BranchPair}
+use Rattle.cip_digraph.specs.declared.decisions.branch_pair.BranchPair.{BranchPair}
 use Rattle.cip_digraph.specs.Asking.{AreWithin, decided}
 use Rattle.cip_rules.specs.Deciding.{AreDecidedBy, AreOfConstitution}
 use Rattle.cip_rules.specs.Orders.{found_below}
 use Rattle.cip_rules.proofs.lemmas.FoundWithin.{same_difference, same_found}
 use Rattle.cip_rules.proofs.lemmas.RulesGoOn.{first_decides}
-use Rattle.cip_mol.specs.declared.descriptor.Descriptor.{Descriptor}
-use Rattle.cip_mol.specs.declared.outcome.Rule.TheVariants.{R1a}
+use Rattle.cip_mol.specs.declared.labels.descriptor.Descriptor.{Descriptor}
+use Rattle.cip_mol.specs.declared.labels.outcome.Rule.TheVariants.{R1a}
 use Rattle.cip_constitution.specs.FollowedOut.{AreConstituted, AreFollowedOut, seen_with}
 use Rattle.cip_constitution.specs.Following.{Follows, Trying, named}
 use Rattle.cip_constitution.specs.Noting.{asked_by, by_atoms, top_of}
@@ -178,9 +178,9 @@ module _ (g : Graph) (positions : List (List ℕ)) (a : Growth) (trying : Trying
   top_is k lt = ap name (sym (f.top k lt))
 
   module _ (rules : Rules) where
-    module _ (mark : List ℕ → Option Descriptor) where
+    module _ (descriptor : List ℕ → Option Descriptor) where
       abbrev seen : Seen Node
-      seen = seen_with rules g positions a mark
+      seen = seen_with rules g positions a descriptor
 
       found_seen : (x y : ℕ) → x < count → y < count
           → found_below R1a (by_atoms g positions a.root a.bound) (top_of g positions a.root a.bound) a.sphere x y
@@ -196,7 +196,7 @@ module _ (g : Graph) (positions : List (List ℕ)) (a : Growth) (trying : Trying
           decided R1a (first_difference (λ depth. atoms depth m n) 0 a.sphere) in
           ap (λ k. found k (top y)) (top_is x lx) ∙ ap (found m) (top_is y ly)
           ∙ ap (decided R1a) (same_difference (λ depth. atoms depth m n) (λ depth. rule_1a seen depth m n)
-          (λ depth. sym (seen_1a g positions a.root rules mark depth m n (top_further x lx) (top_further y ly))) 0
+          (λ depth. sym (seen_1a g positions a.root rules descriptor depth m n (top_further x lx) (top_further y ly))) 0
           a.sphere)
           ∙ ap (λ more. decided R1a (first_difference (λ depth. rule_1a seen depth m n) 0 more)) depths
 
@@ -232,14 +232,14 @@ module _ (g : Graph) (positions : List (List ℕ)) (a : Growth) (trying : Trying
 
     -- where Rules 1b and 2 were taken over them, pairs are decided by constitution
     pub constituted : (now : Branched) (new : List BranchPair) → AreFollowed now → now.layers.place_tree ≡ branched.layers.place_tree
-        → ((mark : List ℕ → Option Descriptor)
-        → AreDecidedBy (seen mark) true name (node_in name branched) count begin (R1a ∷ [])
-        (rule_1a (seen mark) (seen mark).height) branched trying.noted
-        → AreKeysOf name (seen mark).distance
+        → ((descriptor : List ℕ → Option Descriptor)
+        → AreDecidedBy (seen descriptor) true name (node_in name branched) count begin (R1a ∷ [])
+        (rule_1a (seen descriptor) (seen descriptor).height) branched trying.noted
+        → AreKeysOf name (seen descriptor).distance
         (distances g positions a out.holds out.some out.fits out.last branched f rules) branched
-        → AreKeysOf name (seen mark).mass
+        → AreKeysOf name (seen descriptor).mass
         (masses g positions a out.holds out.some out.fits out.last branched f rules) branched
-        → AreOfConstitution (seen mark) name (node_in name branched) count begin now new)
+        → AreOfConstitution (seen descriptor) name (node_in name branched) count begin now new)
         → AreConstituted rules g positions a trying.pairs now new
     constituted now new followed place_tree decides = record {
       branch = out.notes.branch;
@@ -256,7 +256,7 @@ module _ (g : Graph) (positions : List (List ℕ)) (a : Growth) (trying : Trying
       names = λ number lt. named_is g positions a.root a.bound a.sphere number
           (few g positions a out.holds out.some out.fits out.last branched f)
           (let len = out.holds.tells.len in omega (arith, lt, len));
-      decided = λ mark.
-          subst (λ (k : PlaceTree). AreOfConstitution (seen mark) name (λ place. name (slice_index k.nodes place)) count begin
-          now new) (sym place_tree) (decides mark (first_decided mark) (distances_are mark) (masses_are mark));
+      decided = λ descriptor.
+          subst (λ (k : PlaceTree). AreOfConstitution (seen descriptor) name (λ place. name (slice_index k.nodes place)) count begin
+          now new) (sym place_tree) (decides descriptor (first_decided descriptor) (distances_are descriptor) (masses_are descriptor));
     }

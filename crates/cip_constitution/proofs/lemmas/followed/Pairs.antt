@@ -6,7 +6,7 @@ use Rattle.std.specs.Prelude.{unwrap_or, slice_index_or}
 use Rattle.std.specs.declared.option.Option.{Option}
 use Rattle.std.specs.List.{AllByRecursion}
 use Rattle.cip_rank.specs.Ranking.{by_number}
-use Rattle.cip_mol.specs.declared.outcome.Rule.TheVariants.{R1a}
+use Rattle.cip_mol.specs.declared.labels.outcome.Rule.TheVariants.{R1a}
 use Rattle.cip_mol.specs.declared.site.Ligand.{Ligand}
 use Rattle.cip_mol.specs.declared.site.Ligand.TheVariants.{Vertex, LonePair}
 use Rattle.cip_branches.specs.Deciding.{Branched}
@@ -18,7 +18,7 @@ use Rattle.cip_digraph.specs.graph.SoundGraphs.{IsSound}
 use Rattle.cip_digraph.specs.rules.Auxiliary.{ligand_node}
 use Rattle.cip_digraph.proofs.lemmas.numbered.PlaceTrees.{count_is}
 use Rattle.cip_arena.specs.Growth.{Growth, Holds}
-use Rattle.cip_digraph.specs.declared.branch_pair.BranchPair.{BranchPair}
+use Rattle.cip_digraph.specs.declared.decisions.branch_pair.BranchPair.{BranchPair}
 use Rattle.cip_digraph.specs.Asking.{AreWithin, with_found, found_between}
 use Rattle.cip_rules.specs.Orders.{found_below}
 use Rattle.cip_rules.proofs.lemmas.FoundRules.{noted_next}

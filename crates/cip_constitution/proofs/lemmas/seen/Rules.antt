@@ -13,7 +13,7 @@ use Rattle.cip_rank.specs.Comparison.{comparison}
 use Rattle.cip_rank.specs.Embedding.{Embeds}
 use Rattle.cip_rank.specs.declared.rules.Rules.{Rules}
 use Rattle.cip_rank.proofs.lemmas.Embedded.{embedded_comparison}
-use Rattle.cip_mol.specs.declared.descriptor.Descriptor.{Descriptor}
+use Rattle.cip_mol.specs.declared.labels.descriptor.Descriptor.{Descriptor}
 use Rattle.cip_digraph.specs.digraph.Digraph.{Node, children}
 use Rattle.cip_digraph.specs.graph.Graph.{Graph}
 use Rattle.cip_digraph.specs.rules.Keys.{atomic_key, mass_key, distance_key, sphere_in_digraph, lower_precedes}
@@ -67,11 +67,11 @@ module _ (graph : Graph) (positions : List (List ℕ)) (root : ℕ) where
         of_b
 
   -- Rule 1a
-  pub seen_1a : (rules : Rules) (mark : List ℕ → Option Descriptor) (depth : ℕ) (a b : Node) → IsFurther a → IsFurther b
-      → rule_1a (seen_from rules graph positions (root ∷ []) mark) depth a b ≡ comparison (children graph positions)
+  pub seen_1a : (rules : Rules) (descriptor : List ℕ → Option Descriptor) (depth : ℕ) (a b : Node) → IsFurther a → IsFurther b
+      → rule_1a (seen_from rules graph positions (root ∷ []) descriptor) depth a b ≡ comparison (children graph positions)
       all_tie (λ node. pos (atomic_key graph positions node)) depth a b
   unfolding rule_1a
-  seen_1a rules mark depth a b of_a of_b =
+  seen_1a rules descriptor depth a b of_a of_b =
       seen_as all_tie all_tie (λ node. pos (atomic_key graph positions node))
       (λ node. pos (atomic_key graph positions node)) (λ a b _ _. refl) (λ a _. refl) tie_total depth a b of_a of_b
 
@@ -150,10 +150,10 @@ module _ (graph : Graph) (positions : List (List ℕ)) (root : ℕ) (d h : ℕ) 
   abbrev pub by_masses : Rules → Node → Node → Ordering
   by_masses rules = comparison (children graph positions) (by_distances rules) (λ node. pos (mass_key graph node)) d
 
-  module _ (rules : Rules) (mark : List ℕ → Option Descriptor)
-      (height : (seen_from rules graph positions (root ∷ []) mark).height ≡ h) where
+  module _ (rules : Rules) (descriptor : List ℕ → Option Descriptor)
+      (height : (seen_from rules graph positions (root ∷ []) descriptor).height ≡ h) where
     abbrev seen : Seen Node
-    seen = seen_from rules graph positions (root ∷ []) mark
+    seen = seen_from rules graph positions (root ∷ []) descriptor
 
     ended_1a : (a b : Node) → IsEnded a → IsEnded b → rule_1a seen seen.height a b ≡ by_atoms a b
     unfolding rule_1a

@@ -17,8 +17,8 @@ use Rattle.cip_constitution.specs.Following.{Trying}
 use Rattle.cip_constitution.specs.Settling.{RootContext, end_of, differs, has_alike, settles, deciding, cost_of, behind}
 use Rattle.cip_constitution.specs.Settling.{SettledAs}
 use Rattle.cip_constitution.specs.Trials.{FollowsTo, IsAhead, IsGrown, KeepsTo, NotesTo}
-use Rattle.cip_constitution.specs.declared.settling.Settled.{Settled}
-use Rattle.cip_constitution.specs.declared.settling.Settled.TheVariants.{Ordered, Tied, Whole, Over}
+use Rattle.cip_constitution.specs.declared.steps.settling.Settled.{Settled}
+use Rattle.cip_constitution.specs.declared.steps.settling.Settled.TheVariants.{Ordered, Tied, Whole, Over}
 use Rattle.cip_constitution.proofs.lemmas.settled.DecidingSphere.{whole_is, settled_is, settled_beyond, settled_alone}
 use Rattle.cip_constitution.proofs.lemmas.settled.DecidingSphere.{cost_beyond}
 

@@ -3,7 +3,7 @@ use Rattle.std.proofs.Common.{◌≡◌, ◌≢◌, ◌<◌, ◌≤◌, arith, �
 use Rattle.std.proofs.Common.{map, refl, sym, ◌∙◌, nat_lt, filter, eqb-true, eq-eqb, ltb-true, ltb-false}
 use Rattle.std.specs.List.{AllByRecursion}
 use Rattle.std.proofs.lemmas.Bool.{or_right}
-use Rattle.cip_digraph.specs.declared.graph.Edge.{Edge}
+use Rattle.cip_digraph.specs.declared.drawing.graph.Edge.{Edge}
 use Rattle.cip_digraph.specs.graph.Graph.{Graph, edges_at, insert_up, sorted_up, other_end, touches}
 use Rattle.cip_digraph.specs.graph.SoundGraphs.{join_same, IsSound}
 use Rattle.cip_digraph.proofs.lemmas.lists.Elements.{all_by, Pairwise, pairwise_filtered, pairwise_mapped, pairwise_from_pairs}

@@ -11,7 +11,7 @@ use Rattle.cip_mol.specs.Bonds as bonds
 use Rattle.cip_mol.specs.Drawing.{Drawing}
 use Rattle.cip_mol.proofs.lemmas.SimpleBonds.{AreSimple, simple_from_sound}
 use Rattle.cip_digraph.specs.graph.DrawnGraph.{bond_edge, atom_vertex, hydrogen, carriers, hydrogen_edges, graph_of}
-use Rattle.cip_digraph.specs.declared.graph.Edge.{Edge}
+use Rattle.cip_digraph.specs.declared.drawing.graph.Edge.{Edge}
 use Rattle.cip_digraph.specs.graph.Hydrogens.{hydrogens_of}
 use Rattle.cip_digraph.specs.graph.SoundGraphs.{JoinsBelow, join_same, IsSound}
 use Rattle.cip_digraph.proofs.lemmas.lists.Elements.{all_by, all_append, all_mapped, all_flat, all_replicate, by_recursion}

@@ -1,6 +1,6 @@
 -- Lists of positions: the list of none, and copies of one list.
 use Rattle.std.proofs.Common.{◌≡◌, ℕ, zero, suc, [], ◌∷◌, ap, arith, map, refl, replicate}
-use Rattle.cip_digraph.specs.declared.positions.PositionList.{PositionList}
+use Rattle.cip_digraph.specs.declared.drawing.positions.PositionList.{PositionList}
 use Rattle.cip_digraph.specs.rings.PositionLists.{IsPositionList, listed}
 
 pub none_listed : IsPositionList []

@@ -11,10 +11,10 @@ use Rattle.std.proofs.lemmas.Cmp.{tied_itself, lists_total}
 use Rattle.cip_rank.specs.Comparison.{sorted_down}
 use Rattle.cip_rank.proofs.lemmas.Refining.{depths_refine}
 use Rattle.cip_rank.proofs.lemmas.TotalOrder.{comparison_total}
-use Rattle.cip_mol.specs.declared.outcome.Rule.{Rule}
-use Rattle.cip_mol.specs.declared.outcome.Rule.TheVariants.{R1a, R1b, R2, R3, R4a, R4b, R4c, R5}
+use Rattle.cip_mol.specs.declared.labels.outcome.Rule.{Rule}
+use Rattle.cip_mol.specs.declared.labels.outcome.Rule.TheVariants.{R1a, R1b, R2, R3, R4a, R4b, R4c, R5}
 use Rattle.cip_digraph.specs.outcome.Deciding.{all_differ}
-use Rattle.cip_digraph.specs.declared.decision.Decision.{Decision}
+use Rattle.cip_digraph.specs.declared.decisions.decision.Decision.{Decision}
 use Rattle.cip_digraph.specs.rules.Decisions.{Difference, first_difference, difference_by, first_decision}
 use Rattle.cip_digraph.specs.rules.Decisions.{rules_in_turn, order}
 use Rattle.cip_digraph.specs.rules.EarlyOrder.{order_within}

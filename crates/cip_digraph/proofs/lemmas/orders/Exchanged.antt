@@ -10,17 +10,17 @@ use Rattle.cip_rank.specs.Comparison.{comparison}
 use Rattle.cip_rank.proofs.lemmas.Embedded.{embedded_comparison}
 use Rattle.cip_rank.proofs.lemmas.Refining.{depths_refine}
 use Rattle.cip_rank.proofs.lemmas.TotalOrder.{comparison_total}
-use Rattle.cip_mol.specs.declared.outcome.Rule.{Rule}
-use Rattle.cip_mol.specs.declared.outcome.Rule.TheVariants.{R3, R4a, R4b, R4c, R5}
+use Rattle.cip_mol.specs.declared.labels.outcome.Rule.{Rule}
+use Rattle.cip_mol.specs.declared.labels.outcome.Rule.TheVariants.{R3, R4a, R4b, R4c, R5}
 use Rattle.cip_digraph.specs.rules.Decisions.{Difference, first_difference, or_else, difference_by, first_decision}
 use Rattle.cip_digraph.specs.rules.Decisions.{rules_in_turn, order}
-use Rattle.cip_digraph.specs.rules.Exchange.{exchanged_mark, with_exchanged}
-use Rattle.cip_digraph.specs.rules.Kinds.{Kind, KindR, KindS, marked, geometric_key, chirality_key, like_key, small_key}
+use Rattle.cip_digraph.specs.rules.Exchange.{exchanged_descriptor, with_exchanged}
+use Rattle.cip_digraph.specs.rules.Kinds.{Kind, KindR, KindS, key_or_zero, geometric_key, chirality_key, like_key, small_key}
 use Rattle.cip_digraph.specs.rules.Kinds.{capital_key}
 use Rattle.cip_digraph.specs.rules.Orders.{Seen, all_tie, rule_1a, rule_1b, rule_2, rule_3, rule_4a, read_children}
 use Rattle.cip_digraph.specs.rules.Orders.{readings, higher_reading, lower_reading, rule_4b_higher, rule_4b_lower}
 use Rattle.cip_digraph.specs.rules.Orders.{rule_4c, rule_5}
-use Rattle.cip_digraph.proofs.lemmas.orders.ExchangedKeys.{marked_same, geometric_stays, chirality_stays, small_stays}
+use Rattle.cip_digraph.proofs.lemmas.orders.ExchangedKeys.{described_same, geometric_stays, chirality_stays, small_stays}
 use Rattle.cip_digraph.proofs.lemmas.orders.ExchangedKeys.{capital_turns, other_kind, like_turns}
 use Rattle.cip_digraph.proofs.lemmas.lists.Elements.{all_each}
 
@@ -57,32 +57,32 @@ module _ {N : Type 0} (seen : Seen N) where
   pub same_3 : rule_3 (with_exchanged seen) ≡ rule_3 seen
   unfolding rule_1a rule_1b rule_2 rule_3
   same_3 = ap (comparison seen.children (rule_2 seen seen.height))
-      (λ i node. marked_same geometric_key geometric_key geometric_stays (seen.mark node) i)
+      (λ i node. described_same geometric_key geometric_key geometric_stays (seen.descriptor node) i)
 
   pub same_4a : rule_4a (with_exchanged seen) ≡ rule_4a seen
   unfolding rule_4a
   same_4a =
       ap (λ rule. comparison seen.children (rule seen.height)
-      (λ node. marked chirality_key (exchanged_mark (seen.mark node)))) same_3
+      (λ node. key_or_zero chirality_key (exchanged_descriptor (seen.descriptor node)))) same_3
       ∙ ap (comparison seen.children (rule_3 seen seen.height))
-      (λ i node. marked_same chirality_key chirality_key chirality_stays (seen.mark node) i)
+      (λ i node. described_same chirality_key chirality_key chirality_stays (seen.descriptor node) i)
 
   pub same_4c : rule_4c (with_exchanged seen) ≡ rule_4c seen
   unfolding rule_4c
   same_4c =
       ap (λ rule. comparison seen.children (rule seen.height)
-      (λ node. marked small_key (exchanged_mark (seen.mark node)))) same_4a
+      (λ node. key_or_zero small_key (exchanged_descriptor (seen.descriptor node)))) same_4a
       ∙ ap (comparison seen.children (rule_4a seen seen.height))
-      (λ i node. marked_same small_key small_key small_stays (seen.mark node) i)
+      (λ i node. described_same small_key small_key small_stays (seen.descriptor node) i)
 
   pub turned_5 : (r_first : Bool) → rule_5 (with_exchanged seen) r_first ≡ rule_5 seen (not r_first)
   unfolding rule_5
   turned_5 r_first =
       ap (λ rule. comparison seen.children (rule seen.height)
-      (λ node. marked (capital_key r_first) (exchanged_mark (seen.mark node)))) same_4c
+      (λ node. key_or_zero (capital_key r_first) (exchanged_descriptor (seen.descriptor node)))) same_4c
       ∙ ap (comparison seen.children (rule_4c seen seen.height))
-      (λ i node. marked_same (capital_key r_first) (capital_key (not r_first)) (capital_turns r_first)
-      (seen.mark node) i)
+      (λ i node. described_same (capital_key r_first) (capital_key (not r_first)) (capital_turns r_first)
+      (seen.descriptor node) i)
 
   pub all_tie_total : IsTotalOrder (all_tie {N = N})
   all_tie_total = on_total (λ (node : N). 0) nat_cmp_total
@@ -102,7 +102,7 @@ module _ {N : Type 0} (seen : Seen N) where
   unfolding readings
   readings_total depth =
       comparison_total (read_children seen)
-      (λ branch. marked (like_key branch.1) (seen.mark branch.0)) earlier_total depth
+      (λ branch. key_or_zero (like_key branch.1) (seen.descriptor branch.0)) earlier_total depth
 
   turned_children : (kind : Kind) (nodes : List N)
       → map turned_reading (map {B = N × Kind} (λ node. (node, kind)) nodes)
@@ -118,8 +118,8 @@ module _ {N : Type 0} (seen : Seen N) where
   turned_readings depth a b =
       embedded_comparison turned_reading Any (read_children seen) (read_children seen)
       (λ a b. rule_4a (with_exchanged seen) seen.height a.0 b.0) (λ a b. rule_4a seen seen.height a.0 b.0)
-      (λ branch. marked (like_key branch.1) (exchanged_mark (seen.mark branch.0)))
-      (λ branch. marked (like_key branch.1) (seen.mark branch.0))
+      (λ branch. key_or_zero (like_key branch.1) (exchanged_descriptor (seen.descriptor branch.0)))
+      (λ branch. key_or_zero (like_key branch.1) (seen.descriptor branch.0))
       (record {
         moved = λ depth branch _.
             subst (λ others. IsPermutation (map turned_reading (read_children seen branch)) others)
@@ -129,8 +129,8 @@ module _ {N : Type 0} (seen : Seen N) where
         less = λ depth branch _. tt;
         orders = λ a b _ _. ap (λ rule. rule seen.height a.0 b.0) (sym same_4a);
         keys = λ branch _.
-            sym (marked_same (like_key branch.1) (like_key (other_kind branch.1)) (like_turns branch.1)
-            (seen.mark branch.0));
+            sym (described_same (like_key branch.1) (like_key (other_kind branch.1)) (like_turns branch.1)
+            (seen.descriptor branch.0));
       })
       earlier_total depth a b tt tt
 

@@ -1,15 +1,15 @@
 -- What the keys of Rules 3 to 5 make of exchanged descriptors.
 use Rattle.std.proofs.Common.{◌≡◌, ℕ, pos, refl, ap, ◌∙◌, Bool, true, false, not, None, Some, Option}
-use Rattle.cip_mol.specs.declared.descriptor.Descriptor.{Descriptor}
-use Rattle.cip_mol.specs.declared.descriptor.Descriptor.TheVariants.{R}
-use Rattle.cip_digraph.specs.rules.Exchange.{exchanged, exchanged_mark}
-use Rattle.cip_digraph.specs.rules.Kinds.{Kind, KindR, KindS, Neither, kind_of, marked, geometric_key, chirality_key}
+use Rattle.cip_mol.specs.declared.labels.descriptor.Descriptor.{Descriptor}
+use Rattle.cip_mol.specs.declared.labels.descriptor.Descriptor.TheVariants.{R}
+use Rattle.cip_digraph.specs.rules.Exchange.{exchanged, exchanged_descriptor}
+use Rattle.cip_digraph.specs.rules.Kinds.{Kind, KindR, KindS, Neither, kind_of, key_or_zero, geometric_key, chirality_key}
 use Rattle.cip_digraph.specs.rules.Kinds.{like_kind, like_key, small_key, capital_key}
 
-pub marked_same : (key other : Descriptor → ℕ) → ((d : Descriptor) → key (exchanged d) ≡ other d)
-    → (mark : Option Descriptor) → marked key (exchanged_mark mark) ≡ marked other mark
-marked_same key other h None = refl
-marked_same key other h (Some d) = ap pos (h d)
+pub described_same : (key other : Descriptor → ℕ) → ((d : Descriptor) → key (exchanged d) ≡ other d)
+    → (descriptor : Option Descriptor) → key_or_zero key (exchanged_descriptor descriptor) ≡ key_or_zero other descriptor
+described_same key other h None = refl
+described_same key other h (Some d) = ap pos (h d)
 
 pub geometric_stays : (d : Descriptor) → geometric_key (exchanged d) ≡ geometric_key d
 geometric_stays R = refl

@@ -3,9 +3,9 @@ use Rattle.std.proofs.Common.{◌≡◌, ℕ, List, [], ◌∷◌, map, refl, sy
 use Rattle.std.proofs.Common.{◌++◌, Option}
 use Rattle.std.specs.List.{AllByRecursion, list_any, list_all}
 use Rattle.cip_rank.specs.declared.rules.Rules.{Rules}
-use Rattle.cip_mol.specs.declared.descriptor.Descriptor.{Descriptor}
-use Rattle.cip_mol.specs.declared.descriptor.Sense.{Sense}
-use Rattle.cip_mol.specs.declared.descriptor.Sense.TheVariants.{Plus, Minus}
+use Rattle.cip_mol.specs.declared.labels.descriptor.Descriptor.{Descriptor}
+use Rattle.cip_mol.specs.declared.labels.descriptor.Sense.{Sense}
+use Rattle.cip_mol.specs.declared.labels.descriptor.Sense.TheVariants.{Plus, Minus}
 use Rattle.cip_mol.specs.declared.site.Ligand.{Ligand}
 use Rattle.cip_mol.specs.declared.site.Site.{Site}
 use Rattle.cip_mol.specs.declared.site.Site.TheVariants.{Centre, Bond, Axis}
@@ -16,7 +16,7 @@ use Rattle.cip_mol.specs.FlatCentres.{inversions}
 use Rattle.cip_digraph.specs.units.Descriptors.{is_odd, opposite, turned_if, sense_in_rank, letter_by, letter}
 use Rattle.cip_digraph.specs.digraph.Digraph.{Node, is_real}
 use Rattle.cip_digraph.specs.units.Ends.{End}
-use Rattle.cip_digraph.specs.rules.Exchange.{exchanged, exchanged_mark, with_exchanged, reflected_sense}
+use Rattle.cip_digraph.specs.rules.Exchange.{exchanged, exchanged_descriptor, with_exchanged, reflected_sense}
 use Rattle.cip_digraph.specs.graph.Graph.{Graph}
 use Rattle.cip_digraph.specs.units.Ranked.{Root, ligand_order, ranks, turned_ranks, is_tie, some_pair, has_tie}
 use Rattle.cip_digraph.specs.digraph.View.{seen_from}
@@ -95,36 +95,36 @@ letter_exchanged site sense roots =
     )
     (letter_reflected site (sense_in_rank sense (map ranks roots)) (sense_in_rank sense (map turned_ranks roots)))
 
-mark_if_real : (b : Bool) (mark : Option Descriptor)
-    → cond b (exchanged_mark mark) None ≡ exchanged_mark (cond b mark None)
-mark_if_real true mark = refl
-mark_if_real false mark = refl
+descriptor_if_real : (b : Bool) (descriptor : Option Descriptor)
+    → cond b (exchanged_descriptor descriptor) None ≡ exchanged_descriptor (cond b descriptor None)
+descriptor_if_real true descriptor = refl
+descriptor_if_real false descriptor = refl
 
-abbrev pub exchanged_marks : (List ℕ → Option Descriptor) → List ℕ → Option Descriptor
-exchanged_marks mark path = exchanged_mark (mark path)
+abbrev pub exchanged_descriptors : (List ℕ → Option Descriptor) → List ℕ → Option Descriptor
+exchanged_descriptors descriptor path = exchanged_descriptor (descriptor path)
 
-module _ (rules : Rules) (graph : Graph) (positions : List (List ℕ)) (mark : List ℕ → Option Descriptor) where
+module _ (rules : Rules) (graph : Graph) (positions : List (List ℕ)) (descriptor : List ℕ → Option Descriptor) where
   seen_exchanged : (path : List ℕ)
-      → seen_from rules graph positions path (exchanged_marks mark)
-      ≡ with_exchanged (seen_from rules graph positions path mark)
+      → seen_from rules graph positions path (exchanged_descriptors descriptor)
+      ≡ with_exchanged (seen_from rules graph positions path descriptor)
   seen_exchanged path =
-      ap (λ marks. record (seen_from rules graph positions path mark) { mark = marks })
-      (λ i node. mark_if_real (is_real node.kind) (mark node.path) i)
+      ap (λ descriptors. record (seen_from rules graph positions path descriptor) { descriptor = descriptors })
+      (λ i node. descriptor_if_real (is_real node.kind) (descriptor node.path) i)
 
   order_exchanged : (path : List ℕ) (r_first : Bool)
-      → order (seen_from rules graph positions path (exchanged_marks mark)) r_first
-      ≡ order (seen_from rules graph positions path mark) (not r_first)
+      → order (seen_from rules graph positions path (exchanged_descriptors descriptor)) r_first
+      ≡ order (seen_from rules graph positions path descriptor) (not r_first)
   order_exchanged path r_first =
       ap (λ seen. order seen r_first) (seen_exchanged path)
-      ∙ (λ i a b. order_turned (seen_from rules graph positions path mark) r_first a b i)
+      ∙ (λ i a b. order_turned (seen_from rules graph positions path descriptor) r_first a b i)
 
   pub root_exchanged : (path : List ℕ) (ligands : List Ligand)
-      → root_at rules graph positions (exchanged_marks mark) path ligands
-      ≡ swapped (root_at rules graph positions mark path ligands)
+      → root_at rules graph positions (exchanged_descriptors descriptor) path ligands
+      ≡ swapped (root_at rules graph positions descriptor path ligands)
   root_exchanged path ligands = rw (order_exchanged path true, order_exchanged path false) refl
 
-  pub root_alike : (path : List ℕ) (ligands : List Ligand) → TieAlike (root_at rules graph positions mark path ligands)
-  root_alike path ligands a b = tie_turned (seen_from rules graph positions path mark) a b
+  pub root_alike : (path : List ℕ) (ligands : List Ligand) → TieAlike (root_at rules graph positions descriptor path ligands)
+  root_alike path ligands a b = tie_turned (seen_from rules graph positions path descriptor) a b
 
   abbrev if_new : Bool → List (Root Node) → List (Root Node)
   if_new b roots = elim b as (λ _. List (Root Node)) [ true ↦ roots | false ↦ [] ]
@@ -142,25 +142,25 @@ module _ (rules : Rules) (graph : Graph) (positions : List (List ℕ)) (mark : L
   new_ends path between far = list_all (λ vertex. not (is_in vertex path)) (far.at ∷ between)
 
   pub roots_exchanged : (path between : List ℕ) (ends : List End)
-      → roots_at rules graph positions (exchanged_marks mark) path between ends
-      ≡ map swapped (roots_at rules graph positions mark path between ends)
+      → roots_at rules graph positions (exchanged_descriptors descriptor) path between ends
+      ≡ map swapped (roots_at rules graph positions descriptor path between ends)
   roots_exchanged path between [] = refl
   roots_exchanged path between (nearer ∷ []) =
       ap {B = List (Root Node)} (λ root. root ∷ []) (root_exchanged path nearer.ligands)
   roots_exchanged path between (nearer ∷ far ∷ ends) =
       let beyond = far.at ∷ (between ++ path) in
-      let one = root_at rules graph positions mark path nearer.ligands in
-      let other = root_at rules graph positions mark beyond far.ligands in
+      let one = root_at rules graph positions descriptor path nearer.ligands in
+      let other = root_at rules graph positions descriptor beyond far.ligands in
       ap {B = List (Root Node)}
       (λ root. if_new (new_ends path between far)
-      (root ∷ root_at rules graph positions (exchanged_marks mark) beyond far.ligands ∷ []))
+      (root ∷ root_at rules graph positions (exchanged_descriptors descriptor) beyond far.ligands ∷ []))
       (root_exchanged path nearer.ligands)
       ∙ ap {B = List (Root Node)} (λ root. if_new (new_ends path between far) (swapped one ∷ root ∷ []))
       (root_exchanged beyond far.ligands)
       ∙ sym (map_if_new (new_ends path between far) (one ∷ other ∷ []))
 
   pub roots_alike : (path between : List ℕ) (ends : List End)
-      → AllByRecursion TieAlike (roots_at rules graph positions mark path between ends)
+      → AllByRecursion TieAlike (roots_at rules graph positions descriptor path between ends)
   roots_alike path between [] = tt
   roots_alike path between (nearer ∷ []) = (root_alike path nearer.ligands, tt)
   roots_alike path between (nearer ∷ far ∷ ends) =
@@ -171,13 +171,13 @@ module _ (rules : Rules) (graph : Graph) (positions : List (List ℕ)) (mark : L
   if_tied b found = elim b as (λ _. Option Descriptor) [ true ↦ None | false ↦ found ]
 
   if_tied_exchanged : (b : Bool) (descriptor : Descriptor)
-      → if_tied b (Some (exchanged descriptor)) ≡ exchanged_mark (if_tied b (Some descriptor))
+      → if_tied b (Some (exchanged descriptor)) ≡ exchanged_descriptor (if_tied b (Some descriptor))
   if_tied_exchanged true descriptor = refl
   if_tied_exchanged false descriptor = refl
 
   pub letter_at_exchanged : (site : Site) (sense : Sense) (roots : List (Root Node)) → AllByRecursion TieAlike roots
       → letter_at rules graph positions site (reflected_sense site sense) (map swapped roots)
-      ≡ exchanged_mark (letter_at rules graph positions site sense roots)
+      ≡ exchanged_descriptor (letter_at rules graph positions site sense roots)
   letter_at_exchanged site sense [] all = refl
   letter_at_exchanged site sense (root ∷ roots) all =
       ap (λ b. if_tied b (Some (letter site (reflected_sense site sense) (map swapped (root ∷ roots)))))

@@ -3,24 +3,24 @@ use Rattle.std.proofs.Common.{◌≡◌, ℕ, zero, suc, List, [], ◌∷◌, ma
 use Rattle.std.proofs.Common.{subst, None, Some, ◌&&◌, ◌++◌, nat_lt, nat_le, flat_map, Option}
 use Rattle.std.specs.List.{AllByRecursion, list_any}
 use Rattle.cip_rank.specs.declared.rules.Rules.{Rules}
-use Rattle.cip_mol.specs.declared.descriptor.Descriptor.{Descriptor}
-use Rattle.cip_mol.specs.declared.descriptor.Sense.{Sense}
-use Rattle.cip_mol.specs.declared.outcome.Label as labels
-use Rattle.cip_mol.specs.declared.outcome.Outcome.{Outcome}
-use Rattle.cip_mol.specs.declared.outcome.Outcome.TheVariants.{Label, Tie, Over}
+use Rattle.cip_mol.specs.declared.labels.descriptor.Descriptor.{Descriptor}
+use Rattle.cip_mol.specs.declared.labels.descriptor.Sense.{Sense}
+use Rattle.cip_mol.specs.declared.labels.outcome.Label as labels
+use Rattle.cip_mol.specs.declared.labels.outcome.Outcome.{Outcome}
+use Rattle.cip_mol.specs.declared.labels.outcome.Outcome.TheVariants.{Label, Tie, Over}
 use Rattle.cip_mol.specs.declared.site.Geometry.{Geometry}
 use Rattle.cip_mol.specs.declared.site.Geometry.TheVariants.{Known, Unknown}
 use Rattle.cip_mol.specs.declared.site.Site.{Site}
 use Rattle.cip_mol.specs.declared.site.Unit as units
 use Rattle.cip_digraph.specs.rings.Alternating.{is_in}
 use Rattle.cip_digraph.specs.rules.Auxiliary.{nearer_first, root_at, roots_at, unit_letter, first_letter}
-use Rattle.cip_digraph.specs.rules.Auxiliary.{node_letter, inside, marks_within, auxiliary}
+use Rattle.cip_digraph.specs.rules.Auxiliary.{node_letter, inside, descriptors_within, auxiliary}
 use Rattle.cip_digraph.specs.outcome.Deciding.{deciding_sphere}
 use Rattle.cip_digraph.specs.units.Descriptors.{letter}
 use Rattle.cip_digraph.specs.digraph.Digraph.{real_node, is_real, digraph}
 use Rattle.cip_mol.specs.Ends.{between_of}
 use Rattle.cip_digraph.specs.units.Ends.{End, ends_of, atoms_of}
-use Rattle.cip_digraph.specs.rules.Exchange.{exchanged, exchanged_mark, reflected_sense, reflected_unit}
+use Rattle.cip_digraph.specs.rules.Exchange.{exchanged, exchanged_descriptor, reflected_sense, reflected_unit}
 use Rattle.cip_digraph.specs.graph.Graph.{Graph}
 use Rattle.cip_digraph.specs.rules.Orders.{rule_1a, rule_1b, rule_2}
 use Rattle.cip_digraph.specs.outcome.Outcomes.{is_in_unit, end_root, settled_in, cost, label_of, known_outcome}
@@ -28,82 +28,82 @@ use Rattle.cip_digraph.specs.outcome.Outcomes.{outcome_of}
 use Rattle.cip_digraph.specs.units.Ranked.{has_tie}
 use Rattle.cip_digraph.specs.digraph.View.{is_end_of, seen_from}
 use Rattle.cip_digraph.specs.Laws.{IsReflectedOutcome}
-use Rattle.cip_digraph.proofs.lemmas.reflected.Letters.{swapped, TieAlike, exchanged_marks, root_exchanged, root_alike}
+use Rattle.cip_digraph.proofs.lemmas.reflected.Letters.{swapped, TieAlike, exchanged_descriptors, root_exchanged, root_alike}
 use Rattle.cip_digraph.proofs.lemmas.reflected.Letters.{roots_exchanged, roots_alike, letter_exchanged, letter_at_exchanged}
 use Rattle.cip_digraph.proofs.lemmas.reflected.Letters.{ties_swapped}
 
 module _ (rules : Rules) (graph : Graph) (positions : List (List ℕ)) where
   geometry_exchanged : (site : Site) (geometry : Geometry) (vertex : ℕ) (up : List ℕ)
-      (mark : List ℕ → Option Descriptor)
+      (descriptor : List ℕ → Option Descriptor)
       → unit_letter rules graph positions (reflected_unit (record { site = site; geometry = geometry })) vertex up
-      (exchanged_marks mark)
-      ≡ exchanged_mark (unit_letter rules graph positions (record { site = site; geometry = geometry }) vertex up mark)
-  geometry_exchanged site (Unknown cause) vertex up mark = refl
-  geometry_exchanged site (Known sense) vertex up mark =
+      (exchanged_descriptors descriptor)
+      ≡ exchanged_descriptor (unit_letter rules graph positions (record { site = site; geometry = geometry }) vertex up descriptor)
+  geometry_exchanged site (Unknown cause) vertex up descriptor = refl
+  geometry_exchanged site (Known sense) vertex up descriptor =
       let path = vertex ∷ up in
       let ends = nearer_first vertex (ends_of site) in
-      rw (roots_exchanged rules graph positions mark path (between_of site) ends)
-      (letter_at_exchanged rules graph positions mark site sense
-      (roots_at rules graph positions mark path (between_of site) ends)
-      (roots_alike rules graph positions mark path (between_of site) ends))
+      rw (roots_exchanged rules graph positions descriptor path (between_of site) ends)
+      (letter_at_exchanged rules graph positions descriptor site sense
+      (roots_at rules graph positions descriptor path (between_of site) ends)
+      (roots_alike rules graph positions descriptor path (between_of site) ends))
 
   abbrev first_of : Option Descriptor → Option Descriptor → Option Descriptor
   first_of found later = elim found as (λ _. Option Descriptor) [ None ↦ later | Some descriptor ↦ Some descriptor ]
 
   first_of_exchanged : (found later : Option Descriptor)
-      → first_of (exchanged_mark found) (exchanged_mark later) ≡ exchanged_mark (first_of found later)
+      → first_of (exchanged_descriptor found) (exchanged_descriptor later) ≡ exchanged_descriptor (first_of found later)
   first_of_exchanged None later = refl
   first_of_exchanged (Some descriptor) later = refl
 
-  first_exchanged : (all : List units.Unit) (vertex : ℕ) (up : List ℕ) (mark : List ℕ → Option Descriptor)
-      → first_letter rules graph positions (map reflected_unit all) vertex up (exchanged_marks mark)
-      ≡ exchanged_mark (first_letter rules graph positions all vertex up mark)
-  first_exchanged [] vertex up mark = refl
-  first_exchanged (unit ∷ others) vertex up mark =
+  first_exchanged : (all : List units.Unit) (vertex : ℕ) (up : List ℕ) (descriptor : List ℕ → Option Descriptor)
+      → first_letter rules graph positions (map reflected_unit all) vertex up (exchanged_descriptors descriptor)
+      ≡ exchanged_descriptor (first_letter rules graph positions all vertex up descriptor)
+  first_exchanged [] vertex up descriptor = refl
+  first_exchanged (unit ∷ others) vertex up descriptor =
       ap (λ found.
       first_of found
-      (first_letter rules graph positions (map reflected_unit others) vertex up (exchanged_marks mark)))
-      (geometry_exchanged unit.site unit.geometry vertex up mark)
-      ∙ ap (first_of (exchanged_mark (unit_letter rules graph positions unit vertex up mark)))
-      (first_exchanged others vertex up mark)
-      ∙ first_of_exchanged (unit_letter rules graph positions unit vertex up mark)
-      (first_letter rules graph positions others vertex up mark)
+      (first_letter rules graph positions (map reflected_unit others) vertex up (exchanged_descriptors descriptor)))
+      (geometry_exchanged unit.site unit.geometry vertex up descriptor)
+      ∙ ap (first_of (exchanged_descriptor (unit_letter rules graph positions unit vertex up descriptor)))
+      (first_exchanged others vertex up descriptor)
+      ∙ first_of_exchanged (unit_letter rules graph positions unit vertex up descriptor)
+      (first_letter rules graph positions others vertex up descriptor)
 
   abbrev when : Bool → Option Descriptor → Option Descriptor
   when b found = elim b as (λ _. Option Descriptor) [ true ↦ found | false ↦ None ]
 
   when_exchanged : (b : Bool) (found : Option Descriptor)
-      → when b (exchanged_mark found) ≡ exchanged_mark (when b found)
+      → when b (exchanged_descriptor found) ≡ exchanged_descriptor (when b found)
   when_exchanged true found = refl
   when_exchanged false found = refl
 
-  node_exchanged : (all : List units.Unit) (path : List ℕ) (mark : List ℕ → Option Descriptor)
-      → node_letter rules graph positions (map reflected_unit all) path (exchanged_marks mark)
-      ≡ exchanged_mark (node_letter rules graph positions all path mark)
-  node_exchanged all [] mark = refl
-  node_exchanged all (root ∷ []) mark = refl
-  node_exchanged all (vertex ∷ next ∷ up) mark =
+  node_exchanged : (all : List units.Unit) (path : List ℕ) (descriptor : List ℕ → Option Descriptor)
+      → node_letter rules graph positions (map reflected_unit all) path (exchanged_descriptors descriptor)
+      ≡ exchanged_descriptor (node_letter rules graph positions all path descriptor)
+  node_exchanged all [] descriptor = refl
+  node_exchanged all (root ∷ []) descriptor = refl
+  node_exchanged all (vertex ∷ next ∷ up) descriptor =
       let low = nat_le (length (vertex ∷ next ∷ up)) (length graph.vertices) in
-      ap (when low) (first_exchanged all vertex (next ∷ up) mark)
-      ∙ when_exchanged low (first_letter rules graph positions all vertex (next ∷ up) mark)
+      ap (when low) (first_exchanged all vertex (next ∷ up) descriptor)
+      ∙ when_exchanged low (first_letter rules graph positions all vertex (next ∷ up) descriptor)
 
-  marks_exchanged : (all : List units.Unit) (more : ℕ) (path : List ℕ)
-      → marks_within (node_letter rules graph positions (map reflected_unit all)) more path
-      ≡ exchanged_mark (marks_within (node_letter rules graph positions all) more path)
-  unfolding marks_within
-  marks_exchanged all zero path = refl
-  marks_exchanged all (suc more) path =
-      let mark = marks_within (node_letter rules graph positions all) more in
+  descriptors_exchanged : (all : List units.Unit) (more : ℕ) (path : List ℕ)
+      → descriptors_within (node_letter rules graph positions (map reflected_unit all)) more path
+      ≡ exchanged_descriptor (descriptors_within (node_letter rules graph positions all) more path)
+  unfolding descriptors_within
+  descriptors_exchanged all zero path = refl
+  descriptors_exchanged all (suc more) path =
+      let descriptor = descriptors_within (node_letter rules graph positions all) more in
       ap (node_letter rules graph positions (map reflected_unit all) path)
       (λ i inner.
-      (ap (when (is_end_of path inner && nat_lt (length path) (length inner))) (marks_exchanged all more inner)
-      ∙ when_exchanged (is_end_of path inner && nat_lt (length path) (length inner)) (mark inner)) i)
-      ∙ node_exchanged all path (inside mark path)
+      (ap (when (is_end_of path inner && nat_lt (length path) (length inner))) (descriptors_exchanged all more inner)
+      ∙ when_exchanged (is_end_of path inner && nat_lt (length path) (length inner)) (descriptor inner)) i)
+      ∙ node_exchanged all path (inside descriptor path)
 
   pub auxiliary_exchanged : (all : List units.Unit) (path : List ℕ)
       → auxiliary rules graph positions (map reflected_unit all) path
-      ≡ exchanged_mark (auxiliary rules graph positions all path)
-  auxiliary_exchanged all path = marks_exchanged all (length graph.vertices) path
+      ≡ exchanged_descriptor (auxiliary rules graph positions all path)
+  auxiliary_exchanged all path = descriptors_exchanged all (length graph.vertices) path
 
 pub atoms_stay : (some : List units.Unit)
     → flat_map (λ unit. atoms_of unit.site) (map reflected_unit some) ≡ flat_map (λ unit. atoms_of unit.site) some
@@ -114,7 +114,7 @@ module _ (rules : Rules) (graph : Graph) (positions : List (List ℕ)) (all : Li
   end_exchanged : (end : End)
       → end_root rules graph positions (map reflected_unit all) end ≡ swapped (end_root rules graph positions all end)
   end_exchanged end =
-      ap (λ mark. root_at rules graph positions mark (end.at ∷ []) end.ligands)
+      ap (λ descriptor. root_at rules graph positions descriptor (end.at ∷ []) end.ligands)
       (λ i path. auxiliary_exchanged rules graph positions all path i)
       ∙ root_exchanged rules graph positions (auxiliary rules graph positions all) (end.at ∷ []) end.ligands
 

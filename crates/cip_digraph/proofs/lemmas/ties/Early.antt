@@ -17,15 +17,15 @@ use Rattle.cip_digraph.proofs.lemmas.lists.Elements.{all_parts, all_arranged}
 
 module _ {N : Type 0} (seen : Seen N) where
   -- no descriptor is on a node, nor n spheres down below it
-  abbrev pub IsUnmarked : ℕ → N → Type 0
-  IsUnmarked zero node = seen.mark node ≡ None
-  IsUnmarked (suc spheres) node = (seen.mark node ≡ None) × AllByRecursion (IsUnmarked spheres) (seen.children node)
+  abbrev pub HasNoDescriptor : ℕ → N → Type 0
+  HasNoDescriptor zero node = seen.descriptor node ≡ None
+  HasNoDescriptor (suc spheres) node = (seen.descriptor node ≡ None) × AllByRecursion (HasNoDescriptor spheres) (seen.children node)
 
-  bare : (spheres : ℕ) (node : N) → IsUnmarked spheres node → seen.mark node ≡ None
+  bare : (spheres : ℕ) (node : N) → HasNoDescriptor spheres node → seen.descriptor node ≡ None
   bare zero node h = h
   bare (suc spheres) node h = h.0
 
-  nodes_alike : (a b : N) → seen.mark a ≡ None → seen.mark b ≡ None → AreAlike (rule_1b seen seen.height) seen.mass a b
+  nodes_alike : (a b : N) → seen.descriptor a ≡ None → seen.descriptor b ≡ None → AreAlike (rule_1b seen seen.height) seen.mass a b
       → AreSameNodes seen a b
   unfolding rule_1a rule_1b
   nodes_alike a b none_a none_b h =
@@ -38,18 +38,18 @@ module _ {N : Type 0} (seen : Seen N) where
         class = ap class_of (none_a ∙ sym none_b);
       }
 
-  pairs_with : (spheres : ℕ) → ((a b : N) → IsUnmarked spheres a → IsUnmarked spheres b → matching.SameBranch
+  pairs_with : (spheres : ℕ) → ((a b : N) → HasNoDescriptor spheres a → HasNoDescriptor spheres b → matching.SameBranch
       seen.children (rule_1b seen seen.height) seen.mass spheres a b → SameWithin seen spheres a b)
       → (ns ms : List N) → InPairs (matching.SameBranch seen.children (rule_1b seen seen.height) seen.mass spheres) ns
       ms
-      → AllByRecursion (IsUnmarked spheres) ns → AllByRecursion (IsUnmarked spheres) ms
+      → AllByRecursion (HasNoDescriptor spheres) ns → AllByRecursion (HasNoDescriptor spheres) ms
       → InPairs (SameWithin seen spheres) ns ms
   pairs_with spheres f [] [] h p q = tt
   pairs_with spheres f [] (m ∷ ms) h p q = h
   pairs_with spheres f (n ∷ ns) [] h p q = h
   pairs_with spheres f (n ∷ ns) (m ∷ ms) h p q = (f n m p.0 q.0 h.0, pairs_with spheres f ns ms h.1 p.1 q.1)
 
-  same_within : (spheres : ℕ) (a b : N) → IsUnmarked spheres a → IsUnmarked spheres b
+  same_within : (spheres : ℕ) (a b : N) → HasNoDescriptor spheres a → HasNoDescriptor spheres b
       → matching.SameBranch seen.children (rule_1b seen seen.height) seen.mass spheres a b → SameWithin seen spheres a b
   same_within zero a b p q h = nodes_alike a b p q h
   same_within (suc spheres) a b p q h = (
@@ -60,34 +60,34 @@ module _ {N : Type 0} (seen : Seen N) where
       of_one = h.1.of_one;
       of_other = h.1.of_other;
       pairs = pairs_with spheres (same_within spheres) h.1.one h.1.other h.1.pairs
-          (all_arranged (IsUnmarked spheres) (seen.children a) h.1.one h.1.of_one p.1)
-          (all_arranged (IsUnmarked spheres) (seen.children b) h.1.other h.1.of_other q.1);
+          (all_arranged (HasNoDescriptor spheres) (seen.children a) h.1.one h.1.of_one p.1)
+          (all_arranged (HasNoDescriptor spheres) (seen.children b) h.1.other h.1.of_other q.1);
     },
   )
 
-  -- what no mark is in, and ends, ties by all rules where it ties by Rules 1a, 1b and 2
-  pub unmarked_tie : (a b : N) → EndsWithin seen.children seen.height a → EndsWithin seen.children seen.height b
-      → IsUnmarked seen.height a → IsUnmarked seen.height b → rule_2 seen seen.height a b ≡ Equal
+  -- what no descriptor is in, and ends, ties by all rules where it ties by Rules 1a, 1b and 2
+  pub tie_without_descriptors : (a b : N) → EndsWithin seen.children seen.height a → EndsWithin seen.children seen.height b
+      → HasNoDescriptor seen.height a → HasNoDescriptor seen.height b → rule_2 seen seen.height a b ≡ Equal
       → order seen true a b ≡ None
   unfolding rule_2
-  unmarked_tie a b ends_a ends_b p q h =
+  tie_without_descriptors a b ends_a ends_b p q h =
       tie_from_same seen a b ends_a ends_b
       (same_within seen.height a b p q (match_from_tie seen.children (total_1b seen) seen.mass seen.height a b h))
 
-  -- where no node below some nodes has a mark, n spheres down, these have none inside
-  each_unmarked : (spheres : ℕ) (nodes : List N) → AllByRecursion (λ node. seen.mark node ≡ None) nodes
-      → AllByRecursion (IsUnmarked spheres) (flat_map seen.children nodes) → AllByRecursion (IsUnmarked (suc spheres))
+  -- where no node below some nodes has a descriptor, n spheres down, these have none inside
+  each_without_descriptor : (spheres : ℕ) (nodes : List N) → AllByRecursion (λ node. seen.descriptor node ≡ None) nodes
+      → AllByRecursion (HasNoDescriptor spheres) (flat_map seen.children nodes) → AllByRecursion (HasNoDescriptor (suc spheres))
       nodes
-  each_unmarked spheres [] p all = tt
-  each_unmarked spheres (node ∷ nodes) p all =
-      let t = all_parts (IsUnmarked spheres) (seen.children node) (flat_map seen.children nodes) all in
-      ((p.0, t.0), each_unmarked spheres nodes p.1 t.1)
+  each_without_descriptor spheres [] p all = tt
+  each_without_descriptor spheres (node ∷ nodes) p all =
+      let t = all_parts (HasNoDescriptor spheres) (seen.children node) (flat_map seen.children nodes) all in
+      ((p.0, t.0), each_without_descriptor spheres nodes p.1 t.1)
 
-  pub unmarked_below : (spheres : ℕ) (nodes : List N)
-      → ((number : ℕ) → AllByRecursion (λ node. seen.mark node ≡ None) (nodes_below seen.children number nodes))
-      → AllByRecursion (IsUnmarked spheres) nodes
-  unmarked_below zero nodes h = h 0
-  unmarked_below (suc spheres) nodes h =
-      each_unmarked spheres nodes (h 0)
-      (unmarked_below spheres (flat_map seen.children nodes) (λ number.
-      subst (AllByRecursion (λ node. seen.mark node ≡ None)) (one_further seen.children number nodes) (h (suc number))))
+  pub no_descriptor_below : (spheres : ℕ) (nodes : List N)
+      → ((number : ℕ) → AllByRecursion (λ node. seen.descriptor node ≡ None) (nodes_below seen.children number nodes))
+      → AllByRecursion (HasNoDescriptor spheres) nodes
+  no_descriptor_below zero nodes h = h 0
+  no_descriptor_below (suc spheres) nodes h =
+      each_without_descriptor spheres nodes (h 0)
+      (no_descriptor_below spheres (flat_map seen.children nodes) (λ number.
+      subst (AllByRecursion (λ node. seen.descriptor node ≡ None)) (one_further seen.children number nodes) (h (suc number))))

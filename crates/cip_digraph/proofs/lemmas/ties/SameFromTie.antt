@@ -8,16 +8,16 @@ use Rattle.cip_rank.specs.Matching.{AreAlike}
 use Rattle.cip_rank.specs.Matching as matching
 use Rattle.cip_rank.proofs.lemmas.MatchingBranches.{match_from_tie, pairs_by}
 use Rattle.cip_rank.proofs.lemmas.RestOnTies.{both_tie}
-use Rattle.cip_mol.specs.declared.descriptor.Descriptor.{Descriptor}
-use Rattle.cip_mol.specs.declared.descriptor.Descriptor.TheVariants.{R}
-use Rattle.cip_mol.specs.declared.outcome.Rule.{Rule}
-use Rattle.cip_mol.specs.declared.outcome.Rule.TheVariants.{R5}
-use Rattle.cip_digraph.specs.declared.decision.Decision.{Decision}
+use Rattle.cip_mol.specs.declared.labels.descriptor.Descriptor.{Descriptor}
+use Rattle.cip_mol.specs.declared.labels.descriptor.Descriptor.TheVariants.{R}
+use Rattle.cip_mol.specs.declared.labels.outcome.Rule.{Rule}
+use Rattle.cip_mol.specs.declared.labels.outcome.Rule.TheVariants.{R5}
+use Rattle.cip_digraph.specs.declared.decisions.decision.Decision.{Decision}
 use Rattle.cip_digraph.specs.rules.Decisions.{Difference, difference_by, first_decision, rules_in_turn, order}
-use Rattle.cip_digraph.specs.rules.Kinds.{marked, geometric_key, small_key, capital_key}
+use Rattle.cip_digraph.specs.rules.Kinds.{key_or_zero, geometric_key, small_key, capital_key}
 use Rattle.cip_digraph.specs.rules.Orders.{Seen, all_tie, rule_1a, rule_1b, rule_2, rule_3, rule_4a, rule_4c, rule_5}
 use Rattle.cip_digraph.specs.digraph.SameBranch.{Class, ClassR, ClassS, ClassSmallR, ClassSmallS, ClassZ, ClassE}
-use Rattle.cip_digraph.specs.digraph.SameBranch.{Unmarked, class_of, AreSameNodes, SameWithin, SameBranch}
+use Rattle.cip_digraph.specs.digraph.SameBranch.{NoDescriptor, class_of, AreSameNodes, SameWithin, SameBranch}
 use Rattle.cip_digraph.proofs.lemmas.orders.Exchanged.{earlier_tie}
 use Rattle.cip_digraph.proofs.lemmas.ties.Turned.{decided_at, total_4c}
 use Rattle.cip_digraph.proofs.lemmas.orders.Whole.{side_at, five_side}
@@ -27,12 +27,12 @@ abbrev class_from : ℤ → ℤ → ℤ → Class
 class_from geometric small capital =
     cond (int_eq geometric (pos 2)) ClassZ (cond (int_eq geometric (pos 1)) ClassE
     (cond (int_eq capital (pos 2)) ClassR (cond (int_eq capital (pos 1)) ClassS
-    (cond (int_eq small (pos 2)) ClassSmallR (cond (int_eq small (pos 1)) ClassSmallS Unmarked)))))
+    (cond (int_eq small (pos 2)) ClassSmallR (cond (int_eq small (pos 1)) ClassSmallS NoDescriptor)))))
 
-class_by_keys : (mark : Option Descriptor)
-    → class_of mark ≡ class_from (marked geometric_key mark) (marked small_key mark) (marked (capital_key true) mark)
+class_by_keys : (descriptor : Option Descriptor)
+    → class_of descriptor ≡ class_from (key_or_zero geometric_key descriptor) (key_or_zero small_key descriptor) (key_or_zero (capital_key true) descriptor)
 class_by_keys (Some R) = refl
-class_by_keys mark = refl
+class_by_keys descriptor = refl
 
 pub same_number : (x y : ℤ) → int_cmp x y ≡ Equal → x ≡ y
 same_number x y e = int_ranked x y Equal (sym e)
@@ -60,31 +60,31 @@ all_none find (rule ∷ rules) e = let t = both_none rule (find rule) (first_dec
 
 module _ {N : Type 0} (seen : Seen N) where
   nodes_alike : (a b : N)
-      → AreAlike (rule_4c seen seen.height) (λ node. marked (capital_key true) (seen.mark node)) a b
+      → AreAlike (rule_4c seen seen.height) (λ node. key_or_zero (capital_key true) (seen.descriptor node)) a b
       → AreSameNodes seen a b
   unfolding rule_1a rule_1b rule_2 rule_3 rule_4a rule_4c
   nodes_alike a b h =
       let by_4c = parts_of seen.children (rule_4a seen seen.height)
-      (λ node. marked small_key (seen.mark node)) seen.height a b h.0 in
+      (λ node. key_or_zero small_key (seen.descriptor node)) seen.height a b h.0 in
       let by_4a = parts_of seen.children (rule_3 seen seen.height) _ seen.height a b by_4c.0 in
       let by_3 = parts_of seen.children (rule_2 seen seen.height)
-      (λ node. marked geometric_key (seen.mark node)) seen.height a b by_4a.0 in
+      (λ node. key_or_zero geometric_key (seen.descriptor node)) seen.height a b by_4a.0 in
       let by_2 = parts_of seen.children (rule_1b seen seen.height) seen.mass seen.height a b by_3.0 in
       let by_1b = parts_of seen.children (rule_1a seen seen.height) seen.distance seen.height a b by_2.0 in
       let by_1a = parts_of seen.children all_tie seen.atomic seen.height a b by_1b.0 in
-      let capital : marked (capital_key true) (seen.mark a) ≡ marked (capital_key true) (seen.mark b) =
+      let capital : key_or_zero (capital_key true) (seen.descriptor a) ≡ key_or_zero (capital_key true) (seen.descriptor b) =
       same_number _ _ h.1 in
       record {
         atomic = by_1a.1;
         distance = by_1b.1;
         mass = by_2.1;
         class =
-            rw (class_by_keys (seen.mark a), by_3.1, by_4c.1, capital) (sym (class_by_keys (seen.mark b)));
+            rw (class_by_keys (seen.descriptor a), by_3.1, by_4c.1, capital) (sym (class_by_keys (seen.descriptor b)));
       }
 
   same_within : (spheres : ℕ) (a b : N)
       → matching.SameBranch seen.children (rule_4c seen seen.height)
-      (λ node. marked (capital_key true) (seen.mark node)) spheres a b → SameWithin seen spheres a b
+      (λ node. key_or_zero (capital_key true) (seen.descriptor node)) spheres a b → SameWithin seen spheres a b
   same_within zero a b h = nodes_alike a b h
   same_within (suc spheres) a b h = (
     nodes_alike a b h.0,
@@ -109,4 +109,4 @@ module _ {N : Type 0} (seen : Seen N) where
   same_from_tie a b e =
       same_within seen.height a b
       (match_from_tie seen.children (total_4c seen)
-      (λ node. marked (capital_key true) (seen.mark node)) seen.height a b (tied_by_five a b e))
+      (λ node. key_or_zero (capital_key true) (seen.descriptor node)) seen.height a b (tied_by_five a b e))

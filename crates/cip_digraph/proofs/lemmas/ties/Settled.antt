@@ -25,9 +25,9 @@ use Rattle.cip_digraph.specs.digraph.SameBranch.{EndsWithin}
 use Rattle.cip_digraph.specs.graph.SoundGraphs.{IsSound}
 use Rattle.cip_digraph.specs.digraph.View.{view_children, seen_from}
 use Rattle.cip_digraph.proofs.lemmas.tree.Branches.{ligands_end}
-use Rattle.cip_digraph.proofs.lemmas.ties.Early.{IsUnmarked, unmarked_below, unmarked_tie}
+use Rattle.cip_digraph.proofs.lemmas.ties.Early.{HasNoDescriptor, no_descriptor_below, tie_without_descriptors}
 use Rattle.cip_digraph.proofs.lemmas.lists.Elements.{all_by, all_flat, all_filtered, all_both}
-use Rattle.cip_digraph.proofs.lemmas.marks.UnitFree.{HasVertex, view_has, unit_free}
+use Rattle.cip_digraph.proofs.lemmas.descriptors.UnitFree.{HasVertex, view_has, unit_free}
 
 pub none_left : {X : Type 0} (xs : List X) → is_empty xs ≡ true → xs ≡ []
 none_left [] e = refl
@@ -152,27 +152,27 @@ module _ (rules : Rules) (graph : Graph) (positions : List (List ℕ)) (all : Li
     vertex : HasVertex node
     ends : EndsWithin seen.children seen.height node
 
-  unmarked_at : (sphere : ℕ) (ligand : List Node) → AllByRecursion HasVertex ligand → nodes_below seen.children sphere
+  no_descriptor_at : (sphere : ℕ) (ligand : List Node) → AllByRecursion HasVertex ligand → nodes_below seen.children sphere
       ligand ≡ []
       → list_any in_unit (nodes_within seen.children sphere ligand) ≡ false
-      → (number : ℕ) → AllByRecursion (λ node. seen.mark node ≡ None) (nodes_below seen.children number ligand)
-  unmarked_at sphere ligand has ends free number = elim (cases_lt number sphere) [
+      → (number : ℕ) → AllByRecursion (λ node. seen.descriptor node ≡ None) (nodes_below seen.children number ligand)
+  no_descriptor_at sphere ligand has ends free number = elim (cases_lt number sphere) [
     | inl inner ↦
-        all_by (λ node. HasVertex node × (in_unit node ≡ false)) (λ node. seen.mark node ≡ None)
+        all_by (λ node. HasVertex node × (in_unit node ≡ false)) (λ node. seen.descriptor node ≡ None)
         (λ node h. unit_free rules graph positions all (at ∷ []) node h.0 h.1)
         (nodes_below seen.children number ligand)
         (all_both HasVertex (λ node. in_unit node ≡ false) (nodes_below seen.children number ligand)
         (all_below seen.children HasVertex (λ node. view_has graph positions (at ∷ []) node) number ligand has)
         (within_pass seen.children in_unit sphere number ligand free inner))
-    | inr behind ↦ subst (AllByRecursion (λ node. seen.mark node ≡ None))
+    | inr behind ↦ subst (AllByRecursion (λ node. seen.descriptor node ≡ None))
         (sym (ended_behind seen.children sphere number ligand ends behind)) tt
   ]
 
-  unmarked_ligand : (sphere : ℕ) (ligand : List Node) → AllByRecursion HasVertex ligand → nodes_below seen.children
+  ligand_without_descriptor : (sphere : ℕ) (ligand : List Node) → AllByRecursion HasVertex ligand → nodes_below seen.children
       sphere ligand ≡ []
       → list_any in_unit (nodes_within seen.children sphere ligand) ≡ false
-      → AllByRecursion (IsUnmarked seen seen.height) ligand
-  unmarked_ligand sphere ligand has ends free = unmarked_below seen seen.height ligand (unmarked_at sphere ligand has
+      → AllByRecursion (HasNoDescriptor seen seen.height) ligand
+  ligand_without_descriptor sphere ligand has ends free = no_descriptor_below seen seen.height ligand (no_descriptor_at sphere ligand has
       ends free)
 
   vertices : (ligand : List Node) → AllByRecursion IsLigandNode ligand → AllByRecursion HasVertex ligand
@@ -185,9 +185,9 @@ module _ (rules : Rules) (graph : Graph) (positions : List (List ℕ)) (all : Li
   pair_ties sphere [] (b ∷ bs) p q h = let bad : Less ≡ Equal = h.tie in cc
   pair_ties sphere (a ∷ aa) [] p q h = let bad : Greater ≡ Equal = h.tie in cc
   pair_ties sphere (a ∷ aa) (b ∷ bs) p q h =
-      ap is_tie (unmarked_tie seen a b p.0.ends q.0.ends
-      (unmarked_ligand sphere (a ∷ aa) (vertices (a ∷ aa) p) h.ends_a h.free_a).0
-      (unmarked_ligand sphere (b ∷ bs) (vertices (b ∷ bs) q) h.ends_b h.free_b).0
+      ap is_tie (tie_without_descriptors seen a b p.0.ends q.0.ends
+      (ligand_without_descriptor sphere (a ∷ aa) (vertices (a ∷ aa) p) h.ends_a h.free_a).0
+      (ligand_without_descriptor sphere (b ∷ bs) (vertices (b ∷ bs) q) h.ends_b h.free_b).0
       (both_tie (rule_2 seen seen.height a b) (slice_cmp (rule_2 seen seen.height) aa bs) h.tie).0)
 
 module _ (rules : Rules) (graph : Graph) (positions : List (List ℕ)) (all : List units.Unit) (end : End)

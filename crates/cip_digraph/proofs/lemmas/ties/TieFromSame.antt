@@ -9,13 +9,13 @@ use Rattle.cip_rank.specs.Comparison.{comparison}
 use Rattle.cip_rank.specs.Matching.{InPairs, Matches}
 use Rattle.cip_rank.specs.Matching as matching
 use Rattle.cip_rank.proofs.lemmas.MatchingBranches.{tie_from_match, pairs_by}
-use Rattle.cip_mol.specs.declared.descriptor.Descriptor.{Descriptor}
-use Rattle.cip_mol.specs.declared.descriptor.Descriptor.TheVariants.{R}
-use Rattle.cip_mol.specs.declared.outcome.Rule.{Rule}
-use Rattle.cip_mol.specs.declared.outcome.Rule.TheVariants.{R1a, R1b, R2, R3, R4a, R4b, R4c, R5}
+use Rattle.cip_mol.specs.declared.labels.descriptor.Descriptor.{Descriptor}
+use Rattle.cip_mol.specs.declared.labels.descriptor.Descriptor.TheVariants.{R}
+use Rattle.cip_mol.specs.declared.labels.outcome.Rule.{Rule}
+use Rattle.cip_mol.specs.declared.labels.outcome.Rule.TheVariants.{R1a, R1b, R2, R3, R4a, R4b, R4c, R5}
 use Rattle.cip_digraph.specs.rules.Decisions.{first_difference, or_else, difference_by, first_decision, rules_in_turn}
 use Rattle.cip_digraph.specs.rules.Decisions.{order}
-use Rattle.cip_digraph.specs.rules.Kinds.{Kind, KindR, KindS, Neither, kind_of, marked, geometric_key, chirality_key}
+use Rattle.cip_digraph.specs.rules.Kinds.{Kind, KindR, KindS, Neither, kind_of, key_or_zero, geometric_key, chirality_key}
 use Rattle.cip_digraph.specs.rules.Kinds.{like_kind, like_key, small_key, capital_by, capital_key}
 use Rattle.cip_digraph.specs.rules.Orders.{Seen, rule_1a, rule_1b, rule_2, rule_3, rule_4a, read_children, readings}
 use Rattle.cip_digraph.specs.rules.Orders.{is_s_higher, higher_reading, lower_reading, rule_4b_higher, rule_4b_lower}
@@ -73,30 +73,30 @@ class_kind ClassR = KindR
 class_kind ClassS = KindS
 class_kind class = Neither
 
-geometric_by : (mark : Option Descriptor) → marked geometric_key mark ≡ pos (geometric_of (class_of mark))
+geometric_by : (descriptor : Option Descriptor) → key_or_zero geometric_key descriptor ≡ pos (geometric_of (class_of descriptor))
 geometric_by (Some R) = refl
-geometric_by mark = refl
+geometric_by descriptor = refl
 
-chirality_by : (mark : Option Descriptor) → marked chirality_key mark ≡ pos (chirality_of (class_of mark))
+chirality_by : (descriptor : Option Descriptor) → key_or_zero chirality_key descriptor ≡ pos (chirality_of (class_of descriptor))
 chirality_by (Some R) = refl
-chirality_by mark = refl
+chirality_by descriptor = refl
 
-small_by : (mark : Option Descriptor) → marked small_key mark ≡ pos (small_of (class_of mark))
+small_by : (descriptor : Option Descriptor) → key_or_zero small_key descriptor ≡ pos (small_of (class_of descriptor))
 small_by (Some R) = refl
-small_by mark = refl
+small_by descriptor = refl
 
 kind_by : (d : Descriptor) → kind_of d ≡ class_kind (class_of (Some d))
 kind_by R = refl
 kind_by d = refl
 
-capital_by_class : (r_first : Bool) (mark : Option Descriptor)
-    → marked (capital_key r_first) mark ≡ pos (capital_by r_first (class_kind (class_of mark)))
+capital_by_class : (r_first : Bool) (descriptor : Option Descriptor)
+    → key_or_zero (capital_key r_first) descriptor ≡ pos (capital_by r_first (class_kind (class_of descriptor)))
 capital_by_class true None = refl
 capital_by_class false None = refl
 capital_by_class r_first (Some d) = ap (λ kind. pos (capital_by r_first kind)) (kind_by d)
 
-like_by_class : (reference : Kind) (mark : Option Descriptor)
-    → marked (like_key reference) mark ≡ pos (like_kind reference (class_kind (class_of mark)))
+like_by_class : (reference : Kind) (descriptor : Option Descriptor)
+    → key_or_zero (like_key reference) descriptor ≡ pos (like_kind reference (class_kind (class_of descriptor)))
 like_by_class KindR None = refl
 like_by_class KindS None = refl
 like_by_class Neither None = refl
@@ -105,9 +105,9 @@ like_by_class reference (Some d) = ap (λ kind. pos (like_kind reference kind)) 
 number_itself : (x y : ℤ) → x ≡ y → int_cmp x y ≡ Equal
 number_itself x y e = ap (λ z. int_cmp z y) e ∙ tied_itself int_cmp_total y
 
--- a key of marks that is one of their class is equal for marks of one class
+-- a key of descriptors that is one of their class is equal for descriptors of one class
 same_key : (key : Option Descriptor → ℤ) (of_class : Class → ℕ)
-    → ((mark : Option Descriptor) → key mark ≡ pos (of_class (class_of mark)))
+    → ((descriptor : Option Descriptor) → key descriptor ≡ pos (of_class (class_of descriptor)))
     → (one other : Option Descriptor) → class_of one ≡ class_of other → int_cmp (key one) (key other) ≡ Equal
 same_key key of_class by one other e =
     number_itself (key one) (key other) (by one ∙ ap (λ c. pos (of_class c)) e ∙ sym (by other))
@@ -164,9 +164,9 @@ module _ {N : Type 0} (seen : Seen N) where
   down a b h = down_by h.spheres a b h.same h.ends_a h.ends_b
 
   by_class : (key : Option Descriptor → ℤ) (of_class : Class → ℕ)
-      → ((mark : Option Descriptor) → key mark ≡ pos (of_class (class_of mark)))
-      → (a b : N) → AreSame a b → int_cmp (key (seen.mark a)) (key (seen.mark b)) ≡ Equal
-  by_class key of_class by a b h = same_key key of_class by (seen.mark a) (seen.mark b) (nodes_of a b h).class
+      → ((descriptor : Option Descriptor) → key descriptor ≡ pos (of_class (class_of descriptor)))
+      → (a b : N) → AreSame a b → int_cmp (key (seen.descriptor a)) (key (seen.descriptor b)) ≡ Equal
+  by_class key of_class by a b h = same_key key of_class by (seen.descriptor a) (seen.descriptor b) (nodes_of a b h).class
 
   ties_1a : (depth : ℕ) (a b : N) → AreSame a b → rule_1a seen depth a b ≡ Equal
   unfolding rule_1a
@@ -189,26 +189,26 @@ module _ {N : Type 0} (seen : Seen N) where
   ties_3 : (depth : ℕ) (a b : N) → AreSame a b → rule_3 seen depth a b ≡ Equal
   unfolding rule_3
   ties_3 depth a b h =
-      tied seen.children (λ node. marked geometric_key (seen.mark node)) AreSame (ties_2 seen.height)
-      (by_class (marked geometric_key) geometric_of geometric_by) down (total_2 seen) depth a b h
+      tied seen.children (λ node. key_or_zero geometric_key (seen.descriptor node)) AreSame (ties_2 seen.height)
+      (by_class (key_or_zero geometric_key) geometric_of geometric_by) down (total_2 seen) depth a b h
 
   ties_4a : (depth : ℕ) (a b : N) → AreSame a b → rule_4a seen depth a b ≡ Equal
   unfolding rule_4a
   ties_4a depth a b h =
-      tied seen.children (λ node. marked chirality_key (seen.mark node)) AreSame (ties_3 seen.height)
-      (by_class (marked chirality_key) chirality_of chirality_by) down (total_3 seen) depth a b h
+      tied seen.children (λ node. key_or_zero chirality_key (seen.descriptor node)) AreSame (ties_3 seen.height)
+      (by_class (key_or_zero chirality_key) chirality_of chirality_by) down (total_3 seen) depth a b h
 
   ties_4c : (depth : ℕ) (a b : N) → AreSame a b → rule_4c seen depth a b ≡ Equal
   unfolding rule_4c
   ties_4c depth a b h =
-      tied seen.children (λ node. marked small_key (seen.mark node)) AreSame (ties_4a seen.height)
-      (by_class (marked small_key) small_of small_by) down (total_4a seen) depth a b h
+      tied seen.children (λ node. key_or_zero small_key (seen.descriptor node)) AreSame (ties_4a seen.height)
+      (by_class (key_or_zero small_key) small_of small_by) down (total_4a seen) depth a b h
 
   ties_5 : (r_first : Bool) (depth : ℕ) (a b : N) → AreSame a b → rule_5 seen r_first depth a b ≡ Equal
   unfolding rule_5
   ties_5 r_first depth a b h =
-      tied seen.children (λ node. marked (capital_key r_first) (seen.mark node)) AreSame (ties_4c seen.height)
-      (by_class (marked (capital_key r_first)) (λ c. capital_by r_first (class_kind c))
+      tied seen.children (λ node. key_or_zero (capital_key r_first) (seen.descriptor node)) AreSame (ties_4c seen.height)
+      (by_class (key_or_zero (capital_key r_first)) (λ c. capital_by r_first (class_kind c))
       (capital_by_class r_first)) down (total_4c seen) depth a b h
 
   -- the same branches by the same reference
@@ -240,12 +240,12 @@ module _ {N : Type 0} (seen : Seen N) where
   ties_read : (depth : ℕ) (a b : N × Kind) → AreReadAlike a b → readings seen depth a b ≡ Equal
   unfolding readings
   ties_read depth a b h =
-      tied (read_children seen) (λ branch. marked (like_key branch.1) (seen.mark branch.0)) AreReadAlike
+      tied (read_children seen) (λ branch. key_or_zero (like_key branch.1) (seen.descriptor branch.0)) AreReadAlike
       (λ a b h. ties_4a seen.height a.0 b.0 h.branch)
-      (λ a b h. number_itself _ _ (like_by_class a.1 (seen.mark a.0)
+      (λ a b h. number_itself _ _ (like_by_class a.1 (seen.descriptor a.0)
       ∙ ap (λ c. pos (like_kind a.1 (class_kind c))) (nodes_of a.0 b.0 h.branch).class
-      ∙ ap (λ kind. pos (like_kind kind (class_kind (class_of (seen.mark b.0))))) h.kind
-      ∙ sym (like_by_class b.1 (seen.mark b.0))))
+      ∙ ap (λ kind. pos (like_kind kind (class_kind (class_of (seen.descriptor b.0))))) h.kind
+      ∙ sym (like_by_class b.1 (seen.descriptor b.0))))
       read_down (earlier_total seen) depth a b h
 
   same_reading : (a b : N) → AreSame a b → is_s_higher seen a ≡ is_s_higher seen b

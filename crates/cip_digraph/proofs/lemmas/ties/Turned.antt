@@ -4,23 +4,23 @@ use Rattle.std.proofs.Common.{cond, arith, None, Some, Option, int_cmp, is_eq, O
 use Rattle.std.specs.Cmp.{IsTotalOrder}
 use Rattle.cip_rank.proofs.lemmas.RestOnTies.{TiesGo, ties_alone}
 use Rattle.cip_rank.proofs.lemmas.TotalOrder.{comparison_total}
-use Rattle.cip_mol.specs.declared.descriptor.Descriptor.{Descriptor}
-use Rattle.cip_mol.specs.declared.outcome.Rule.{Rule}
-use Rattle.cip_mol.specs.declared.outcome.Rule.TheVariants.{R5}
-use Rattle.cip_digraph.specs.declared.decision.Decision.{Decision}
+use Rattle.cip_mol.specs.declared.labels.descriptor.Descriptor.{Descriptor}
+use Rattle.cip_mol.specs.declared.labels.outcome.Rule.{Rule}
+use Rattle.cip_mol.specs.declared.labels.outcome.Rule.TheVariants.{R5}
+use Rattle.cip_digraph.specs.declared.decisions.decision.Decision.{Decision}
 use Rattle.cip_digraph.specs.rules.Decisions.{Difference, first_difference, difference_by, first_decision}
 use Rattle.cip_digraph.specs.rules.Decisions.{rules_in_turn, order}
-use Rattle.cip_digraph.specs.rules.Kinds.{Kind, KindR, KindS, Neither, kind_of, marked, capital_by, capital_key}
+use Rattle.cip_digraph.specs.rules.Kinds.{Kind, KindR, KindS, Neither, kind_of, key_or_zero, capital_by, capital_key}
 use Rattle.cip_digraph.specs.rules.Orders.{Seen, rule_4c, rule_5}
 use Rattle.cip_digraph.specs.units.Ranked.{Reason, is_tie, reason_of}
 use Rattle.cip_digraph.proofs.lemmas.orders.Exchanged.{found_at, total_4a}
 
-abbrev mark_kind : Option Descriptor → Kind
-mark_kind None = Neither
-mark_kind (Some d) = kind_of d
+abbrev descriptor_kind : Option Descriptor → Kind
+descriptor_kind None = Neither
+descriptor_kind (Some d) = kind_of d
 
-capital_of : (r_first : Bool) (mark : Option Descriptor)
-    → marked (capital_key r_first) mark ≡ pos (capital_by r_first (mark_kind mark))
+capital_of : (r_first : Bool) (descriptor : Option Descriptor)
+    → key_or_zero (capital_key r_first) descriptor ≡ pos (capital_by r_first (descriptor_kind descriptor))
 capital_of true None = refl
 capital_of false None = refl
 capital_of r_first (Some d) = refl
@@ -33,13 +33,13 @@ tie_kinds true KindR KindR h = refl
 tie_kinds true KindS KindS h = refl
 tie_kinds r_first one other h = grind arith
 
-tie_marks : (r_first : Bool) (one other : Option Descriptor)
-    → int_cmp (marked (capital_key r_first) one) (marked (capital_key r_first) other) ≡ Equal
-    → int_cmp (marked (capital_key (not r_first)) one) (marked (capital_key (not r_first)) other) ≡ Equal
-tie_marks r_first one other h =
+tie_descriptors : (r_first : Bool) (one other : Option Descriptor)
+    → int_cmp (key_or_zero (capital_key r_first) one) (key_or_zero (capital_key r_first) other) ≡ Equal
+    → int_cmp (key_or_zero (capital_key (not r_first)) one) (key_or_zero (capital_key (not r_first)) other) ≡ Equal
+tie_descriptors r_first one other h =
     let tie = rw (capital_of r_first one, capital_of r_first other) at h in
     rw (capital_of (not r_first) one, capital_of (not r_first) other)
-    (tie_kinds r_first (mark_kind one) (mark_kind other) tie)
+    (tie_kinds r_first (descriptor_kind one) (descriptor_kind other) tie)
 
 module _ {N : Type 0} (seen : Seen N) where
   pub total_4c : IsTotalOrder (rule_4c seen seen.height)
@@ -51,10 +51,10 @@ module _ {N : Type 0} (seen : Seen N) where
       × TiesGo (rule_5 seen false depth) (rule_5 seen true depth)
   unfolding rule_5
   rule_5_ties depth =
-      ties_alone seen.children total_4c total_4c (λ node. marked (capital_key true) (seen.mark node))
-      (λ node. marked (capital_key false) (seen.mark node))
-      (λ a b h. h) (λ a b h. h) (λ a b h. tie_marks true (seen.mark a) (seen.mark b) h)
-      (λ a b h. tie_marks false (seen.mark a) (seen.mark b) h) depth
+      ties_alone seen.children total_4c total_4c (λ node. key_or_zero (capital_key true) (seen.descriptor node))
+      (λ node. key_or_zero (capital_key false) (seen.descriptor node))
+      (λ a b h. h) (λ a b h. h) (λ a b h. tie_descriptors true (seen.descriptor a) (seen.descriptor b) h)
+      (λ a b h. tie_descriptors false (seen.descriptor a) (seen.descriptor b) h) depth
 
 -- the depth of a difference alone
 abbrev depth_of : Option Difference → Option ℕ

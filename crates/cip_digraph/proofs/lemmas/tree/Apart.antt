@@ -7,7 +7,7 @@ use Rattle.cip_digraph.specs.rings.Alternating.{is_in}
 use Rattle.cip_digraph.specs.digraph.Digraph.{NodeKind, Real, Closure, Multiple, Delocalised, Node, real_node}
 use Rattle.cip_digraph.specs.digraph.Digraph.{duplicate, is_real, begins_with, neighbour_child, bond_children}
 use Rattle.cip_digraph.specs.digraph.Digraph.{edge_children, real_children, children, sphere, digraph}
-use Rattle.cip_digraph.specs.declared.graph.Edge.{Edge}
+use Rattle.cip_digraph.specs.declared.drawing.graph.Edge.{Edge}
 use Rattle.cip_digraph.specs.graph.Graph.{Graph, edges_at, other_end}
 use Rattle.cip_digraph.specs.Laws.{real_paths}
 use Rattle.cip_digraph.specs.rings.Positions.{is_delocalised}

@@ -4,7 +4,7 @@ use Rattle.std.proofs.Common.{sym, ap, ◌∙◌, arith, flat_map, filter, Optio
 use Rattle.std.specs.List.{AllByRecursion}
 use Rattle.std.proofs.lemmas.Bool.{lt-leb}
 use Rattle.cip_rank.specs.declared.rules.Rules.{Rules}
-use Rattle.cip_mol.specs.declared.descriptor.Descriptor.{Descriptor}
+use Rattle.cip_mol.specs.declared.labels.descriptor.Descriptor.{Descriptor}
 use Rattle.cip_digraph.specs.outcome.Deciding.{nodes_below}
 use Rattle.cip_digraph.specs.digraph.Digraph.{NodeKind, Real, Node, real_node}
 use Rattle.cip_digraph.specs.digraph.Digraph.{duplicate, children, sphere}
@@ -128,12 +128,12 @@ module _ (graph : Graph) (positions : List (List ℕ)) (root : ℕ) where
   spheres_seen (suc number) = ap (flat_map (view_children graph positions (root ∷ []))) (spheres_seen number)
       ∙ sphere_step number
 
-  pub ligands_end : IsSound graph → root < length graph.vertices → (rules : Rules) (mark : List ℕ → Option Descriptor)
+  pub ligands_end : IsSound graph → root < length graph.vertices → (rules : Rules) (descriptor : List ℕ → Option Descriptor)
       → AllByRecursion
-      (EndsWithin (seen_from rules graph positions (root ∷ []) mark).children
-      (seen_from rules graph positions (root ∷ []) mark).height)
-      ((seen_from rules graph positions (root ∷ []) mark).children (real_node root []))
-  ligands_end sound lt rules mark =
+      (EndsWithin (seen_from rules graph positions (root ∷ []) descriptor).children
+      (seen_from rules graph positions (root ∷ []) descriptor).height)
+      ((seen_from rules graph positions (root ∷ []) descriptor).children (real_node root []))
+  ligands_end sound lt rules descriptor =
       let below = view_children graph positions (root ∷ []) in
       let most = 2 * length graph.vertices + 2 in
       let none : nodes_below below most (real_node root [] ∷ []) ≡ [] = spheres_seen most

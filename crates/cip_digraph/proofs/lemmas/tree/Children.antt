@@ -6,7 +6,7 @@ use Rattle.cip_digraph.specs.rings.Alternating.{is_in}
 use Rattle.cip_digraph.specs.digraph.Digraph.{Closure, Multiple, Delocalised, Node, real_node, duplicate, begins_with}
 use Rattle.cip_digraph.specs.digraph.Digraph.{neighbour_child, bond_children, edge_children, real_children, children}
 use Rattle.cip_digraph.specs.digraph.Digraph.{sphere}
-use Rattle.cip_digraph.specs.declared.graph.Edge.{Edge}
+use Rattle.cip_digraph.specs.declared.drawing.graph.Edge.{Edge}
 use Rattle.cip_digraph.specs.graph.Graph.{Graph, edges_at, other_end}
 use Rattle.cip_digraph.specs.rings.Positions.{is_delocalised}
 use Rattle.cip_digraph.proofs.lemmas.lists.Elements.{all_append, all_replicate, all_flat}

@@ -12,7 +12,7 @@ use Rattle.cip_digraph.specs.rings.Alternating.{is_in}
 use Rattle.cip_digraph.specs.rules.Auxiliary.{stands_for, ligand_node}
 use Rattle.cip_digraph.specs.digraph.Digraph.{Closure, Multiple, Delocalised, Node, real_node, duplicate}
 use Rattle.cip_digraph.specs.digraph.Digraph.{neighbour_child, bond_children, edge_children, real_children}
-use Rattle.cip_digraph.specs.declared.graph.Edge.{Edge}
+use Rattle.cip_digraph.specs.declared.drawing.graph.Edge.{Edge}
 use Rattle.cip_digraph.specs.graph.Graph.{Graph, edges_at, other_end}
 use Rattle.cip_digraph.specs.rings.Positions.{is_delocalised}
 use Rattle.cip_digraph.specs.graph.SoundGraphs.{IsSound}

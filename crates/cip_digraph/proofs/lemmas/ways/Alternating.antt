@@ -8,7 +8,7 @@ use Rattle.std.proofs.lemmas.List.Elements.{All-from_recursion}
 use Rattle.cip_digraph.specs.rings.Alternating.{is_in, counted_at, is_one_double, is_alternating, partner_by, partner}
 use Rattle.cip_digraph.specs.rings.Alternating.{singles, goes_on, reaches, closes_ring}
 use Rattle.cip_digraph.specs.rings.AlternatingRings.{Alternates, met, ring_of, IsAlternatingRing}
-use Rattle.cip_digraph.specs.declared.graph.Edge.{Edge}
+use Rattle.cip_digraph.specs.declared.drawing.graph.Edge.{Edge}
 use Rattle.cip_digraph.specs.graph.Graph.{Graph, edges_at, touches}
 use Rattle.cip_digraph.specs.graph.SoundGraphs.{JoinsBelow, IsSound}
 use Rattle.cip_digraph.proofs.lemmas.lists.Elements.{all_by, all_filtered, by_recursion, Pairwise, pairwise_from_pairs}

@@ -1,8 +1,8 @@
 use Rattle.std.proofs.Common.{◌≡◌, Result, Err, false, true, subst}
 use Rattle.std.specs.Prelude.{IsOk}
 use Rattle.cip_mol.specs.Drawing.{Drawing}
-use Rattle.cip_mol.specs.declared.refusal.ReadFault.{ReadFault}
-use Rattle.cip_mol.specs.declared.refusal.ReadRefusal.{ReadRefusal}
+use Rattle.cip_mol.specs.declared.labels.refusal.ReadFault.{ReadFault}
+use Rattle.cip_mol.specs.declared.labels.refusal.ReadRefusal.{ReadRefusal}
 use Rattle.cip_text.specs.Slices.{texts}
 use Rattle.cip_ctfile.specs.Reading.{Fails}
 use Rattle.cip_v3000.specs.Tables.{table_of}

@@ -1,7 +1,7 @@
 use Rattle.std.proofs.Common.{◌≡◌, ◌<◌, ◌≤◌, ◌+◌, ◌∙◌, ℕ, List, ap, arith, length, map, subst}
 use Rattle.std.specs.List.{range_with_len}
 use Rattle.std.proofs.lemmas.List.Elements.{All-push}
-use Rattle.cip_mol.specs.declared.molecule.Atom.{Atom}
+use Rattle.cip_mol.specs.declared.graph.molecule.Atom.{Atom}
 use Rattle.cip_hydro.specs.Carriers.{HasFew}
 use Rattle.cip_hydro.specs.ValenceState.{surroundings_at}
 use Rattle.cip_hydro.proofs.lemmas.Drawn.{around_next}

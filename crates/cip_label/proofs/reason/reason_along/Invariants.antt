@@ -1,5 +1,5 @@
 use Rattle.std.proofs.Common.{◌≡◌, ◌-◌, ◌≤◌, drop, fold}
-use Rattle.cip_mol.specs.declared.outcome.Rule.TheVariants.{R1a}
+use Rattle.cip_mol.specs.declared.labels.outcome.Rule.TheVariants.{R1a}
 use Rattle.cip_digraph.specs.units.Ranked.{later_reason}
 use Rattle.cip_label.specs.Labelling.{as_reason}
 use Rattle.cip_label.specs.Pairwise.{decided_along, decided_at}

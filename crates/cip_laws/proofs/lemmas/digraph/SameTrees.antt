@@ -2,7 +2,7 @@
 use Rattle.std.proofs.Common.{◌≡◌, ℕ, Bool, true, false, cond, ◌↔◌, refl, sym, ap, ◌∙◌, arith}
 use Rattle.std.specs.Prelude.{None, Some}
 use Rattle.std.specs.declared.option.Option.{Option}
-use Rattle.cip_digraph.specs.declared.decision.Decision.{Decision}
+use Rattle.cip_digraph.specs.declared.decisions.decision.Decision.{Decision}
 use Rattle.cip_digraph.specs.digraph.Digraph.{Node}
 use Rattle.cip_digraph.specs.graph.DrawnGraph.{graph_of}
 use Rattle.cip_digraph.specs.rings.Positions.{positions_of}
@@ -14,7 +14,7 @@ use Rattle.cip_digraph.proofs.lemmas.bonds.Sound.{drawn_sound}
 use Rattle.cip_digraph.proofs.lemmas.ties.SameFromTie.{same_from_tie}
 use Rattle.cip_digraph.proofs.lemmas.ties.TieFromSame.{tie_from_same}
 use Rattle.cip_digraph.proofs.lemmas.ties.Turned.{tie_turned}
-use Rattle.cip_laws.specs.DrawnOutcomes.{mark_in}
+use Rattle.cip_laws.specs.DrawnOutcomes.{descriptor_in}
 use Rattle.cip_laws.specs.TieLaw.{TiesAreSameTrees, LonePairsTieWithNothing}
 use Rattle.cip_symmetry.proofs.lemmas.lists.Among.{among_all}
 
@@ -37,7 +37,7 @@ pub ties_are_same_trees : TiesAreSameTrees
 ties_are_same_trees rules drawing root r_first one other sound lt among_one among_other =
     let ends =
     ligands_end (graph_of drawing) (positions_of (graph_of drawing)) root (drawn_sound drawing sound) lt rules
-    (mark_in rules drawing) in
+    (descriptor_in rules drawing) in
     let turned = as_turned _ r_first one other in (
       λ e. same_from_tie _ one other (turned.1 e),
       λ same. turned.0

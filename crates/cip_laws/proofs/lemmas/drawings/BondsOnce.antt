@@ -2,7 +2,7 @@
 use Rattle.std.proofs.Common.{◌∙◌, length}
 use Rattle.cip_mol.specs.Bonds.{IsSound}
 use Rattle.cip_mol.specs.Drawing.{Drawing}
-use Rattle.cip_mol.specs.declared.molecule.Bond.{Bond}
+use Rattle.cip_mol.specs.declared.graph.molecule.Bond.{Bond}
 use Rattle.cip_mol.proofs.lemmas.SimpleBonds.{Once, joins_same-flip, simple_from_sound}
 use Rattle.cip_digraph.proofs.lemmas.lists.Elements.{Pairwise, pairwise_from_pairs}
 

@@ -10,8 +10,8 @@ use Rattle.cip_mol.specs.Geometry.{geometry_of}
 use Rattle.cip_mol.specs.Points.{no_atom}
 use Rattle.cip_mol.specs.Reflection.{mirrored_atom, mirrored_bond, reflected}
 use Rattle.cip_mol.specs.Senses.{other_way}
-use Rattle.cip_mol.specs.declared.descriptor.Sense.TheVariants.{Plus, Minus}
-use Rattle.cip_mol.specs.declared.molecule.Bond as molecules
+use Rattle.cip_mol.specs.declared.labels.descriptor.Sense.TheVariants.{Plus, Minus}
+use Rattle.cip_mol.specs.declared.graph.molecule.Bond as molecules
 use Rattle.cip_mol.specs.declared.site.Geometry.{Geometry}
 use Rattle.cip_mol.specs.declared.site.Geometry.TheVariants.{Known, Unknown}
 use Rattle.cip_mol.specs.declared.site.Site.{Site}
@@ -22,7 +22,7 @@ use Rattle.cip_laws.proofs.lemmas.senses.ReflectedCentres.{reflection_turns_cent
 use Rattle.cip_laws.proofs.lemmas.senses.ReflectedPairs.{reflection_keeps_bonds}
 use Rattle.cip_digraph.specs.graph.DrawnGraph.{atom_vertex, bond_edge, carriers, graph_of}
 use Rattle.cip_digraph.specs.rules.Exchange.{reflected_geometry, reflected_unit}
-use Rattle.cip_digraph.specs.declared.graph.Edge.{Edge}
+use Rattle.cip_digraph.specs.declared.drawing.graph.Edge.{Edge}
 use Rattle.cip_digraph.specs.graph.Graph.{Graph}
 use Rattle.cip_digraph.specs.graph.Hydrogens.{atom_at, bond_orders, hydrogens_of}
 use Rattle.cip_digraph.specs.graph.LonePairs.{lone_pair_of}
@@ -140,7 +140,7 @@ module _ (drawing : Drawing) where
   reflects_drawing = record {
     graph = graph_kept;
     all_units = units_mirrored;
-    marks = λ rules path.
+    descriptors = λ rules path.
         rw (units_mirrored, graph_kept)
         (auxiliary_exchanged rules (graph_of drawing) (positions_of (graph_of drawing)) (units_in drawing) path);
     costs = λ rules unit.

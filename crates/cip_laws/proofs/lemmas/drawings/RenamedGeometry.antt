@@ -12,10 +12,10 @@ use Rattle.cip_mol.specs.DrawnLigands.{drawn}
 use Rattle.cip_mol.specs.Geometry.{of_centre, of_bond, of_axis, centre_geometry, bond_geometry, axis_geometry}
 use Rattle.cip_mol.specs.Marks.{is_either, mark_sign, is_narrow_at, has_either, joins, is_crossed, mark_to}
 use Rattle.cip_mol.specs.Points.{no_atom, point, step, flat_step, steps, flat_steps, is_nought, is_spatial}
-use Rattle.cip_mol.specs.declared.molecule.Atom.{Atom}
-use Rattle.cip_mol.specs.declared.molecule.Bond.{Bond}
-use Rattle.cip_mol.specs.declared.molecule.Mark.{Mark}
-use Rattle.cip_mol.specs.declared.molecule.Mark.TheVariants.{Plain}
+use Rattle.cip_mol.specs.declared.graph.molecule.Atom.{Atom}
+use Rattle.cip_mol.specs.declared.graph.molecule.Bond.{Bond}
+use Rattle.cip_mol.specs.declared.graph.molecule.Mark.{Mark}
+use Rattle.cip_mol.specs.declared.graph.molecule.Mark.TheVariants.{Plain}
 use Rattle.cip_mol.specs.declared.site.Geometry.{Geometry}
 use Rattle.cip_mol.specs.declared.site.Ligand.{Ligand}
 use Rattle.cip_mol.specs.declared.site.Ligand.TheVariants.{Vertex, LonePair}

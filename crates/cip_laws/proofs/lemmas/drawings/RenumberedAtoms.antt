@@ -10,7 +10,7 @@ use Rattle.cip_mol.specs.Bonds.{touches, degree}
 use Rattle.cip_mol.specs.Bonds as bonds
 use Rattle.cip_mol.specs.Drawing.{Drawing}
 use Rattle.cip_mol.specs.Points.{no_atom}
-use Rattle.cip_mol.specs.declared.molecule.Bond.{Bond}
+use Rattle.cip_mol.specs.declared.graph.molecule.Bond.{Bond}
 use Rattle.cip_mol.proofs.lemmas.SimpleBonds.{IsJoin, simple_from_sound}
 use Rattle.cip_digraph.specs.graph.Hydrogens.{atom_at, bond_orders, hydrogens_of}
 use Rattle.cip_digraph.specs.graph.LonePairs.{lone_pair_of}

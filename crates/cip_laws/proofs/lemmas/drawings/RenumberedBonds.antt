@@ -9,7 +9,7 @@ use Rattle.cip_mol.specs.Bonds.{degree}
 use Rattle.cip_mol.specs.Bonds as bonds
 use Rattle.cip_mol.specs.Drawing.{Drawing}
 use Rattle.cip_mol.specs.Marks.{joins}
-use Rattle.cip_mol.specs.declared.molecule.Bond.{Bond}
+use Rattle.cip_mol.specs.declared.graph.molecule.Bond.{Bond}
 use Rattle.cip_mol.proofs.lemmas.SimpleBonds.{IsJoin, Once, simple_from_sound, sound_from_simple}
 use Rattle.cip_digraph.specs.graph.Renumbering.{IsForward, IsTurned, IsRenumbering}
 use Rattle.cip_digraph.proofs.lemmas.lists.Elements.{Pairwise, pairs_from_pairwise, all_arranged}

@@ -12,7 +12,7 @@ use Rattle.cip_mol.specs.Drawing.{Drawing}
 use Rattle.cip_mol.specs.Permutations.{ArePlaces}
 use Rattle.cip_mol.specs.Points.{no_atom}
 use Rattle.cip_mol.specs.RenumberedDrawing.{no_bond, place_of, renamed, renumbered}
-use Rattle.cip_mol.specs.declared.molecule.Bond.{Bond}
+use Rattle.cip_mol.specs.declared.graph.molecule.Bond.{Bond}
 use Rattle.cip_mol.proofs.lemmas.Permutations.{as_many}
 use Rattle.cip_mol.proofs.lemmas.Placing.{length-placed, placed_at, IsPermutation-placed}
 use Rattle.cip_mol.proofs.lemmas.Renumbered.{for_renamed}

@@ -6,8 +6,8 @@ use Rattle.cip_mol.specs.Drawing.{Drawing}
 use Rattle.cip_mol.specs.Geometry.{geometry_of}
 use Rattle.cip_mol.specs.Marks.{is_crossed}
 use Rattle.cip_mol.specs.Reflection.{mirrored_bond, reflected}
-use Rattle.cip_mol.specs.declared.molecule.Bond as molecules
-use Rattle.cip_mol.specs.declared.molecule.Mark.TheVariants as marks
+use Rattle.cip_mol.specs.declared.graph.molecule.Bond as molecules
+use Rattle.cip_mol.specs.declared.graph.molecule.Mark.TheVariants as marks
 use Rattle.cip_mol.specs.declared.site.Cause.TheVariants.{Either}
 use Rattle.cip_mol.specs.declared.site.Geometry.{Geometry}
 use Rattle.cip_mol.specs.declared.site.Geometry.TheVariants.{Unknown}

@@ -7,7 +7,7 @@ use Rattle.std.proofs.Math.Bool.{or-false, or_comm}
 use Rattle.cip_mol.specs.Bonds as bonds
 use Rattle.cip_mol.specs.Drawing.{Drawing}
 use Rattle.cip_mol.specs.Marks.{is_crossed, is_either}
-use Rattle.cip_mol.specs.declared.molecule.Bond as molecules
+use Rattle.cip_mol.specs.declared.graph.molecule.Bond as molecules
 use Rattle.cip_digraph.specs.graph.DrawnGraph.{graph_of}
 use Rattle.cip_digraph.specs.graph.Graph.{Graph, vertex_at}
 use Rattle.cip_digraph.specs.graph.Renumbering.{IsRenumbering}

@@ -8,7 +8,7 @@ use Rattle.std.proofs.lemmas.List.{append-nil}
 use Rattle.std.proofs.lemmas.List.FromFn.{get_or-map-range_with_len}
 use Rattle.cip_digraph.specs.rings.Alternating.{is_in, counted_at, is_one_double, is_alternating, partner_by, partner, singles, closes_ring}
 use Rattle.cip_digraph.specs.rings.AlternatingRings.{Alternates, met, ring_of, IsAlternatingRing}
-use Rattle.cip_digraph.specs.declared.graph.Edge.{Edge}
+use Rattle.cip_digraph.specs.declared.drawing.graph.Edge.{Edge}
 use Rattle.cip_digraph.specs.graph.Graph.{Graph, edges_at, other_end, neighbours}
 use Rattle.cip_digraph.specs.rings.Positions.{positions_at, positions_of, is_delocalised}
 use Rattle.cip_digraph.specs.graph.SoundGraphs.{JoinsBelow, IsSound}

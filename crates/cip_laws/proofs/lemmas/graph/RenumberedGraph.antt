@@ -9,10 +9,10 @@ use Rattle.std.proofs.lemmas.List.Sorted.{IsPermutation-refl, IsPermutation-sym,
 use Rattle.cip_rank.specs.Matching.{InPairs}
 use Rattle.cip_mol.specs.Bonds as bonds
 use Rattle.cip_mol.specs.Drawing.{Drawing}
-use Rattle.cip_mol.specs.declared.molecule.Bond.{Bond}
+use Rattle.cip_mol.specs.declared.graph.molecule.Bond.{Bond}
 use Rattle.cip_mol.proofs.lemmas.SimpleBonds.{IsJoin}
 use Rattle.cip_digraph.specs.graph.DrawnGraph.{atom_vertex, hydrogen, bond_edge, carriers, hydrogen_edges, graph_of}
-use Rattle.cip_digraph.specs.declared.graph.Edge.{Edge}
+use Rattle.cip_digraph.specs.declared.drawing.graph.Edge.{Edge}
 use Rattle.cip_digraph.specs.graph.Graph.{Graph, no_vertex, vertex_at, other_end, insert_up, sorted_up, edges_at}
 use Rattle.cip_digraph.specs.graph.Graph as graphs
 use Rattle.cip_digraph.specs.graph.Hydrogens.{hydrogens_of}

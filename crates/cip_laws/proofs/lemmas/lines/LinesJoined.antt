@@ -4,7 +4,7 @@ use Rattle.std.specs.List.{cons_option}
 use Rattle.std.proofs.lemmas.List.{append_assoc}
 use Rattle.cip_ctfile.specs.Reading.{◌>>=◌}
 use Rattle.cip_ctfile.proofs.lemmas.Given.{given_of}
-use Rattle.cip_v3000.specs.declared.block_lines.BlockLine.TheVariants.{EndTable}
+use Rattle.cip_v3000.specs.declared.lines.block_lines.BlockLine.TheVariants.{EndTable}
 use Rattle.cip_v3000.specs.Frames.{is_frame}
 use Rattle.cip_v3000.specs.Grammar.{words_in}
 use Rattle.cip_v3000.specs.JoinedLines.{LogicalLine}

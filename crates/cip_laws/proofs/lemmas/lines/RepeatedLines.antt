@@ -1,7 +1,7 @@
 -- The line at which an atom that is named twice is reported.
 use Rattle.std.proofs.Common.{◌≡◌, inl, inr, ℕ, List, [], ◌∷◌, ◌++◌, Bool, true, false, Ok, Err, cond, refl, sym, ap, ◌∙◌}
 use Rattle.cip_ctfile.specs.Reading.{◌>>=◌}
-use Rattle.cip_v3000.specs.declared.block_lines.BlockLine.TheVariants.{EndTable}
+use Rattle.cip_v3000.specs.declared.lines.block_lines.BlockLine.TheVariants.{EndTable}
 use Rattle.cip_v3000.specs.Frames.{is_frame}
 use Rattle.cip_v3000.specs.Grammar.{words_in}
 use Rattle.cip_v3000.specs.JoinedLines.{LogicalLine}

@@ -6,7 +6,7 @@ use Rattle.std.proofs.lemmas.List.{append-nil}
 use Rattle.std.proofs.Math.Bool.{or-true}
 use Rattle.cip_ctfile.specs.Reading.{◌>>=◌}
 use Rattle.cip_ctfile.specs.Turns.{over}
-use Rattle.cip_v3000.specs.declared.block_lines.BlockLine.TheVariants.{BeginCollection, EndCollection}
+use Rattle.cip_v3000.specs.declared.lines.block_lines.BlockLine.TheVariants.{BeginCollection, EndCollection}
 use Rattle.cip_v3000.specs.Frames.{is_frame}
 use Rattle.cip_stereogroups.specs.declared.collection_blocks.GroupBuilder.{GroupBuilder}
 use Rattle.cip_stereogroups.specs.declared.faults.GroupCause.{GroupCause}

@@ -4,9 +4,9 @@ use Rattle.std.specs.List.{AllByRecursion}
 use Rattle.std.proofs.lemmas.List.Elements.{recursion_from_All}
 use Rattle.std.proofs.lemmas.Bool.{and_parts, or_cases}
 use Rattle.cip_mol.specs.Marks.{is_narrow_at, joins}
-use Rattle.cip_mol.specs.declared.molecule.Bond.{Bond}
-use Rattle.cip_mol.specs.declared.molecule.Mark.{Mark}
-use Rattle.cip_mol.specs.declared.molecule.Mark.TheVariants.{Plain}
+use Rattle.cip_mol.specs.declared.graph.molecule.Bond.{Bond}
+use Rattle.cip_mol.specs.declared.graph.molecule.Mark.{Mark}
+use Rattle.cip_mol.specs.declared.graph.molecule.Mark.TheVariants.{Plain}
 use Rattle.cip_edit.specs.Marking.{bare_bonds, can_be_marked, is_plain, marked_to, with_mark, without_mark}
 use Rattle.cip_edit.specs.Remarked.{AreRemarked, IsRemarked}
 use Rattle.cip_laws.specs.Marks.{GivenMarksKeepOrders, IsDrawnFrom}

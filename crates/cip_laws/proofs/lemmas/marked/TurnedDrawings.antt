@@ -9,9 +9,9 @@ use Rattle.cip_rank.specs.Matching.{InPairs}
 use Rattle.cip_mol.specs.Bonds.{touches}
 use Rattle.cip_mol.specs.Drawing.{Drawing}
 use Rattle.cip_mol.specs.Marks.{joins}
-use Rattle.cip_mol.specs.declared.molecule.Bond.{Bond}
-use Rattle.cip_mol.specs.declared.molecule.Mark.{Mark}
-use Rattle.cip_mol.specs.declared.molecule.Mark.TheVariants.{Plain, Up, Down, Either}
+use Rattle.cip_mol.specs.declared.graph.molecule.Bond.{Bond}
+use Rattle.cip_mol.specs.declared.graph.molecule.Mark.{Mark}
+use Rattle.cip_mol.specs.declared.graph.molecule.Mark.TheVariants.{Plain, Up, Down, Either}
 use Rattle.cip_digraph.specs.graph.Hydrogens.{atom_at, bond_orders, hydrogens, hydrogens_of}
 use Rattle.cip_digraph.specs.graph.Renumbering.{IsImage, IsRenumbering}
 use Rattle.std.proofs.Math.Bool.{or_comm}

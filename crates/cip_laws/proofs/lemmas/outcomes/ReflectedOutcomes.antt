@@ -2,9 +2,9 @@
 use Rattle.std.proofs.Common.{◌≡◌, ℕ, List, [], ◌∷◌, ◌&&◌, map, length, refl, ap, ◌∙◌, Bool, true, false, nat_lt}
 use Rattle.std.specs.List.{list_any}
 use Rattle.cip_rank.specs.declared.rules.Rules.{Rules}
-use Rattle.cip_mol.specs.declared.outcome.Label as labels
-use Rattle.cip_mol.specs.declared.outcome.Outcome.{Outcome}
-use Rattle.cip_mol.specs.declared.outcome.Outcome.TheVariants.{Label, Tie, Over}
+use Rattle.cip_mol.specs.declared.labels.outcome.Label as labels
+use Rattle.cip_mol.specs.declared.labels.outcome.Outcome.{Outcome}
+use Rattle.cip_mol.specs.declared.labels.outcome.Outcome.TheVariants.{Label, Tie, Over}
 use Rattle.cip_mol.specs.declared.site.Geometry.{Geometry}
 use Rattle.cip_mol.specs.declared.site.Geometry.TheVariants.{Known, Unknown}
 use Rattle.cip_mol.specs.declared.site.Site.{Site}
@@ -58,7 +58,7 @@ module _ (rules : Rules) (graph : Graph) (positions : List (List ℕ)) (all : Li
   ends_swapped [] = refl
   ends_swapped (end ∷ ends) =
       ap {B = List (Root Node)} (λ root. root ∷ map (end_root rules graph positions mirrored) ends)
-      (ap (λ mark. root_at rules graph positions mark (end.at ∷ []) end.ligands)
+      (ap (λ descriptor. root_at rules graph positions descriptor (end.at ∷ []) end.ligands)
       (λ i path. auxiliary_exchanged rules graph positions all path i)
       ∙ root_exchanged rules graph positions (auxiliary rules graph positions all) (end.at ∷ []) end.ligands)
       ∙ ap {B = List (Root Node)} (λ roots. swapped (end_root rules graph positions all end) ∷ roots)

@@ -3,9 +3,9 @@ use Rattle.std.proofs.Common.{◌≡◌, ◌≢◌, ℤ, Result, Ok, Err, Option
 use Rattle.std.specs.Option.{ok_or}
 use Rattle.cip_text.specs.declared.numbers.NumberFault.{NumberFault}
 use Rattle.cip_mol.specs.declared.faults.BondCause.{BondCause}
-use Rattle.cip_mol.specs.declared.molecule.Bond.{Bond}
-use Rattle.cip_mol.specs.declared.refusal.ReadCause.{ReadCause}
-use Rattle.cip_mol.specs.declared.refusal.ReadCause.TheVariants.{Short}
+use Rattle.cip_mol.specs.declared.graph.molecule.Bond.{Bond}
+use Rattle.cip_mol.specs.declared.labels.refusal.ReadCause.{ReadCause}
+use Rattle.cip_mol.specs.declared.labels.refusal.ReadCause.TheVariants.{Short}
 use Rattle.cip_mol.specs.Causes.{read_cause}
 use Rattle.cip_ctfile.specs.Causes.{coordinate, guard, unless_refused}
 use Rattle.cip_ctfile.specs.Reading.{◌>>=◌}

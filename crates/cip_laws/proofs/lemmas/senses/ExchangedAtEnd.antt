@@ -11,8 +11,8 @@ use Rattle.cip_num.proofs.lemmas.Signs.{sign_of-neg}
 use Rattle.cip_laws.proofs.lemmas.senses.Determinants.{determinant-negated_second, determinant-negated_third, determinant-exchanged_first, determinant-exchanged_last}
 use Rattle.cip_num.proofs.lemmas.Ring.{neg_neg}
 use Rattle.cip_laws.proofs.lemmas.senses.Exchanges.{list_any-exchanged}
-use Rattle.cip_mol.specs.declared.molecule.Atom.{Atom}
-use Rattle.cip_mol.specs.declared.molecule.Bond.{Bond}
+use Rattle.cip_mol.specs.declared.graph.molecule.Atom.{Atom}
+use Rattle.cip_mol.specs.declared.graph.molecule.Bond.{Bond}
 use Rattle.cip_mol.specs.declared.site.Cause.TheVariants.{Either, Coincident, Contradictory}
 use Rattle.cip_mol.specs.declared.site.Geometry.{Geometry}
 use Rattle.cip_mol.specs.declared.site.Geometry.TheVariants.{Unknown}

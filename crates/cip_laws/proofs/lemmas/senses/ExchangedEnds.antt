@@ -11,8 +11,8 @@ use Rattle.cip_num.proofs.lemmas.Signs.{sign_of-neg, is_zero-opposite, are_alike
 use Rattle.cip_num.proofs.lemmas.Ring.{neg_neg}
 use Rattle.cip_laws.proofs.lemmas.senses.Exchanges.{or_back, or_exchanged}
 use Rattle.cip_laws.proofs.lemmas.senses.Determinants.{facing-negated, facing-exchanged, determinant-negated_first, determinant-negated_second, determinant-exchanged_last}
-use Rattle.cip_mol.specs.declared.molecule.Atom.{Atom}
-use Rattle.cip_mol.specs.declared.molecule.Bond.{Bond}
+use Rattle.cip_mol.specs.declared.graph.molecule.Atom.{Atom}
+use Rattle.cip_mol.specs.declared.graph.molecule.Bond.{Bond}
 use Rattle.cip_mol.specs.declared.site.Cause.TheVariants.{Either, Coincident, Contradictory, NoMark}
 use Rattle.cip_mol.specs.declared.site.Geometry.{Geometry}
 use Rattle.cip_mol.specs.declared.site.Geometry.TheVariants.{Unknown}

@@ -5,10 +5,10 @@ use Rattle.std.specs.List.{swap}
 use Rattle.cip_num.specs.declared.plane.Sign.{Sign}
 use Rattle.cip_num.specs.declared.plane.Vec2.{Vec2}
 use Rattle.cip_num.specs.declared.plane.Vec3.{Vec3}
-use Rattle.cip_mol.specs.declared.molecule.Atom.{Atom}
-use Rattle.cip_mol.specs.declared.molecule.Bond.{Bond}
+use Rattle.cip_mol.specs.declared.graph.molecule.Atom.{Atom}
+use Rattle.cip_mol.specs.declared.graph.molecule.Bond.{Bond}
 use Rattle.cip_mol.specs.declared.site.Cause.TheVariants.{Either}
-use Rattle.cip_mol.specs.declared.descriptor.Sense.TheVariants.{Plus, Minus}
+use Rattle.cip_mol.specs.declared.labels.descriptor.Sense.TheVariants.{Plus, Minus}
 use Rattle.cip_mol.specs.declared.site.Geometry.{Geometry}
 use Rattle.cip_mol.specs.declared.site.Geometry.TheVariants.{Known, Unknown}
 use Rattle.cip_mol.specs.DrawnLigands.{drawn}

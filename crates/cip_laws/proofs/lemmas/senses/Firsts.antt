@@ -1,7 +1,7 @@
 -- The first bond with a fault, one bond after the other.
 use Rattle.std.proofs.Common.{◌≡◌, ◌<◌, ◌+◌, ℕ, List, [], ◌∷◌, length, take, get_or, None, Some, Option, sym, ◌∙◌, ap, below_more, arith}
 use Rattle.std.proofs.lemmas.List.{get_or_default}
-use Rattle.cip_mol.specs.declared.molecule.Bond.{Bond}
+use Rattle.cip_mol.specs.declared.graph.molecule.Bond.{Bond}
 use Rattle.cip_mol.specs.declared.faults.BondCause.{BondCause}
 use Rattle.cip_mol.specs.Bonds.{cause_of, IsFirstFault, IsSound}
 

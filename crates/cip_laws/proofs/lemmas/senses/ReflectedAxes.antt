@@ -9,8 +9,8 @@ use Rattle.cip_num.specs.Signs.{sign_of, opposite, is_zero}
 use Rattle.cip_num.specs.Space.{determinant, negated, mirrored}
 use Rattle.cip_num.proofs.lemmas.Signs.{sign_of-neg, is_zero-opposite, are_alike-opposite}
 use Rattle.cip_laws.proofs.lemmas.senses.Determinants.{determinant-negated_second, determinant-negated_third}
-use Rattle.cip_mol.specs.declared.molecule.Atom.{Atom}
-use Rattle.cip_mol.specs.declared.molecule.Bond.{Bond}
+use Rattle.cip_mol.specs.declared.graph.molecule.Atom.{Atom}
+use Rattle.cip_mol.specs.declared.graph.molecule.Bond.{Bond}
 use Rattle.cip_mol.specs.declared.site.Cause.TheVariants.{Either, Coincident, Contradictory, NoMark}
 use Rattle.cip_mol.specs.declared.site.Geometry.{Geometry}
 use Rattle.cip_mol.specs.declared.site.Geometry.TheVariants.{Unknown}

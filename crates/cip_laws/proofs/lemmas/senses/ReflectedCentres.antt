@@ -12,8 +12,8 @@ use Rattle.cip_num.specs.Space.{determinant, mirrored}
 use Rattle.cip_num.specs.Around.{has_coincident, places}
 use Rattle.cip_num.proofs.lemmas.Signs.{sign_of-neg, is_zero-opposite, is_plus-opposite, is_minus-opposite}
 use Rattle.cip_laws.proofs.lemmas.senses.Determinants.{determinant-mirrored}
-use Rattle.cip_mol.specs.declared.molecule.Atom.{Atom}
-use Rattle.cip_mol.specs.declared.molecule.Bond.{Bond}
+use Rattle.cip_mol.specs.declared.graph.molecule.Atom.{Atom}
+use Rattle.cip_mol.specs.declared.graph.molecule.Bond.{Bond}
 use Rattle.cip_mol.specs.declared.site.Cause.TheVariants.{Either, Coincident, Contradictory, Reentrant, NoMark}
 use Rattle.cip_mol.specs.declared.site.Geometry.{Geometry}
 use Rattle.cip_mol.specs.declared.site.Geometry.TheVariants.{Known, Unknown}

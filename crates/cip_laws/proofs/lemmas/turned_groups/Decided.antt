@@ -1,7 +1,7 @@
 -- The first line with a cause decides.
 use Rattle.std.proofs.Common.{◌≡◌, List, [], ◌∷◌, ◌++◌, Result, Ok, Err, Bool, true, false, cond}
 use Rattle.cip_ctfile.specs.Reading.{◌>>=◌}
-use Rattle.cip_v3000.specs.declared.block_lines.BlockLine.TheVariants.{EndTable}
+use Rattle.cip_v3000.specs.declared.lines.block_lines.BlockLine.TheVariants.{EndTable}
 use Rattle.cip_v3000.specs.Frames.{is_frame}
 use Rattle.cip_v3000.specs.Grammar.{words_in}
 use Rattle.cip_stereogroups.specs.declared.collection_blocks.GroupBuilder.{GroupBuilder}

@@ -15,7 +15,7 @@ use Rattle.cip_digraph.specs.units.Descriptors.{is_odd, shape_of}
 use Rattle.cip_digraph.specs.units.DoubleBonds.{is_double_end, multiples, outer_neighbours, has_end_bonds, is_bond_end, end_ligands, is_bond_unit, bond_site, bond_sites}
 use Rattle.cip_digraph.specs.units.Ends.{End, end_at, ends_of}
 use Rattle.cip_mol.specs.Ends.{between_of}
-use Rattle.cip_digraph.specs.declared.graph.Vertex.{Vertex}
+use Rattle.cip_digraph.specs.declared.drawing.graph.Vertex.{Vertex}
 use Rattle.cip_digraph.specs.graph.Graph.{Graph, vertex_at, edges_at, neighbours, other_end}
 use Rattle.cip_digraph.specs.rings.Positions.{positions_of, is_delocalised}
 use Rattle.cip_digraph.specs.rings.SmallRings.{is_in_small_ring}

@@ -18,7 +18,7 @@ use Rattle.cip_digraph.specs.units.Centres.{drawn_neighbours, is_centre}
 use Rattle.cip_digraph.specs.units.DoubleBonds.{is_double_end, outer_neighbours, has_end_bonds, is_bond_end, end_ligands}
 use Rattle.cip_digraph.specs.graph.DrawnGraph.{graph_of}
 use Rattle.cip_digraph.specs.units.Ends.{end_at}
-use Rattle.cip_digraph.specs.declared.graph.Vertex.{Vertex}
+use Rattle.cip_digraph.specs.declared.drawing.graph.Vertex.{Vertex}
 use Rattle.cip_digraph.specs.graph.Graph.{Graph, vertex_at, edges_at, neighbours, other_end}
 use Rattle.cip_digraph.specs.rings.Positions.{positions_of}
 use Rattle.cip_digraph.specs.graph.SoundGraphs.{IsSound}

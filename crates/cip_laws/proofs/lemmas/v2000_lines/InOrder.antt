@@ -2,9 +2,9 @@
 use Rattle.std.proofs.Common.{◌≡◌, ◌≢◌, ◌≤◌, ◌+◌, ◌-◌, ℕ, zero, suc, List, [], ◌∷◌, ◌++◌, length, drop, Result, Ok, Err, Bool, true, false, cond, refl, sym, ap, ◌∙◌, inl, inr, arith}
 use Rattle.cip_text.specs.Kinds.{is_molecule_end}
 use Rattle.cip_mol.specs.Drawing.{Drawing}
-use Rattle.cip_mol.specs.declared.molecule.Bond.{Bond}
-use Rattle.cip_mol.specs.declared.refusal.ReadCause.TheVariants.{Short, Property}
-use Rattle.cip_mol.specs.declared.refusal.ReadFault.{ReadFault}
+use Rattle.cip_mol.specs.declared.graph.molecule.Bond.{Bond}
+use Rattle.cip_mol.specs.declared.labels.refusal.ReadCause.TheVariants.{Short, Property}
+use Rattle.cip_mol.specs.declared.labels.refusal.ReadFault.{ReadFault}
 use Rattle.cip_ctfile.specs.Laws.{Reader, IsDecidedInOrder}
 use Rattle.cip_ctfile.specs.Reading.{◌>>=◌, read_at, in_turn, pushing}
 use Rattle.cip_laws.proofs.lemmas.reading.InOrder.{DecidesSomewhere, Anywhere, IsLineAt, line_there, decided, gives, alike, mapped, one_after_another, there_decides, line_decides, rows_decide, drop_cases, in_order}

@@ -4,8 +4,8 @@ use Rattle.cip_text.specs.Columns.{field}
 use Rattle.cip_text.specs.Numbers.{decimal4_of}
 use Rattle.cip_elem.specs.Symbols.{element_of}
 use Rattle.cip_mol.specs.Bonds.{cause_of}
-use Rattle.cip_mol.specs.declared.molecule.Bond.{Bond}
-use Rattle.cip_mol.specs.declared.refusal.ReadCause.TheVariants.{Version, Counts, Symbol, AtomField, BondEnd, BondType, BondMark}
+use Rattle.cip_mol.specs.declared.graph.molecule.Bond.{Bond}
+use Rattle.cip_mol.specs.declared.labels.refusal.ReadCause.TheVariants.{Version, Counts, Symbol, AtomField, BondEnd, BondType, BondMark}
 use Rattle.cip_ctfile.specs.Causes.{order_of}
 use Rattle.cip_ctfile.specs.Fields.{number_in, one_based_index, signed_in}
 use Rattle.cip_laws.proofs.lemmas.reading.LineCauses.{IsOfLine, given_is, ok_or_is, then_is, coordinate_is, guard_is, unless_refused_is}

@@ -1,7 +1,7 @@
 -- What is read of a property line has one fault, or none.
 use Rattle.std.proofs.Common.{◌≡◌, ◌+◌, ◌*◌, ℕ, zero, suc, List, [], ◌∷◌, ◌++◌, Result, Ok, Err, Option, Some, None, drop, ap}
 use Rattle.std.specs.Option.{ok_or}
-use Rattle.cip_mol.specs.declared.refusal.ReadFault.{ReadFault}
+use Rattle.cip_mol.specs.declared.labels.refusal.ReadFault.{ReadFault}
 use Rattle.cip_v2000.specs.declared.properties.Property.{Property}
 use Rattle.cip_v2000.specs.declared.atom_properties.Pair.{Pair}
 use Rattle.cip_ctfile.specs.Fields.{number_in, one_based_index}

@@ -6,9 +6,9 @@ use Rattle.std.proofs.lemmas.List.{length-set, length-map}
 use Rattle.cip_text.specs.Columns.{field}
 use Rattle.cip_mol.specs.Bonds.{cause_of, IsSound}
 use Rattle.cip_mol.specs.Drawing.{Drawing}
-use Rattle.cip_mol.specs.declared.molecule.Atom.{Atom}
-use Rattle.cip_mol.specs.declared.molecule.Bond.{Bond}
-use Rattle.cip_mol.specs.declared.refusal.ReadCause.TheVariants.{BondEnd, BondType, BondMark}
+use Rattle.cip_mol.specs.declared.graph.molecule.Atom.{Atom}
+use Rattle.cip_mol.specs.declared.graph.molecule.Bond.{Bond}
+use Rattle.cip_mol.specs.declared.labels.refusal.ReadCause.TheVariants.{BondEnd, BondType, BondMark}
 use Rattle.cip_mol.proofs.lemmas.SoundBonds.{sound_push}
 use Rattle.cip_ctfile.specs.Causes.{order_of}
 use Rattle.cip_ctfile.specs.Fields.{number_in, one_based_index}

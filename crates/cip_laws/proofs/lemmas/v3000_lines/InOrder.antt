@@ -6,16 +6,16 @@ use Rattle.std.proofs.lemmas.Bool.Decides.{nat_tests}
 use Rattle.std.proofs.lemmas.Option.{slice_get_within}
 use Rattle.cip_text.specs.Kinds.{is_molecule_end}
 use Rattle.cip_mol.specs.Drawing.{Drawing}
-use Rattle.cip_mol.specs.declared.refusal.ReadCause.TheVariants.{Short, Frame}
-use Rattle.cip_mol.specs.declared.refusal.ReadFault.{ReadFault}
+use Rattle.cip_mol.specs.declared.labels.refusal.ReadCause.TheVariants.{Short, Frame}
+use Rattle.cip_mol.specs.declared.labels.refusal.ReadFault.{ReadFault}
 use Rattle.cip_ctfile.specs.Causes.{guard}
 use Rattle.cip_ctfile.specs.Laws.{Reader, IsDecidedInOrder}
 use Rattle.cip_ctfile.specs.Reading.{◌>>=◌, numbered, through}
 use Rattle.cip_laws.proofs.lemmas.reading.InOrder.{DecidesSomewhere, Anywhere, IsLineAt, line_there, gives, alike, mapped, one_after_another, there_decides, rows_decide, drop_cases, in_order}
 use Rattle.cip_laws.proofs.lemmas.reading.LineCauses.{guard_is}
-use Rattle.cip_v3000.specs.declared.counts.CountsLine.{CountsLine}
-use Rattle.cip_v3000.specs.declared.block_lines.BlockLine.{BlockLine}
-use Rattle.cip_v3000.specs.declared.block_lines.BlockLine.TheVariants.{BeginTable, BeginAtoms, EndAtoms, BeginBonds, EndBonds, EndTable}
+use Rattle.cip_v3000.specs.declared.values.counts.CountsLine.{CountsLine}
+use Rattle.cip_v3000.specs.declared.lines.block_lines.BlockLine.{BlockLine}
+use Rattle.cip_v3000.specs.declared.lines.block_lines.BlockLine.TheVariants.{BeginTable, BeginAtoms, EndAtoms, BeginBonds, EndBonds, EndTable}
 use Rattle.cip_v3000.specs.AtomLine.{atom_of}
 use Rattle.cip_v3000.specs.BondLine.{bond_of}
 use Rattle.cip_v3000.specs.CountsLine.{counts_of}

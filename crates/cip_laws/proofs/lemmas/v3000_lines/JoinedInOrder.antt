@@ -4,9 +4,9 @@ use Rattle.std.specs.Prelude.{slice_get}
 use Rattle.std.specs.Option.{ok_or}
 use Rattle.std.proofs.lemmas.Bool.{cases_lt}
 use Rattle.std.proofs.lemmas.Option.{slice_get_past}
-use Rattle.cip_mol.specs.declared.refusal.ReadCause.{ReadCause}
-use Rattle.cip_mol.specs.declared.refusal.ReadCause.TheVariants.{Short, Frame}
-use Rattle.cip_mol.specs.declared.refusal.ReadFault.{ReadFault}
+use Rattle.cip_mol.specs.declared.labels.refusal.ReadCause.{ReadCause}
+use Rattle.cip_mol.specs.declared.labels.refusal.ReadCause.TheVariants.{Short, Frame}
+use Rattle.cip_mol.specs.declared.labels.refusal.ReadFault.{ReadFault}
 use Rattle.cip_ctfile.specs.Laws.{Reader}
 use Rattle.cip_ctfile.specs.Reading.{◌>>=◌, numbered}
 use Rattle.cip_laws.proofs.lemmas.reading.InOrder.{Decides, DecidesSomewhere, IsLineAt, IsFaultOf, line_there, same_fault, decided, gives, alike, alike_by, later, goes_on, one_after_another, there_decides, numbered_fails, drop_cases}

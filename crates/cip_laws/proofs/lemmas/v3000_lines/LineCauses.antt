@@ -7,15 +7,15 @@ use Rattle.cip_text.specs.Numbers.{integer_of, decimal4_of}
 use Rattle.cip_elem.specs.Symbols.{element_of}
 use Rattle.cip_num.specs.declared.plane.Vec3.{Vec3}
 use Rattle.cip_mol.specs.Bonds.{cause_of}
-use Rattle.cip_mol.specs.declared.molecule.Bond.{Bond}
-use Rattle.cip_mol.specs.declared.molecule.Mark.{Mark}
-use Rattle.cip_mol.specs.declared.molecule.Mark.TheVariants.{Plain}
-use Rattle.cip_mol.specs.declared.refusal.ReadCause.{ReadCause}
-use Rattle.cip_mol.specs.declared.refusal.ReadCause.TheVariants.{Frame, Counts, Index, Symbol, KeyValue, BondType, BondEnd, BondMark}
+use Rattle.cip_mol.specs.declared.graph.molecule.Bond.{Bond}
+use Rattle.cip_mol.specs.declared.graph.molecule.Mark.{Mark}
+use Rattle.cip_mol.specs.declared.graph.molecule.Mark.TheVariants.{Plain}
+use Rattle.cip_mol.specs.declared.labels.refusal.ReadCause.{ReadCause}
+use Rattle.cip_mol.specs.declared.labels.refusal.ReadCause.TheVariants.{Frame, Counts, Index, Symbol, KeyValue, BondType, BondEnd, BondMark}
 use Rattle.cip_ctfile.specs.Causes.{order_of}
 use Rattle.cip_ctfile.specs.Fields.{parse_number, parse_signed}
 use Rattle.cip_laws.proofs.lemmas.reading.LineCauses.{IsOfLine, given_is, cause_is, ok_or_is, then_is, coordinate_is, guard_is, unless_refused_is}
-use Rattle.cip_v3000.specs.declared.keys.AtomKeys.{AtomKeys}
+use Rattle.cip_v3000.specs.declared.values.keys.AtomKeys.{AtomKeys}
 use Rattle.cip_v3000.specs.AtomLine.{word_at, unless_known, new_index, is_number, isotope_of, point_of, atom_by, atom_of}
 use Rattle.cip_v3000.specs.BondLine.{mark_of, with_mark, place_of, bond_by, bond_of}
 use Rattle.cip_v3000.specs.CountsLine.{is_counts, count_at, counts_of}

@@ -3,17 +3,17 @@ use Rattle.std.proofs.Common.{◌≡◌, ◌+◌, ℕ, List, [], ◌∷◌, ◌+
 use Rattle.std.specs.Prelude.{slice_get, nat_lt}
 use Rattle.cip_mol.specs.Bonds.{cause_of, IsSound}
 use Rattle.cip_mol.specs.Drawing.{Drawing}
-use Rattle.cip_mol.specs.declared.molecule.Bond.{Bond}
-use Rattle.cip_mol.specs.declared.refusal.ReadCause.{ReadCause}
-use Rattle.cip_mol.specs.declared.refusal.ReadCause.TheVariants.{Frame}
-use Rattle.cip_mol.specs.declared.refusal.ReadFault.{ReadFault}
+use Rattle.cip_mol.specs.declared.graph.molecule.Bond.{Bond}
+use Rattle.cip_mol.specs.declared.labels.refusal.ReadCause.{ReadCause}
+use Rattle.cip_mol.specs.declared.labels.refusal.ReadCause.TheVariants.{Frame}
+use Rattle.cip_mol.specs.declared.labels.refusal.ReadFault.{ReadFault}
 use Rattle.cip_mol.proofs.lemmas.SoundBonds.{sound_push}
 use Rattle.cip_ctfile.specs.Causes.{guard, unless_refused}
 use Rattle.cip_ctfile.specs.Fields.{parse_number}
 use Rattle.cip_ctfile.proofs.lemmas.Given.{same_given, given_of, numbered_given, unrefused, kept_through}
 use Rattle.cip_ctfile.proofs.lemmas.Rows.{length-push}
 use Rattle.cip_v3000.specs.declared.bonds.BondLine.{BondLine}
-use Rattle.cip_v3000.specs.declared.block_lines.BlockLine.TheVariants.{BeginTable, BeginAtoms, EndAtoms, BeginBonds, EndBonds}
+use Rattle.cip_v3000.specs.declared.lines.block_lines.BlockLine.TheVariants.{BeginTable, BeginAtoms, EndAtoms, BeginBonds, EndBonds}
 use Rattle.cip_v3000.specs.AtomLine.{atom_of, new_index, word_at}
 use Rattle.cip_v3000.specs.BondLine.{bond_by, bond_of}
 use Rattle.cip_v3000.specs.CountsLine.{counts_of}

@@ -3,7 +3,7 @@ use Rattle.std.proofs.Common.{◌≡◌, ℕ, List, [], ◌∷◌, ◌++◌, cod
 use Rattle.cip_text.specs.Numbers.{integer_of, decimal4_of}
 use Rattle.cip_elem.specs.Symbols.{element_of}
 use Rattle.cip_mol.specs.Bonds.{cause_of}
-use Rattle.cip_mol.specs.declared.refusal.ReadCause.TheVariants.{Frame}
+use Rattle.cip_mol.specs.declared.labels.refusal.ReadCause.TheVariants.{Frame}
 use Rattle.cip_ctfile.specs.Fields.{parse_number, parse_signed}
 use Rattle.cip_ctfile.specs.Reading.{through}
 use Rattle.cip_v3000.specs.AtomLine.{new_index, atom_by, atom_of}

@@ -2,7 +2,7 @@ use Rattle.std.proofs.Common.{refl}
 use Rattle.cip_elem.specs.Bonding.{valences_of}
 use Rattle.cip_elem.specs.Masses.{natural_half_of}
 use Rattle.cip_rank.specs.Comparison.{comparison, sets}
-use Rattle.cip_digraph.specs.rules.Auxiliary.{marks_within}
+use Rattle.cip_digraph.specs.rules.Auxiliary.{descriptors_within}
 use Rattle.cip_digraph.specs.rules.Decisions.{order}
 use Rattle.cip_digraph.specs.digraph.Digraph.{real_children}
 use Rattle.cip_digraph.specs.graph.DrawnGraph.{graph_of}
@@ -18,7 +18,7 @@ use Rattle.cip_laws.proofs.worked.worked_further_is_labelled.Goals as goal
 
 pub returns : goal.returns
 unfolding valences_of graph_of positions_of sites_of natural_half_of real_children view_children comparison sets rule_1a
-    rule_1b rule_2 rule_3 rule_4a readings rule_4b_higher rule_4b_lower rule_4c rule_5 order marks_within outcome_of
+    rule_1b rule_2 rule_3 rule_4a readings rule_4b_higher rule_4b_lower rule_4c rule_5 order descriptors_within outcome_of
     share_alternating_ring is_biaryl further_of
 returns c = record {
   chain = refl;

@@ -1,5 +1,5 @@
 use Rattle.std.proofs.Common.{◌<◌, arith, false, length}
-use Rattle.cip_digraph.specs.declared.graph.Edge.{Edge}
+use Rattle.cip_digraph.specs.declared.drawing.graph.Edge.{Edge}
 use Rattle.cip_mancude.proofs.lemmas.Noted.{all_noted, noted_next}
 use Rattle.std.proofs.lemmas.Grind.{common_steps}
 use Rattle.cip_mancude.proofs.alternating.partners_of.Goals as goal

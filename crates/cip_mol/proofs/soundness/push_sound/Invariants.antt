@@ -1,5 +1,5 @@
 use Rattle.std.proofs.Common.{◌≡◌, ◌<◌, ℕ, None, take, get_or}
-use Rattle.cip_mol.specs.declared.molecule.Bond.{Bond}
+use Rattle.cip_mol.specs.declared.graph.molecule.Bond.{Bond}
 use Rattle.cip_mol.specs.Bonds.{cause_of}
 use Rattle.cip_mol.proofs.soundness.push_sound.Given as goal
 

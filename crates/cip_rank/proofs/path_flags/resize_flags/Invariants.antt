@@ -2,11 +2,11 @@ use Rattle.std.proofs.Common.{◌≡◌, ◌≤◌, ◌-◌, ℕ, false, length,
 use Rattle.std.specs.List.{slice_index_or}
 use Rattle.cip_rank.proofs.path_flags.resize_flags.Given as goal
 
-abbrev pub invariant-loop-marks : goal.invariant-loop-marks
-invariant-loop-marks l = record {
-  off : (x : ℕ) → slice_index_or l.marks.items x false ≡ false;
-  room : vec_capacity l.fn.marks ≤ vec_capacity l.marks;
+abbrev pub invariant-loop-flags : goal.invariant-loop-flags
+invariant-loop-flags l = record {
+  off : (x : ℕ) → slice_index_or l.flags.items x false ≡ false;
+  room : vec_capacity l.fn.flags ≤ vec_capacity l.flags;
 }
 
-abbrev pub decreases-loop-marks : goal.decreases-loop-marks
-decreases-loop-marks l = l.count - length l.marks.items
+abbrev pub decreases-loop-flags : goal.decreases-loop-flags
+decreases-loop-flags l = l.count - length l.flags.items

@@ -20,11 +20,11 @@ returns-clause-ranked c =
     (λ (root : ℕ). RankedAs setting arena.bound root ligands (standing_of standing) Known) c.requires.rooted.at
     (late_ranked setting ligands arena c.requires.rooted.holds c.args.rooted.now.proper.sound fit
     c.requires.rooted.fits c.requires.settled c.args.work.now c.requires.pairs c.requires.constituted
-    c.requires.undone c.find_marks.new.tables.marks.marks c.in-Ok.ensures.marks standing ordered))
+    c.requires.undone c.find_descriptors.new.tables.descriptors.descriptors c.in-Ok.ensures.descriptors standing ordered))
 
 pub apply_rules_3_to_5-requires-clause-keyed : goal.apply_rules_3_to_5-requires-clause-keyed
 apply_rules_3_to_5-requires-clause-keyed c =
-    subst (λ n. AreKeyed n c.args.work.now.branched.layers.place_tree) (sym c.in-Ok.ensures.marks.len)
+    subst (λ n. AreKeyed n c.args.work.now.branched.layers.place_tree) (sym c.in-Ok.ensures.descriptors.len)
     c.requires.constituted.keyed
 
 pub returns-clause-pairs : goal.returns-clause-pairs
@@ -40,7 +40,7 @@ pub returns-clause-len : goal.returns-clause-len
 returns-clause-len c = c.apply_rules_3_to_5.ensures.len
 
 pub returns-clause-aside : goal.returns-clause-aside
-returns-clause-aside c = c.find_marks.ensures.aside
+returns-clause-aside c = c.find_descriptors.ensures.aside
 
 pub returns-clause-parities : goal.returns-clause-parities
-returns-clause-parities c = c.find_marks.ensures.parities
+returns-clause-parities c = c.find_descriptors.ensures.parities

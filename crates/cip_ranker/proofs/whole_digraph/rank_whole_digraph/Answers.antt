@@ -4,7 +4,7 @@ use Rattle.cip_constitution.specs.declared.pairs.VertexPair.{VertexPair}
 use Rattle.cip_rank.specs.declared.rules.Rules.{Rules}
 use Rattle.cip_label.specs.BranchComparison.{RankedAs}
 use Rattle.cip_label.specs.declared.root_ranker.Ranking.TheVariants.{Known}
-use Rattle.cip_digraph.specs.declared.branch_pair.BranchPair.{BranchPair}
+use Rattle.cip_digraph.specs.declared.decisions.branch_pair.BranchPair.{BranchPair}
 use Rattle.cip_ranker.specs.Keeping.{StandsAnyway, kept_of}
 use Rattle.cip_ranker.specs.Standing.{Standing, both_as, standing_of}
 use Rattle.cip_ranker.specs.declared.checkpoint.RootCheckpoint.{RootCheckpoint}

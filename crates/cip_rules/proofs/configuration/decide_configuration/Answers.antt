@@ -1,48 +1,48 @@
 use Rattle.std.proofs.Common.{true, false, sym, ◌∙◌, subst, length, ◌≤◌}
 use Rattle.cip_rules.proofs.lemmas.ConfigurationDecided.{last_decides, decided_before}
-use Rattle.cip_rules.proofs.lemmas.MarkedPlaces.{marks_stay}
+use Rattle.cip_rules.proofs.lemmas.DescriptorPlaces.{descriptors_stay}
 use Rattle.cip_partition.specs.Keys.{AreKeyed}
 use Rattle.cip_partition.specs.PlaceTree.{PlaceTree}
 use Rattle.cip_rules.proofs.lemmas.TakenSteps.{same_still, same_then}
-use Rattle.cip_rules.proofs.lemmas.UnmarkedBranches.{unmarked_order}
+use Rattle.cip_rules.proofs.lemmas.BranchesWithoutDescriptors.{order_without_descriptors}
 use Rattle.cip_rules.proofs.configuration.decide_configuration.Goals as goal
 
 pub returns-then-has_no_descriptors-clause-decided : goal.returns-then-has_no_descriptors-clause-decided
 returns-then-has_no_descriptors-clause-decided g c seen named node count begin within before known =
-    let marks = g.M.DescriptorMap.marks c.args.marks.now in
+    let descriptors = g.M.DescriptorMap.descriptors c.args.descriptors.now in
     let now = c.args.branches.now in
     let pairs = c.args.pairs.now in
     let bare = c.has_no_descriptors.ensures.none c.if-has_no_descriptors.true in (
-      unmarked_order seen named node count begin within now pairs before marks known bare true,
-      c.copy_from_slice.ensures.after ∙ unmarked_order seen named node count begin within now pairs before marks known
+      order_without_descriptors seen named node count begin within now pairs before descriptors known bare true,
+      c.copy_from_slice.ensures.after ∙ order_without_descriptors seen named node count begin within now pairs before descriptors known
           bare false,
     )
 
 pub returns-then-decide_before_last-clause-decided : goal.returns-then-decide_before_last-clause-decided
 returns-then-decide_before_last-clause-decided g c seen named node count begin within before known =
-    let marks = g.M.DescriptorMap.marks c.args.marks.now in
+    let descriptors = g.M.DescriptorMap.descriptors c.args.descriptors.now in
     let ready = c.decide_before_last.ensures.decided.each seen named node count begin within before known in
     let done = sym c.decide_before_last.ensures.all ∙ c.if-decide_before_last.true in
     let now = c.decide_before_last.new.branches in
     let new = c.decide_before_last.new.pairs in (
-      decided_before marks seen named node count begin within true now new ready done,
-      c.copy_from_slice-then-decide_before_last.ensures.after ∙ decided_before marks seen named node count begin within false now new ready done,
+      decided_before descriptors seen named node count begin within true now new ready done,
+      c.copy_from_slice-then-decide_before_last.ensures.after ∙ decided_before descriptors seen named node count begin within false now new ready done,
     )
 
 pub returns-else-decide_before_last-clause-decided : goal.returns-else-decide_before_last-clause-decided
 returns-else-decide_before_last-clause-decided g c seen named node count begin within before known =
-    let marks = g.M.DescriptorMap.marks c.args.marks.now in
+    let descriptors = g.M.DescriptorMap.descriptors c.args.descriptors.now in
     let mid = c.decide_before_last.new.branches in
     let half = c.decide_before_last.new.pairs in
     let ready = c.decide_before_last.ensures.decided.each seen named node count begin within before known in
     let stands = ready.stands (sym c.decide_before_last.ensures.all ∙ c.if-decide_before_last.false) in
-    let still = marks_stay named marks seen.mark c.args.branches.now mid c.decide_before_last.ensures.place_tree
+    let still = descriptors_stay named descriptors seen.descriptor c.args.branches.now mid c.decide_before_last.ensures.place_tree
     c.decide_before_last.ensures.unresolved known in
     let first = c.decide_last.ensures.decided in
     let turned = c.decide_last.ensures.turned in (
-      last_decides marks seen named node count begin within true mid first.now half c.decide_last.new.pairs stands still
+      last_decides descriptors seen named node count begin within true mid first.now half c.decide_last.new.pairs stands still
           first.takes,
-      last_decides marks seen named node count begin within false mid turned.now half c.decide_last.new.turned stands
+      last_decides descriptors seen named node count begin within false mid turned.now half c.decide_last.new.turned stands
           still turned.takes,
     )
 
@@ -65,7 +65,7 @@ decide_last-requires-clause-room g c =
 
 pub decide_last-requires-clause-keyed : goal.decide_last-requires-clause-keyed
 decide_last-requires-clause-keyed g c =
-    subst (AreKeyed (length (g.M.DescriptorMap.marks c.args.marks.now))) (sym c.decide_before_last.ensures.place_tree)
+    subst (AreKeyed (length (g.M.DescriptorMap.descriptors c.args.descriptors.now))) (sym c.decide_before_last.ensures.place_tree)
     c.requires.keyed
 
 pub decide_before_last-requires-clause-keyed : goal.decide_before_last-requires-clause-keyed

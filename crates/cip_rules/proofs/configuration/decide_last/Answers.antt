@@ -1,39 +1,39 @@
 use Rattle.std.proofs.Common.{◌∙◌, false, true, ap, arith}
-use Rattle.cip_mol.specs.declared.outcome.Rule.TheVariants.{R5}
+use Rattle.cip_mol.specs.declared.labels.outcome.Rule.TheVariants.{R5}
 use Rattle.cip_rules.specs.Rule4bWorkspace.{Readied}
-use Rattle.cip_rules.proofs.lemmas.MarkedKeys.{taken_by_marks, taken_by_none, uncounted_turned}
+use Rattle.cip_rules.proofs.lemmas.DescriptorKeys.{taken_by_descriptors, taken_by_none, uncounted_turned}
 use Rattle.cip_rules.proofs.lemmas.TakenSteps.{same_branches, same_still}
 use Rattle.cip_rules.proofs.configuration.decide_last.Goals as goal
 
 pub returns-else-any_descriptor_counts-clause-decided : goal.returns-else-any_descriptor_counts-clause-decided
 returns-else-any_descriptor_counts-clause-decided g c = record {
   now = c.args.branches.now;
-  takes = taken_by_none (g.M.DescriptorMap.marks c.args.marks.now) c.args.branches.now c.args.pairs.now c.record_decisions.new.pairs true R5
+  takes = taken_by_none (g.M.DescriptorMap.descriptors c.args.descriptors.now) c.args.branches.now c.args.pairs.now c.record_decisions.new.pairs true R5
       c.requires.followed (c.any_descriptor_counts.ensures.none c.if-any_descriptor_counts.false) c.record_decisions.ensures;
 }
 
 pub returns-else-any_descriptor_counts-clause-turned : goal.returns-else-any_descriptor_counts-clause-turned
 returns-else-any_descriptor_counts-clause-turned g c =
-    let marks = g.M.DescriptorMap.marks c.args.marks.now in
+    let descriptors = g.M.DescriptorMap.descriptors c.args.descriptors.now in
     let begin = c.args.branches.now in
     record {
       now = begin;
-      takes = taken_by_none marks begin c.args.pairs.now c.copy_from_slice.new.self false R5 c.requires.followed
-          (uncounted_turned marks begin (c.any_descriptor_counts.ensures.none c.if-any_descriptor_counts.false))
+      takes = taken_by_none descriptors begin c.args.pairs.now c.copy_from_slice.new.self false R5 c.requires.followed
+          (uncounted_turned descriptors begin (c.any_descriptor_counts.ensures.none c.if-any_descriptor_counts.false))
           (c.copy_from_slice.ensures.after ∙ c.record_decisions.ensures);
     }
 
 pub returns-then-any_descriptor_counts-clause-decided : goal.returns-then-any_descriptor_counts-clause-decided
 returns-then-any_descriptor_counts-clause-decided g c = record {
   now = c.apply_rule_5_both_ways.ensures.decided.now;
-  takes = taken_by_marks (g.M.DescriptorMap.marks c.args.marks.now) c.args.branches.now c.args.pairs.now
+  takes = taken_by_descriptors (g.M.DescriptorMap.descriptors c.args.descriptors.now) c.args.branches.now c.args.pairs.now
       c.apply_rule_5_both_ways.new.pairs true R5 c.apply_rule_5_both_ways.ensures.decided.now c.apply_rule_5_both_ways.ensures.decided.takes;
 }
 
 pub returns-then-any_descriptor_counts-clause-turned : goal.returns-then-any_descriptor_counts-clause-turned
 returns-then-any_descriptor_counts-clause-turned g c = record {
   now = c.apply_rule_5_both_ways.new.branches;
-  takes = taken_by_marks (g.M.DescriptorMap.marks c.args.marks.now) c.args.branches.now c.args.pairs.now
+  takes = taken_by_descriptors (g.M.DescriptorMap.descriptors c.args.descriptors.now) c.args.branches.now c.args.pairs.now
       c.apply_rule_5_both_ways.new.turned false R5 c.apply_rule_5_both_ways.new.branches c.apply_rule_5_both_ways.ensures.turned;
 }
 

@@ -1,5 +1,5 @@
 use Rattle.std.proofs.Common.{true, [], ◌∷◌, refl, sym, ◌∙◌, subst}
-use Rattle.cip_mol.specs.declared.outcome.Rule.TheVariants.{R1a, R1b, R2, R3}
+use Rattle.cip_mol.specs.declared.labels.outcome.Rule.TheVariants.{R1a, R1b, R2, R3}
 use Rattle.cip_rules.proofs.lemmas.RulesGoOn.{keys_stay}
 use Rattle.cip_rules.proofs.lemmas.RulesReady.{ready_next, ready_early}
 use Rattle.cip_rules.proofs.lemmas.TakenSteps.{fewer_still}

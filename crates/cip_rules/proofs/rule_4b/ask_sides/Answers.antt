@@ -2,7 +2,7 @@ use Rattle.std.proofs.Common.{List, ◌++◌, ◌∷◌, [], length, map, sym, a
 use Rattle.std.specs.List.{range_with_len}
 use Rattle.std.proofs.lemmas.List.FromFn.{length-map-range_with_len}
 use Rattle.cip_partition.specs.ReservedList.{ReservedList}
-use Rattle.cip_digraph.specs.declared.branch_pair.BranchPair.{BranchPair}
+use Rattle.cip_digraph.specs.declared.decisions.branch_pair.BranchPair.{BranchPair}
 use Rattle.cip_rules.specs.Rule4bWorkspace.{side_of}
 use Rattle.cip_rules.proofs.lemmas.ReadingKeys.{mapped_place}
 use Rattle.cip_rules.proofs.rule_4b.ask_sides.Goals as goal

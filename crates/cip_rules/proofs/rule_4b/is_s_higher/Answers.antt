@@ -4,7 +4,7 @@ use Rattle.std.specs.declared.cmp.Ordering.{Ordering}
 use Rattle.std.specs.declared.cmp.Ordering.TheVariants.{Less, Equal, Greater}
 use Rattle.std.proofs.lemmas.List.{get_or-map}
 use Rattle.cip_partition.specs.Parting.{has_flag}
-use Rattle.cip_digraph.specs.declared.branch_pair.BranchPair.{BranchPair}
+use Rattle.cip_digraph.specs.declared.decisions.branch_pair.BranchPair.{BranchPair}
 use Rattle.cip_rules.specs.Rule4bWorkspace.{is_second, s_higher}
 use Rattle.cip_rules.proofs.rule_4b.is_s_higher.Goals as goal
 

@@ -1,9 +1,9 @@
 use Rattle.std.proofs.Common.{List, map, sym, ap, ◌∙◌, subst}
-use Rattle.cip_mol.specs.declared.outcome.Rule.TheVariants.{R4b}
+use Rattle.cip_mol.specs.declared.labels.outcome.Rule.TheVariants.{R4b}
 use Rattle.cip_branches.specs.Twins.{twins_of}
 use Rattle.cip_partition.specs.Keys.{AreKeyed}
 use Rattle.cip_partition.specs.PlaceTree.{PlaceTree}
-use Rattle.cip_digraph.specs.declared.branch_pair.BranchPair.{BranchPair}
+use Rattle.cip_digraph.specs.declared.decisions.branch_pair.BranchPair.{BranchPair}
 use Rattle.std.specs.List.{list_all}
 use Rattle.cip_digraph.specs.Asking.{is_decided}
 use Rattle.cip_rules.specs.Rule4bWorkspace.{base_of, between}

@@ -1,10 +1,10 @@
 use Rattle.std.proofs.Common.{◌≡◌, ◌≤◌, List, length, sym, ap, ◌∙◌, subst, arith}
 use Rattle.std.specs.Vec.{with_items}
 use Rattle.std.proofs.lemmas.List.{with_items_is}
-use Rattle.cip_mol.specs.declared.outcome.Rule.TheVariants.{R4b}
+use Rattle.cip_mol.specs.declared.labels.outcome.Rule.TheVariants.{R4b}
 use Rattle.cip_branches.specs.Twins.{twins_of}
 use Rattle.cip_partition.specs.ReservedList.{ReservedList}
-use Rattle.cip_digraph.specs.declared.branch_pair.BranchPair.{BranchPair}
+use Rattle.cip_digraph.specs.declared.decisions.branch_pair.BranchPair.{BranchPair}
 use Rattle.cip_rules.specs.Taking.{TakesRule}
 use Rattle.cip_rules.proofs.rule_4b.take_sides.Goals as goal
 use Rattle.cip_rules.proofs.rule_4b.take_sides.Goals.{After-take_again}

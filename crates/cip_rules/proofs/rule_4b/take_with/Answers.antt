@@ -1,10 +1,10 @@
 use Rattle.std.proofs.Common.{◌+◌, List, length, sym, ap, ◌∙◌, subst}
-use Rattle.cip_mol.specs.declared.outcome.Rule.TheVariants.{R4b}
+use Rattle.cip_mol.specs.declared.labels.outcome.Rule.TheVariants.{R4b}
 use Rattle.cip_branches.specs.Twins.{twins_of}
 use Rattle.cip_partition.specs.Keys.{AreKeyed}
 use Rattle.cip_partition.specs.PlaceTree.{PlaceTree}
 use Rattle.cip_partition.specs.ReservedList.{ReservedList}
-use Rattle.cip_digraph.specs.declared.branch_pair.BranchPair.{BranchPair}
+use Rattle.cip_digraph.specs.declared.decisions.branch_pair.BranchPair.{BranchPair}
 use Rattle.cip_rules.specs.Rule4bWorkspace.{reading_keys, ComparesReadings}
 use Rattle.cip_rules.specs.Taking.{TakesRule}
 use Rattle.cip_rules.proofs.rule_4b.take_with.Goals as goal
@@ -48,7 +48,7 @@ pub returns-clause-taken : goal.returns-clause-taken
 returns-clause-taken g c =
     let from = c.args.keys.now.branches.now in
     let twins = c.take_sides.new.twins in
-    let keys = reading_keys (g.M.DescriptorMap.marks c.args.keys.now.marks.now) from in
+    let keys = reading_keys (g.M.DescriptorMap.descriptors c.args.keys.now.descriptors.now) from in
     let sides = c.take_sides.new.sides.items in
     record {
       room = twins.layers.place_tree.room;

@@ -8,7 +8,7 @@ use Rattle.cip_rules.proofs.rule_4b.write_values.Goals as goal
 pub loop-place-preserved : goal.loop-place-preserved
 loop-place-preserved g c =
     let from = c.args.branches.now in
-    let key = reading_key (g.M.DescriptorMap.marks c.args.marks.now) from.layers.place_tree.nodes (length from.layers.place_tree.place_parents) in
+    let key = reading_key (g.M.DescriptorMap.descriptors c.args.descriptors.now) from.layers.place_tree.nodes (length from.layers.place_tree.place_parents) in
     let before = c.loop-place.invariant in
     let items = c.loop-place.values.items in
     let value = c.reading_value.result in

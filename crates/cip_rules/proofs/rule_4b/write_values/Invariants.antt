@@ -7,7 +7,7 @@ abbrev pub invariant-loop-place : goal.invariant-loop-place
 invariant-loop-place g l = record {
   len : length l.values.items ≡ l.place;
   values : map pos l.values.items
-      ≡ map (reading_key (g.M.DescriptorMap.marks l.marks) l.branches.layers.place_tree.nodes (length l.branches.layers.place_tree.place_parents))
+      ≡ map (reading_key (g.M.DescriptorMap.descriptors l.descriptors) l.branches.layers.place_tree.nodes (length l.branches.layers.place_tree.place_parents))
       (range_with_len 0 l.place);
   room : l.values.room ≡ l.fn.values.room;
 }

@@ -1,10 +1,10 @@
 use Rattle.std.proofs.Common.{List, length, ◌∙◌, sym, ap, subst}
-use Rattle.cip_mol.specs.declared.outcome.Rule.TheVariants.{R5}
+use Rattle.cip_mol.specs.declared.labels.outcome.Rule.TheVariants.{R5}
 use Rattle.cip_branches.specs.Deciding.{Branched, AreFollowed}
 use Rattle.cip_partition.specs.PlaceTree.{PlaceTree}
 use Rattle.cip_partition.specs.Keys.{AreKeyed}
 use Rattle.cip_branches.specs.Saving.{Checkpoint, restored}
-use Rattle.cip_digraph.specs.declared.branch_pair.BranchPair.{BranchPair}
+use Rattle.cip_digraph.specs.declared.decisions.branch_pair.BranchPair.{BranchPair}
 use Rattle.cip_rules.specs.Taking.{TakesRule}
 use Rattle.cip_rules.proofs.lemmas.TakenSteps.{same_branches, stands_back}
 use Rattle.cip_rules.proofs.rule_5.apply_rule_5_both_ways.Goals as goal

@@ -4,8 +4,8 @@ use Rattle.std.specs.Option.{ok_or}
 use Rattle.std.proofs.lemmas.Int.{ints, to_z-of_z}
 use Rattle.cip_elem.specs.Symbols.{element_of}
 use Rattle.cip_elem.specs.declared.symbols.Element.{Element}
-use Rattle.cip_mol.specs.declared.refusal.ReadCause.{ReadCause}
-use Rattle.cip_mol.specs.declared.refusal.ReadCause.TheVariants.{Symbol, AtomField}
+use Rattle.cip_mol.specs.declared.labels.refusal.ReadCause.{ReadCause}
+use Rattle.cip_mol.specs.declared.labels.refusal.ReadCause.TheVariants.{Symbol, AtomField}
 use Rattle.cip_ctfile.specs.Causes.{coordinate}
 use Rattle.cip_ctfile.specs.Fields.{number_in, signed_in}
 use Rattle.cip_ctfile.specs.Reading.{◌>>=◌}

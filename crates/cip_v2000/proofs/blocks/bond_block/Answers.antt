@@ -2,7 +2,7 @@ use Rattle.std.proofs.Common.{◌≡◌, ◌≤◌, ◌+◌, ◌-◌, ℕ, List,
 use Rattle.std.proofs.lemmas.List.Elements.{All-push}
 use Rattle.cip_text.specs.Slices.{texts}
 use Rattle.cip_mol.specs.Ranges.{IsBond}
-use Rattle.cip_mol.specs.declared.molecule.Bond.{Bond}
+use Rattle.cip_mol.specs.declared.graph.molecule.Bond.{Bond}
 use Rattle.cip_ctfile.specs.Reading.{in_turn}
 use Rattle.cip_v2000.specs.Grammar.{bond_row}
 use Rattle.cip_ctfile.proofs.lemmas.Rows.{row_read, row_refused, rows_read, length-push}

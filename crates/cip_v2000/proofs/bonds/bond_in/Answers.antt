@@ -1,7 +1,7 @@
 use Rattle.std.proofs.Common.{◌≡◌, ◌≤◌, ℕ, Option, Some, arith, sym}
 use Rattle.std.proofs.lemmas.Grind.{common_steps}
 use Rattle.cip_mol.specs.Ranges.{IsBond}
-use Rattle.cip_mol.specs.declared.molecule.Mark.{Mark}
+use Rattle.cip_mol.specs.declared.graph.molecule.Mark.{Mark}
 use Rattle.cip_v2000.specs.BondLine.{mark_of}
 use Rattle.cip_v2000.proofs.bonds.bond_in.Goals as goal
 

@@ -3,7 +3,7 @@ use Rattle.std.specs.Option.{ok_or}
 use Rattle.std.proofs.lemmas.Grind.{common_steps}
 use Rattle.std.proofs.lemmas.List.{take_all}
 use Rattle.cip_text.specs.Slices.{texts}
-use Rattle.cip_mol.specs.declared.refusal.ReadFault.{ReadFault}
+use Rattle.cip_mol.specs.declared.labels.refusal.ReadFault.{ReadFault}
 use Rattle.cip_ctfile.specs.Fields.{number_in, one_based_index}
 use Rattle.cip_ctfile.specs.Reading.{◌>>=◌}
 use Rattle.cip_v2000.specs.PropertyLines.{counted_pairs, pairs_of}

@@ -2,7 +2,7 @@ use Rattle.std.proofs.Common.{◌≡◌, ◌∙◌, ◌-◌, ℕ, List, Bor, Som
 use Rattle.std.proofs.lemmas.Grind.{common_steps}
 use Rattle.std.proofs.lemmas.List.{take_all}
 use Rattle.cip_text.specs.Slices.{texts}
-use Rattle.cip_mol.specs.declared.refusal.ReadFault.{ReadFault}
+use Rattle.cip_mol.specs.declared.labels.refusal.ReadFault.{ReadFault}
 use Rattle.cip_ctfile.specs.Spaces.{spaced_words_of}
 use Rattle.cip_v2000.specs.PropertyLines.{counted_pairs, pairs_stated, pairs_with, property_of}
 use Rattle.cip_v2000.specs.declared.properties.Property.{Property}

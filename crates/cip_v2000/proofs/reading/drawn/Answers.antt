@@ -1,7 +1,7 @@
 use Rattle.std.proofs.Common.{◌≡◌, ◌≤◌, ◌∙◌, ℕ, List, All, arith, length, subst, sym}
 use Rattle.cip_mol.specs.Ranges.{IsAtom, IsBond, IsInRange}
-use Rattle.cip_mol.specs.declared.molecule.Atom.{Atom}
-use Rattle.cip_mol.specs.declared.molecule.Bond.{Bond}
+use Rattle.cip_mol.specs.declared.graph.molecule.Atom.{Atom}
+use Rattle.cip_mol.specs.declared.graph.molecule.Bond.{Bond}
 use Rattle.cip_v2000.specs.Statements.{IsPair}
 use Rattle.cip_v2000.proofs.reading.drawn.Goals as goal
 

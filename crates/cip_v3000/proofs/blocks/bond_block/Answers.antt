@@ -1,7 +1,7 @@
 use Rattle.std.proofs.Common.{◌≡◌, ◌==◌, ◌∙◌, ◌||◌, ap, not, sym, subst, ℕ, List, [], Bool, false, zero, suc, refl, length, arith}
 use Rattle.std.specs.Prelude.{All}
 use Rattle.cip_mol.specs.Ranges.{IsBond}
-use Rattle.cip_mol.specs.declared.molecule.Bond.{Bond}
+use Rattle.cip_mol.specs.declared.graph.molecule.Bond.{Bond}
 use Rattle.cip_v3000.specs.Grammar.{Bonds, behind_block}
 use Rattle.cip_v3000.proofs.blocks.bond_block.Goals as goal
 

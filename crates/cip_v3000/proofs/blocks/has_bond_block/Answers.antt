@@ -2,7 +2,7 @@ use Rattle.std.proofs.Common.{◌≡◌, ◌∙◌, Some, None, ap, arith, sym, 
 use Rattle.std.specs.Option.{option_map}
 use Rattle.std.proofs.lemmas.Grind.{common_steps}
 use Rattle.std.proofs.lemmas.Option.{slice_get-map, slice_get_past, slice_get_read}
-use Rattle.cip_v3000.specs.declared.continuation.LogicalLine.{LogicalLine}
+use Rattle.cip_v3000.specs.declared.lines.continuation.LogicalLine.{LogicalLine}
 use Rattle.cip_v3000.specs.Joining.{seen}
 use Rattle.cip_v3000.proofs.blocks.has_bond_block.Goals as goal
 

@@ -1,5 +1,5 @@
 use Rattle.std.proofs.Common.{◌≡◌, length}
-use Rattle.cip_mol.specs.declared.molecule.Mark.TheVariants.{Plain}
+use Rattle.cip_mol.specs.declared.graph.molecule.Mark.TheVariants.{Plain}
 use Rattle.cip_ctfile.specs.Turns.{over}
 use Rattle.cip_v3000.specs.BondLine.{with_mark, IsMark}
 use Rattle.cip_v3000.specs.Words.{words_of}

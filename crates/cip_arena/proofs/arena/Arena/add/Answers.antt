@@ -5,9 +5,9 @@ use Rattle.cip_rank.specs.Tree.{last_parent}
 use Rattle.cip_arena.specs.Growth.{Growth}
 use Rattle.cip_digraph.specs.declared.nodes.NodeData.{NodeData}
 use Rattle.cip_digraph.specs.digraph.NodeList.{told_at, parents_of}
-use Rattle.cip_arena.specs.Walk.{IsEarlier, IsMarked}
+use Rattle.cip_arena.specs.Walk.{IsEarlier, IsFlagged}
 use Rattle.cip_arena.proofs.lemmas.Added.{parents_added, earlier_added, near_added, last_added}
-use Rattle.cip_arena.proofs.lemmas.Marked.{marked_added}
+use Rattle.cip_arena.proofs.lemmas.Flagged.{flagged_added}
 use Rattle.std.proofs.lemmas.Grind.{common_steps}
 use Rattle.cip_arena.proofs.arena.Arena.add.Goals as goal
 
@@ -35,10 +35,10 @@ invariant_of-self g c =
           (near_added ts t inv.nearer nearer);
       first = omega (arith, more, inv.first);
       sphere = omega (arith, more, inv.sphere);
-      flags_room = omega (arith, inv.flags_room, c.mark_vertex.ensures.room);
-      marked = subst (λ (xs : List NodeData). IsMarked c.mark_vertex.new.flags.items xs) (sym items)
-          (subst (λ (flags : List Bool). IsMarked flags (ts ++ t ∷ [])) (sym c.mark_vertex.ensures.marked)
-          (marked_added c.self.inside.present.items ts t inv.marked));
+      flags_room = omega (arith, inv.flags_room, c.flag_vertex.ensures.room);
+      flagged = subst (λ (xs : List NodeData). IsFlagged c.flag_vertex.new.flags.items xs) (sym items)
+          (subst (λ (flags : List Bool). IsFlagged flags (ts ++ t ∷ [])) (sym c.flag_vertex.ensures.flagged)
+          (flagged_added c.self.inside.present.items ts t inv.flagged));
     }
 
 pub push-number-requires : goal.push-number-requires

@@ -8,7 +8,7 @@ use Rattle.cip_digraph.specs.digraph.NodeList.{told_at}
 use Rattle.cip_digraph.specs.graph.Graph.{edges_at}
 use Rattle.std.proofs.lemmas.List.{take_all}
 use Rattle.cip_digraph.specs.declared.nodes.NodeData.{NodeData}
-use Rattle.cip_digraph.specs.declared.graph.Edge.{Edge}
+use Rattle.cip_digraph.specs.declared.drawing.graph.Edge.{Edge}
 use Rattle.cip_arena.specs.Growth.{Growth}
 use Rattle.cip_arena.specs.Walk.{IsEarlier}
 use Rattle.cip_arena.specs.Making.{children_at, edge_size, node_size, size_at, real_vertex, with_edge}

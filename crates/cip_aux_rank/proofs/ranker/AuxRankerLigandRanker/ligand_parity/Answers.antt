@@ -1,7 +1,7 @@
 use Rattle.std.proofs.Common.{◌∙◌, ℕ, List, IfOk, sym, ap, subst}
 use Rattle.std.specs.declared.option.Option.{Option}
 use Rattle.cip_aux.specs.InnerContext.{Ready}
-use Rattle.cip_aux.specs.Marking.{AreSeenTurns}
+use Rattle.cip_aux.specs.DescriptorsInside.{AreSeenTurns}
 use Rattle.cip_aux_rank.specs.RankingCache.{AreOpen}
 use Rattle.cip_aux_rank.specs.Room.{Room}
 use Rattle.cip_aux_rank.proofs.lemmas.OpenAgain.{some_at}

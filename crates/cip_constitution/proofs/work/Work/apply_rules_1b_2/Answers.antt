@@ -10,8 +10,8 @@ use Rattle.cip_constitution.proofs.lemmas.followed.Ends.{begin, begin_within, co
 use Rattle.cip_digraph.specs.rules.Orders.{rule_1a}
 use Rattle.cip_digraph.specs.Asking.{is_decided}
 use Rattle.cip_rules.specs.Deciding.{AreDecidedBy}
-use Rattle.cip_mol.specs.declared.outcome.Rule.TheVariants.{R1a}
-use Rattle.cip_digraph.specs.declared.branch_pair.BranchPair.{BranchPair}
+use Rattle.cip_mol.specs.declared.labels.outcome.Rule.TheVariants.{R1a}
+use Rattle.cip_digraph.specs.declared.decisions.branch_pair.BranchPair.{BranchPair}
 use Rattle.cip_constitution.proofs.work.Work.apply_rules_1b_2.Goals as goal
 
 pub decide_constitution-requires-clause-followed : goal.decide_constitution-requires-clause-followed
@@ -48,8 +48,8 @@ returns-clause-constituted c g positions followed =
     subst (AreConstituted c.args.rules g positions arena trying.pairs c.decide_constitution.new.branches) (sym whole)
     (constituted g positions arena trying out c.args.rules c.decide_constitution.new.branches new
     c.decide_constitution.ensures.followed c.decide_constitution.ensures.place_tree
-    (λ mark first distances masses.
-    let seen = seen_with c.args.rules g positions arena mark in
+    (λ descriptor first distances masses.
+    let seen = seen_with c.args.rules g positions arena descriptor in
     let node = node_in name trying.branched in
     let all = begin g positions arena trying out in
     c.decide_constitution.ensures.decided seen name node (count g positions arena trying out) all

@@ -5,11 +5,11 @@ use Rattle.cip_constitution.specs.Following.{Trying}
 use Rattle.cip_partition.specs.PlaceTree.{PlaceTree}
 use Rattle.cip_rules.specs.Taking.{AreSame}
 use Rattle.cip_rules.specs.Deciding.{AreDecidedBy}
-use Rattle.cip_rules.specs.DescriptorMap.{AreMarksOf}
+use Rattle.cip_rules.specs.DescriptorMap.{AreDescriptorsOf}
 use Rattle.cip_rules.specs.Orders.{rules_before}
-use Rattle.cip_digraph.specs.declared.branch_pair.BranchPair.{BranchPair}
+use Rattle.cip_digraph.specs.declared.decisions.branch_pair.BranchPair.{BranchPair}
 use Rattle.cip_digraph.specs.rules.Orders.{rule_2}
-use Rattle.cip_mol.specs.declared.outcome.Rule.TheVariants.{R3}
+use Rattle.cip_mol.specs.declared.labels.outcome.Rule.TheVariants.{R3}
 use Rattle.std.specs.Prelude.{true}
 use Rattle.cip_partition.specs.Keys.{AreKeyed}
 use Rattle.cip_constitution.proofs.work.Work.apply_rules_3_to_5.Goals as goal
@@ -41,14 +41,14 @@ returns-clause-ordered g c =
     let rest = drop (length new) c.self.inside.noted.items in
     let len : c.self.inside.noted.len ≡ length new = search rules in
     record {
-      each = λ seen named node count begin within decided marks.
+      each = λ seen named node count begin within decided descriptors.
           let both = c.decide_configuration.ensures.decided seen named node count begin within
           (subst (λ (requested : List BranchPair). AreDecidedBy seen true named node count begin (rules_before R3)
           (rule_2 seen seen.height) c.self.inside.branches requested) (sym c.as_mut_slice-noted.ensures.value)
           (subst (λ (t : Trying). AreDecidedBy seen true named node count begin (rules_before R3)
           (rule_2 seen seen.height) t.branched t.noted) (sym c.self.view_is) decided))
-          (subst (λ (t : Trying). AreMarksOf named seen.mark (g.M.DescriptorMap.marks c.args.marks.now) t.branched)
-          (sym c.self.view_is) marks) in
+          (subst (λ (t : Trying). AreDescriptorsOf named seen.descriptor (g.M.DescriptorMap.descriptors c.args.descriptors.now) t.branched)
+          (sym c.self.view_is) descriptors) in
           (ap (λ n. take n (new ++ rest)) len ∙ take-append_seam new rest ∙ both.0, both.1);
     }
 
@@ -67,7 +67,7 @@ invariant_of-self g c =
 
 pub decide_configuration-requires-clause-keyed : goal.decide_configuration-requires-clause-keyed
 decide_configuration-requires-clause-keyed g c =
-    subst (λ (work : Trying). AreKeyed (length (g.M.DescriptorMap.marks c.args.marks.now)) work.branched.layers.place_tree) (sym
+    subst (λ (work : Trying). AreKeyed (length (g.M.DescriptorMap.descriptors c.args.descriptors.now)) work.branched.layers.place_tree) (sym
     c.self.view_is) c.requires.keyed
 
 pub decide_configuration-requires-clause-room : goal.decide_configuration-requires-clause-room

@@ -1,7 +1,7 @@
 use Rattle.std.proofs.Common.{rules, ◌≡◌, ◌-◌, ◌++◌, ℕ, List, take, drop, length, refl, sym, ◌∙◌, subst, arith}
 use Rattle.std.proofs.Math.Seq.{take-append_seam}
 use Rattle.cip_arena.specs.Growth.{Growth}
-use Rattle.cip_digraph.specs.declared.branch_pair.BranchPair.{BranchPair}
+use Rattle.cip_digraph.specs.declared.decisions.branch_pair.BranchPair.{BranchPair}
 use Rattle.cip_constitution.specs.Following.{Trying}
 use Rattle.cip_constitution.specs.Settling.{RootContext}
 use Rattle.cip_constitution.specs.Trials.{FollowsTo, NotesTo}

@@ -1,7 +1,7 @@
 use Rattle.std.proofs.Common.{rules, ◌≡◌, ◌++◌, List, take, drop, length, sym, ap, ◌∙◌, subst}
 use Rattle.std.proofs.Math.Seq.{take-append_seam}
 use Rattle.cip_constitution.specs.FollowedOut.{AreOrdered}
-use Rattle.cip_digraph.specs.declared.branch_pair.BranchPair.{BranchPair}
+use Rattle.cip_digraph.specs.declared.decisions.branch_pair.BranchPair.{BranchPair}
 use Rattle.cip_ranker.specs.Standing.{by_vertices}
 use Rattle.cip_ranker.proofs.lemmas.KnownRoots.{on_ok}
 use Rattle.cip_ranker.proofs.decisions.RootDecisions.apply_rules_3_to_5.Goals as goal
@@ -18,7 +18,7 @@ returns-clause-ordered c =
     (λ natural. record {
       first = c.apply_rules_3_to_5.new.self.noted;
       second = c.as_slice.result.now;
-      ordered = subst (λ (requested : List BranchPair). AreOrdered work c.args.marks.now.marks c.apply_rules_3_to_5.new.self.noted requested)
+      ordered = subst (λ (requested : List BranchPair). AreOrdered work c.args.descriptors.now.descriptors c.apply_rules_3_to_5.new.self.noted requested)
           (sym turned) c.apply_rules_3_to_5.ensures.ordered;
       natural = natural ∙ (λ k. by_vertices ((c.pairs-2.ensures ∙ c.apply_rules_3_to_5.ensures.pairs) k) (c.noted-2.ensures k));
       turned = c.in-Ok-name.ensures ∙ ap (λ pairs. by_vertices pairs c.as_slice.result.now)

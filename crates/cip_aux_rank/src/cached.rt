@@ -1,0 +1,3 @@
+// Rankings of inner nodes that are kept.
+pub mod cache;
+pub mod cached_ranking;

@@ -1,0 +1,3 @@
+// The rules, as branches are asked.
+pub mod constitutional_rules;
+pub mod later_rules;

@@ -1,9 +1,0 @@
-use Rattle.std.proofs.Common.{arith}
-use Rattle.std.proofs.lemmas.Grind.{common_steps}
-use Rattle.cip_digraph.proofs.unit_flags.mark_units.Goals as goal
-
-pub returns : goal.returns
-returns c = grind (arith, common_steps)
-
-pub loop-unit-preserved : goal.loop-unit-preserved
-loop-unit-preserved c = grind (arith, common_steps)

@@ -1,4 +1,0 @@
-use Rattle.cip_edit.proofs.find_centre.find_at.Given as goal
-
-abbrev pub ghosts-label_counted : goal.ghosts-label_counted
-ghosts-label_counted g a = record { name = a.blank.name; parts = a.blank.parts }

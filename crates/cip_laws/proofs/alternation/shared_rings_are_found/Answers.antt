@@ -1,5 +1,0 @@
-use Rattle.cip_mancude.proofs.lemmas.SharedWays as law
-use Rattle.cip_laws.proofs.alternation.shared_rings_are_found.Goals as goal
-
-pub returns : goal.returns
-returns c = law.shared_rings_are_found

@@ -1,5 +1,0 @@
-use Rattle.cip_axis.proofs.lemmas.FurtherFit as law
-use Rattle.cip_laws.proofs.axes.further_units_are_fit.Goals as goal
-
-pub returns : goal.returns
-returns c = law.further_units_are_fit

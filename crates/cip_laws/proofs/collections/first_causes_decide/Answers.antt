@@ -1,5 +1,0 @@
-use Rattle.cip_laws.proofs.lemmas.turned_groups.Decided.{first_causes_decide}
-use Rattle.cip_laws.proofs.collections.first_causes_decide.Goals as goal
-
-pub returns : goal.returns
-returns c = first_causes_decide

@@ -1,5 +1,0 @@
-use Rattle.cip_laws.proofs.lemmas.further.ListedChains.{chains_are_listed}
-use Rattle.cip_laws.proofs.cumulenes.chains_are_listed.Goals as goal
-
-pub returns : goal.returns
-returns c = chains_are_listed

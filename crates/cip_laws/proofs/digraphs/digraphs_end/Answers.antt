@@ -1,5 +1,0 @@
-use Rattle.cip_digraph.proofs.lemmas.tree.Ended.{ended}
-use Rattle.cip_laws.proofs.digraphs.digraphs_end.Goals as goal
-
-pub returns : goal.returns
-returns c = ended

@@ -1,5 +1,0 @@
-use Rattle.cip_digraph.proofs.lemmas.bonds.Sound.{drawn_sound}
-use Rattle.cip_laws.proofs.digraphs.drawn_graphs_are_sound.Goals as goal
-
-pub returns : goal.returns
-returns c = drawn_sound

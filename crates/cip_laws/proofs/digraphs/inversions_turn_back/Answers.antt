@@ -1,5 +1,0 @@
-use Rattle.cip_digraph.proofs.lemmas.reflected.Inversions.{inversions_turn_back}
-use Rattle.cip_laws.proofs.digraphs.inversions_turn_back.Goals as goal
-
-pub returns : goal.returns
-returns c = inversions_turn_back

@@ -1,5 +1,0 @@
-use Rattle.cip_digraph.proofs.lemmas.orders.Whole.{order_total}
-use Rattle.cip_laws.proofs.digraphs.orders_are_total.Goals as goal
-
-pub returns : goal.returns
-returns c = order_total

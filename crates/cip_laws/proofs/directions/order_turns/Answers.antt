@@ -1,5 +1,0 @@
-use Rattle.cip_num.proofs.lemmas.Rotation.{order_turns}
-use Rattle.cip_laws.proofs.directions.order_turns.Goals as goal
-
-pub returns : goal.returns
-returns c = order_turns

@@ -1,5 +1,0 @@
-use Rattle.cip_edit.proofs.lemmas.EditedItems.{edits_keep_records}
-use Rattle.cip_laws.proofs.edits.edits_keep_records.Goals as goal
-
-pub returns : goal.returns
-returns c = edits_keep_records

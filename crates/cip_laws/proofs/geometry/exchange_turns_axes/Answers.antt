@@ -1,5 +1,0 @@
-use Rattle.cip_laws.proofs.lemmas.senses.ExchangedAtEnd as law
-use Rattle.cip_laws.proofs.geometry.exchange_turns_axes.Goals as goal
-
-pub returns : goal.returns
-returns c = law.exchange_turns_axes

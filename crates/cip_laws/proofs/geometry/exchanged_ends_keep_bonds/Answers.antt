@@ -1,5 +1,0 @@
-use Rattle.cip_laws.proofs.lemmas.senses.ExchangedEnds as law
-use Rattle.cip_laws.proofs.geometry.exchanged_ends_keep_bonds.Goals as goal
-
-pub returns : goal.returns
-returns c = law.exchanged_ends_keep_bonds

@@ -1,5 +1,0 @@
-use Rattle.cip_laws.proofs.lemmas.senses.ReflectedPairs as law
-use Rattle.cip_laws.proofs.geometry.reflection_keeps_bonds.Goals as goal
-
-pub returns : goal.returns
-returns c = law.reflection_keeps_bonds

@@ -1,5 +1,0 @@
-use Rattle.cip_item.proofs.lemmas.TakenOut.{items_are_taken_out}
-use Rattle.cip_laws.proofs.items.items_are_taken_out.Goals as goal
-
-pub returns : goal.returns
-returns c = items_are_taken_out

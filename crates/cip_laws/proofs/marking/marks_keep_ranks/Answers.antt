@@ -1,5 +1,0 @@
-use Rattle.cip_edit.proofs.lemmas.RemarkedCentres as law
-use Rattle.cip_laws.proofs.marking.marks_keep_ranks.Goals as goal
-
-pub returns : goal.returns
-returns c = law.keeps_ranks

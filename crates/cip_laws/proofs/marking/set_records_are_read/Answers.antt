@@ -1,5 +1,0 @@
-use Rattle.cip_set.proofs.lemmas.SetReads.{set_records_are_read}
-use Rattle.cip_laws.proofs.marking.set_records_are_read.Goals as goal
-
-pub returns : goal.returns
-returns c = set_records_are_read

@@ -1,5 +1,0 @@
-use Rattle.cip_laws.proofs.lemmas.lines.Going.{records_go}
-use Rattle.cip_laws.proofs.records.records_go.Goals as goal
-
-pub returns : goal.returns
-returns c = records_go

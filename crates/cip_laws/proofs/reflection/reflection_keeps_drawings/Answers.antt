@@ -1,5 +1,0 @@
-use Rattle.cip_laws.proofs.lemmas.drawings.ReflectedDrawings as law
-use Rattle.cip_laws.proofs.reflection.reflection_keeps_drawings.Goals as goal
-
-pub returns : goal.returns
-returns c = law.reflection_keeps_drawings

@@ -1,5 +1,0 @@
-use Rattle.cip_laws.proofs.lemmas.further.ReflectedFurther as law
-use Rattle.cip_laws.proofs.reflection.reflection_keeps_further.Goals as goal
-
-pub returns : goal.returns
-returns c = law.reflection_keeps_further

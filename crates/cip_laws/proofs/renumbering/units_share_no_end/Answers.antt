@@ -1,5 +1,0 @@
-use Rattle.cip_laws.proofs.lemmas.units.AloneSites as law
-use Rattle.cip_laws.proofs.renumbering.units_share_no_end.Goals as goal
-
-pub returns : goal.returns
-returns c = law.units_share_no_end

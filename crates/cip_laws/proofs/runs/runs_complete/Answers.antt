@@ -1,5 +1,0 @@
-use Rattle.cip_laws.proofs.lemmas.done.Completing.{complete}
-use Rattle.cip_laws.proofs.runs.runs_complete.Goals as goal
-
-pub returns : goal.returns
-returns c = complete

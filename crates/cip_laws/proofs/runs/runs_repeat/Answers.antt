@@ -1,5 +1,0 @@
-use Rattle.cip_laws.proofs.lemmas.done.RunsAgain.{runs_repeat}
-use Rattle.cip_laws.proofs.runs.runs_repeat.Goals as goal
-
-pub returns : goal.returns
-returns c = runs_repeat

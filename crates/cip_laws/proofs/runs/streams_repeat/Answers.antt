@@ -1,5 +1,0 @@
-use Rattle.cip_laws.proofs.lemmas.done.StreamsAgain.{streams_repeat}
-use Rattle.cip_laws.proofs.runs.streams_repeat.Goals as goal
-
-pub returns : goal.returns
-returns c = streams_repeat

@@ -1,5 +1,0 @@
-use Rattle.cip_laws.proofs.lemmas.digraph.SameTrees as law
-use Rattle.cip_laws.proofs.ties.ties_are_same_trees.Goals as goal
-
-pub returns : goal.returns
-returns c = law.ties_are_same_trees

@@ -1,5 +1,0 @@
-use Rattle.cip_rank.proofs.lemmas.TotalOrder.{comparison_total}
-use Rattle.cip_laws.proofs.trees.comparisons_order.Goals as goal
-
-pub returns : goal.returns
-returns c children earlier key depth o = comparison_total children key o depth

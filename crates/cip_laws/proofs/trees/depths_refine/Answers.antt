@@ -1,5 +1,0 @@
-use Rattle.cip_rank.proofs.lemmas.Refining as refining
-use Rattle.cip_laws.proofs.trees.depths_refine.Goals as goal
-
-pub returns : goal.returns
-returns c = refining.depths_refine

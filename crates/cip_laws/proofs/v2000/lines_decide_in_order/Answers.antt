@@ -1,5 +1,0 @@
-use Rattle.cip_laws.proofs.lemmas.v2000_lines.InOrder.{molecule_in_order}
-use Rattle.cip_laws.proofs.v2000.lines_decide_in_order.Goals as goal
-
-pub returns : goal.returns
-returns c = molecule_in_order

@@ -1,0 +1,6 @@
+// Outcomes of roots that are alike.
+pub mod cache;
+pub mod cache_key;
+pub mod cached;
+pub mod child_keys;
+pub mod uncached;

@@ -1,6 +1,0 @@
-use Rattle.std.proofs.Common.{drop}
-use Rattle.cip_ring.specs.Marks.{AreAmong}
-use Rattle.cip_ring.proofs.vertex_set.unmark.Given as goal
-
-abbrev pub invariant-loop-vertex : goal.invariant-loop-vertex
-invariant-loop-vertex l = AreAmong (drop l.vertex-index l.vertices) l.marks.items

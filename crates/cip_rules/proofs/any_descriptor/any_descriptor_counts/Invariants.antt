@@ -1,9 +1,0 @@
-use Rattle.std.proofs.Common.{◌≡◌, ◌<◌, ℕ, pos, true, slice_index}
-use Rattle.cip_partition.specs.Parting.{has_flag}
-use Rattle.cip_rules.specs.Counting.{mark_key_at}
-use Rattle.cip_rules.proofs.any_descriptor.any_descriptor_counts.Given as goal
-
-abbrev pub invariant-loop-place : goal.invariant-loop-place
-invariant-loop-place g l =
-    (k : ℕ) → k < l.place → has_flag l.branches.unresolved (slice_index l.branches.layers.place_tree.branches k) ≡ true
-    → mark_key_at (g.M.DescriptorMap.marks l.marks) true l.rule l.branches k ≡ pos 0

@@ -1,0 +1,13 @@
+use Rattle.std.proofs.Common.{◌≡◌, ◌≤◌, ◌-◌, take, drop, length}
+use Rattle.cip_v3000.specs.declared.lines.word_splitter.QuoteState.TheVariants.{Plain}
+use Rattle.cip_v3000.specs.Words.{words_from, words_of}
+use Rattle.cip_v3000.proofs.lines.word_splitter.plain_bytes.Given as goal
+
+abbrev pub invariant-loop-at : goal.invariant-loop-at
+invariant-loop-at l = record {
+  so_far : words_from Plain (take l.at l.text) (drop l.at l.text) ≡ words_of l.text;
+  within : l.at ≤ length l.text;
+}
+
+abbrev pub decreases-loop-at : goal.decreases-loop-at
+decreases-loop-at l = length l.text - l.at

@@ -1,0 +1,4 @@
+// Numbers and keys.
+pub mod counts;
+pub mod keys;
+pub mod numbers;

@@ -1,0 +1,4 @@
+// Workers that meet.
+pub mod meeting;
+pub mod rounds;
+pub mod watched;

@@ -1,0 +1,4 @@
+// Molecules as rows have them.
+pub mod molecules;
+pub mod units;
+pub mod written;

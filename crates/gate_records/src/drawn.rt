@@ -1,0 +1,4 @@
+// Records and molfiles as rows have them.
+pub mod built;
+pub mod molfiles;
+pub mod records;

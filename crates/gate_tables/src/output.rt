@@ -1,0 +1,3 @@
+// Texts that answers are written to, and texts that they are read from.
+pub mod text;
+pub mod texts;
