@@ -1,1 +1,4 @@
+pub mod FewKids
+pub mod ListedKeys
+pub mod RankedInTurn
 pub mod SeenBranches

@@ -16,12 +16,16 @@ fn descriptor_of(letter: u8) -> Option<Descriptor> {
     match letter {
         b'R' => Some(Descriptor::R),
         b'S' => Some(Descriptor::S),
+        b'r' => Some(Descriptor::SmallR),
+        b's' => Some(Descriptor::SmallS),
+        b'Z' => Some(Descriptor::Z),
+        b'E' => Some(Descriptor::E),
         _ => None,
     }
 }
 
-// The descriptors of nodes, a letter each.
-fn descriptors(alloc: Global, letters: &[u8]) -> Result<Descriptors, AllocError> {
+/// The descriptors of nodes, a letter each.
+pub fn descriptors(alloc: Global, letters: &[u8]) -> Result<Descriptors, AllocError> {
     let mut all = Descriptors::reserve(alloc, ROOM)?;
     for letter in letters {
         if all.len() < ROOM {
@@ -76,7 +80,8 @@ fn decided(
     Ok(request[0].decision)
 }
 
-fn push_decision(out: &mut Text, decision: Option<Decision>) {
+/// What was decided: how the first branch stands, and in which sphere.
+pub fn push_decision(out: &mut Text, decision: Option<Decision>) {
     let Some(Decision { side, sphere, .. }) = decision else {
         return out.push_str("tie");
     };

@@ -5,6 +5,7 @@ ghost use Rattle.cip_rank.specs.View.{on_way};
 ghost use Rattle.cip_partition.specs.Keys.{AreKeyed};
 ghost use Rattle.cip_partition.specs.Parting.{has_flag};
 
+use crate::digraph_rows::{DigraphRequest, push_digraph};
 use crate::pairs::push_readings;
 use crate::trees::{Case, Keys, ROOM, neighbours, table_of, way_to};
 use cip_branches::{Branches, ViewedTree};
@@ -12,9 +13,18 @@ use cip_rank::Table;
 use gate_tables::Text;
 use std::alloc::{AllocError, Global};
 
-/// What is asked of branches.
+/// What is asked of the branches of a tree.
 #[derive(Clone, Copy)]
 pub enum Request<'a> {
+    /// What the calls say that know places alone.
+    Branches(BranchRequest<'a>),
+    /// What the calls say whose contracts speak of nodes.
+    Digraph(DigraphRequest<'a>),
+}
+
+/// What is asked of branches.
+#[derive(Clone, Copy)]
+pub enum BranchRequest<'a> {
     /// How they rank by the first rule.
     Numbers,
     /// How they rank by the next rule too.
@@ -49,16 +59,13 @@ fn told_in(
     if case.from >= count || count > ROOM || case.keys.len() != count as usize {
         return out.push_str("out of range");
     }
-    match way_to(alloc, table, case.from) {
-        Ok(way) => told_around(
-            alloc,
-            out,
-            &ViewedTree { table, way: &way },
-            case,
-            depth,
-            request,
-        ),
-        Err(_) => out.miss(),
+    let Ok(way) = way_to(alloc, table, case.from) else {
+        return out.miss();
+    };
+    let around = ViewedTree { table, way: &way };
+    match request {
+        Request::Branches(request) => told_around(alloc, out, &around, case, depth, request),
+        Request::Digraph(request) => push_digraph(alloc, out, &around, case, depth, request),
     }
 }
 
@@ -68,7 +75,7 @@ fn told_around(
     around: &ViewedTree<'_>,
     case: &Case<'_>,
     depth: u32,
-    request: Request<'_>,
+    request: BranchRequest<'_>,
 )
     requires inside { case.now.from < length around.now.table.now.parents }
     requires fits { length around.now.table.now.parents ≤ ROOM }
@@ -118,16 +125,16 @@ fn push_asked(
     out: &mut Text,
     branches: &mut Branches,
     case: &Case<'_>,
-    request: Request<'_>,
+    request: BranchRequest<'_>,
 )
     requires followed { AreFollowed branches.old }
     requires keyed { AreKeyed (length case.now.keys.now) branches.old.layers.place_tree }
 {
     match request {
-        Request::Numbers => push_ranks(out, branches),
-        Request::LaterNumbers => push_later_ranks(out, branches, case),
-        Request::Walked => push_walked(out, branches),
-        Request::Readings(letters) => push_readings(alloc, out, branches, case, letters),
+        BranchRequest::Numbers => push_ranks(out, branches),
+        BranchRequest::LaterNumbers => push_later_ranks(out, branches, case),
+        BranchRequest::Walked => push_walked(out, branches),
+        BranchRequest::Readings(letters) => push_readings(alloc, out, branches, case, letters),
     }
 }
 
@@ -154,8 +161,8 @@ fn go_on(branches: &mut Branches, keys: &Keys<'_>)
     }
 }
 
-// Of each branch how many it precedes.
-fn push_ranks(out: &mut Text, branches: &Branches) {
+/// Of each branch how many it precedes.
+pub fn push_ranks(out: &mut Text, branches: &Branches) {
     for branch in 0..branches.branch_count() {
         let below = count_below(branches, branches.number(branch));
         write!(out, "{below}");

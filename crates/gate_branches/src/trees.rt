@@ -13,8 +13,8 @@ use std::cmp::Ordering;
 /// No tree here has more nodes.
 pub const ROOM: u32 = 20;
 
-/// No tree here has more spheres after the first one, whichever node it is seen from.
-pub const DEEPEST: u32 = 6;
+/// Each tree here has fewer spheres after the first one, whichever node it is seen from.
+pub const DEEPEST: u32 = 7;
 
 /// A key of each node, by number: a digit, or a letter after all digits.
 #[derive(Drop)]
