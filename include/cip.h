@@ -40,7 +40,7 @@ extern "C" {
 #endif
 
 /* The version of the program, the header and the library; cip_version tells that of the library. */
-#define CIP_VERSION 14
+#define CIP_VERSION 15
 
 /* A place for a labeller, in the caller's memory. What stands in it is the library's own. */
 typedef struct cip_labeller {

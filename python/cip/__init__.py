@@ -29,7 +29,7 @@ from cip.notebook import Page, page
 
 __all__ = ["NODES", "RULE_1B", "Error", "Label", "Labeller", "Labels", "NoMemory", "Page", "Refused", "Undefined",
            "library_version", "page", "records"]
-__version__ = "14"
+__version__ = "15"
 
 Record = Union[str, bytes, bytearray, memoryview]
 

@@ -28,9 +28,9 @@ pub extern "C" fn cip_labeller_size() -> usize
 /// The version of the library.
 #[unsafe(no_mangle)]
 pub extern "C" fn cip_version() -> u32
-    ensures { result ≡ 14 }
+    ensures { result ≡ 15 }
 {
-    14
+    15
 }
 
 /// Makes a labeller at a pointer to room for it.
