@@ -7,6 +7,7 @@ import subprocess
 import tempfile
 import unittest
 
+import narrowing
 import test_web
 import trying
 import web_page
@@ -19,6 +20,8 @@ FURTHER = ("annotate --nodes 1", "annotate --nodes 30 --rule1b 2013", "explain -
            "set --record 1 --atom 2 --letter R")
 REFUSED = ("annotate --nodes", "annotate \u00e9", "", "help")
 LONGEST = 16 << 20
+# 64 MiB
+FEW_PAGES = 1024
 
 
 def needs_page():
@@ -30,6 +33,17 @@ def needs_page():
 
 def page():
     return trying.text_of("crates", "cip", "out", "cip.html")
+
+
+def with_pages(module, count):
+    """The module with a memory that grows to no more than a number of pages."""
+    found = bytearray(narrowing.MAGIC)
+    for kind, body in narrowing.sections(module):
+        if kind == narrowing.MEMORIES:
+            least, _ = narrowing.limits(narrowing.Reader(body, 1))
+            body = narrowing.unsigned(1) + narrowing.as_limits(least, count)
+        found += bytes([kind]) + narrowing.unsigned(len(body)) + body
+    return bytes(found)
 
 
 class Node:
@@ -105,6 +119,17 @@ class Module(unittest.TestCase):
     def test_records_that_are_too_long(self):
         for name, count in (("at-the-limit", LONGEST), ("over-the-limit", LONGEST + 1)):
             self.are_same(self.kept(name, b"\n" * (count - 5) + b"$$$$\n"), "annotate")
+
+    def test_a_record_that_uses_up_the_memory_is_named_and_all_else_is_labelled(self):
+        short, large = trying.bytes_of("examples", "alanine.sdf"), b"\n" * (4 << 20) + b"$$$$\n"
+        with open(self.module, "rb") as file:
+            path = self.kept("small.wasm", with_pages(file.read(), FEW_PAGES))
+        found, = test_web.told_by_node("labelled", path, self.kept("large.sdf", 2 * short + large + short))
+        self.assertEqual([fault["number"] for fault in found["faults"]], [3])
+        self.assertIn("memory", found["faults"][0]["fault"])
+        labelled = trying.annotated(short)
+        self.assertEqual(found["sum"], hashlib.sha256(2 * labelled + large + labelled).hexdigest())
+        self.assertEqual((found["count"], found["unlabelled"]), (4, 1))
 
     def test_entries_are_those_of_tools_page(self):
         for path in (*self.examples, self.kept("broken.sdf", test_web.broken_records())):

@@ -22,6 +22,9 @@ PIECES = (b"$$$$\n", b"$$$$  \r\n", b"\n", b"$$$$x\n", b" $$$$\n", b"$$$", b"abc
 # each 20th of the records of which a byte is changed
 STEP = 20
 MODULES = ("app.mjs", "worker.mjs")
+# a module with a memory and a function `run` that does nothing but trap
+TRAP = (b"\0asm\1\0\0\0" b"\1\4\1\x60\0\0" b"\3\2\1\0" b"\5\3\1\0\1" b"\7\x10\2\6memory\2\0\3run\0\0"
+        b"\x0a\5\1\3\0\0\x0b")
 
 
 def told_by_node(*words):
@@ -104,6 +107,23 @@ class Parts(unittest.TestCase):
         self.assertEqual(whole, [(0, len(short)), (2, len(short))])
         cut = [(first, length) for first, length, is_cut, _ in parts if is_cut]
         self.assertEqual((cut[0][0], sum(length for _, length in cut)), (1, len(long)))
+
+
+@trying.needs("node", "nodejs")
+class Ended(unittest.TestCase):
+    """A program that traps at each run, as one that used up its stack."""
+
+    def test_each_record_is_named_and_stays_as_it_is(self):
+        record = trying.bytes_of("examples", "alanine.sdf")
+        with tempfile.TemporaryDirectory() as folder:
+            paths = [os.path.join(folder, name) for name in ("trap.wasm", "three.sdf")]
+            for path, text in zip(paths, (TRAP, 3 * record)):
+                with open(path, "wb") as file:
+                    file.write(text)
+            found, = told_by_node("labelled", *paths)
+        self.assertEqual([fault["number"] for fault in found["faults"]], [1, 2, 3])
+        self.assertEqual(found["sum"], hashlib.sha256(3 * record).hexdigest())
+        self.assertEqual((found["count"], found["unlabelled"]), (3, 3))
 
 
 class Sources(unittest.TestCase):

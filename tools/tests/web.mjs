@@ -1,6 +1,7 @@
 // The page's modules under Node, without its window: node web.mjs WHAT WORD ..
 //   runs MODULE             runs of the program; a line of input has a file and words, divided by tabs
 //   entries MODULE FILE     what the page makes of the records of a file, a line of JSON for each
+//   labelled MODULE FILE    what becomes of a part: its count, what ended a run, the sum of the labelled part
 //   readings FILE ..        what its readers make of the records of files, a line for each file: name, items, drawing
 //   parts SIZE FILE         the parts of a file that comes in pieces of some bytes: first record, length, sum
 import { createHash } from "node:crypto";
@@ -38,6 +39,14 @@ function entries(path, file) {
   labelled(moduleOf(path), part).entries.forEach(putJson);
 }
 
+function sumOf(bytes) { return createHash("sha256").update(bytes).digest("hex"); }
+
+function labelledPart(path, file) {
+  const part = { bytes: bytesOfFile(file), words: [], first: 0, isShown: true };
+  const { output, count, faults, entries: shownOnes } = labelled(moduleOf(path), part);
+  putJson({ count, faults, sum: sumOf(output), unlabelled: shownOnes.filter(({ m }) => m).length });
+}
+
 function readingOf(record) {
   const drawing = drawingOf(record);
   return { name: nameOf(record), items: itemsOf(record).map(({ name, values }) => [shown(name), values.map(shown)]),
@@ -50,9 +59,8 @@ async function parts(size, file) {
   const bytes = bytesOfFile(file), step = Number(size);
   function* pieces() { for (let at = 0; at < bytes.length; at += step) yield bytes.slice(at, at + step); }
   for await (const part of filePartsOf(pieces())) {
-    const sum = createHash("sha256").update(part.bytes).digest("hex");
-    putJson([part.first, part.bytes.length, Boolean(part.isCut), sum]);
+    putJson([part.first, part.bytes.length, Boolean(part.isCut), sumOf(part.bytes)]);
   }
 }
 
-await { runs, entries, readings, parts }[what](...words);
+await { runs, entries, labelled: labelledPart, readings, parts }[what](...words);

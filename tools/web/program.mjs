@@ -42,10 +42,18 @@ function hostOf(run) {
 export function runModule(module, words, input) {
   const run = { words: ["", ...words].map((word) => new TextEncoder().encode(word)), input, place: 0,
     written: { 1: [], 2: [] } };
-  const { exports } = new WebAssembly.Instance(module, { host: hostOf(run) });
+  const { exports } = instanceOf(module, hostOf(run));
   run.memory = exports.memory;
   const status = statusOf(exports.run);
   return { status, output: joined(run.written[1]), errors: new TextDecoder().decode(joined(run.written[2])) };
+}
+
+function instanceOf(module, host) {
+  try {
+    return new WebAssembly.Instance(module, { host });
+  } catch (fault) {
+    throw new Stopped(fault.message);
+  }
 }
 
 function statusOf(begin) {
