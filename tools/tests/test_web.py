@@ -126,6 +126,12 @@ class Ended(unittest.TestCase):
         self.assertEqual((found["count"], found["unlabelled"]), (3, 3))
 
 
+@trying.needs("node", "nodejs")
+class Workers(unittest.TestCase):
+    def test_a_thread_that_ends_is_started_anew_once_and_no_job_waits_after_the_end(self):
+        self.assertEqual(told_by_node("pool"), [["labelled", 1, "stopped"]])
+
+
 class Sources(unittest.TestCase):
     def test_the_scripts_of_the_page_have_each_name_once(self):
         for name in MODULES:

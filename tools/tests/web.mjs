@@ -3,6 +3,8 @@
 //   entries MODULE FILE     what the page makes of the records of a file, a line of JSON for each
 //   labelled MODULE FILE    what becomes of a part: its count, what ended a run, the sum of the labelled part
 //   readings FILE ..        what its readers make of the records of files, a line for each file: name, items, drawing
+//   pool                    what becomes of a job whose thread says twice that it ended, how many threads are started
+//                           anew, and what becomes of a job that is asked for after the end
 //   parts SIZE FILE         the parts of a file that comes in pieces of some bytes: first record, length, sum
 import { createHash } from "node:crypto";
 import { readFileSync, writeSync } from "node:fs";
@@ -10,6 +12,7 @@ import { createInterface } from "node:readline";
 import { drawn } from "../web/drawn.mjs";
 import { labelled } from "../web/labelling.mjs";
 import { filePartsOf } from "../web/parts.mjs";
+import { Pool } from "../web/pool.mjs";
 import { runModule } from "../web/program.mjs";
 import { drawingOf, itemsOf, nameOf, recordsOf, shown } from "../web/sdf.mjs";
 
@@ -55,6 +58,25 @@ function readingOf(record) {
 
 function readings(...files) { for (const file of files) putJson(recordsOf(bytesOfFile(file)).map(readingOf)); }
 
+async function pool() {
+  const made = [];
+  globalThis.navigator ??= { hardwareConcurrency: 2 };
+  globalThis.Worker = class extends EventTarget {
+    constructor() {
+      super();
+      made.push(this);
+    }
+    postMessage() {}
+    terminate() {}
+  };
+  const jobs = new Pool("", null), count = made.length, asked = jobs.ask({}), ended = (fault) => fault.message;
+  for (let turn = 0; turn < 2; turn++) made[0].dispatchEvent(new Event("error"));
+  made[count].dispatchEvent(Object.assign(new Event("message"), { data: { result: "labelled" } }));
+  const first = await asked.catch(ended), anew = made.length - count;
+  jobs.close();
+  putJson([first, anew, await Promise.race([jobs.ask({}).catch(ended), new Promise((go) => setTimeout(go, 1000))])]);
+}
+
 async function parts(size, file) {
   const bytes = bytesOfFile(file), step = Number(size);
   function* pieces() { for (let at = 0; at < bytes.length; at += step) yield bytes.slice(at, at + step); }
@@ -63,4 +85,4 @@ async function parts(size, file) {
   }
 }
 
-await { runs, entries, labelled: labelledPart, readings, parts }[what](...words);
+await { runs, entries, labelled: labelledPart, readings, pool, parts }[what](...words);

@@ -12,13 +12,15 @@ export class Pool {
     for (const worker of this.workers) this.start(worker);
   }
 
+  // What a thread says after another one took its place doesn't count.
   start(worker) {
-    worker.thread = new Worker(this.address);
-    worker.thread.postMessage({ module: this.module });
-    worker.thread.addEventListener("message", ({ data }) => this.settle(worker, data));
-    worker.thread.addEventListener("error", (event) => {
+    const thread = new Worker(this.address);
+    worker.thread = thread;
+    thread.postMessage({ module: this.module });
+    thread.addEventListener("message", ({ data }) => { if (thread === worker.thread) this.settle(worker, data); });
+    thread.addEventListener("error", (event) => {
       event.preventDefault();
-      this.restart(worker, event.message || "a worker of the page ended");
+      if (thread === worker.thread) this.restart(worker, event.message || "a worker of the page ended");
     });
   }
 
@@ -28,8 +30,12 @@ export class Pool {
     const asked = new Promise((resolve, reject) => Object.assign(job, { resolve, reject }));
     // the fault of a part is reported when its turn comes
     asked.catch(() => {});
-    this.waiting.push(job);
-    this.next();
+    if (this.isClosed) {
+      job.reject(new Error("stopped"));
+    } else {
+      this.waiting.push(job);
+      this.next();
+    }
     return asked;
   }
 
